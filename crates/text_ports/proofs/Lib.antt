@@ -1,0 +1,4 @@
+pub mod LineSteps
+pub mod OctalSteps
+pub mod WritingSteps
+pub mod CharacterLaws

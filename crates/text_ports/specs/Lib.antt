@@ -1,0 +1,4 @@
+pub mod Characters
+pub mod Octal
+pub mod Lines
+pub mod Faults

@@ -1,0 +1,39 @@
+-- Lines of input (ours): a line is at most 256 bytes before a line feed.
+use Rattle.std.specs.Prelude.{ℕ, ◌≡◌, ◌≢◌, ◌==◌, ◌-◌, ◌<◌, ◌≤◌, List, [], ◌∷◌, ◌++◌, Option, length, take, slice_index, if◌then◌else◌, All, ⊤}
+use Rattle.std.specs.Io.KnownBytes.{Consumes, IsAtEnd}
+use Rattle.text_ports.specs.declared.lines.LineIs.{LineIs}
+use Rattle.text_ports.specs.declared.lines.LineIs.TheVariants.{Line, End, Cut, TooLong, Fault}
+
+abbrev pub line_feed : ℕ
+line_feed = 10
+
+abbrev pub carriage_return : ℕ
+carriage_return = 13
+
+-- the bytes without one carriage return at their end
+abbrev pub without_cr : List ℕ → List ℕ
+without_cr bytes = if slice_index bytes (length bytes - 1) == carriage_return then take (length bytes - 1) bytes else bytes
+
+-- no line feed is among the bytes
+abbrev pub IsUnbroken : List ℕ → Type 0
+IsUnbroken bytes = All (λ b. b ≢ line_feed) bytes
+
+-- the bytes that were taken, and the line in the buffer, at each answer
+abbrev pub IsTakenAs : LineIs → List ℕ → List ℕ → Type 0
+IsTakenAs Line taken line = (body : List ℕ) × (taken ≡ body ++ line_feed ∷ []) × IsUnbroken body × (length body ≤ 256) × (line ≡ without_cr body)
+IsTakenAs End taken line = (taken ≡ []) × (line ≡ [])
+IsTakenAs Cut taken line = (0 < length taken) × (length taken ≤ 256) × IsUnbroken taken × (line ≡ [])
+IsTakenAs TooLong taken line = (length taken ≡ 257) × IsUnbroken taken × (line ≡ [])
+IsTakenAs Fault taken line = (length taken ≤ 256) × IsUnbroken taken × (line ≡ [])
+
+-- where the input ended, nothing is left of it
+abbrev pub IsEndedBy : LineIs → Option (List ℕ) → Type 0
+IsEndedBy Line rest = ⊤
+IsEndedBy End rest = IsAtEnd rest
+IsEndedBy Cut rest = IsAtEnd rest
+IsEndedBy TooLong rest = ⊤
+IsEndedBy Fault rest = ⊤
+
+-- the reader lost the bytes of this answer and no others, and the buffer has this line
+abbrev pub ReadsLine : Option (List ℕ) → Option (List ℕ) → LineIs → List ℕ → Type 0
+ReadsLine old new answer line = (taken : List ℕ) × Consumes old new taken × IsTakenAs answer taken line × IsEndedBy answer new
