@@ -1,0 +1,75 @@
+//! The command line of `compass`, and nothing else: what the words ask for, the ports of the
+//! process, the line of a fault and the exit status.
+#![tactic(auto)]
+
+ghost use Rattle.std.specs.Prelude.{◌≡◌, ℕ, ◌<◌, pos};
+
+use clap::{ArgMatches, Command, Error};
+use service_main::{AsmFault, asm_run, asm_status};
+use std::alloc::Global;
+use std::env;
+use std::io::{self, BufReader};
+use std::process::ExitCode;
+use text_ports::Counted;
+
+/// Where the words can't be kept.
+const STATUS_OUT_OF_MEMORY: u8 = 4;
+
+/// The command line: its one command is `asm`, and `clap` writes its texts.
+fn read_words<'a>(alloc: Global, words: &'a [String]) -> Result<ArgMatches<'a>, Error> {
+    let asm = Command::new(alloc, "asm").about(
+        "Assembles one deck from standard input: listing, link map and octal image",
+    );
+    Command::new(alloc, "compass")
+        .version("0.1.0")
+        .about("COMPASS for the Control Data 6000 series, proved")
+        .subcommand_required(true)
+        .subcommand(asm)?
+        .try_get_matches_from(words)
+}
+
+/// `compass asm`, from the standard input of the process to its standard output.
+fn assemble<R: AllocGlobal + Input + Print + Eprint>(rt: &R) -> ExitCode {
+    let result = match BufReader::new(rt.alloc(), rt.reader()) {
+        Ok(reader) => asm_run(
+            rt.alloc(),
+            &mut Counted::new(reader),
+            &mut Counted::new(io::writer(rt)),
+        ),
+        Err(_) => Err(AsmFault::OutOfMemory),
+    };
+    if let Err(fault) = &result {
+        let _ = eprintln!(rt; "compass: {fault}");
+    }
+    ExitCode::from(asm_status(&result))
+}
+
+/// Does what the words ask for; a fault of the command line is told by `clap`, with status 2.
+fn run<R: AllocGlobal + Input + Print + Eprint>(rt: &R, words: &[String]) -> ExitCode {
+    match read_words(rt.alloc(), words) {
+        Ok(_) => assemble(rt),
+        Err(error) => {
+            let _ = error.print(rt);
+            ExitCode::from(status_of(error.exit_code()))
+        }
+    }
+}
+
+/// The status that `clap` gives to words that it answers itself: 0 for help and version, 2 for a
+/// fault.
+fn status_of(exit_code: i32) -> u8
+    ensures { (k : ℕ) → k < 256 → exit_code ≡ pos k → result ≡ k }
+{
+    u8::try_from(exit_code).unwrap_or(2)
+}
+
+fn main(rt: HostRuntime) -> ExitCode {
+    let words = match env::args(&rt) {
+        Ok(args) => args.collect::<Vec<String>>(rt.alloc()),
+        Err(_) => return ExitCode::from(STATUS_OUT_OF_MEMORY),
+    };
+    match words {
+        Ok(words) => run(&rt, words.as_slice()),
+        Err(_) => ExitCode::from(STATUS_OUT_OF_MEMORY),
+    }
+}

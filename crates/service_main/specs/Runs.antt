@@ -1,0 +1,96 @@
+-- What a run does to its ports, and its status (ours).
+use Rattle.std.specs.Prelude.{ℕ, ◌==◌, ◌&&◌, if◌then◌else◌, ◌<◌, List, Option, Result, Ok, Err, length, take, ⊤}
+use Rattle.std.specs.Io.KnownBytes.{Appends, Consumes, Keeps}
+use Rattle.text_ports.specs.Faults.{count_up}
+use Rattle.service_main.specs.declared.asm_fault.AsmFault.{AsmFault}
+use Rattle.service_main.specs.declared.asm_fault.AsmFault.TheVariants.{OutOfMemory, DeckFull, NameTaken, TooManyDecks, ReadFault, BadLine, LastLineCut, WriteFault, BadName}
+use Rattle.service_main.specs.declared.running.Tally.{Tally}
+
+-- the fault is none of the reader and none of the writer
+abbrev pub IsOfNoPort : AsmFault → Type 0
+IsOfNoPort OutOfMemory = ⊤
+IsOfNoPort DeckFull = ⊤
+IsOfNoPort NameTaken = ⊤
+IsOfNoPort TooManyDecks = ⊤
+IsOfNoPort ReadFault = ⊥
+IsOfNoPort (BadLine line fault) = ⊤
+IsOfNoPort LastLineCut = ⊤
+IsOfNoPort (WriteFault sent) = ⊥
+IsOfNoPort (BadName line) = ⊤
+
+-- the fault came before anything was written
+abbrev pub IsBeforeWriting : AsmFault → Type 0
+IsBeforeWriting OutOfMemory = ⊤
+IsBeforeWriting DeckFull = ⊤
+IsBeforeWriting NameTaken = ⊤
+IsBeforeWriting TooManyDecks = ⊤
+IsBeforeWriting ReadFault = ⊤
+IsBeforeWriting (BadLine line fault) = ⊤
+IsBeforeWriting LastLineCut = ⊤
+IsBeforeWriting (WriteFault sent) = ⊥
+IsBeforeWriting (BadName line) = ⊤
+
+-- the reader lost some bytes from its front, and nothing else
+abbrev pub ConsumesSome : Option (List ℕ) → Option (List ℕ) → Type 0
+ConsumesSome old new = (taken : List ℕ) × Consumes old new taken
+
+-- a whole text went out
+abbrev pub AppendsWhole : Option (List ℕ) → Option (List ℕ) → Type 0
+AppendsWhole old new = (text : List ℕ) × Appends old new text
+
+-- the front of a text went out, `sent` bytes of it, and the text is longer
+abbrev pub AppendsFront : ℕ → Option (List ℕ) → Option (List ℕ) → Type 0
+AppendsFront sent old new = (text : List ℕ) × (sent < length text) × Appends old new (take sent text)
+
+-- what went out before the fault: the front of a text where the writer failed, else nothing
+abbrev pub IsOutputAfter : Option (List ℕ) → Option (List ℕ) → AsmFault → Type 0
+IsOutputAfter old new OutOfMemory = Keeps old new
+IsOutputAfter old new DeckFull = Keeps old new
+IsOutputAfter old new NameTaken = Keeps old new
+IsOutputAfter old new TooManyDecks = Keeps old new
+IsOutputAfter old new ReadFault = Keeps old new
+IsOutputAfter old new (BadLine line fault) = Keeps old new
+IsOutputAfter old new LastLineCut = Keeps old new
+IsOutputAfter old new (WriteFault sent) = AppendsFront sent old new
+IsOutputAfter old new (BadName line) = Keeps old new
+
+-- the reader's count of faults after the fault: one more where the reader failed
+abbrev pub input_count_after : AsmFault → ℕ → ℕ
+input_count_after OutOfMemory count = count
+input_count_after DeckFull count = count
+input_count_after NameTaken count = count
+input_count_after TooManyDecks count = count
+input_count_after ReadFault count = count_up count
+input_count_after (BadLine line fault) count = count
+input_count_after LastLineCut count = count
+input_count_after (WriteFault sent) count = count
+input_count_after (BadName line) count = count
+
+-- the writer's count of faults after the fault: one more where the writer failed
+abbrev pub output_count_after : AsmFault → ℕ → ℕ
+output_count_after OutOfMemory count = count
+output_count_after DeckFull count = count
+output_count_after NameTaken count = count
+output_count_after TooManyDecks count = count
+output_count_after ReadFault count = count
+output_count_after (BadLine line fault) count = count
+output_count_after LastLineCut count = count
+output_count_after (WriteFault sent) count = count_up count
+output_count_after (BadName line) count = count
+
+-- the exit status after a fault: 4 where no memory was left, 5 where the writer failed, 3 at any fault of the input
+abbrev pub fault_status : AsmFault → ℕ
+fault_status OutOfMemory = 4
+fault_status DeckFull = 3
+fault_status NameTaken = 3
+fault_status TooManyDecks = 3
+fault_status ReadFault = 3
+fault_status (BadLine line fault) = 3
+fault_status LastLineCut = 3
+fault_status (WriteFault sent) = 5
+fault_status (BadName line) = 3
+
+-- the exit status: 0 where nothing is flagged and the map has no LINK line
+abbrev pub run_status : Result Tally AsmFault → ℕ
+run_status (Ok tally) = if (tally.errors == 0) && (tally.links == 0) then 0 else 1
+run_status (Err fault) = fault_status fault

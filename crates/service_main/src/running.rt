@@ -1,0 +1,58 @@
+//! One run of `compass asm`, and its status.
+ghost use Rattle.std.specs.Prelude.{◌≡◌, OnOk, IfErr};
+ghost use Rattle.service_main.specs.Runs.{ConsumesSome, AppendsWhole, IsOutputAfter, input_count_after, output_count_after, run_status};
+
+use crate::asm_fault::AsmFault;
+use crate::deck_input::read_deck;
+use crate::deck_linker::assemble;
+use std::alloc::Global;
+use std::io::{Read, Write};
+use text_ports::{Counted, put_all};
+
+/// What a run counts: the flagged statements, and the LINK lines of the map.
+#[derive(Clone, Copy, Debug, PartialEq, Eq)]
+pub struct Tally {
+    pub errors: usize,
+    pub links: usize,
+}
+
+/// Reads decks of cards, and writes their listing, the link map and the octal image. All is read
+/// before anything is written, and what follows the first fault is not looked at.
+pub fn asm_run<R: Read, W: Write>(
+    alloc: Global,
+    input: &mut Counted<R>,
+    output: &mut Counted<W>,
+) -> Result<Tally, AsmFault>
+    ensures consumed { ConsumesSome (R.remaining input.old.0) (R.remaining input.new.0) }
+
+    // The whole output went out, and no port failed.
+    ensures whole { OnOk result (AppendsWhole (W.contents output.old.0) (W.contents output.new.0)) }
+    ensures input_count_ok { OnOk result (input.new.1 ≡ input.old.1) }
+    ensures output_count_ok { OnOk result (output.new.1 ≡ output.old.1) }
+
+    // After a fault of the writer exactly the bytes that it tells went out, after any other none.
+    ensures part { IfErr result (IsOutputAfter (W.contents output.old.0) (W.contents output.new.0)) }
+    ensures input_count { IfErr result (λ fault. input.new.1 ≡ input_count_after fault input.old.1) }
+    ensures output_count { IfErr result (λ fault. output.new.1 ≡ output_count_after fault output.old.1) }
+{
+    let deck = read_deck(alloc, input)?;
+    let assembly = assemble(alloc, &deck)?;
+    match put_all(output, assembly.text.as_slice()) {
+        Ok(()) => Ok(assembly.tally),
+        Err(broken) => Err(AsmFault::WriteFault { sent: broken.sent }),
+    }
+}
+
+/// The exit status of a run: 0, or 1 where a statement is flagged or the map has a LINK line; 3
+/// after a fault of the input, 4 where no memory was left, 5 after a fault of the output.
+pub fn asm_status(outcome: &Result<Tally, AsmFault>) -> u8
+    ensures { result ≡ run_status outcome.now }
+{
+    match outcome {
+        Ok(tally) if tally.errors == 0 && tally.links == 0 => 0,
+        Ok(_) => 1,
+        Err(AsmFault::OutOfMemory) => 4,
+        Err(AsmFault::WriteFault { .. }) => 5,
+        Err(_) => 3,
+    }
+}
