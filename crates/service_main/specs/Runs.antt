@@ -1,6 +1,6 @@
 -- What a run does to its ports, and its status (ours).
 use Rattle.std.specs.Prelude.{ℕ, ◌==◌, ◌&&◌, if◌then◌else◌, ◌<◌, List, Option, Result, Ok, Err, length, take, ⊤}
-use Rattle.std.specs.Io.KnownBytes.{Appends, Consumes, Keeps}
+use Rattle.std.specs.Io.KnownBytes.{Appends, Consumes, IsAtEnd, Keeps}
 use Rattle.text_ports.specs.Faults.{count_up}
 use Rattle.service_main.specs.declared.asm_fault.AsmFault.{AsmFault}
 use Rattle.service_main.specs.declared.asm_fault.AsmFault.TheVariants.{OutOfMemory, DeckFull, NameTaken, TooManyDecks, ReadFault, BadLine, LastLineCut, WriteFault, BadName}
@@ -33,6 +33,22 @@ IsBeforeWriting (BadName line) = ⊤
 -- the reader lost some bytes from its front, and nothing else
 abbrev pub ConsumesSome : Option (List ℕ) → Option (List ℕ) → Type 0
 ConsumesSome old new = (taken : List ℕ) × Consumes old new taken
+
+abbrev pub IsReadBeforeFault : AsmFault → Option (List ℕ) → Type 0
+IsReadBeforeFault OutOfMemory left = ⊤
+IsReadBeforeFault DeckFull left = ⊤
+IsReadBeforeFault NameTaken left = ⊤
+IsReadBeforeFault TooManyDecks left = ⊤
+IsReadBeforeFault ReadFault left = ⊤
+IsReadBeforeFault (BadLine line fault) left = ⊤
+IsReadBeforeFault LastLineCut left = ⊤
+IsReadBeforeFault (WriteFault sent) left = IsAtEnd left
+IsReadBeforeFault (BadName line) left = ⊤
+
+-- where anything was to be written, all was read
+abbrev pub IsReadBefore : Result Tally AsmFault → Option (List ℕ) → Type 0
+IsReadBefore (Ok tally) left = IsAtEnd left
+IsReadBefore (Err fault) left = IsReadBeforeFault fault left
 
 -- a whole text went out
 abbrev pub AppendsWhole : Option (List ℕ) → Option (List ℕ) → Type 0

@@ -1,5 +1,6 @@
 //! Reads the cards of a run.
 ghost use Rattle.std.specs.Prelude.{◌≡◌, OnOk, IfErr};
+ghost use Rattle.std.specs.Io.KnownBytes.{IsAtEnd};
 ghost use Rattle.service_main.specs.Runs.{ConsumesSome, IsBeforeWriting, IsOfNoPort, input_count_after};
 
 use crate::asm_fault::AsmFault;
@@ -25,6 +26,7 @@ pub struct Deck {
 /// ends it.
 pub fn read_deck<R: Read>(alloc: Global, input: &mut Counted<R>) -> Result<Option<Deck>, AsmFault>
     ensures consumed { ConsumesSome (R.remaining input.old.0) (R.remaining input.new.0) }
+    ensures all_read { OnOk result (IsAtEnd (R.remaining input.new.0)) }
     ensures no_fault { OnOk result (input.new.1 ≡ input.old.1) }
     ensures count { IfErr result (λ fault. input.new.1 ≡ input_count_after fault input.old.1) }
     ensures before_writing { IfErr result IsBeforeWriting }

@@ -1,6 +1,6 @@
 //! One run of `compass asm`, and its status.
 ghost use Rattle.std.specs.Prelude.{◌≡◌, OnOk, IfErr};
-ghost use Rattle.service_main.specs.Runs.{ConsumesSome, AppendsWhole, IsOutputAfter, input_count_after, output_count_after, run_status};
+ghost use Rattle.service_main.specs.Runs.{ConsumesSome, IsReadBefore, AppendsWhole, IsOutputAfter, input_count_after, output_count_after, run_status};
 
 use crate::asm_fault::AsmFault;
 use crate::deck_input::read_deck;
@@ -24,6 +24,9 @@ pub fn asm_run<R: Read, W: Write>(
     output: &mut Counted<W>,
 ) -> Result<Tally, AsmFault>
     ensures consumed { ConsumesSome (R.remaining input.old.0) (R.remaining input.new.0) }
+
+    // Nothing is written before all is read.
+    ensures all_read { IsReadBefore result (R.remaining input.new.0) }
 
     // The whole output went out, and no port failed.
     ensures whole { OnOk result (AppendsWhole (W.contents output.old.0) (W.contents output.new.0)) }
