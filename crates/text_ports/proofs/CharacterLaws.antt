@@ -4,7 +4,7 @@ use Rattle.std.specs.Prelude.{unwrap_or}
 use Rattle.std.proofs.lemmas.Bool.{eqb-true}
 use Rattle.std.proofs.lemmas.Bool.Decides.{eqb_tells}
 use Rattle.std.proofs.lemmas.List.Quantifiers.{position-Some}
-use Rattle.text_ports.specs.Characters.{characters, character_of, display_code_of}
+use Rattle.definitions.specs.Characters.{characters, character_of, display_code_of}
 
 -- the test passes at each number below n
 abbrev passes_below : (ℕ → Bool) → ℕ → Bool

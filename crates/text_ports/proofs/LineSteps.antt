@@ -3,7 +3,8 @@ use Rattle.std.proofs.Common.{◌≡◌, ◌≢◌, ℕ, ◌+◌, ◌≤◌, Lis
 use Rattle.std.specs.Io.KnownBytes.{Consumes}
 use Rattle.std.proofs.KnownBytes.{Consumes-trans}
 use Rattle.std.proofs.lemmas.List.Elements.{All-push}
-use Rattle.text_ports.specs.Lines.{line_feed, IsUnbroken, ReadsLine, without_cr}
+use Rattle.definitions.specs.InputLines.{without_cr}
+use Rattle.text_ports.specs.Lines.{line_feed, IsUnbroken, ReadsLine}
 use Rattle.text_ports.specs.declared.lines.LineIs.TheVariants.{Line, TooLong}
 
 -- the line has all the bytes that the reader lost, `count` bytes, and none is a line feed

@@ -1,7 +1,7 @@
 -- The steps of writing octal digits from the last one on.
 use Rattle.std.proofs.Common.{◌≡◌, ℕ, ◌+◌, ◌-◌, ◌/◌, ◌%◌, ◌<◌, suc, List, [], ◌∷◌, ◌++◌, length, take, drop, slice_set, refl, sym, ap, ◌∙◌, arith, append_assoc}
 use Rattle.std.proofs.lemmas.List.{drop-set}
-use Rattle.text_ports.specs.Octal.{octal_of}
+use Rattle.definitions.specs.Numerals.{octal_of}
 
 take-cons : (n : ℕ) (x : ℕ) (xs : List ℕ) → take (suc n) (x ∷ xs) ≡ x ∷ take n xs
 take-cons n x xs = refl

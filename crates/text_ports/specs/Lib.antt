@@ -1,4 +1,2 @@
-pub mod Characters
-pub mod Octal
 pub mod Lines
 pub mod Faults

@@ -1,18 +1,12 @@
--- Lines of input (ours): a line is at most 256 bytes before a line feed.
+-- What reading a line takes from a port, and leaves in the buffer (ours).
 use Rattle.std.specs.Prelude.{ℕ, ◌≡◌, ◌≢◌, ◌==◌, ◌-◌, ◌<◌, ◌≤◌, List, [], ◌∷◌, ◌++◌, Option, length, take, slice_index, if◌then◌else◌, All, ⊤}
 use Rattle.std.specs.Io.KnownBytes.{Consumes, IsAtEnd}
+use Rattle.definitions.specs.InputLines.{without_cr}
 use Rattle.text_ports.specs.declared.lines.LineIs.{LineIs}
 use Rattle.text_ports.specs.declared.lines.LineIs.TheVariants.{Line, End, Cut, TooLong, Fault}
 
 abbrev pub line_feed : ℕ
 line_feed = 10
-
-abbrev pub carriage_return : ℕ
-carriage_return = 13
-
--- the bytes without one carriage return at their end
-abbrev pub without_cr : List ℕ → List ℕ
-without_cr bytes = if slice_index bytes (length bytes - 1) == carriage_return then take (length bytes - 1) bytes else bytes
 
 -- no line feed is among the bytes
 abbrev pub IsUnbroken : List ℕ → Type 0

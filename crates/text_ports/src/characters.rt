@@ -1,6 +1,6 @@
 //! Display code, both ways.
 ghost use Rattle.std.specs.Prelude.{◌≡◌, ◌<◌, ◌==◌, position, IfSome, Some};
-ghost use Rattle.text_ports.specs.Characters.{character_of, display_code_of};
+ghost use Rattle.definitions.specs.Characters.{character_of, display_code_of};
 
 /// The 64 characters, each at its display code.
 const CHARACTERS: [u8; 64] = *b":ABCDEFGHIJKLMNOPQRSTUVWXYZ0123456789+-*/()$= ,.#[]%\"_!&'?<>@\\^;";

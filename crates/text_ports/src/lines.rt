@@ -1,6 +1,7 @@
 //! Lines of a reader, byte by byte.
 ghost use Rattle.std.specs.Prelude.{◌≡◌, ◌+◌, ◌<◌, ◌≤◌, ◌++◌, ◌∷◌, [], length, IsTrue, ◌↔◌};
-ghost use Rattle.text_ports.specs.Lines.{ReadsLine, without_cr};
+ghost use Rattle.definitions.specs.InputLines.{without_cr};
+ghost use Rattle.text_ports.specs.Lines.{ReadsLine};
 ghost use Rattle.text_ports.specs.Faults.{count_after_line};
 
 use crate::counted::{ByteIs, Counted};

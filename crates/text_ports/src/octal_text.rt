@@ -1,6 +1,6 @@
 //! Numbers as octal text.
 ghost use Rattle.std.specs.Prelude.{◌≡◌, ◌<◌, ◌≤◌, ◌^◌, length};
-ghost use Rattle.text_ports.specs.Octal.{octal_of};
+ghost use Rattle.definitions.specs.Numerals.{octal_of};
 
 use std::marker::Model;
 

@@ -1,5 +1,5 @@
 use Rattle.std.proofs.Common.{◌≡◌, ◌+◌, ◌-◌, ◌∙◌, ap, ◌++◌, take, drop, arith, rules}
-use Rattle.text_ports.specs.Octal.{octal_of}
+use Rattle.definitions.specs.Numerals.{octal_of}
 use Rattle.text_ports.proofs.OctalSteps.{octal_of-step}
 use Rattle.text_ports.proofs.octal_text.octal.Goals as goal
 

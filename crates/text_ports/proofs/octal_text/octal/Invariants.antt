@@ -1,5 +1,5 @@
 use Rattle.std.proofs.Common.{◌≡◌, ◌-◌, ◌++◌, ◌≤◌, length, take, drop}
-use Rattle.text_ports.specs.Octal.{octal_of}
+use Rattle.definitions.specs.Numerals.{octal_of}
 use Rattle.text_ports.proofs.octal_text.octal.Given as goal
 
 -- the digits that are left, and then those that stand already, are the digits of the value

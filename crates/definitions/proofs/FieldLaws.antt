@@ -1,0 +1,375 @@
+-- The cut of a text into fields: each part that the scanning functions find is the lawful one, and the only one.
+use Rattle.std.proofs.Common.{ℕ, zero, suc, ◌≡◌, ◌≢◌, ◌-◌, ◌<◌, ◌≤◌, ◌⊎◌, inl, inr, List, [], ◌∷◌, ◌++◌, Bool, true, false, cond, not, ◌&&◌, ◌==◌, nat_lt, if◌then◌else◌, length, drop, codes, refl, sym, ◌∙◌, ap, ap₂, subst, arith, ltb-true, ltb-false, eq-eqb, ne_eqb}
+use Rattle.std.proofs.lemmas.Bool.Decides.{eqb_tells}
+use Rattle.std.proofs.lemmas.List.Sums.{take_while-cons}
+use Rattle.std.proofs.Math.Seq.{drop-append_seam}
+use Rattle.definitions.specs.Characters.{blank, same_text}
+use Rattle.definitions.specs.Pieces.{Spot, AtStart, begun_at, spot_behind, left_of, field_at}
+use Rattle.definitions.specs.Fields.{Fields, word_of, without_blanks, from_location, variable_of, fields_of_text}
+use Rattle.definitions.specs.Cuts.{IsWord, AreBlanks, HasBegun, IsLead, IsExtent, IsVariable, HasVariable, HasOperation, IsCut}
+
+-- what follows the word that begins a text
+abbrev behind_word : List ℕ → List ℕ
+behind_word text = drop (length (word_of text)) text
+
+-- the end of a text, where it begins before column 30
+abbrev in_time : List ℕ → List ℕ → List ℕ
+in_time text rest = if nat_lt (length text - length rest) 29 then rest else []
+
+-- no word begins at a blank
+word_of-blank : (c : ℕ) (cs : List ℕ) → c ≡ blank → word_of (c ∷ cs) ≡ []
+word_of-blank c cs h =
+    take_while-cons (λ d. not (d == blank)) c cs ∙ ap (λ (t : Bool). cond (not t) (c ∷ word_of cs) []) (eq-eqb c blank h)
+
+-- a word goes on with any other character
+word_of-other : (c : ℕ) (cs : List ℕ) → c ≢ blank → word_of (c ∷ cs) ≡ c ∷ word_of cs
+word_of-other c cs h =
+    take_while-cons (λ d. not (d == blank)) c cs ∙ ap (λ (t : Bool). cond (not t) (c ∷ word_of cs) []) (ne_eqb c blank h)
+
+-- a text is its word and the rest
+word_splits : (text : List ℕ) → (rest : List ℕ) × (text ≡ word_of text ++ rest) × IsWord (word_of text) rest
+word_splits [] = ([], refl, record { unbroken = tt; ends = tt })
+word_splits (c ∷ cs) =
+    let P : List ℕ → Type 0 = λ w. (rest : List ℕ) × (c ∷ cs ≡ w ++ rest) × IsWord w rest in
+    elim (eqb_tells c blank) [
+      | inl h ↦ subst P (sym (word_of-blank c cs h.1)) (c ∷ cs, refl, record { unbroken = tt; ends = h.1 })
+      | inr h ↦
+          let s = word_splits cs in
+          subst P (sym (word_of-other c cs h.1))
+          (s.0, ap (λ (t : List ℕ). c ∷ t) s.1, record { unbroken = (h.1, s.2.unbroken); ends = s.2.ends })
+    ]
+
+-- a text has no other word
+word_of-split : (word rest : List ℕ) → IsWord word rest → word_of (word ++ rest) ≡ word
+word_of-split [] [] h = refl
+word_of-split [] (c ∷ cs) h = word_of-blank c cs h.ends
+word_of-split (c ∷ word) rest h =
+    word_of-other c (word ++ rest) h.unbroken.0
+    ∙ ap (λ (t : List ℕ). c ∷ t) (word_of-split word rest (record { unbroken = h.unbroken.1; ends = h.ends }))
+
+-- what follows the word is the rest
+behind_word-split : (word rest : List ℕ) → IsWord word rest → behind_word (word ++ rest) ≡ rest
+behind_word-split word rest h =
+    ap (λ (w : List ℕ). drop (length w) (word ++ rest)) (word_of-split word rest h) ∙ drop-append_seam word rest
+
+-- what follows the word that begins a text is its rest
+behind_word-rest : (text rest : List ℕ) → text ≡ word_of text ++ rest → IsWord (word_of text) rest → behind_word text ≡ rest
+behind_word-rest text rest e h = ap behind_word e ∙ behind_word-split (word_of text) rest h
+
+-- blanks are passed over
+without_blanks-blank : (c : ℕ) (cs : List ℕ) → c ≡ blank → without_blanks (c ∷ cs) ≡ without_blanks cs
+without_blanks-blank c cs h = ap (λ (t : Bool). if t then without_blanks cs else c ∷ cs) (eq-eqb c blank h)
+
+-- any other character stays
+without_blanks-other : (c : ℕ) (cs : List ℕ) → c ≢ blank → without_blanks (c ∷ cs) ≡ c ∷ cs
+without_blanks-other c cs h = ap (λ (t : Bool). if t then without_blanks cs else c ∷ cs) (ne_eqb c blank h)
+
+-- a text is its blanks and what begins behind them
+blanks_split : (text : List ℕ) → (gap : List ℕ) × (text ≡ gap ++ without_blanks text) × AreBlanks gap (without_blanks text)
+blanks_split [] = ([], refl, record { blanks = tt; ends = tt })
+blanks_split (c ∷ cs) =
+    let P : List ℕ → Type 0 = λ begun. (gap : List ℕ) × (c ∷ cs ≡ gap ++ begun) × AreBlanks gap begun in
+    elim (eqb_tells c blank) [
+      | inl h ↦
+          let s = blanks_split cs in
+          subst P (sym (without_blanks-blank c cs h.1))
+          (c ∷ s.0, ap (λ (t : List ℕ). c ∷ t) s.1, record { blanks = (h.1, s.2.blanks); ends = s.2.ends })
+      | inr h ↦ subst P (sym (without_blanks-other c cs h.1)) ([], refl, record { blanks = tt; ends = h.1 })
+    ]
+
+-- nothing else begins behind a text's blanks
+without_blanks-split : (gap begun : List ℕ) → AreBlanks gap begun → without_blanks (gap ++ begun) ≡ begun
+without_blanks-split [] [] h = refl
+without_blanks-split [] (c ∷ cs) h = without_blanks-other c cs h.ends
+without_blanks-split (c ∷ gap) begun h =
+    without_blanks-blank c (gap ++ begun) h.blanks.0
+    ∙ without_blanks-split gap begun (record { blanks = h.blanks.1; ends = h.ends })
+
+-- the field ends at a blank outside an item
+field_at-blank : (spot : Spot) (c : ℕ) (cs : List ℕ) → c ≡ blank → field_at spot zero (c ∷ cs) ≡ []
+field_at-blank spot c cs h =
+    ap (λ (t : Bool). if t then [] else c ∷ field_at (spot_behind (begun_at spot c cs)) (left_of (begun_at spot c cs)) cs) (eq-eqb c blank h)
+
+-- the field goes on with any other character
+field_at-other : (spot : Spot) (c : ℕ) (cs : List ℕ) → c ≢ blank →
+    field_at spot zero (c ∷ cs) ≡ c ∷ field_at (spot_behind (begun_at spot c cs)) (left_of (begun_at spot c cs)) cs
+field_at-other spot c cs h =
+    ap (λ (t : Bool). if t then [] else c ∷ field_at (spot_behind (begun_at spot c cs)) (left_of (begun_at spot c cs)) cs) (ne_eqb c blank h)
+
+-- a text is its field and the rest
+field_splits : (spot : Spot) (left : ℕ) (text : List ℕ) →
+    (rest : List ℕ) × (text ≡ field_at spot left text ++ rest) × IsExtent spot left (field_at spot left text) rest
+field_splits spot zero [] = ([], refl, tt)
+field_splits spot (suc left) [] = ([], refl, tt)
+field_splits spot (suc left) (c ∷ cs) =
+    let s = field_splits spot left cs in
+    (s.0, ap (λ (t : List ℕ). c ∷ t) s.1, s.2)
+field_splits spot zero (c ∷ cs) =
+    let P : List ℕ → Type 0 = λ field. (rest : List ℕ) × (c ∷ cs ≡ field ++ rest) × IsExtent spot zero field rest in
+    elim (eqb_tells c blank) [
+      | inl h ↦ subst P (sym (field_at-blank spot c cs h.1)) (c ∷ cs, refl, h.1)
+      | inr h ↦
+          let s = field_splits (spot_behind (begun_at spot c cs)) (left_of (begun_at spot c cs)) cs in
+          let Q : List ℕ → Type 0 = λ tail.
+          IsExtent (spot_behind (begun_at spot c tail)) (left_of (begun_at spot c tail))
+          (field_at (spot_behind (begun_at spot c cs)) (left_of (begun_at spot c cs)) cs) s.0 in
+          subst P (sym (field_at-other spot c cs h.1)) (s.0, ap (λ (t : List ℕ). c ∷ t) s.1, (h.1, subst Q s.1 s.2))
+    ]
+
+-- a text has no other field
+field_at-split : (spot : Spot) (left : ℕ) (field rest : List ℕ) → IsExtent spot left field rest → field_at spot left (field ++ rest) ≡ field
+field_at-split spot left [] [] h = refl
+field_at-split spot zero [] (c ∷ cs) h = field_at-blank spot c cs h
+field_at-split spot (suc left) [] (c ∷ cs) h = absurd h
+field_at-split spot (suc left) (c ∷ field) rest h = ap (λ (t : List ℕ). c ∷ t) (field_at-split spot left field rest h)
+field_at-split spot zero (c ∷ field) rest h =
+    field_at-other spot c (field ++ rest) h.0
+    ∙ ap (λ (t : List ℕ). c ∷ t)
+    (field_at-split (spot_behind (begun_at spot c (field ++ rest))) (left_of (begun_at spot c (field ++ rest))) field rest h.1)
+
+-- what the test of two texts tells
+same_text_tells : (a b : List ℕ) → ((same_text a b ≡ true) × (a ≡ b)) ⊎ ((same_text a b ≡ false) × (a ≢ b))
+same_text_tells [] [] = inl (refl, refl)
+same_text_tells [] (d ∷ b) = inr (refl, λ e. cc)
+same_text_tells (c ∷ a) [] = inr (refl, λ e. cc)
+same_text_tells (c ∷ a) (d ∷ b) =
+    elim (eqb_tells c d) [
+      | inl h ↦ elim (same_text_tells a b) [
+        | inl k ↦ inl (ap₂ (λ (s t : Bool). s && t) h.0 k.0, cc)
+        | inr k ↦ inr (ap₂ (λ (s t : Bool). s && t) h.0 k.0, λ e. k.1 (cc))
+      ]
+      | inr h ↦ inr (ap (λ (s : Bool). s && same_text a b) h.0, λ e. h.1 (cc))
+    ]
+
+-- what the test of the column tells
+in_time_tells : (text rest : List ℕ) →
+    (HasBegun text rest × (in_time text rest ≡ rest)) ⊎ ((¬ HasBegun text rest) × (in_time text rest ≡ []))
+in_time_tells text rest = by (nat_lt (length text - length rest) 29) refl
+  where
+    by : (t : Bool) → nat_lt (length text - length rest) 29 ≡ t →
+        (HasBegun text rest × (in_time text rest ≡ rest)) ⊎ ((¬ HasBegun text rest) × (in_time text rest ≡ []))
+    by true e = inl (early (ltb-true _ _ e), ap (λ (t : Bool). if t then rest else []) e)
+      where
+        early : length text - length rest < 29 → HasBegun text rest
+        early h = omega arith
+    by false e = inr (late (ltb-false _ _ e), ap (λ (t : Bool). if t then rest else []) e)
+      where
+        late : 29 ≤ length text - length rest → ¬ HasBegun text rest
+        late h k = omega arith
+
+-- a choice between a text and itself
+either_is : (t : Bool) (text : List ℕ) → (if t then text else text) ≡ text
+either_is true text = refl
+either_is false text = refl
+
+-- the end without characters is nothing
+in_time-nil : (text : List ℕ) → in_time text [] ≡ []
+in_time-nil text = either_is (nat_lt (length text - 0) 29) []
+
+-- a text is its lead and the location field's place
+lead_splits : (text : List ℕ) → (lead : List ℕ) × (text ≡ lead ++ from_location text) × IsLead lead (from_location text)
+lead_splits [] = ([], refl, tt)
+lead_splits (c ∷ cs) =
+    let P : List ℕ → Type 0 = λ first. (lead : List ℕ) × (c ∷ cs ≡ lead ++ first) × IsLead lead first in
+    elim (eqb_tells c blank) [
+      | inl h ↦ subst P (ap (λ (t : Bool). if t then cs else c ∷ cs) (sym h.0)) (c ∷ [], refl, h.1)
+      | inr h ↦ subst P (ap (λ (t : Bool). if t then cs else c ∷ cs) (sym h.0)) ([], refl, h.1)
+    ]
+
+-- a text has no other lead
+from_location-split : (lead first : List ℕ) → IsLead lead first → from_location (lead ++ first) ≡ first
+from_location-split [] [] h = refl
+from_location-split [] (c ∷ cs) h = ap (λ (t : Bool). if t then cs else c ∷ cs) (ne_eqb c blank h)
+from_location-split (c ∷ []) first h = ap (λ (t : Bool). if t then first else c ∷ first) (eq-eqb c blank h)
+from_location-split (c ∷ d ∷ cs) first h = absurd h
+
+-- the variable field of an operation is a lawful one
+variable_lawful : (operation begun : List ℕ) → IsVariable operation begun (variable_of operation begun)
+variable_lawful operation begun =
+    let P : Bool → Type 0 = λ t. IsVariable operation begun (if t then begun else field_at AtStart 0 begun) in
+    elim (same_text_tells operation (codes "DIS")) [
+      | inl h ↦ subst P (sym h.0) (inl (h.1, refl))
+      | inr h ↦ subst P (sym h.0) (inr (h.1, field_splits AtStart zero begun))
+    ]
+
+-- an operation has no other variable field
+variable_only : (operation begun variable : List ℕ) → IsVariable operation begun variable → variable ≡ variable_of operation begun
+variable_only operation begun variable (inl v) =
+    elim (same_text_tells operation (codes "DIS")) [
+      | inl h ↦ v.1 ∙ sym (ap (λ (t : Bool). if t then begun else field_at AtStart 0 begun) h.0)
+      | inr h ↦ absurd (h.1 v.0)
+    ]
+variable_only operation begun variable (inr v) =
+    elim (same_text_tells operation (codes "DIS")) [
+      | inl h ↦ absurd (v.0 h.1)
+      | inr h ↦
+          sym (field_at-split AtStart zero variable v.1.0 v.1.2)
+          ∙ ap (λ (t : List ℕ). field_at AtStart 0 t) (sym v.1.1)
+          ∙ sym (ap (λ (t : Bool). if t then begun else field_at AtStart 0 begun) h.0)
+    ]
+
+-- where nothing begins there is no variable field
+variable_of-nil : (operation : List ℕ) → variable_of operation [] ≡ []
+variable_of-nil operation = either_is (same_text operation (codes "DIS")) []
+
+-- what is found behind an operation is lawful
+behind_operation_lawful : (text operation behind : List ℕ) →
+    HasVariable text operation behind (variable_of operation (in_time text (without_blanks behind)))
+behind_operation_lawful text operation behind =
+    let s = blanks_split behind in
+    let P : List ℕ → Type 0 = λ begun.
+    (HasBegun text (without_blanks behind) × IsVariable operation (without_blanks behind) (variable_of operation begun))
+    ⊎ ((¬ HasBegun text (without_blanks behind)) × (variable_of operation begun ≡ [])) in (
+      s.0,
+      without_blanks behind,
+      s.1,
+      s.2,
+      elim (in_time_tells text (without_blanks behind)) [
+        | inl h ↦ subst P (sym h.1) (inl (h.0, variable_lawful operation (without_blanks behind)))
+        | inr h ↦ subst P (sym h.1) (inr (h.0, variable_of-nil operation))
+      ],
+    )
+
+-- what begins behind a lawful gap, where it begins in time
+in_time-begun : (text behind gap begun : List ℕ) → behind ≡ gap ++ begun → AreBlanks gap begun → HasBegun text begun →
+    in_time text (without_blanks behind) ≡ begun
+in_time-begun text behind gap begun e h k =
+    ap (λ (t : List ℕ). in_time text (without_blanks t)) e
+    ∙ ap (λ (t : List ℕ). in_time text t) (without_blanks-split gap begun h)
+    ∙ elim (in_time_tells text begun) [ inl w ↦ w.1 | inr w ↦ absurd (w.0 k) ]
+
+-- and where it does not
+in_time-late : (text behind gap begun : List ℕ) → behind ≡ gap ++ begun → AreBlanks gap begun → (¬ HasBegun text begun) →
+    in_time text (without_blanks behind) ≡ []
+in_time-late text behind gap begun e h k =
+    ap (λ (t : List ℕ). in_time text (without_blanks t)) e
+    ∙ ap (λ (t : List ℕ). in_time text t) (without_blanks-split gap begun h)
+    ∙ elim (in_time_tells text begun) [ inl w ↦ absurd (k w.0) | inr w ↦ w.1 ]
+
+-- nothing else is lawful behind an operation
+behind_operation_only : (text operation behind variable : List ℕ) → HasVariable text operation behind variable →
+    variable ≡ variable_of operation (in_time text (without_blanks behind))
+behind_operation_only text operation behind variable (gap, begun, e, h, inl w) =
+    variable_only operation begun variable w.1
+    ∙ ap (λ (t : List ℕ). variable_of operation t) (sym (in_time-begun text behind gap begun e h w.0))
+behind_operation_only text operation behind variable (gap, begun, e, h, inr w) =
+    w.1 ∙ sym (variable_of-nil operation)
+    ∙ ap (λ (t : List ℕ). variable_of operation t) (sym (in_time-late text behind gap begun e h w.0))
+
+-- the operation and the variable field that are found in what begins behind the location field
+abbrev AreFound : List ℕ → List ℕ → Fields → Type 0
+AreFound text begun fields =
+    (fields.operation ≡ word_of begun)
+    × (fields.variable ≡ variable_of (word_of begun) (in_time text (without_blanks (behind_word begun))))
+
+-- where nothing begins, neither is found
+found-nil : (text : List ℕ) (fields : Fields) → fields.operation ≡ [] → fields.variable ≡ [] → AreFound text [] fields
+found-nil text fields e k = (e, k ∙ sym (variable_of-nil []) ∙ ap (λ (t : List ℕ). variable_of [] t) (sym (in_time-nil text)))
+
+-- a lawful operation with what is lawful behind it is what is found
+found-begun : (text rest : List ℕ) (fields : Fields) → IsWord fields.operation rest →
+    HasVariable text fields.operation rest fields.variable → AreFound text (fields.operation ++ rest) fields
+found-begun text rest fields h k = (
+  sym (word_of-split fields.operation rest h),
+  behind_operation_only text fields.operation rest fields.variable k
+      ∙ ap₂ (λ (o b : List ℕ). variable_of o (in_time text (without_blanks b)))
+      (sym (word_of-split fields.operation rest h)) (sym (behind_word-split fields.operation rest h)),
+)
+
+-- nothing else is lawful behind a location field
+behind_location_only : (text behind : List ℕ) (fields : Fields) → HasOperation text behind fields →
+    AreFound text (in_time text (without_blanks behind)) fields
+behind_location_only text behind fields (gap, begun, e, h, inl w) =
+    let P : List ℕ → Type 0 = λ t. AreFound text t fields in
+    subst P (sym (in_time-begun text behind gap begun e h w.0 ∙ w.1.1)) (found-begun text w.1.0 fields w.1.2 w.1.3)
+behind_location_only text behind fields (gap, begun, e, h, inr w) =
+    let P : List ℕ → Type 0 = λ t. AreFound text t fields in
+    subst P (sym (in_time-late text behind gap begun e h w.0)) (found-nil text fields w.1 w.2)
+
+-- the three fields of a text whose location field begins there
+abbrev AreAllFound : List ℕ → List ℕ → Fields → Type 0
+AreAllFound text first fields =
+    (fields.location ≡ word_of first) × AreFound text (in_time text (without_blanks (behind_word first))) fields
+
+-- a lawful location field with what is lawful behind it is what is found
+all_found : (text rest : List ℕ) (fields : Fields) → IsWord fields.location rest → HasOperation text rest fields →
+    AreAllFound text (fields.location ++ rest) fields
+all_found text rest fields h k =
+    let P : List ℕ → Type 0 = λ t. AreFound text (in_time text (without_blanks t)) fields in
+    (sym (word_of-split fields.location rest h), subst P (sym (behind_word-split fields.location rest h)) (behind_location_only text rest fields k))
+
+-- fields of three parts
+abbrev of_parts : List ℕ → List ℕ → List ℕ → Fields
+of_parts l o v = record { location = l; operation = o; variable = v }
+
+-- fields are their three parts
+same_fields : (fields : Fields) (l o v : List ℕ) → fields.location ≡ l → fields.operation ≡ o → fields.variable ≡ v →
+    fields ≡ of_parts l o v
+same_fields fields l o v e k h =
+    ap₂ (λ (a b : List ℕ). of_parts a b fields.variable) e k ∙ ap (λ (a : List ℕ). of_parts l o a) h
+
+-- a text has no other cut
+pub cut_only : (text : List ℕ) (fields : Fields) → IsCut text fields → fields ≡ fields_of_text text
+cut_only text fields (lead, first, e, l, (rest, k, h, o)) =
+    let P : List ℕ → Type 0 = λ t. AreAllFound text t fields in
+    let found = subst P (sym (ap from_location e ∙ from_location-split lead first l ∙ k)) (all_found text rest fields h o) in
+    same_fields fields _ _ _ found.0 found.1.0 found.1.1
+
+-- the fields with this location field and what is found behind it
+abbrev fields_with : List ℕ → List ℕ → List ℕ → Fields
+fields_with text location begun = record {
+  location = location;
+  operation = word_of begun;
+  variable = variable_of (word_of begun) (in_time text (without_blanks (behind_word begun)));
+}
+
+-- what is found where an operation begins is lawful
+operation_lawful : (text begun : List ℕ) →
+    (rest : List ℕ) × (begun ≡ word_of begun ++ rest) × IsWord (word_of begun) rest
+    × HasVariable text (word_of begun) rest (variable_of (word_of begun) (in_time text (without_blanks (behind_word begun))))
+operation_lawful text begun =
+    let s = word_splits begun in
+    let P : List ℕ → Type 0 = λ t. HasVariable text (word_of begun) s.0 (variable_of (word_of begun) (in_time text (without_blanks t))) in
+    (s.0, s.1, s.2, subst P (sym (behind_word-rest begun s.0 s.1 s.2)) (behind_operation_lawful text (word_of begun) s.0))
+
+-- what is found behind a location field is lawful
+behind_location_lawful : (text behind location : List ℕ) →
+    HasOperation text behind (fields_with text location (in_time text (without_blanks behind)))
+behind_location_lawful text behind location =
+    let s = blanks_split behind in
+    let b = without_blanks behind in
+    let P : List ℕ → Type 0 = λ begun.
+    (HasBegun text b × ((rest : List ℕ) × (b ≡ word_of begun ++ rest) × IsWord (word_of begun) rest
+    × HasVariable text (word_of begun) rest (variable_of (word_of begun) (in_time text (without_blanks (behind_word begun))))))
+    ⊎ ((¬ HasBegun text b) × (word_of begun ≡ [])
+    × (variable_of (word_of begun) (in_time text (without_blanks (behind_word begun))) ≡ [])) in (
+      s.0,
+      b,
+      s.1,
+      s.2,
+      elim (in_time_tells text b) [
+        | inl h ↦ subst P (sym h.1) (inl (h.0, operation_lawful text b))
+        | inr h ↦ subst P (sym h.1)
+            (inr (h.0, refl, ap (λ (t : List ℕ). variable_of [] t) (in_time-nil text) ∙ variable_of-nil []))
+      ],
+    )
+
+-- the cut of a text is lawful
+pub cut_lawful : (text : List ℕ) → IsCut text (fields_of_text text)
+cut_lawful text =
+    let s = lead_splits text in
+    let w = word_splits (from_location text) in
+    let P : List ℕ → Type 0 = λ t.
+    HasOperation text w.0 (fields_with text (word_of (from_location text)) (in_time text (without_blanks t))) in (
+      s.0,
+      from_location text,
+      s.1,
+      s.2,
+      (
+        w.0,
+        w.1,
+        w.2,
+        subst P (sym (behind_word-rest (from_location text) w.0 w.1 w.2))
+            (behind_location_lawful text w.0 (word_of (from_location text))),
+      ),
+    )

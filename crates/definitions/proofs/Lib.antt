@@ -1,0 +1,13 @@
+pub mod NumeralLaws
+pub mod StatementLaws
+pub mod PlaceLaws
+pub mod LengthLaws
+pub mod WordLaws
+pub mod LiteralLaws
+pub mod FieldLaws
+pub mod WorkedCentral
+pub mod WorkedKinds
+pub mod WorkedCards
+pub mod GrammarLaws
+pub mod TermLaws
+pub mod ExpressionLaws

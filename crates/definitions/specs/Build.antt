@@ -1,0 +1,41 @@
+-- A build: what assembling and linking decks gives, and what it counts.
+use Rattle.std.specs.Prelude.{ℕ, ◌+◌, List, [], ◌∷◌, ◌++◌, flat_map, map, length}
+use Rattle.definitions.specs.Objects.{Deck, Object, object_of}
+use Rattle.definitions.specs.Listing.{deck_listing, errors_of}
+use Rattle.definitions.specs.Link.{Based, based_of, link_lines}
+use Rattle.definitions.specs.Map.{map_text}
+use Rattle.definitions.specs.Image.{image_text}
+
+abbrev pub listing_of_objects : List Object → List ℕ
+listing_of_objects objects = flat_map deck_listing objects ++ map_text (based_of objects)
+
+abbrev pub image_of_objects : List Object → List ℕ
+image_of_objects objects = image_text (based_of objects)
+
+-- the listing of decks, with the link map
+abbrev pub listing_of : List Deck → List ℕ
+listing_of decks = listing_of_objects (map object_of decks)
+
+-- the octal image of decks
+abbrev pub image_of : List Deck → List ℕ
+image_of decks = image_of_objects (map object_of decks)
+
+abbrev pub errors_in : List Object → ℕ
+errors_in [] = 0
+errors_in (object ∷ objects) = errors_of object + errors_in objects
+
+-- the two texts, one behind the other, and how many statements are flagged and how many LINK lines there are
+pub record Build : Type 0 where
+  pub text : List ℕ
+  pub errors : ℕ
+  pub links : ℕ
+
+abbrev pub build_of_objects : List Object → Build
+build_of_objects objects = record {
+  text = listing_of_objects objects ++ image_of_objects objects;
+  errors = errors_in objects;
+  links = length (link_lines (based_of objects));
+}
+
+abbrev pub build_of : List Deck → Build
+build_of decks = build_of_objects (map object_of decks)

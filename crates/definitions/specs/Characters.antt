@@ -1,0 +1,38 @@
+-- Characters: the 64 of the set with their display codes, and the classes that the language tells apart
+-- (COMPASS 60492600, character set; the marks of symbols are ours).
+use Rattle.std.specs.Prelude.{ℕ, List, [], ◌∷◌, Option, Bool, true, false, ◌==◌, ◌&&◌, ◌||◌, nat_le, codes, position, slice_index}
+use Rattle.std.specs.List.{list_any}
+
+-- the characters in the order of their display codes, 00 to 77 octal
+abbrev pub characters : List ℕ
+characters = codes ":ABCDEFGHIJKLMNOPQRSTUVWXYZ0123456789+-*/()$= ,.#[]%\"_!&'?<>@\\^;"
+
+-- the display code of a character, if it has one
+abbrev pub display_code_of : ℕ → Option ℕ
+display_code_of character = position (λ c. c == character) characters
+
+-- the character that a display code below 64 stands for
+abbrev pub character_of : ℕ → ℕ
+character_of code = slice_index characters code
+
+abbrev pub blank : ℕ
+blank = 32
+
+abbrev pub is_among : ℕ → List ℕ → Bool
+is_among character set = list_any (λ c. c == character) set
+
+abbrev pub is_digit : ℕ → Bool
+is_digit c = nat_le 48 c && nat_le c 57
+
+abbrev pub is_letter : ℕ → Bool
+is_letter c = nat_le 65 c && nat_le c 90
+
+-- letters, digits and the marks of symbols
+abbrev pub is_symbol_character : ℕ → Bool
+is_symbol_character c = is_letter c || is_digit c || is_among c (codes ".$=#[]%\"_!&'?<>@\\")
+
+-- whether two texts are the same
+abbrev pub same_text : List ℕ → List ℕ → Bool
+same_text [] [] = true
+same_text (a ∷ as') (b ∷ bs) = (a == b) && same_text as' bs
+same_text _ _ = false

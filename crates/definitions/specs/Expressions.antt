@@ -1,0 +1,145 @@
+-- Expressions: the tree, and how the pieces of a subfield are read (COMPASS 60492600, address expressions).
+use Rattle.std.specs.Prelude.{ℕ, List, [], ◌∷◌, ◌++◌, Option, Some, None, Bool, true, false, ◌&&◌, nat_le, codes, map, flat_map, if◌then◌else◌}
+use Rattle.std.specs.List.{list_all}
+use Rattle.definitions.specs.Characters.{same_text}
+use Rattle.definitions.specs.Items.{Item, bits_needed}
+use Rattle.definitions.specs.Pieces.{Mark, Comma, Plus, Minus, Star, Slash, Equals, Piece, IsMark, IsItem, Run}
+use Rattle.definitions.specs.Symbols.{Register, register_of, is_symbol, Number, number_read}
+use Rattle.definitions.specs.declared.marks.NumberBase.{NumberBase}
+
+pub data Sign : Type 0 where
+  NoSign : Sign
+  PlusSign : Sign
+  MinusSign : Sign
+
+-- what an equals sign stands before
+pub data Literal : Type 0 where
+  OfNumber : Sign → Number → Literal
+  OfItem : Item → Literal
+
+pub data Element : Type 0 where
+  ANumber : Number → Element
+  AnItem : Item → Element
+  ASymbol : List ℕ → Element
+  ARegister : Register → Element
+  LocationCounter : Element
+  OriginCounter : Element
+  ALiteral : Literal → Element
+
+-- what stands between two elements
+pub data Operator : Type 0 where
+  Times : Operator
+  Divide : Operator
+  Add : Operator
+  Subtract : Operator
+
+-- an operator with the element behind it
+pub record Link : Type 0 where
+  pub operator : Operator
+  pub element : Element
+
+-- an element that is added or subtracted, and the factors that multiply or divide it in turn
+pub record Term : Type 0 where
+  pub operator : Operator
+  pub element : Element
+  pub factors : List Link
+
+-- the sum of its terms; the sign is that of the first one
+pub record Expression : Type 0 where
+  pub sign : Sign
+  pub terms : List Term
+
+abbrev pub element_of_number : Option Number → Option Element
+element_of_number None = None
+element_of_number (Some number) = Some (ANumber number)
+
+abbrev pub element_of_name : NumberBase → List ℕ → Option Register → Option Element
+element_of_name base text None = if is_symbol text then Some (ASymbol text) else element_of_number (number_read base text)
+element_of_name base text (Some register) = Some (ARegister register)
+
+-- the element that a run of characters spells, if it spells one
+abbrev pub element_of_run : NumberBase → List ℕ → Option Element
+element_of_run base text = element_of_name base text (register_of text)
+
+-- behind a star where an element may begin: `*L` is the location counter too
+abbrev pub counter_of : List ℕ → Option Element
+counter_of text =
+    if same_text text (codes "O") then Some OriginCounter
+    else if same_text text (codes "L") then Some LocationCounter else None
+
+abbrev pub literal_of : Sign → Option Number → Option Element
+literal_of sign None = None
+literal_of sign (Some number) = Some (ALiteral (OfNumber sign number))
+
+-- what is awaited: an operator, or an element behind an operator
+pub data Awaited : Type 0 where
+  AnOperator : Awaited
+  ElementOf : Operator → Awaited
+
+abbrev pub onto_links : Operator → Option Element → Option (List Link) → Option (List Link)
+onto_links operator None links = None
+onto_links operator (Some element) None = None
+onto_links operator (Some element) (Some links) = Some (record { operator = operator; element = element } ∷ links)
+
+-- elements with the operators between them
+abbrev pub links_of : NumberBase → Awaited → List Piece → Option (List Link)
+links_of base AnOperator [] = Some []
+links_of base AnOperator (IsMark Plus ∷ pieces) = links_of base (ElementOf Add) pieces
+links_of base AnOperator (IsMark Minus ∷ pieces) = links_of base (ElementOf Subtract) pieces
+links_of base AnOperator (IsMark Star ∷ pieces) = links_of base (ElementOf Times) pieces
+links_of base AnOperator (IsMark Slash ∷ pieces) = links_of base (ElementOf Divide) pieces
+links_of base AnOperator (piece ∷ pieces) = None
+links_of base (ElementOf o) (Run text ∷ pieces) = onto_links o (element_of_run base text) (links_of base AnOperator pieces)
+links_of base (ElementOf o) (IsItem item ∷ pieces) = onto_links o (Some (AnItem item)) (links_of base AnOperator pieces)
+links_of base (ElementOf o) (IsMark Star ∷ Run text ∷ pieces) = onto_links o (counter_of text) (links_of base AnOperator pieces)
+links_of base (ElementOf o) (IsMark Star ∷ IsItem item ∷ pieces) = None
+links_of base (ElementOf o) (IsMark Star ∷ IsMark Equals ∷ pieces) = None
+links_of base (ElementOf o) (IsMark Star ∷ pieces) = onto_links o (Some LocationCounter) (links_of base AnOperator pieces)
+links_of base (ElementOf o) (IsMark Equals ∷ Run text ∷ pieces) = onto_links o (literal_of NoSign (number_read base text)) (links_of base AnOperator pieces)
+links_of base (ElementOf o) (IsMark Equals ∷ IsItem item ∷ pieces) = onto_links o (Some (ALiteral (OfItem item))) (links_of base AnOperator pieces)
+links_of base (ElementOf o) (IsMark Equals ∷ IsMark Plus ∷ Run text ∷ pieces) = onto_links o (literal_of PlusSign (number_read base text)) (links_of base AnOperator pieces)
+links_of base (ElementOf o) (IsMark Equals ∷ IsMark Minus ∷ Run text ∷ pieces) = onto_links o (literal_of MinusSign (number_read base text)) (links_of base AnOperator pieces)
+links_of base (ElementOf o) pieces = None
+
+-- the factors in front, and the terms behind them
+pub record Grouped : Type 0 where
+  pub factors : List Link
+  pub terms : List Term
+
+abbrev pub onto_grouped : Link → Operator → Grouped → Grouped
+onto_grouped link Times rest = record { factors = link ∷ rest.factors; terms = rest.terms }
+onto_grouped link Divide rest = record { factors = link ∷ rest.factors; terms = rest.terms }
+onto_grouped link Add rest = record { factors = []; terms = record { operator = Add; element = link.element; factors = rest.factors } ∷ rest.terms }
+onto_grouped link Subtract rest = record { factors = []; terms = record { operator = Subtract; element = link.element; factors = rest.factors } ∷ rest.terms }
+
+abbrev pub grouped : List Link → Grouped
+grouped [] = record { factors = []; terms = [] }
+grouped (link ∷ links) = onto_grouped link link.operator (grouped links)
+
+abbrev pub with_sign : Sign → Option (List Link) → Option Expression
+with_sign sign None = None
+with_sign sign (Some links) = Some (record { sign = sign; terms = (grouped links).terms })
+
+-- the expression that the pieces of a subfield spell, if they spell one
+abbrev pub expression_of : NumberBase → List Piece → Option Expression
+expression_of base (IsMark Plus ∷ pieces) = with_sign PlusSign (links_of base (ElementOf Add) pieces)
+expression_of base (IsMark Minus ∷ pieces) = with_sign MinusSign (links_of base (ElementOf Subtract) pieces)
+expression_of base pieces = with_sign NoSign (links_of base (ElementOf Add) pieces)
+
+-- the elements of an expression, from left to right
+abbrev pub elements_of : Expression → List Element
+elements_of e = flat_map (λ term. term.element ∷ map (λ link. link.element) term.factors) e.terms
+
+-- a literal is allowed where literals are, if its item fits one word
+abbrev pub is_allowed_literal : Bool → Literal → Bool
+is_allowed_literal literals (OfNumber sign number) = literals
+is_allowed_literal literals (OfItem item) = literals && nat_le (bits_needed item) 60
+
+abbrev pub is_allowed : Bool → Element → Bool
+is_allowed literals (ARegister r) = false
+is_allowed literals (ALiteral l) = is_allowed_literal literals l
+is_allowed literals _ = true
+
+-- an expression without registers, and without literals where they are not allowed
+abbrev pub is_plain : Bool → Expression → Bool
+is_plain literals e = list_all (is_allowed literals) (elements_of e)

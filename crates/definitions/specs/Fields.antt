@@ -1,0 +1,47 @@
+-- The fields of a statement (COMPASS 60492600, statement format).
+use Rattle.std.specs.Prelude.{ℕ, ◌-◌, ◌==◌, List, [], ◌∷◌, not, nat_lt, length, drop, codes, take_while, if◌then◌else◌}
+use Rattle.definitions.specs.Characters.{blank, same_text}
+use Rattle.definitions.specs.Cards.{Card}
+use Rattle.definitions.specs.Statements.{text_of, is_unread}
+use Rattle.definitions.specs.Pieces.{AtStart, field_at}
+
+pub record Fields : Type 0 where
+  pub location : List ℕ
+  pub operation : List ℕ
+  pub variable : List ℕ
+
+-- the run without blanks that begins a text
+abbrev pub word_of : List ℕ → List ℕ
+word_of text = take_while (λ c. not (c == blank)) text
+
+abbrev pub without_blanks : List ℕ → List ℕ
+without_blanks [] = []
+without_blanks (c ∷ cs) = if c == blank then without_blanks cs else c ∷ cs
+
+-- a location field may begin in column 1 or 2
+abbrev pub from_location : List ℕ → List ℕ
+from_location [] = []
+from_location (c ∷ cs) = if c == blank then cs else c ∷ cs
+
+-- what follows a word and its blanks, where it begins before column 30 of the text
+abbrev pub next_field : List ℕ → List ℕ → List ℕ
+next_field text from =
+    let rest = without_blanks (drop (length (word_of from)) from) in
+    if nat_lt (length text - length rest) 29 then rest else []
+
+-- DIS takes the rest of the text
+abbrev pub variable_of : List ℕ → List ℕ → List ℕ
+variable_of operation rest = if same_text operation (codes "DIS") then rest else field_at AtStart 0 rest
+
+abbrev pub fields_of_text : List ℕ → Fields
+fields_of_text text =
+    let first = from_location text in
+    let second = next_field text first in
+    record { location = word_of first; operation = word_of second; variable = variable_of (word_of second) (next_field text second) }
+
+abbrev pub no_fields : Fields
+no_fields = record { location = []; operation = []; variable = [] }
+
+-- the fields of a statement's cards
+abbrev pub fields_of : List Card → Fields
+fields_of cards = if is_unread cards then no_fields else fields_of_text (text_of cards)

@@ -1,0 +1,155 @@
+-- Forms: the value of an expression is a number and at most one block or external with a sign
+-- (COMPASS 60492600, evaluation of expressions; the range is ours).
+use Rattle.std.specs.Prelude.{ℕ, ◌*◌, ◌+◌, ◌-◌, ◌==◌, List, [], ◌∷◌, Option, Some, None, Result, Ok, Err, Bool, true, false, ◌&&◌, nat_le, nat_lt, length, fold, unwrap_or, ℤ, pos, negsuc, ◌+ℤ◌, ◌*ℤ◌, neg_ℤ, unsigned_abs, int_div, if◌then◌else◌}
+use Rattle.definitions.specs.Characters.{display_code_of, same_text}
+use Rattle.definitions.specs.Items.{Item}
+use Rattle.definitions.specs.Symbols.{Number, Value, TooGreat, greatest}
+use Rattle.definitions.specs.Expressions.{Sign, NoSign, PlusSign, MinusSign, Literal, OfNumber, OfItem, Element, ANumber, AnItem, ASymbol, ARegister, LocationCounter, OriginCounter, ALiteral, Operator, Times, Divide, Add, Subtract, Link, Term, Expression}
+use Rattle.definitions.specs.declared.marks.Letter.{Letter}
+use Rattle.definitions.specs.declared.marks.Letter.TheVariants as letter
+
+-- what is known at the link alone: where a block stands, what an external is; the literals block is `=`
+pub data Base : Type 0 where
+  Block : List ℕ → Base
+  External : List ℕ → Base
+
+-- a base that is added, or subtracted
+pub data Part : Type 0 where
+  Added : Base → Part
+  Subtracted : Base → Part
+
+pub record Form : Type 0 where
+  pub number : ℤ
+  pub part : Option Part
+
+-- what an expression sees: symbols, literals, and the two counters
+pub record Names : Type 0 where
+  pub symbol : List ℕ → Option Form
+  pub literal : Literal → Result Form Letter
+  pub location : Form
+  pub origin : Form
+
+abbrev pub absolute : ℤ → Form
+absolute number = record { number = number; part = None }
+
+abbrev pub is_absolute : Form → Bool
+is_absolute form = elim form.part [ None ↦ true | Some part ↦ false ]
+
+abbrev pub is_negative : ℤ → Bool
+is_negative (pos n) = false
+is_negative (negsuc n) = true
+
+abbrev pub is_in_range : ℤ → Bool
+is_in_range number = nat_le (unsigned_abs number) greatest
+
+abbrev pub same_base : Base → Base → Bool
+same_base (Block a) (Block b) = same_text a b
+same_base (External a) (External b) = same_text a b
+same_base _ _ = false
+
+-- while a sum goes on: its number, and its bases with what each is multiplied by
+pub record Running : Type 0 where
+  pub number : ℤ
+  pub bases : List (Base × ℤ)
+
+abbrev pub running_part : Option Part → List (Base × ℤ)
+running_part None = []
+running_part (Some (Added base)) = (base, pos 1) ∷ []
+running_part (Some (Subtracted base)) = (base, negsuc 0) ∷ []
+
+abbrev pub plus_base : Base → ℤ → List (Base × ℤ) → List (Base × ℤ)
+plus_base base times [] = (base, times) ∷ []
+plus_base base times (other ∷ others) = if same_base base other.0 then (other.0, other.1 +ℤ times) ∷ others else other ∷ plus_base base times others
+
+abbrev pub is_zero : ℤ → Bool
+is_zero (pos n) = n == 0
+is_zero (negsuc n) = false
+
+-- the bases whose multiple is not 0
+abbrev pub remaining : List (Base × ℤ) → List (Base × ℤ)
+remaining [] = []
+remaining (base ∷ bases) = if is_zero base.1 then remaining bases else base ∷ remaining bases
+
+-- no base, or one of them once
+abbrev pub part_of : ℤ → List (Base × ℤ) → Result Form Letter
+part_of number [] = Ok (absolute number)
+part_of number (base ∷ []) =
+    if unsigned_abs base.1 == 1
+    then Ok (record { number = number; part = Some (if is_negative base.1 then Subtracted base.0 else Added base.0) })
+    else Err letter.R
+part_of number (base ∷ other ∷ bases) = Err letter.R
+
+-- the number that an item's codes make
+abbrev pub item_number : List ℕ → ℕ
+item_number characters = fold (λ value c. value * 64 + unwrap_or (display_code_of c) 0) 0 characters
+
+abbrev pub item_form : Item → Result Form Letter
+item_form item = if nat_le (length item.characters) 10 then Ok (absolute (pos (item_number item.characters))) else Err letter.A
+
+abbrev pub number_form : Number → Result Form Letter
+number_form (Value n) = Ok (absolute (pos n))
+number_form TooGreat = Err letter.A
+
+abbrev pub symbol_form : Option Form → Result Form Letter
+symbol_form None = Err letter.U
+symbol_form (Some form) = Ok form
+
+abbrev pub element_form : Names → Element → Result Form Letter
+element_form names (ANumber number) = number_form number
+element_form names (AnItem item) = item_form item
+element_form names (ASymbol name) = symbol_form (names.symbol name)
+element_form names (ARegister register) = Err letter.V
+element_form names LocationCounter = Ok names.location
+element_form names OriginCounter = Ok names.origin
+element_form names (ALiteral literal) = names.literal literal
+
+abbrev pub in_range : ℤ → Result Form Letter
+in_range number = if is_in_range number then Ok (absolute number) else Err letter.A
+
+abbrev pub quotient : ℤ → ℤ → Result Form Letter
+quotient a b = if is_zero b then Err letter.Z else in_range (int_div a b)
+
+-- a product or a quotient of absolute forms
+abbrev pub combined : Operator → Form → Form → Result Form Letter
+combined Divide a b = if is_absolute a && is_absolute b then quotient a.number b.number else Err letter.R
+combined _ a b = if is_absolute a && is_absolute b then in_range (a.number *ℤ b.number) else Err letter.R
+
+abbrev pub combined_with : Operator → Form → Result Form Letter → Result Form Letter
+combined_with operator a (Err fault) = Err fault
+combined_with operator a (Ok b) = combined operator a b
+
+-- an element's form, and then its factors from left to right
+abbrev pub product : Names → Result Form Letter → List Link → Result Form Letter
+product names form [] = form
+product names (Err fault) (link ∷ links) = product names (Err fault) links
+product names (Ok form) (link ∷ links) = product names (combined_with link.operator form (element_form names link.element)) links
+
+abbrev pub signed : Operator → ℤ → ℤ
+signed Subtract n = neg_ℤ n
+signed _ n = n
+
+abbrev pub plus_bases : Operator → List (Base × ℤ) → List (Base × ℤ) → List (Base × ℤ)
+plus_bases operator [] bases = bases
+plus_bases operator (base ∷ others) bases = plus_bases operator others (plus_base base.0 (signed operator base.1) bases)
+
+abbrev pub running_in_range : Running → Result Running Letter
+running_in_range running = if is_in_range running.number then Ok running else Err letter.A
+
+-- the sum so far and one term more
+abbrev pub plus_term : Operator → Running → Result Form Letter → Result Running Letter
+plus_term operator running (Err fault) = Err fault
+plus_term operator running (Ok form) =
+    running_in_range (record { number = running.number +ℤ signed operator form.number; bases = plus_bases operator (running_part form.part) running.bases })
+
+abbrev pub sum_from : Names → Result Running Letter → List Term → Result Running Letter
+sum_from names running [] = running
+sum_from names (Err fault) (term ∷ terms) = sum_from names (Err fault) terms
+sum_from names (Ok running) (term ∷ terms) = sum_from names (plus_term term.operator running (product names (element_form names term.element) term.factors)) terms
+
+abbrev pub closed : Result Running Letter → Result Form Letter
+closed (Err fault) = Err fault
+closed (Ok running) = part_of running.number (remaining running.bases)
+
+-- the value of an expression, or the letter of its first fault from left to right
+abbrev pub value_of : Names → Expression → Result Form Letter
+value_of names e = closed (sum_from names (Ok (record { number = pos 0; bases = [] })) e.terms)

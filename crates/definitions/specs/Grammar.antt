@@ -1,0 +1,78 @@
+-- The grammar of expressions over pieces (COMPASS 60492600, address expressions): what `expression_of` reads.
+--   expression = ["+" | "-"] term { ("+" | "-") term }
+--   term = element { ("*" | "/") element }
+--   element = number | item | symbol | register | "*" | "*L" | "*O" | literal
+--   literal = "=" ["+" | "-"] number | "=" item
+use Rattle.std.specs.Prelude.{ℕ, ◌≡◌, ◌⊎◌, List, [], ◌∷◌, ◌++◌, Some, None, true, false, codes}
+use Rattle.definitions.specs.Items.{Item}
+use Rattle.definitions.specs.Pieces.{Mark, Comma, Plus, Minus, Star, Slash, Equals, Piece, IsMark, IsItem, Run}
+use Rattle.definitions.specs.Symbols.{Register, register_of, is_symbol, Number, number_read}
+use Rattle.definitions.specs.Expressions.{Sign, NoSign, PlusSign, MinusSign, Literal, OfNumber, OfItem, Element, ANumber, AnItem, ASymbol, ARegister, LocationCounter, OriginCounter, ALiteral, Operator, Times, Divide, Add, Subtract, Link, Term, Expression}
+use Rattle.definitions.specs.declared.marks.NumberBase.{NumberBase}
+
+-- a run that is no register and no symbol, and spells this number
+abbrev pub IsNumberRun : NumberBase → List ℕ → Number → Type 0
+IsNumberRun base text number = (register_of text ≡ None) × (is_symbol text ≡ false) × (number_read base text ≡ Some number)
+
+abbrev pub IsSymbolRun : List ℕ → List ℕ → Type 0
+IsSymbolRun text name = (register_of text ≡ None) × (is_symbol text ≡ true) × (name ≡ text)
+
+-- the sign in front of a literal's number
+abbrev pub sign_pieces : Sign → List Piece
+sign_pieces NoSign = []
+sign_pieces PlusSign = IsMark Plus ∷ []
+sign_pieces MinusSign = IsMark Minus ∷ []
+
+abbrev pub IsLiteral : NumberBase → Literal → List Piece → Type 0
+IsLiteral base (OfNumber sign number) pieces = (text : List ℕ) × (number_read base text ≡ Some number) × (pieces ≡ IsMark Equals ∷ (sign_pieces sign ++ Run text ∷ []))
+IsLiteral base (OfItem item) pieces = pieces ≡ IsMark Equals ∷ IsItem item ∷ []
+
+-- the pieces spell the element
+abbrev pub IsElement : NumberBase → Element → List Piece → Type 0
+IsElement base (ANumber number) pieces = (text : List ℕ) × IsNumberRun base text number × (pieces ≡ Run text ∷ [])
+IsElement base (AnItem item) pieces = pieces ≡ IsItem item ∷ []
+IsElement base (ASymbol name) pieces = (text : List ℕ) × IsSymbolRun text name × (pieces ≡ Run text ∷ [])
+IsElement base (ARegister register) pieces = (text : List ℕ) × (register_of text ≡ Some register) × (pieces ≡ Run text ∷ [])
+IsElement base LocationCounter pieces = (pieces ≡ IsMark Star ∷ []) ⊎ (pieces ≡ IsMark Star ∷ Run (codes "L") ∷ [])
+IsElement base OriginCounter pieces = pieces ≡ IsMark Star ∷ Run (codes "O") ∷ []
+IsElement base (ALiteral literal) pieces = IsLiteral base literal pieces
+
+-- the mark of an operator between factors, and between terms
+abbrev pub IsFactorMark : Operator → Mark → Type 0
+IsFactorMark Times mark = mark ≡ Star
+IsFactorMark Divide mark = mark ≡ Slash
+IsFactorMark _ mark = ⊥
+
+abbrev pub IsTermMark : Operator → Mark → Type 0
+IsTermMark Add mark = mark ≡ Plus
+IsTermMark Subtract mark = mark ≡ Minus
+IsTermMark _ mark = ⊥
+
+abbrev pub AreFactors : NumberBase → List Link → List Piece → Type 0
+AreFactors base [] pieces = pieces ≡ []
+AreFactors base (link ∷ links) pieces =
+    (mark : Mark) × (front : List Piece) × (rest : List Piece) × (pieces ≡ IsMark mark ∷ (front ++ rest))
+    × IsFactorMark link.operator mark × IsElement base link.element front × AreFactors base links rest
+
+-- an element with its factors
+abbrev pub IsTerm : NumberBase → Term → List Piece → Type 0
+IsTerm base term pieces = (front : List Piece) × (rest : List Piece) × (pieces ≡ front ++ rest) × IsElement base term.element front × AreFactors base term.factors rest
+
+-- the terms behind the first, each with its sign
+abbrev pub AreTerms : NumberBase → List Term → List Piece → Type 0
+AreTerms base [] pieces = pieces ≡ []
+AreTerms base (term ∷ terms) pieces =
+    (mark : Mark) × (front : List Piece) × (rest : List Piece) × (pieces ≡ IsMark mark ∷ (front ++ rest))
+    × IsTermMark term.operator mark × IsTerm base term front × AreTerms base terms rest
+
+-- a first term without a sign, or with one, is added; with a minus it is subtracted
+abbrev pub operator_of : Sign → Operator
+operator_of MinusSign = Subtract
+operator_of sign = Add
+
+-- the pieces of a subfield spell the expression
+abbrev pub Spells : NumberBase → Expression → List Piece → Type 0
+Spells base e pieces =
+    (first : Term) × (others : List Term) × (front : List Piece) × (rest : List Piece)
+    × (e.terms ≡ first ∷ others) × (first.operator ≡ operator_of e.sign)
+    × (pieces ≡ sign_pieces e.sign ++ (front ++ rest)) × IsTerm base first front × AreTerms base others rest

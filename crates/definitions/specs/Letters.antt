@@ -1,0 +1,87 @@
+-- The letters of a statement, once each in alphabetical order (ours).
+use Rattle.std.specs.Prelude.{ℕ, List, [], ◌∷◌, ◌++◌, Option, Some, None, Bool, true, false, codes, flat_map, filter, if◌then◌else◌}
+use Rattle.definitions.specs.Characters.{is_among}
+use Rattle.definitions.specs.Forms.{Form, Part, Added, Subtracted, Block, External}
+use Rattle.definitions.specs.Operations as op
+use Rattle.definitions.specs.Operations.{Operation}
+use Rattle.definitions.specs.Operands.{Operand, NamesOperand}
+use Rattle.definitions.specs.Settled.{Settled, Definition, defined, defined_in}
+use Rattle.definitions.specs.StatementItems.{Bits, Context, operand_bits}
+use Rattle.definitions.specs.declared.marks.DeckKind.{DeckKind}
+use Rattle.definitions.specs.declared.marks.DeckKind.TheVariants.{Rel, Abs, Periph}
+use Rattle.definitions.specs.declared.marks.Letter.{Letter}
+use Rattle.definitions.specs.declared.marks.Letter.TheVariants as letter
+
+abbrev pub letter_text : Letter → ℕ
+letter_text letter.A = 65
+letter_text letter.C = 67
+letter_text letter.D = 68
+letter_text letter.L = 76
+letter_text letter.O = 79
+letter_text letter.R = 82
+letter_text letter.U = 85
+letter_text letter.V = 86
+letter_text letter.Z = 90
+
+abbrev pub texts : List Letter → List ℕ
+texts [] = []
+texts (l ∷ ls) = letter_text l ∷ texts ls
+
+-- the letters that are among these, in alphabetical order
+abbrev pub in_order : List Letter → List ℕ
+in_order letters = filter (λ c. is_among c (texts letters)) (codes "ACDLORUVZ")
+
+-- a name may be entered where it is defined, and is no external and no block that is subtracted
+abbrev pub entry_fault : Option Form → List Letter
+entry_fault None = letter.U ∷ []
+entry_fault (Some form) = elim form.part [ None ↦ [] | Some part ↦ elim part [ Added base ↦ elim base [ Block name ↦ [] | External name ↦ letter.R ∷ [] ] | Subtracted base ↦ letter.R ∷ [] ] ]
+
+abbrev pub name_fault : List Settled → Option (List ℕ) → List Letter
+name_fault settled None = letter.V ∷ []
+name_fault settled (Some name) = entry_fault (defined name settled)
+
+abbrev pub entry_letters : DeckKind → List Settled → Operation → Operand → List Letter
+entry_letters Periph settled operation operand = []
+entry_letters kind settled op.Entry (NamesOperand names) = flat_map (name_fault settled) names
+entry_letters kind settled operation operand = []
+
+-- all letters of a statement
+abbrev pub letters_of : Context → Settled → List Letter
+letters_of context settled =
+    settled.letters ++ (entry_letters context.kind context.settled settled.operation settled.operand
+    ++ flat_map (λ (bits : Bits). bits.letters) (operand_bits context settled settled.operand))
+
+-- the good names of an ENTRY with their forms, those before it among them, each once
+abbrev pub with_entry : List ℕ → List Letter → Option Form → List Definition → List Definition
+with_entry name [] (Some form) entries = elim (defined_in name entries) [ Some other ↦ entries | None ↦ entries ++ record { name = name; form = form } ∷ [] ]
+with_entry name _ _ entries = entries
+
+abbrev pub with_entries : List Settled → List (Option (List ℕ)) → List Definition → List Definition
+with_entries settled [] entries = entries
+with_entries settled (None ∷ names) entries = with_entries settled names entries
+with_entries settled (Some name ∷ names) entries = with_entries settled names (with_entry name (entry_fault (defined name settled)) (defined name settled) entries)
+
+abbrev pub entries_by : List Settled → Operation → Operand → List Definition → List Definition
+entries_by settled op.Entry (NamesOperand names) entries = with_entries settled names entries
+entries_by settled operation operand entries = entries
+
+-- the entries of a deck, from its statements newest first; a peripheral deck has none
+abbrev pub entries_among : List Settled → List Settled → List Definition
+entries_among settled [] = []
+entries_among settled (latest ∷ earlier) = entries_by settled latest.operation latest.operand (entries_among settled earlier)
+
+abbrev pub entries_of : DeckKind → List Settled → List Definition
+entries_of Periph settled = []
+entries_of kind settled = entries_among settled settled
+
+-- the externals of a deck in order of definition
+abbrev pub external_name : Definition → List (List ℕ)
+external_name definition = elim definition.form.part [ None ↦ [] | Some part ↦ elim part [ Subtracted base ↦ [] | Added base ↦ elim base [ Block name ↦ [] | External name ↦ name ∷ [] ] ] ]
+
+abbrev pub externals_by : Operation → List Definition → List (List ℕ)
+externals_by op.Ext definitions = flat_map external_name definitions
+externals_by operation definitions = []
+
+abbrev pub externals_of : List Settled → List (List ℕ)
+externals_of [] = []
+externals_of (latest ∷ earlier) = externals_of earlier ++ externals_by latest.operation latest.definitions

@@ -1,0 +1,77 @@
+-- Literals: the words behind equals signs, each distinct word once, in order of first use (COMPASS 60492600, literals; that they come last is ours).
+use Rattle.std.specs.Prelude.{ℕ, ◌+◌, ◌==◌, List, [], ◌∷◌, ◌++◌, Option, Some, None, Result, Ok, Err, Bool, nat_lt, flat_map, filter_map, unwrap_or, ℤ, pos, neg_ℤ, if◌then◌else◌}
+use Rattle.std.specs.List.{list_any}
+use Rattle.definitions.specs.Symbols.{Number, Value, TooGreat}
+use Rattle.definitions.specs.Expressions.{Sign, NoSign, PlusSign, MinusSign, Literal, OfNumber, OfItem, Element, ALiteral, Expression, elements_of}
+use Rattle.definitions.specs.Forms.{Form, Added, Block}
+use Rattle.definitions.specs.Coding.{coded_in, item_in}
+use Rattle.definitions.specs.Matching.{Instruction, Field, NoField, OfK, OfN}
+use Rattle.definitions.specs.Operands.{Operand, CentralOperand, WordsOperand, BitsOperand, Datum, ExpressionWord, BitField}
+use Rattle.definitions.specs.Settled.{Settled}
+use Rattle.definitions.specs.Blocks.{literals_block}
+use Rattle.definitions.specs.declared.marks.Letter.{Letter}
+use Rattle.definitions.specs.declared.marks.Letter.TheVariants as letter
+
+abbrev pub signed_number : Sign → ℕ → ℤ
+signed_number MinusSign n = neg_ℤ (pos n)
+signed_number sign n = pos n
+
+abbrev pub number_bits : Sign → Number → ℕ
+number_bits sign (Value n) = unwrap_or (coded_in 60 (signed_number sign n)) 0
+number_bits sign TooGreat = 0
+
+-- the word that DATA would make; of a number that is too great the zero word
+abbrev pub literal_word : Literal → ℕ
+literal_word (OfNumber sign number) = number_bits sign number
+literal_word (OfItem item) = unwrap_or (item_in 60 item) 0
+
+abbrev pub literal_in : Element → Option Literal
+literal_in (ALiteral literal) = Some literal
+literal_in _ = None
+
+abbrev pub literals_in : Expression → List Literal
+literals_in e = filter_map literal_in (elements_of e)
+
+abbrev pub field_literals : Field → List Literal
+field_literals NoField = []
+field_literals (OfK e) = literals_in e
+field_literals (OfN e) = literals_in e
+
+abbrev pub datum_literals : Datum → List Literal
+datum_literals (ExpressionWord e) = literals_in e
+datum_literals _ = []
+
+abbrev pub value_literals : Option Expression → List Literal
+value_literals None = []
+value_literals (Some e) = literals_in e
+
+-- the literals of an operand from left to right; a faulty operand has none
+abbrev pub operand_literals : Operand → List Literal
+operand_literals (CentralOperand instruction) = field_literals instruction.field
+operand_literals (WordsOperand data') = flat_map datum_literals data'
+operand_literals (BitsOperand fields) = flat_map (λ (field : BitField). value_literals field.value) fields
+operand_literals _ = []
+
+abbrev pub with_word : ℕ → List ℕ → List ℕ
+with_word word words = if list_any (λ other. other == word) words then words else words ++ word ∷ []
+
+abbrev pub with_literals : List Literal → List ℕ → List ℕ
+with_literals [] words = words
+with_literals (literal ∷ literals) words = with_literals literals (with_word (literal_word literal) words)
+
+-- the words of the literals block, for statements newest first
+abbrev pub literal_words : List Settled → List ℕ
+literal_words [] = []
+literal_words (settled ∷ earlier) = with_literals (operand_literals settled.operand) (literal_words earlier)
+
+abbrev pub offset_of : ℕ → List ℕ → ℕ
+offset_of word [] = 0
+offset_of word (other ∷ words) = if other == word then 0 else 1 + offset_of word words
+
+-- where a word stands in the literals block, which has at most 131,072 words
+abbrev pub offset_form : ℕ → Result Form Letter
+offset_form offset = if nat_lt offset 131072 then Ok (record { number = pos offset; part = Some (Added (Block literals_block)) }) else Err letter.A
+
+abbrev pub literal_form : List ℕ → Literal → Result Form Letter
+literal_form words (OfNumber sign TooGreat) = Err letter.A
+literal_form words literal = offset_form (offset_of (literal_word literal) words)

@@ -1,0 +1,88 @@
+-- The object of a deck: its statements with their fields and letters, its blocks, entries and externals.
+use Rattle.std.specs.Prelude.{ℕ, List, [], ◌∷◌, Bool, true, false, map, reverse, ◌++◌}
+use Rattle.std.specs.List.{list_any}
+use Rattle.definitions.specs.Cards.{Card}
+use Rattle.definitions.specs.Statements.{Statement, statements_of}
+use Rattle.definitions.specs.Fields.{Fields, fields_of}
+use Rattle.definitions.specs.Operations.{kind_of, is_end}
+use Rattle.definitions.specs.Settled.{Settled, Definition}
+use Rattle.definitions.specs.Settling.{settled_all}
+use Rattle.definitions.specs.Literals.{literal_words}
+use Rattle.definitions.specs.Lengths.{BlockRow, block_rows}
+use Rattle.definitions.specs.StatementItems.{Context, Bits, items_of}
+use Rattle.definitions.specs.Letters.{letters_of, in_order, entries_of, externals_of}
+use Rattle.definitions.specs.Words.{Coded}
+use Rattle.definitions.specs.declared.marks.DeckKind.{DeckKind}
+
+-- a deck: its name and its cards, oldest first
+pub record Deck : Type 0 where
+  pub name : List ℕ
+  pub cards : List Card
+
+-- a statement of the listing: its cards, its letters and its fields
+pub record Shown : Type 0 where
+  pub statement : Statement
+  pub letters : List ℕ
+  pub coded : List Coded
+
+-- an object; its statements are newest first
+pub record Object : Type 0 where
+  pub name : List ℕ
+  pub kind : DeckKind
+  pub shown : List Shown
+  pub coded : List Coded
+  pub rows : List BlockRow
+  pub literals : List ℕ
+  pub entries : List Definition
+  pub externals : List (List ℕ)
+
+abbrev pub has_end : List Statement → Bool
+has_end statements = list_any (λ (statement : Statement). is_end (fields_of statement.cards)) statements
+
+-- the statements up to END, newest first; and those behind it
+abbrev pub up_to_end : List Statement → List Statement
+up_to_end [] = []
+up_to_end (statement ∷ earlier) = elim (has_end earlier) [ true ↦ up_to_end earlier | false ↦ statement ∷ earlier ]
+
+abbrev pub behind_end : List Statement → List Statement
+behind_end [] = []
+behind_end (statement ∷ earlier) = elim (has_end earlier) [ true ↦ statement ∷ behind_end earlier | false ↦ [] ]
+
+abbrev pub coded_of : Context → Settled → Coded
+coded_of context settled = record { settled = settled; fields = items_of context settled settled.operation }
+
+abbrev pub shown_of : Context → Settled → Shown
+shown_of context settled = record { statement = settled.statement; letters = in_order (letters_of context settled); coded = coded_of context settled ∷ [] }
+
+-- what follows END is only listed
+abbrev pub only_listed : Statement → Shown
+only_listed statement = record { statement = statement; letters = []; coded = [] }
+
+abbrev pub object_in : List ℕ → Context → List Statement → Object
+object_in name context behind = record {
+  name = name;
+  kind = context.kind;
+  shown = map only_listed behind ++ map (shown_of context) context.settled;
+  coded = map (coded_of context) context.settled;
+  rows = context.rows;
+  literals = context.literals;
+  entries = entries_of context.kind context.settled;
+  externals = externals_of context.settled;
+}
+
+abbrev pub context_of : DeckKind → List Settled → Context
+context_of kind settled = record { kind = kind; settled = settled; rows = block_rows kind settled; literals = literal_words settled }
+
+abbrev pub kind_of_statements : List Statement → DeckKind
+kind_of_statements statements = kind_of (map (λ (statement : Statement). fields_of statement.cards) (reverse statements))
+
+abbrev pub object_from : List ℕ → List Statement → List Statement → Object
+object_from name statements behind =
+    let kind = kind_of_statements statements in
+    object_in name (context_of kind (settled_all kind statements)) behind
+
+-- the object of a deck
+abbrev pub object_of : Deck → Object
+object_of deck =
+    let statements = statements_of (reverse deck.cards) in
+    object_from deck.name (up_to_end statements) (behind_end statements)

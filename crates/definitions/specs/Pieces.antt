@@ -1,0 +1,98 @@
+-- The pieces of a variable field, by its marks alone: marks, counted items, and runs of other characters
+-- (COMPASS 60492600, subfields and data items).
+use Rattle.std.specs.Prelude.{ℕ, zero, suc, ◌-◌, ◌==◌, List, [], ◌∷◌, Option, Some, None, if◌then◌else◌}
+use Rattle.std.specs.List.{onto_first}
+use Rattle.definitions.specs.Characters.{blank}
+use Rattle.definitions.specs.Items.{Item, Counted, item_at}
+
+pub data Mark : Type 0 where
+  Comma : Mark
+  Plus : Mark
+  Minus : Mark
+  Star : Mark
+  Slash : Mark
+  Equals : Mark
+
+pub data Piece : Type 0 where
+  IsMark : Mark → Piece
+  IsItem : Item → Piece
+  Run : List ℕ → Piece
+
+-- where in a field: at its start or behind a mark, behind an equals sign there, or elsewhere
+pub data Spot : Type 0 where
+  AtStart : Spot
+  AtEquals : Spot
+  Inside : Spot
+
+-- what begins at a character
+pub data Begun : Type 0 where
+  ByMark : Mark → Begun
+  ByItem : Counted → Begun
+  ByOther : ℕ → Begun
+
+-- the five marks that separate
+abbrev pub mark_of : ℕ → Option Mark
+mark_of c =
+    if c == 44 then Some Comma else if c == 43 then Some Plus else if c == 45 then Some Minus
+    else if c == 42 then Some Star else if c == 47 then Some Slash else None
+
+abbrev pub begun_by : ℕ → Option Mark → Begun
+begun_by c None = ByOther c
+begun_by c (Some mark) = ByMark mark
+
+-- an item may begin at the start, behind one of the five marks, and behind an equals sign that stands there
+abbrev pub begun_by_item : ℕ → Option Counted → Begun
+begun_by_item c None = begun_by c (mark_of c)
+begun_by_item c (Some counted) = ByItem counted
+
+abbrev pub begun_at : Spot → ℕ → List ℕ → Begun
+begun_at AtStart c rest = if c == 61 then ByMark Equals else begun_by_item c (item_at (c ∷ rest))
+begun_at AtEquals c rest = begun_by_item c (item_at (c ∷ rest))
+begun_at Inside c rest = begun_by c (mark_of c)
+
+abbrev pub spot_behind : Begun → Spot
+spot_behind (ByMark Equals) = AtEquals
+spot_behind (ByMark mark) = AtStart
+spot_behind (ByItem counted) = Inside
+spot_behind (ByOther c) = Inside
+
+-- how many characters more belong to what began
+abbrev pub left_of : Begun → ℕ
+left_of (ByMark mark) = 0
+left_of (ByItem counted) = counted.taken - 1
+left_of (ByOther c) = 0
+
+abbrev pub onto_run : ℕ → List Piece → List Piece
+onto_run c (Run cs ∷ pieces) = Run (c ∷ cs) ∷ pieces
+onto_run c pieces = Run (c ∷ []) ∷ pieces
+
+abbrev pub onto_pieces : Begun → List Piece → List Piece
+onto_pieces (ByMark mark) pieces = IsMark mark ∷ pieces
+onto_pieces (ByItem counted) pieces = IsItem counted.item ∷ pieces
+onto_pieces (ByOther c) pieces = onto_run c pieces
+
+-- the pieces of a text at a spot, behind so many characters of an item
+abbrev pub pieces_at : Spot → ℕ → List ℕ → List Piece
+pieces_at spot left [] = []
+pieces_at spot (suc left) (c ∷ cs) = pieces_at spot left cs
+pieces_at spot zero (c ∷ cs) =
+    let begun = begun_at spot c cs in
+    onto_pieces begun (pieces_at (spot_behind begun) (left_of begun) cs)
+
+abbrev pub pieces_of : List ℕ → List Piece
+pieces_of text = pieces_at AtStart 0 text
+
+-- the pieces between commas; a field without a comma is one subfield
+abbrev pub subfields_of : List Piece → List (List Piece)
+subfields_of [] = [] ∷ []
+subfields_of (IsMark Comma ∷ pieces) = [] ∷ subfields_of pieces
+subfields_of (piece ∷ pieces) = onto_first piece (subfields_of pieces)
+
+-- the text up to the first blank that lies in no item
+abbrev pub field_at : Spot → ℕ → List ℕ → List ℕ
+field_at spot left [] = []
+field_at spot (suc left) (c ∷ cs) = c ∷ field_at spot left cs
+field_at spot zero (c ∷ cs) =
+    let begun = begun_at spot c cs in
+    let rest = field_at (spot_behind begun) (left_of begun) cs in
+    if c == blank then [] else c ∷ rest

@@ -1,0 +1,109 @@
+-- Places: the least lawful place at or behind the end of the latest earlier placed statement of the block
+-- (COMPASS 60492600, forcing upper; which instructions ask for upper is ours).
+use Rattle.std.specs.Prelude.{ℕ, ◌≡◌, ◌≢◌, IsTrue, ◌+◌, ◌-◌, ◌*◌, ◌/◌, ◌%◌, ◌==◌, List, [], ◌∷◌, Bool, true, false, not, ◌&&◌, ◌||◌, codes, length, nat_le, if◌then◌else◌}
+use Rattle.definitions.specs.Characters.{same_text, is_among}
+use Rattle.definitions.specs.Symbols.{is_symbol}
+use Rattle.definitions.specs.Operations as op
+use Rattle.definitions.specs.Operations.{Operation}
+use Rattle.definitions.specs.Operands.{Operand, BadOperand, units, size_of}
+use Rattle.definitions.specs.Settled.{Settled}
+use Rattle.definitions.specs.declared.marks.DeckKind.{DeckKind}
+use Rattle.definitions.specs.declared.marks.DeckKind.TheVariants.{Rel, Abs, Periph}
+
+-- how many words a block has at most
+abbrev pub most_words : DeckKind → ℕ
+most_words Periph = 4096
+most_words _ = 131072
+
+abbrev pub is_bad : Operand → Bool
+is_bad BadOperand = true
+is_bad _ = false
+
+-- DATA, CON, VFD and DIS
+abbrev pub is_data : Operation → Bool
+is_data op.Data = true
+is_data op.Con = true
+is_data op.Vfd = true
+is_data op.Dis = true
+is_data _ = false
+
+-- BSS, BSSZ, ORG and LOC
+abbrev pub is_reserving : Operation → Bool
+is_reserving op.Bss = true
+is_reserving op.Bssz = true
+is_reserving op.Org = true
+is_reserving op.Loc = true
+is_reserving _ = false
+
+abbrev pub is_machine : Operation → Bool
+is_machine op.Instruction = true
+is_machine op.Unknown = true
+is_machine _ = false
+
+-- which operations have a place of their own
+abbrev pub has_place : Operation → Bool
+has_place operation = is_machine operation || is_data operation || is_reserving operation
+
+-- what always stands at a word; faulty data count as an instruction of length 0
+abbrev pub is_at_word : Operation → Operand → Bool
+is_at_word operation operand = is_reserving operation || (is_data operation && not (is_bad operand))
+
+-- a location field that is not lawful counts as empty: here a `-` of VFD outside peripheral decks
+abbrev pub is_no_minus : DeckKind → Operation → Bool
+is_no_minus Periph operation = false
+is_no_minus kind op.Vfd = true
+is_no_minus kind _ = false
+
+abbrev pub has_minus : DeckKind → Operation → List ℕ → Bool
+has_minus kind operation location = same_text location (codes "-") && not (is_no_minus kind operation)
+
+-- an instruction is upper where its location field is a symbol or `+`, or where the block asks and the field is not `-`
+abbrev pub is_upper : DeckKind → Operation → List ℕ → Bool → Bool
+is_upper kind operation location asks = is_symbol location || same_text location (codes "+") || (asks && not (has_minus kind operation location))
+
+-- the next word at or behind a place in units
+abbrev pub to_word : DeckKind → ℕ → ℕ
+to_word kind place = (place + units kind - 1) / units kind * units kind
+
+-- a long central instruction does not begin in the last parcel
+abbrev pub is_long : DeckKind → Operation → Operand → Bool
+is_long Periph operation operand = false
+is_long kind op.Instruction operand = size_of kind operand == 2
+is_long kind _ operand = false
+
+abbrev pub past_last_parcel : Bool → ℕ → ℕ
+past_last_parcel long place = if long && (place % 4 == 3) then place + 1 else place
+
+-- the place of a statement that has one, from the end of the statement before it in its block
+abbrev pub least_place : DeckKind → Operation → Operand → List ℕ → Bool → ℕ → ℕ
+least_place kind operation operand location asks from =
+    if is_at_word operation operand || is_upper kind operation location asks then to_word kind from
+    else past_last_parcel (is_long kind operation operand) from
+
+-- the position of a block: the end of its latest placed statement, and whether that asks for upper
+pub record Position : Type 0 where
+  pub end : ℕ
+  pub asks : Bool
+
+abbrev pub position_in : List ℕ → List Settled → Position
+position_in block [] = record { end = 0; asks = false }
+position_in block (settled ∷ earlier) =
+    if settled.is_placed && same_text settled.block block then record { end = settled.end; asks = settled.asks }
+    else position_in block earlier
+
+-- JP, RJ, PS and EQ with one subfield ask that the next instruction is upper
+abbrev pub asks_upper : List ℕ → ℕ → Bool
+asks_upper operation subfields =
+    same_text operation (codes "JP") || same_text operation (codes "RJ") || same_text operation (codes "PS")
+    || (same_text operation (codes "EQ") && (subfields == 1))
+
+abbrev pub asks_after : DeckKind → Operation → Operand → List ℕ → ℕ → Bool
+asks_after Periph operation operand name subfields = false
+asks_after kind op.Instruction operand name subfields = not (is_bad operand) && asks_upper name subfields
+asks_after kind _ operand name subfields = false
+
+-- where a statement may stand: at a word, or behind none but whole parcels
+pub record MayStand (kind : DeckKind) (operation : Operation) (operand : Operand) (location : List ℕ) (asks : Bool) (place : ℕ) : Type 0 where
+  pub data_at_word : IsTrue (is_at_word operation operand) → place % units kind ≡ 0
+  pub upper_at_word : IsTrue (is_upper kind operation location asks) → place % units kind ≡ 0
+  pub long_whole : IsTrue (is_long kind operation operand) → place % 4 ≢ 3

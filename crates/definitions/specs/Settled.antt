@@ -1,0 +1,66 @@
+-- What a statement is once the statements before it are known: its block, its place, its counters and what it defines.
+-- Lists of settled statements are read newest first.
+use Rattle.std.specs.Prelude.{ℕ, List, [], ◌∷◌, Option, Some, None, Bool, if◌then◌else◌}
+use Rattle.definitions.specs.Characters.{same_text}
+use Rattle.definitions.specs.Statements.{Statement}
+use Rattle.definitions.specs.Fields.{Fields}
+use Rattle.definitions.specs.Forms.{Form}
+use Rattle.definitions.specs.Operations.{Operation}
+use Rattle.definitions.specs.Operands.{Operand}
+use Rattle.definitions.specs.declared.marks.Letter.{Letter}
+use Rattle.definitions.specs.declared.marks.NumberBase.{NumberBase}
+
+-- what a statement does to the stack of blocks
+pub data BlockChange : Type 0 where
+  NoChange : BlockChange
+  Opens : List ℕ → BlockChange
+  Closes : BlockChange
+
+-- what a statement does to the location counter of its block: LOC sets it, ORG ends a setting
+pub data Setting : Type 0 where
+  Kept : Setting
+  Counts : Form → Setting
+  Ended : Setting
+
+-- a symbol with its value
+pub record Definition : Type 0 where
+  pub name : List ℕ
+  pub form : Form
+
+pub record Settled : Type 0 where
+  pub statement : Statement
+  pub fields : Fields
+  pub operation : Operation
+  pub operand : Operand
+  -- the block in use, and what becomes of the stack
+  pub block : List ℕ
+  pub change : BlockChange
+  -- whether it has a place of its own; place and end in units of its block
+  pub is_placed : Bool
+  pub place : ℕ
+  pub end : ℕ
+  -- whether the next instruction of the block must be upper
+  pub asks : Bool
+  -- whether an ORG begins a new run here
+  pub begins_run : Bool
+  pub setting : Setting
+  pub location : Form
+  pub origin : Form
+  -- the symbols whose first definition this is
+  pub definitions : List Definition
+  -- the letters that are known without later statements
+  pub letters : List Letter
+
+-- the value of a symbol among definitions
+abbrev pub defined_in : List ℕ → List Definition → Option Form
+defined_in name [] = None
+defined_in name (definition ∷ definitions) = if same_text name definition.name then Some definition.form else defined_in name definitions
+
+abbrev pub or_form : Option Form → Option Form → Option Form
+or_form None other = other
+or_form (Some form) other = Some form
+
+-- the value of a symbol's first definition, if one of these statements has it
+abbrev pub defined : List ℕ → List Settled → Option Form
+defined name [] = None
+defined name (settled ∷ earlier) = or_form (defined_in name settled.definitions) (defined name earlier)

@@ -1,0 +1,83 @@
+-- Symbols, register names and numbers as runs of characters (COMPASS 60492600, names, registers, numeric constants).
+use Rattle.std.specs.Prelude.{ℕ, ◌+◌, ◌-◌, ◌*◌, ◌^◌, ◌==◌, List, [], ◌∷◌, Option, Some, None, Bool, true, false, not, ◌&&◌, ◌||◌, nat_le, nat_lt, length, drop, codes, take_while, if◌then◌else◌}
+use Rattle.std.specs.List.{list_all}
+use Rattle.definitions.specs.Characters.{is_digit, is_symbol_character, is_among, same_text}
+use Rattle.definitions.specs.Numerals.{number_of}
+use Rattle.definitions.specs.declared.marks.NumberBase.{NumberBase}
+use Rattle.definitions.specs.declared.marks.NumberBase.TheVariants.{Decimal, Octal}
+
+-- a register: A, B or X, and its digit
+pub record Register : Type 0 where
+  pub letter : ℕ
+  pub digit : ℕ
+
+abbrev pub register_of : List ℕ → Option Register
+register_of (letter ∷ digit ∷ []) =
+    if is_among letter (codes "ABX") && nat_le 48 digit && nat_le digit 55
+    then Some (record { letter = letter; digit = digit - 48 }) else None
+register_of _ = None
+
+abbrev pub is_register : List ℕ → Bool
+is_register text = elim (register_of text) [ Some r ↦ true | None ↦ false ]
+
+-- the first character is no digit, no `$` and no `=`
+abbrev pub begins_symbol : List ℕ → Bool
+begins_symbol [] = false
+begins_symbol (c ∷ cs) = not (is_digit c) && not (is_among c (codes "$="))
+
+-- 1 to 8 characters, and no register name
+abbrev pub is_symbol : List ℕ → Bool
+is_symbol text = begins_symbol text && list_all is_symbol_character text && nat_le (length text) 8 && not (is_register text)
+
+-- names in ENTRY and EXT have at most 7 characters
+abbrev pub is_linked_name : List ℕ → Bool
+is_linked_name text = is_symbol text && nat_le (length text) 7
+
+abbrev pub is_nominal : List ℕ → Bool
+is_nominal text = same_text text (codes "0")
+
+-- a block name is a symbol or `0`
+abbrev pub is_block_name : List ℕ → Bool
+is_block_name text = is_symbol text || is_nominal text
+
+-- the greatest size of a number
+abbrev pub greatest : ℕ
+greatest = 2 ^ 60 - 1
+
+-- a number, or one above the greatest
+pub data Number : Type 0 where
+  Value : ℕ → Number
+  TooGreat : Number
+
+-- the number to this base; an 8 or 9 is no octal digit
+abbrev pub scaled : NumberBase → List ℕ → ℕ → Option ℕ
+scaled Decimal digits scale = Some (number_of 10 digits * 2 ^ scale)
+scaled Octal digits scale = if list_all (λ c. nat_lt c 56) digits then Some (number_of 8 digits * 2 ^ scale) else None
+
+-- nothing, or S and one or two decimal digits
+abbrev pub scale_of : List ℕ → Option ℕ
+scale_of [] = Some 0
+scale_of (s ∷ digits) =
+    if (s == 83) && nat_le 1 (length digits) && nat_le (length digits) 2 && list_all is_digit digits then Some (number_of 10 digits) else None
+
+abbrev pub scaled_by : NumberBase → List ℕ → Option ℕ → Option ℕ
+scaled_by base digits None = None
+scaled_by base digits (Some scale) = scaled base digits scale
+
+-- digits, and what stands behind them: a suffix B, O or D, and a scale
+abbrev pub behind_digits : NumberBase → List ℕ → List ℕ → Option ℕ
+behind_digits base digits [] = scaled_by base digits (Some 0)
+behind_digits base digits (c ∷ rest) =
+    if is_among c (codes "BO") then scaled_by Octal digits (scale_of rest)
+    else if c == 68 then scaled_by Decimal digits (scale_of rest)
+    else scaled_by base digits (scale_of (c ∷ rest))
+
+abbrev pub bounded : Option ℕ → Option Number
+bounded None = None
+bounded (Some value) = Some (if nat_le value greatest then Value value else TooGreat)
+
+-- the number that a run of characters spells, if it spells one
+abbrev pub number_read : NumberBase → List ℕ → Option Number
+number_read base text =
+    let digits = take_while is_digit text in
+    if nat_le 1 (length digits) then bounded (behind_digits base digits (drop (length digits) text)) else None

@@ -1,0 +1,11 @@
+//! What a program and its definitions name alike: letters, kinds of decks, number bases.
+#![tactic(auto)]
+
+mod laws;
+mod marks;
+
+pub use laws::{
+    bases_are_sums, builds_are_listing_and_image, octal_reads_back, one_cut_into_fields,
+    places_are_the_least, reads_the_grammar, statements_have_all_cards, words_fit,
+};
+pub use marks::{DeckKind, Letter, NumberBase};

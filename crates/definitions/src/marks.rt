@@ -1,0 +1,39 @@
+//! The enums that code and definitions share.
+
+/// A letter that flags a statement.
+#[derive(Clone, Copy, Debug, PartialEq, Eq)]
+pub enum Letter {
+    /// A value, count or address out of range.
+    A,
+    /// A stray comma card.
+    C,
+    /// A symbol that was defined before.
+    D,
+    /// A bad location field.
+    L,
+    /// An unknown or misplaced operation.
+    O,
+    /// Relocation that is not allowed.
+    R,
+    /// An undefined symbol.
+    U,
+    /// A bad variable field.
+    V,
+    /// Division by zero.
+    Z,
+}
+
+/// The kind of a deck: relocatable or absolute central program, or peripheral program.
+#[derive(Clone, Copy, Debug, PartialEq, Eq)]
+pub enum DeckKind {
+    Rel,
+    Abs,
+    Periph,
+}
+
+/// The base of a number without a suffix.
+#[derive(Clone, Copy, Debug, PartialEq, Eq)]
+pub enum NumberBase {
+    Decimal,
+    Octal,
+}
