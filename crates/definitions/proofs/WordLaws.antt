@@ -1,13 +1,13 @@
 -- Each stored word fits a word of its deck.
-use Rattle.std.proofs.Common.{◌≡◌, ℕ, zero, suc, ◌+◌, ◌-◌, ◌*◌, ◌/◌, ◌%◌, ◌^◌, ◌<◌, ◌≤◌, Bool, true, false, cond, nat_eq, List, [], ◌∷◌, ◌++◌, length, refl, sym, ap, ◌∙◌, arith, subst}
+use Rattle.std.proofs.Common.{◌≡◌, ℕ, zero, suc, ◌+◌, ◌-◌, ◌*◌, ◌/◌, ◌%◌, ◌^◌, ◌<◌, Bool, true, false, nat_eq, List, [], ◌∷◌, ◌++◌, refl, ap, ◌∙◌, arith}
 use Rattle.std.specs.Prelude.{All, filter, if◌then◌else◌}
-use Rattle.std.specs.List.{AllByRecursion, list_any, onto_first}
+use Rattle.std.specs.List.{AllByRecursion, list_any}
 use Rattle.std.proofs.Math.Nat.{mod-lt, pow-suc as pow-succ}
 use Rattle.std.proofs.lemmas.Nat.{pow-add, mul-add-lt}
 use Rattle.std.proofs.lemmas.List.Elements.{All-from_recursion}
 use Rattle.definitions.specs.Characters.{same_text}
 use Rattle.definitions.specs.Operands.{units, unit_bits, word_bits}
-use Rattle.definitions.specs.Words.{Parcel, Coded, Linking, StoredWord, cut, parcels_from, parcels_of, onto_runs, runs_of, in_word, latest_in_word, pass, filling_of, bits_at, last_places, word_of_parcels, stored, words_in, stored_words, joined, width_of, is_instruction}
+use Rattle.definitions.specs.Words.{Parcel, Coded, Linking, StoredWord, cut, parcels_from, parcels_of, onto_runs, runs_of, in_word, latest_in_word, pass, filling_of, bits_at, last_places, word_of_parcels, stored, words_in, stored_words, joined, is_instruction}
 use Rattle.definitions.specs.StatementItems.{Bits}
 use Rattle.definitions.specs.declared.marks.DeckKind.{DeckKind}
 use Rattle.definitions.specs.declared.marks.DeckKind.TheVariants.{Rel, Abs, Periph}

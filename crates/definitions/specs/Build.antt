@@ -2,13 +2,15 @@
 use Rattle.std.specs.Prelude.{ℕ, ◌+◌, List, [], ◌∷◌, ◌++◌, flat_map, map, length}
 use Rattle.definitions.specs.Objects.{Deck, Object, object_of}
 use Rattle.definitions.specs.Listing.{deck_listing, errors_of}
-use Rattle.definitions.specs.Link.{Based, based_of, link_lines}
+use Rattle.definitions.specs.Link.{based_of, link_lines}
 use Rattle.definitions.specs.Map.{map_text}
 use Rattle.definitions.specs.Image.{image_text}
 
+-- the listing of each object in order, and the link map behind them
 abbrev pub listing_of_objects : List Object → List ℕ
 listing_of_objects objects = flat_map deck_listing objects ++ map_text (based_of objects)
 
+-- the octal image of objects in their places
 abbrev pub image_of_objects : List Object → List ℕ
 image_of_objects objects = image_text (based_of objects)
 
@@ -20,6 +22,7 @@ listing_of decks = listing_of_objects (map object_of decks)
 abbrev pub image_of : List Deck → List ℕ
 image_of decks = image_of_objects (map object_of decks)
 
+-- how many statements of these objects are flagged
 abbrev pub errors_in : List Object → ℕ
 errors_in [] = 0
 errors_in (object ∷ objects) = errors_of object + errors_in objects
@@ -30,6 +33,7 @@ pub record Build : Type 0 where
   pub errors : ℕ
   pub links : ℕ
 
+-- the build of decks that are assembled already
 abbrev pub build_of_objects : List Object → Build
 build_of_objects objects = record {
   text = listing_of_objects objects ++ image_of_objects objects;
@@ -37,5 +41,6 @@ build_of_objects objects = record {
   links = length (link_lines (based_of objects));
 }
 
+-- the build of decks
 abbrev pub build_of : List Deck → Build
 build_of decks = build_of_objects (map object_of decks)

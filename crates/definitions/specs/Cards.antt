@@ -1,11 +1,12 @@
 -- Cards: 0 to 80 columns, each a character with a display code, without trailing blanks (COMPASS 60492600, statement format).
-use Rattle.std.specs.Prelude.{ℕ, ◌==◌, ◌+◌, List, [], ◌∷◌, ◌++◌, Option, Some, None, Bool, true, false, length, take, replicate, position, nat_lt, is_none, if◌then◌else◌}
+use Rattle.std.specs.Prelude.{ℕ, ◌==◌, ◌+◌, List, [], ◌∷◌, ◌++◌, Option, Some, None, Bool, false, length, take, replicate, position, nat_lt, is_none, if◌then◌else◌}
 use Rattle.definitions.specs.Characters.{blank, display_code_of}
 
 -- the columns of a card
 abbrev pub Card : Type 0
 Card = List ℕ
 
+-- what a line shows: a card, more than 80 columns, or a column whose character has no display code
 pub data CardRead : Type 0 where
   IsCard : Card → CardRead
   TooWide : CardRead
@@ -35,9 +36,11 @@ abbrev pub begins_with : ℕ → Card → Bool
 begins_with c [] = false
 begins_with c (d ∷ ds) = d == c
 
+-- a comma in column 1
 abbrev pub is_comma_card : Card → Bool
 is_comma_card card = begins_with 44 card
 
+-- a star in column 1
 abbrev pub is_comment : Card → Bool
 is_comment card = begins_with 42 card
 

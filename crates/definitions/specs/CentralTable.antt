@@ -1,16 +1,19 @@
 -- The central instructions (6600 reference 60100000, instruction formats; COMPASS 60492600, CPU instructions).
 -- In a row i, j and k are digits of registers, K is an expression in 18 bits and n one in 6 bits; a code has a digit for
 -- each three bits, and K and n stand at its end.
-use Rattle.std.specs.Prelude.{ℕ, List, [], ◌∷◌, ◌++◌, codes, map, flat_map}
+use Rattle.std.specs.Prelude.{ℕ, List, [], ◌∷◌, ◌++◌, codes}
 
+-- an operation, the pattern of its operand, and its code
 pub record Row : Type 0 where
   pub operation : List ℕ
   pub operand : List ℕ
   pub code : List ℕ
 
+-- an operation, a pattern and a code as a row
 abbrev pub row : List ℕ → List ℕ → List ℕ → Row
 row operation operand code = record { operation = operation; operand = operand; code = code }
 
+-- return jump, and the branches on an X register or on one B register
 abbrev pub jump_rows : List Row
 jump_rows =
     row (codes "RJ") (codes "K") (codes "0100K")
@@ -48,6 +51,7 @@ comparing_rows =
     ∷ row (codes "GT") (codes "Bi,K") (codes "070iK")
     ∷ []
 
+-- copies and complements of X registers, and their logical products, sums and differences
 abbrev pub boolean_rows : List Row
 boolean_rows =
     row (codes "BXi") (codes "Xj") (codes "10ijj")
@@ -68,6 +72,7 @@ shift_rows operation digits =
     ∷ row operation (codes "Xk") (digits ++ codes "i0k")
     ∷ []
 
+-- shifts and masks with a count, floating and integer arithmetic, and the count of ones
 abbrev pub arithmetic_rows : List Row
 arithmetic_rows =
     row (codes "LXi") (codes "n") (codes "20in")
@@ -108,6 +113,7 @@ pub record SumRow : Type 0 where
   pub with_K : List ℕ
   pub alone : List ℕ
 
+-- an operation, the registers of its sum, and its two codes as a row
 abbrev pub sum_row : List ℕ → List ℕ → List ℕ → List ℕ → SumRow
 sum_row operation registers with_K alone = record { operation = operation; registers = registers; with_K = with_K; alone = alone }
 
@@ -130,6 +136,7 @@ set_rows operation first =
     ∷ sum_row operation (codes "-Bk+Bj") [] (first ++ codes "7ijk")
     ∷ []
 
+-- the rows of JP, and of all that sets an A, B or X register
 abbrev pub sum_rows : List SumRow
 sum_rows =
     sum_row (codes "JP") [] (codes "0200K") []

@@ -15,15 +15,19 @@ display_code_of character = position (λ c. c == character) characters
 abbrev pub character_of : ℕ → ℕ
 character_of code = slice_index characters code
 
+-- the blank
 abbrev pub blank : ℕ
 blank = 32
 
+-- whether a character is one of these
 abbrev pub is_among : ℕ → List ℕ → Bool
 is_among character set = list_any (λ c. c == character) set
 
+-- 0 to 9
 abbrev pub is_digit : ℕ → Bool
 is_digit c = nat_le 48 c && nat_le c 57
 
+-- the letters A to Z
 abbrev pub is_letter : ℕ → Bool
 is_letter c = nat_le 65 c && nat_le c 90
 

@@ -1,5 +1,5 @@
 -- How a value and an item stand in a field of so many bits (COMPASS 60492600, data generation; negative numbers by ones' complement).
-use Rattle.std.specs.Prelude.{ℕ, ◌+◌, ◌-◌, ◌*◌, ◌/◌, ◌^◌, ◌==◌, List, [], ◌∷◌, ◌++◌, Option, Some, None, Bool, nat_le, length, replicate, ℤ, pos, negsuc, unsigned_abs, if◌then◌else◌}
+use Rattle.std.specs.Prelude.{ℕ, ◌+◌, ◌-◌, ◌*◌, ◌/◌, ◌^◌, ◌==◌, List, ◌++◌, Option, Some, None, Bool, nat_le, length, replicate, ℤ, pos, negsuc, unsigned_abs, if◌then◌else◌}
 use Rattle.definitions.specs.Characters.{blank}
 use Rattle.definitions.specs.Items.{Item, bits_needed}
 use Rattle.definitions.specs.Forms.{item_number}
@@ -8,6 +8,7 @@ use Rattle.definitions.specs.Forms.{item_number}
 abbrev pub fits : ℕ → ℤ → Bool
 fits width value = nat_le (unsigned_abs value) (2 ^ width - 1)
 
+-- a value that fits, as the field holds it: a negative one is complemented
 abbrev pub coded : ℕ → ℤ → ℕ
 coded width (pos n) = n
 coded width (negsuc n) = 2 ^ width - 1 - (n + 1)
@@ -16,6 +17,7 @@ coded width (negsuc n) = 2 ^ width - 1 - (n + 1)
 abbrev pub coded_in : ℕ → ℤ → Option ℕ
 coded_in width value = if fits width value then Some (coded width value) else None
 
+-- so many blanks
 abbrev pub blanks : ℕ → List ℕ
 blanks count = replicate count blank
 

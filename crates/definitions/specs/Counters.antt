@@ -1,13 +1,14 @@
 -- The two counters: `*O` is the word of a statement's place, `*` the same until LOC sets it (COMPASS 60492600, LOC, ORG).
-use Rattle.std.specs.Prelude.{ℕ, ◌+◌, ◌-◌, ◌/◌, List, [], ◌∷◌, Option, Some, None, Bool, ℤ, pos, ◌+ℤ◌, ◌-ℤ◌, if◌then◌else◌}
+use Rattle.std.specs.Prelude.{ℕ, ◌/◌, List, [], ◌∷◌, Option, Some, None, pos, ◌+ℤ◌, ◌-ℤ◌, if◌then◌else◌}
 use Rattle.definitions.specs.Characters.{same_text}
 use Rattle.definitions.specs.Symbols.{is_nominal}
 use Rattle.definitions.specs.Forms.{Form, absolute, Added, Block}
 use Rattle.definitions.specs.Operands.{units}
-use Rattle.definitions.specs.Settled.{Settled, Setting, Kept, Counts, Ended}
+use Rattle.definitions.specs.Settled.{Settled, Kept, Counts, Ended}
 use Rattle.definitions.specs.declared.marks.DeckKind.{DeckKind}
-use Rattle.definitions.specs.declared.marks.DeckKind.TheVariants.{Rel, Abs, Periph}
+use Rattle.definitions.specs.declared.marks.DeckKind.TheVariants.{Rel}
 
+-- the word of a block in which a place lies
 abbrev pub word_of_place : DeckKind → ℕ → ℕ
 word_of_place kind place = place / units kind
 
@@ -30,6 +31,7 @@ location_set block (settled ∷ earlier) =
       | Ended ↦ if same_text settled.block block then None else location_set block earlier
     ]
 
+-- the value of `*` at a word: counted on from the LOC in force, or that of `*O` where there is none
 abbrev pub location_from : DeckKind → Form → ℕ → Option (Form × ℕ) → Form
 location_from kind origin word None = origin
 location_from kind origin word (Some found) = moved found.0 word (word_of_place kind found.1)

@@ -1,12 +1,13 @@
 -- Expressions: the tree, and how the pieces of a subfield are read (COMPASS 60492600, address expressions).
-use Rattle.std.specs.Prelude.{ℕ, List, [], ◌∷◌, ◌++◌, Option, Some, None, Bool, true, false, ◌&&◌, nat_le, codes, map, flat_map, if◌then◌else◌}
+use Rattle.std.specs.Prelude.{ℕ, List, [], ◌∷◌, Option, Some, None, Bool, true, false, ◌&&◌, nat_le, codes, map, flat_map, if◌then◌else◌}
 use Rattle.std.specs.List.{list_all}
 use Rattle.definitions.specs.Characters.{same_text}
 use Rattle.definitions.specs.Items.{Item, bits_needed}
-use Rattle.definitions.specs.Pieces.{Mark, Comma, Plus, Minus, Star, Slash, Equals, Piece, IsMark, IsItem, Run}
+use Rattle.definitions.specs.Pieces.{Plus, Minus, Star, Slash, Equals, Piece, IsMark, IsItem, Run}
 use Rattle.definitions.specs.Symbols.{Register, register_of, is_symbol, Number, number_read}
 use Rattle.definitions.specs.declared.marks.NumberBase.{NumberBase}
 
+-- no sign, plus or minus
 pub data Sign : Type 0 where
   NoSign : Sign
   PlusSign : Sign
@@ -17,6 +18,7 @@ pub data Literal : Type 0 where
   OfNumber : Sign → Number → Literal
   OfItem : Item → Literal
 
+-- what an expression is made of: numbers, items, symbols, registers, the two counters and literals
 pub data Element : Type 0 where
   ANumber : Number → Element
   AnItem : Item → Element
@@ -49,10 +51,12 @@ pub record Expression : Type 0 where
   pub sign : Sign
   pub terms : List Term
 
+-- a number as an element, if there is one
 abbrev pub element_of_number : Option Number → Option Element
 element_of_number None = None
 element_of_number (Some number) = Some (ANumber number)
 
+-- the register that was found, else a symbol, else a number, if the run spells one
 abbrev pub element_of_name : NumberBase → List ℕ → Option Register → Option Element
 element_of_name base text None = if is_symbol text then Some (ASymbol text) else element_of_number (number_read base text)
 element_of_name base text (Some register) = Some (ARegister register)
@@ -67,6 +71,7 @@ counter_of text =
     if same_text text (codes "O") then Some OriginCounter
     else if same_text text (codes "L") then Some LocationCounter else None
 
+-- the literal of a number and its sign, if there is a number
 abbrev pub literal_of : Sign → Option Number → Option Element
 literal_of sign None = None
 literal_of sign (Some number) = Some (ALiteral (OfNumber sign number))
@@ -76,6 +81,7 @@ pub data Awaited : Type 0 where
   AnOperator : Awaited
   ElementOf : Operator → Awaited
 
+-- an operator and its element in front of those behind them, where all are lawful
 abbrev pub onto_links : Operator → Option Element → Option (List Link) → Option (List Link)
 onto_links operator None links = None
 onto_links operator (Some element) None = None
@@ -106,16 +112,19 @@ pub record Grouped : Type 0 where
   pub factors : List Link
   pub terms : List Term
 
+-- behind a star or slash an element is a factor; behind plus or minus it makes a term with the factors that follow
 abbrev pub onto_grouped : Link → Operator → Grouped → Grouped
 onto_grouped link Times rest = record { factors = link ∷ rest.factors; terms = rest.terms }
 onto_grouped link Divide rest = record { factors = link ∷ rest.factors; terms = rest.terms }
 onto_grouped link Add rest = record { factors = []; terms = record { operator = Add; element = link.element; factors = rest.factors } ∷ rest.terms }
 onto_grouped link Subtract rest = record { factors = []; terms = record { operator = Subtract; element = link.element; factors = rest.factors } ∷ rest.terms }
 
+-- elements and their operators, put together to terms
 abbrev pub grouped : List Link → Grouped
 grouped [] = record { factors = []; terms = [] }
 grouped (link ∷ links) = onto_grouped link link.operator (grouped links)
 
+-- the expression of a leading sign and the elements behind it, if they are lawful
 abbrev pub with_sign : Sign → Option (List Link) → Option Expression
 with_sign sign None = None
 with_sign sign (Some links) = Some (record { sign = sign; terms = (grouped links).terms })
@@ -135,6 +144,7 @@ abbrev pub is_allowed_literal : Bool → Literal → Bool
 is_allowed_literal literals (OfNumber sign number) = literals
 is_allowed_literal literals (OfItem item) = literals && nat_le (bits_needed item) 60
 
+-- an element that is no register, and a literal only where it is allowed
 abbrev pub is_allowed : Bool → Element → Bool
 is_allowed literals (ARegister r) = false
 is_allowed literals (ALiteral l) = is_allowed_literal literals l

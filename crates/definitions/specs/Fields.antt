@@ -5,6 +5,7 @@ use Rattle.definitions.specs.Cards.{Card}
 use Rattle.definitions.specs.Statements.{text_of, is_unread}
 use Rattle.definitions.specs.Pieces.{AtStart, field_at}
 
+-- location field, operation and variable field
 pub record Fields : Type 0 where
   pub location : List ℕ
   pub operation : List ℕ
@@ -14,6 +15,7 @@ pub record Fields : Type 0 where
 abbrev pub word_of : List ℕ → List ℕ
 word_of text = take_while (λ c. not (c == blank)) text
 
+-- a text from its first character that is no blank
 abbrev pub without_blanks : List ℕ → List ℕ
 without_blanks [] = []
 without_blanks (c ∷ cs) = if c == blank then without_blanks cs else c ∷ cs
@@ -33,12 +35,14 @@ next_field text from =
 abbrev pub variable_of : List ℕ → List ℕ → List ℕ
 variable_of operation rest = if same_text operation (codes "DIS") then rest else field_at AtStart 0 rest
 
+-- the fields that a statement's text is cut into
 abbrev pub fields_of_text : List ℕ → Fields
 fields_of_text text =
     let first = from_location text in
     let second = next_field text first in
     record { location = word_of first; operation = word_of second; variable = variable_of (word_of second) (next_field text second) }
 
+-- all three fields empty
 abbrev pub no_fields : Fields
 no_fields = record { location = []; operation = []; variable = [] }
 

@@ -1,10 +1,10 @@
 -- Forms: the value of an expression is a number and at most one block or external with a sign
 -- (COMPASS 60492600, evaluation of expressions; the range is ours).
-use Rattle.std.specs.Prelude.{ℕ, ◌*◌, ◌+◌, ◌-◌, ◌==◌, List, [], ◌∷◌, Option, Some, None, Result, Ok, Err, Bool, true, false, ◌&&◌, nat_le, nat_lt, length, fold, unwrap_or, ℤ, pos, negsuc, ◌+ℤ◌, ◌*ℤ◌, neg_ℤ, unsigned_abs, int_div, if◌then◌else◌}
+use Rattle.std.specs.Prelude.{ℕ, ◌*◌, ◌+◌, ◌==◌, List, [], ◌∷◌, Option, Some, None, Result, Ok, Err, Bool, true, false, ◌&&◌, nat_le, length, fold, unwrap_or, ℤ, pos, negsuc, ◌+ℤ◌, ◌*ℤ◌, neg_ℤ, unsigned_abs, int_div, if◌then◌else◌}
 use Rattle.definitions.specs.Characters.{display_code_of, same_text}
 use Rattle.definitions.specs.Items.{Item}
 use Rattle.definitions.specs.Symbols.{Number, Value, TooGreat, greatest}
-use Rattle.definitions.specs.Expressions.{Sign, NoSign, PlusSign, MinusSign, Literal, OfNumber, OfItem, Element, ANumber, AnItem, ASymbol, ARegister, LocationCounter, OriginCounter, ALiteral, Operator, Times, Divide, Add, Subtract, Link, Term, Expression}
+use Rattle.definitions.specs.Expressions.{Literal, Element, ANumber, AnItem, ASymbol, ARegister, LocationCounter, OriginCounter, ALiteral, Operator, Divide, Subtract, Link, Term, Expression}
 use Rattle.definitions.specs.declared.marks.Letter.{Letter}
 use Rattle.definitions.specs.declared.marks.Letter.TheVariants as letter
 
@@ -18,6 +18,7 @@ pub data Part : Type 0 where
   Added : Base → Part
   Subtracted : Base → Part
 
+-- a number, and the base that is added to it or subtracted from it, if there is one
 pub record Form : Type 0 where
   pub number : ℤ
   pub part : Option Part
@@ -29,19 +30,24 @@ pub record Names : Type 0 where
   pub location : Form
   pub origin : Form
 
+-- a number without a base
 abbrev pub absolute : ℤ → Form
 absolute number = record { number = number; part = None }
 
+-- whether a form has no base
 abbrev pub is_absolute : Form → Bool
 is_absolute form = elim form.part [ None ↦ true | Some part ↦ false ]
 
+-- below 0
 abbrev pub is_negative : ℤ → Bool
 is_negative (pos n) = false
 is_negative (negsuc n) = true
 
+-- from -(2^60 - 1) to 2^60 - 1
 abbrev pub is_in_range : ℤ → Bool
 is_in_range number = nat_le (unsigned_abs number) greatest
 
+-- whether two bases are the same block, or the same external
 abbrev pub same_base : Base → Base → Bool
 same_base (Block a) (Block b) = same_text a b
 same_base (External a) (External b) = same_text a b
@@ -52,15 +58,18 @@ pub record Running : Type 0 where
   pub number : ℤ
   pub bases : List (Base × ℤ)
 
+-- the base of a form, once or -1 times, if it has one
 abbrev pub running_part : Option Part → List (Base × ℤ)
 running_part None = []
 running_part (Some (Added base)) = (base, pos 1) ∷ []
 running_part (Some (Subtracted base)) = (base, negsuc 0) ∷ []
 
+-- a base so many times more among bases
 abbrev pub plus_base : Base → ℤ → List (Base × ℤ) → List (Base × ℤ)
 plus_base base times [] = (base, times) ∷ []
 plus_base base times (other ∷ others) = if same_base base other.0 then (other.0, other.1 +ℤ times) ∷ others else other ∷ plus_base base times others
 
+-- whether a number is 0
 abbrev pub is_zero : ℤ → Bool
 is_zero (pos n) = n == 0
 is_zero (negsuc n) = false
@@ -83,17 +92,21 @@ part_of number (base ∷ other ∷ bases) = Err letter.R
 abbrev pub item_number : List ℕ → ℕ
 item_number characters = fold (λ value c. value * 64 + unwrap_or (display_code_of c) 0) 0 characters
 
+-- an item in an expression is its number; more than 10 characters are A
 abbrev pub item_form : Item → Result Form Letter
 item_form item = if nat_le (length item.characters) 10 then Ok (absolute (pos (item_number item.characters))) else Err letter.A
 
+-- the value of a number; one above the greatest is A
 abbrev pub number_form : Number → Result Form Letter
 number_form (Value n) = Ok (absolute (pos n))
 number_form TooGreat = Err letter.A
 
+-- the value of a symbol, or U where it has no definition that is seen
 abbrev pub symbol_form : Option Form → Result Form Letter
 symbol_form None = Err letter.U
 symbol_form (Some form) = Ok form
 
+-- the value of an element, or its letter
 abbrev pub element_form : Names → Element → Result Form Letter
 element_form names (ANumber number) = number_form number
 element_form names (AnItem item) = item_form item
@@ -103,9 +116,11 @@ element_form names LocationCounter = Ok names.location
 element_form names OriginCounter = Ok names.origin
 element_form names (ALiteral literal) = names.literal literal
 
+-- an absolute value, or A where it is out of range
 abbrev pub in_range : ℤ → Result Form Letter
 in_range number = if is_in_range number then Ok (absolute number) else Err letter.A
 
+-- one number divided by another, without the fraction; division by 0 is Z
 abbrev pub quotient : ℤ → ℤ → Result Form Letter
 quotient a b = if is_zero b then Err letter.Z else in_range (int_div a b)
 
@@ -114,6 +129,7 @@ abbrev pub combined : Operator → Form → Form → Result Form Letter
 combined Divide a b = if is_absolute a && is_absolute b then quotient a.number b.number else Err letter.R
 combined _ a b = if is_absolute a && is_absolute b then in_range (a.number *ℤ b.number) else Err letter.R
 
+-- a product or a quotient whose second operand may be faulty; that fault goes before the operation's own
 abbrev pub combined_with : Operator → Form → Result Form Letter → Result Form Letter
 combined_with operator a (Err fault) = Err fault
 combined_with operator a (Ok b) = combined operator a b
@@ -124,14 +140,17 @@ product names form [] = form
 product names (Err fault) (link ∷ links) = product names (Err fault) links
 product names (Ok form) (link ∷ links) = product names (combined_with link.operator form (element_form names link.element)) links
 
+-- a number, with the other sign where it is subtracted
 abbrev pub signed : Operator → ℤ → ℤ
 signed Subtract n = neg_ℤ n
 signed _ n = n
 
+-- bases added to those of a running sum, or subtracted from them
 abbrev pub plus_bases : Operator → List (Base × ℤ) → List (Base × ℤ) → List (Base × ℤ)
 plus_bases operator [] bases = bases
 plus_bases operator (base ∷ others) bases = plus_bases operator others (plus_base base.0 (signed operator base.1) bases)
 
+-- a running sum, or A where its number is out of range
 abbrev pub running_in_range : Running → Result Running Letter
 running_in_range running = if is_in_range running.number then Ok running else Err letter.A
 
@@ -141,11 +160,13 @@ plus_term operator running (Err fault) = Err fault
 plus_term operator running (Ok form) =
     running_in_range (record { number = running.number +ℤ signed operator form.number; bases = plus_bases operator (running_part form.part) running.bases })
 
+-- the sum so far and all terms behind it, or the letter of the first fault
 abbrev pub sum_from : Names → Result Running Letter → List Term → Result Running Letter
 sum_from names running [] = running
 sum_from names (Err fault) (term ∷ terms) = sum_from names (Err fault) terms
 sum_from names (Ok running) (term ∷ terms) = sum_from names (plus_term term.operator running (product names (element_form names term.element) term.factors)) terms
 
+-- the value of a finished sum, in which at most one base is left
 abbrev pub closed : Result Running Letter → Result Form Letter
 closed (Err fault) = Err fault
 closed (Ok running) = part_of running.number (remaining running.bases)

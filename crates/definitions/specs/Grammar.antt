@@ -4,9 +4,8 @@
 --   element = number | item | symbol | register | "*" | "*L" | "*O" | literal
 --   literal = "=" ["+" | "-"] number | "=" item
 use Rattle.std.specs.Prelude.{ℕ, ◌≡◌, ◌⊎◌, List, [], ◌∷◌, ◌++◌, Some, None, true, false, codes}
-use Rattle.definitions.specs.Items.{Item}
-use Rattle.definitions.specs.Pieces.{Mark, Comma, Plus, Minus, Star, Slash, Equals, Piece, IsMark, IsItem, Run}
-use Rattle.definitions.specs.Symbols.{Register, register_of, is_symbol, Number, number_read}
+use Rattle.definitions.specs.Pieces.{Mark, Plus, Minus, Star, Slash, Equals, Piece, IsMark, IsItem, Run}
+use Rattle.definitions.specs.Symbols.{register_of, is_symbol, Number, number_read}
 use Rattle.definitions.specs.Expressions.{Sign, NoSign, PlusSign, MinusSign, Literal, OfNumber, OfItem, Element, ANumber, AnItem, ASymbol, ARegister, LocationCounter, OriginCounter, ALiteral, Operator, Times, Divide, Add, Subtract, Link, Term, Expression}
 use Rattle.definitions.specs.declared.marks.NumberBase.{NumberBase}
 
@@ -14,15 +13,17 @@ use Rattle.definitions.specs.declared.marks.NumberBase.{NumberBase}
 abbrev pub IsNumberRun : NumberBase → List ℕ → Number → Type 0
 IsNumberRun base text number = (register_of text ≡ None) × (is_symbol text ≡ false) × (number_read base text ≡ Some number)
 
+-- a run that is a symbol, and that symbol's name
 abbrev pub IsSymbolRun : List ℕ → List ℕ → Type 0
 IsSymbolRun text name = (register_of text ≡ None) × (is_symbol text ≡ true) × (name ≡ text)
 
--- the sign in front of a literal's number
+-- the sign in front of an expression, or of a literal's number
 abbrev pub sign_pieces : Sign → List Piece
 sign_pieces NoSign = []
 sign_pieces PlusSign = IsMark Plus ∷ []
 sign_pieces MinusSign = IsMark Minus ∷ []
 
+-- the pieces spell the literal: an equals sign, and a number with its sign or an item behind it
 abbrev pub IsLiteral : NumberBase → Literal → List Piece → Type 0
 IsLiteral base (OfNumber sign number) pieces = (text : List ℕ) × (number_read base text ≡ Some number) × (pieces ≡ IsMark Equals ∷ (sign_pieces sign ++ Run text ∷ []))
 IsLiteral base (OfItem item) pieces = pieces ≡ IsMark Equals ∷ IsItem item ∷ []
@@ -43,11 +44,13 @@ IsFactorMark Times mark = mark ≡ Star
 IsFactorMark Divide mark = mark ≡ Slash
 IsFactorMark _ mark = ⊥
 
+-- plus adds a term, minus subtracts one
 abbrev pub IsTermMark : Operator → Mark → Type 0
 IsTermMark Add mark = mark ≡ Plus
 IsTermMark Subtract mark = mark ≡ Minus
 IsTermMark _ mark = ⊥
 
+-- the pieces spell factors, each behind its star or slash
 abbrev pub AreFactors : NumberBase → List Link → List Piece → Type 0
 AreFactors base [] pieces = pieces ≡ []
 AreFactors base (link ∷ links) pieces =

@@ -2,6 +2,7 @@
 use Rattle.std.specs.Prelude.{ℕ, ◌==◌, ◌-◌, List, [], ◌∷◌, length, take, slice_index, nat_lt, if◌then◌else◌}
 use Rattle.std.specs.List.{slice_split}
 
+-- a line as it comes in: its bytes, or more than 256 of them, or bytes that no line feed ends
 pub data InputLine : Type 0 where
   Line : List ℕ → InputLine
   TooLong : InputLine
@@ -11,6 +12,7 @@ pub data InputLine : Type 0 where
 abbrev pub without_cr : List ℕ → List ℕ
 without_cr bytes = if slice_index bytes (length bytes - 1) == 13 then take (length bytes - 1) bytes else bytes
 
+-- what stands in front of a line feed, as a line
 abbrev pub line_of : List ℕ → InputLine
 line_of bytes = if nat_lt 256 (length bytes) then TooLong else Line (without_cr bytes)
 
@@ -19,6 +21,7 @@ abbrev pub last_of : List ℕ → List InputLine
 last_of [] = []
 last_of (b ∷ bs) = (if nat_lt 256 (length (b ∷ bs)) then TooLong else Cut) ∷ []
 
+-- the lines of what stands between line feeds; behind the last one a line may be cut
 abbrev pub lines_of_pieces : List (List ℕ) → List InputLine
 lines_of_pieces [] = []
 lines_of_pieces (last ∷ []) = last_of last

@@ -1,8 +1,9 @@
 -- Counted items (COMPASS 60492600, data items): a count, one of H A L R C, and that many characters.
-use Rattle.std.specs.Prelude.{ℕ, ◌+◌, ◌*◌, ◌==◌, List, [], ◌∷◌, Option, Some, None, Bool, ◌&&◌, nat_le, length, take, drop, codes, take_while, if◌then◌else◌}
+use Rattle.std.specs.Prelude.{ℕ, ◌+◌, ◌*◌, ◌==◌, List, [], ◌∷◌, Option, Some, None, ◌&&◌, nat_le, length, take, drop, codes, take_while, if◌then◌else◌}
 use Rattle.definitions.specs.Characters.{is_digit, is_among}
 use Rattle.definitions.specs.Numerals.{number_of}
 
+-- a counted item: its letter and its characters
 pub record Item : Type 0 where
   pub letter : ℕ
   pub characters : List ℕ

@@ -1,5 +1,5 @@
 -- Lengths and bases of blocks (COMPASS 60492600, blocks; that the literals come last is ours).
-use Rattle.std.specs.Prelude.{ℕ, ◌+◌, ◌-◌, ◌/◌, List, [], ◌∷◌, ◌++◌, max, Bool, ◌&&◌, not, nat_lt, length, if◌then◌else◌}
+use Rattle.std.specs.Prelude.{ℕ, ◌+◌, ◌-◌, ◌/◌, List, [], ◌∷◌, ◌++◌, max, ◌&&◌, not, nat_lt, length, if◌then◌else◌}
 use Rattle.definitions.specs.Characters.{same_text}
 use Rattle.definitions.specs.Operands.{units}
 use Rattle.definitions.specs.Settled.{Settled}
@@ -7,6 +7,7 @@ use Rattle.definitions.specs.Blocks.{blocks_used, changes, literals_block}
 use Rattle.definitions.specs.Literals.{literal_words}
 use Rattle.definitions.specs.declared.marks.DeckKind.{DeckKind}
 
+-- a block with its base and its length, in words
 pub record BlockRow : Type 0 where
   pub name : List ℕ
   pub base : ℕ
@@ -29,10 +30,12 @@ rows_from kind base [] settled = []
 rows_from kind base (name ∷ names) settled =
     record { name = name; base = base; length_is = length_of kind name settled } ∷ rows_from kind (base + length_of kind name settled) names settled
 
+-- the end of the last row; where there is none, the end that is given
 abbrev pub end_of_rows : ℕ → List BlockRow → ℕ
 end_of_rows end [] = end
 end_of_rows end (row ∷ rows) = end_of_rows (row.base + row.length_is) rows
 
+-- the row of the literals, where there are any
 abbrev pub literals_row : ℕ → List ℕ → List BlockRow
 literals_row base [] = []
 literals_row base (word ∷ words) = record { name = literals_block; base = base; length_is = length (word ∷ words) } ∷ []
@@ -48,6 +51,7 @@ abbrev pub base_in : List ℕ → List BlockRow → ℕ
 base_in name [] = 0
 base_in name (row ∷ rows) = if same_text name row.name then row.base else base_in name rows
 
+-- the words of all blocks together
 abbrev pub total_length : List BlockRow → ℕ
 total_length [] = 0
 total_length (row ∷ rows) = row.length_is + total_length rows

@@ -17,6 +17,7 @@ pub mod PeripheralTable
 pub mod Matching
 pub mod Operations
 pub mod Operands
+pub mod Sizes
 pub mod Settled
 pub mod Blocks
 pub mod Places

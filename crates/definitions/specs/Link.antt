@@ -1,25 +1,26 @@
 -- Linking decks: their bases, their entries and externals, and the lines that tell what went wrong (ours).
-use Rattle.std.specs.Prelude.{ℕ, ◌+◌, ◌-◌, ◌*◌, ◌/◌, ◌==◌, List, [], ◌∷◌, ◌++◌, Option, Some, None, Bool, true, false, not, ◌&&◌, ◌||◌, codes, flat_map, length, filter, nat_lt, nat_le, reverse, unwrap_or, ℤ, pos, ◌+ℤ◌, if◌then◌else◌}
+use Rattle.std.specs.Prelude.{ℕ, ◌+◌, ◌*◌, ◌/◌, List, [], ◌∷◌, ◌++◌, Option, Some, None, Bool, true, false, codes, flat_map, nat_lt, nat_le, reverse, unwrap_or, ℤ, pos, ◌+ℤ◌, if◌then◌else◌}
 use Rattle.std.specs.List.{list_any}
 use Rattle.definitions.specs.Characters.{same_text}
 use Rattle.definitions.specs.Numerals.{octal_of}
 use Rattle.definitions.specs.Coding.{coded_in}
 use Rattle.definitions.specs.Forms.{Form}
 use Rattle.definitions.specs.Operands.{unit_bits, word_bits}
-use Rattle.definitions.specs.Settled.{Definition, defined_in}
+use Rattle.definitions.specs.Settled.{Definition}
 use Rattle.definitions.specs.Blocks.{literals_block, is_named}
 use Rattle.definitions.specs.Lengths.{BlockRow, base_in, total_length}
-use Rattle.definitions.specs.StatementItems.{Bits, Content, Known, Linked, part_value}
+use Rattle.definitions.specs.StatementItems.{Bits, Known, Linked, part_value}
 use Rattle.definitions.specs.Words.{Coded, Linking, StoredWord, stored_words}
 use Rattle.definitions.specs.Objects.{Object}
-use Rattle.definitions.specs.Listing.{line, kind_text}
+use Rattle.definitions.specs.Listing.{line}
 use Rattle.definitions.specs.declared.marks.DeckKind.{DeckKind}
 use Rattle.definitions.specs.declared.marks.DeckKind.TheVariants.{Rel, Abs, Periph}
 
--- where the first REL deck stands, and where central memory and a peripheral memory end
+-- where the first REL deck stands
 abbrev pub first_base : ℕ
 first_base = 0o100
 
+-- the first address behind the memory that a deck is for
 abbrev pub memory_end : DeckKind → ℕ
 memory_end Periph = 0o10000
 memory_end _ = 0o400000
@@ -30,6 +31,7 @@ pub record Based : Type 0 where
   pub base : ℕ
   pub is_past : Bool
 
+-- the length of a deck: that of all its blocks
 abbrev pub length_is : Object → ℕ
 length_is object = total_length object.rows
 
@@ -38,6 +40,7 @@ abbrev pub literal_stored : ℕ → List ℕ → List StoredWord
 literal_stored offset [] = []
 literal_stored offset (word ∷ words) = record { offset = offset; value = word } ∷ literal_stored (offset + 1) words
 
+-- the stored words of a block, the literals among the blocks
 abbrev pub block_words : Linking → Object → BlockRow → List StoredWord
 block_words linking object row =
     elim (same_text row.name literals_block) [
@@ -45,6 +48,7 @@ block_words linking object row =
       | false ↦ stored_words object.kind linking row.name object.coded
     ]
 
+-- stored words with addresses in place of offsets, from a base on
 abbrev pub addressed : ℕ → List StoredWord → List StoredWord
 addressed base [] = []
 addressed base (word ∷ words) = record { offset = base + word.offset; value = word.value } ∷ addressed base words
@@ -53,13 +57,15 @@ addressed base (word ∷ words) = record { offset = base + word.offset; value = 
 abbrev pub object_words : Linking → Object → ℕ → List StoredWord
 object_words linking object base = flat_map (λ (row : BlockRow). addressed (base + row.base) (block_words linking object row)) object.rows
 
+-- whether a word lies where its memory has ended
 abbrev pub is_beyond : DeckKind → StoredWord → Bool
 is_beyond kind word = nat_le (memory_end kind) word.offset
 
--- whether a stored word of an absolute deck lies beyond its memory
+-- whether a stored word of an absolute or peripheral deck lies beyond its memory
 abbrev pub has_beyond : Object → Bool
 has_beyond object = list_any (is_beyond object.kind) (object_words (λ width form. 0) object 0)
 
+-- whether a REL deck at this base would pass the end of memory
 abbrev pub rel_past : Object → ℕ → Bool
 rel_past object base = nat_lt (memory_end Rel) (base + length_is object)
 
@@ -87,10 +93,12 @@ form_value external based form = form.number +ℤ part_value (λ name. pos (base
 abbrev pub entry_value : Based → Definition → ℤ
 entry_value based entry = form_value (λ name. pos 0) based entry.form
 
+-- a value, or the other one where it is missing
 abbrev pub or_value : Option ℤ → Option ℤ → Option ℤ
 or_value None other = other
 or_value (Some value) other = Some value
 
+-- the value of a name among the entries of a deck, if it has it
 abbrev pub entered_in : List ℕ → Based → List Definition → Option ℤ
 entered_in name based [] = None
 entered_in name based (entry ∷ entries) = if same_text name entry.name then Some (entry_value based entry) else entered_in name based entries
@@ -104,6 +112,7 @@ entered name (based ∷ others) = or_value (entered_in name based based.object.e
 abbrev pub external_value : List Based → List ℕ → ℤ
 external_value all name = unwrap_or (entered name all) (pos 0)
 
+-- the value of a form in its deck, with the externals that the decks enter
 abbrev pub linked_value : List Based → Based → Form → ℤ
 linked_value all based form = form_value (external_value all) based form
 
@@ -111,6 +120,7 @@ linked_value all based form = form_value (external_value all) based form
 abbrev pub linking_of : List Based → Based → Linking
 linking_of all based width form = unwrap_or (coded_in width (linked_value all based form)) 0
 
+-- the names of definitions
 abbrev pub names_of : List Definition → List (List ℕ)
 names_of [] = []
 names_of (entry ∷ entries) = entry.name ∷ names_of entries
@@ -119,6 +129,7 @@ names_of (entry ∷ entries) = entry.name ∷ names_of entries
 abbrev pub entry_names : List Based → List (List ℕ)
 entry_names all = flat_map (λ (based : Based). names_of based.object.entries) all
 
+-- a LINK line: its letter, its deck, and what it tells
 abbrev pub link_line : List ℕ → List ℕ → List ℕ → List ℕ
 link_line letter deck what = line (codes "LINK " ++ (letter ++ (codes " " ++ (deck ++ what))))
 
@@ -132,6 +143,7 @@ abbrev pub missing_lines : List (List ℕ) → List ℕ → List (List ℕ) → 
 missing_lines names deck [] = []
 missing_lines names deck (name ∷ externals) = (if is_named name names then [] else link_line (codes "U") deck (codes " " ++ name) ∷ []) ++ missing_lines names deck externals
 
+-- whether the value that the link gives a field does not fit there
 abbrev pub is_unfit : List Based → Based → Bits → Bool
 is_unfit all based bits = elim bits.content [ Known n ↦ false | Linked form ↦ elim (coded_in bits.width (linked_value all based form)) [ Some n ↦ false | None ↦ true ] ]
 
@@ -141,15 +153,18 @@ unfit_words all based from [] = []
 unfit_words all based from (bits ∷ fields) =
     (if is_unfit all based bits then from / word_bits based.object.kind ∷ [] else []) ++ unfit_words all based (from + bits.width) fields
 
+-- a LINK A line for each of these words of a block, with its address
 abbrev pub address_lines : List ℕ → ℕ → List ℕ → List (List ℕ)
 address_lines deck base [] = []
 address_lines deck base (word ∷ words) = link_line (codes "A") deck (codes " " ++ octal_of 8 (base + word)) ∷ address_lines deck base words
 
+-- the LINK A lines of a statement, one for each field that does not fit
 abbrev pub unfit_addresses : List Based → Based → Coded → List (List ℕ)
 unfit_addresses all based coded =
     address_lines based.object.name (based.base + base_in coded.settled.block based.object.rows)
     (unfit_words all based (coded.settled.place * unit_bits based.object.kind) coded.fields)
 
+-- the LINK F line of a deck that passes the end of memory
 abbrev pub past_lines : Based → List (List ℕ)
 past_lines based = if based.is_past then link_line (codes "F") based.object.name [] ∷ [] else []
 
@@ -160,6 +175,7 @@ deck_lines all earlier based =
     ++ (missing_lines (entry_names all) based.object.name based.object.externals
     ++ (flat_map (unfit_addresses all based) (reverse based.object.coded) ++ past_lines based))
 
+-- the LINK lines of these decks, where the decks before them enter these names
 abbrev pub lines_from : List Based → List (List ℕ) → List Based → List (List ℕ)
 lines_from all earlier [] = []
 lines_from all earlier (based ∷ others) = deck_lines all earlier based ++ lines_from all (earlier ++ names_of based.object.entries) others

@@ -1,12 +1,10 @@
 -- The listing of a deck (ours).
-use Rattle.std.specs.Prelude.{ℕ, ◌+◌, ◌*◌, ◌/◌, ◌%◌, ◌==◌, List, [], ◌∷◌, ◌++◌, Bool, codes, length, filter, flat_map, reverse, nat_lt, pos, ◌+ℤ◌, unwrap_or, if◌then◌else◌}
+use Rattle.std.specs.Prelude.{ℕ, ◌+◌, ◌/◌, ◌%◌, List, [], ◌∷◌, ◌++◌, Bool, codes, length, filter, flat_map, reverse, nat_lt, pos, ◌+ℤ◌, unwrap_or}
 use Rattle.definitions.specs.Numerals.{octal_of, digits_of, decimal_of}
 use Rattle.definitions.specs.Cards.{Card}
 use Rattle.definitions.specs.Coding.{coded_in}
-use Rattle.definitions.specs.Forms.{Form}
 use Rattle.definitions.specs.Operations as op
 use Rattle.definitions.specs.Operations.{Operation}
-use Rattle.definitions.specs.Operands.{units, word_bits}
 use Rattle.definitions.specs.Lengths.{BlockRow, base_in}
 use Rattle.definitions.specs.StatementItems.{Bits, part_value}
 use Rattle.definitions.specs.Words.{Coded, Linking, joined, width_of, cut}
@@ -14,9 +12,11 @@ use Rattle.definitions.specs.Objects.{Object, Shown}
 use Rattle.definitions.specs.declared.marks.DeckKind.{DeckKind}
 use Rattle.definitions.specs.declared.marks.DeckKind.TheVariants.{Rel, Abs, Periph}
 
+-- a text and the line feed that ends it
 abbrev pub line : List ℕ → List ℕ
 line text = text ++ 10 ∷ []
 
+-- the kind of a deck as it is written
 abbrev pub kind_text : DeckKind → List ℕ
 kind_text Rel = codes "REL"
 kind_text Abs = codes "ABS"
@@ -26,10 +26,12 @@ kind_text Periph = codes "PERIPH"
 abbrev pub alone : List BlockRow → Linking
 alone rows width form = unwrap_or (coded_in width (form.number +ℤ part_value (λ name. pos (base_in name rows)) (λ name. pos 0) form.part)) 0
 
+-- cards, each behind its number in the deck, where so many cards stand before them
 abbrev pub card_lines : ℕ → List Card → List ℕ
 card_lines before [] = []
 card_lines before (card ∷ cards) = line (digits_of 10 5 (before + 1) ++ (codes " " ++ card)) ++ card_lines (before + 1) cards
 
+-- the ERR line of a statement, where it has letters
 abbrev pub letters_line : List ℕ → List ℕ
 letters_line [] = []
 letters_line (letter ∷ letters) = line (codes "  ERR " ++ letter ∷ letters)
@@ -38,16 +40,20 @@ letters_line (letter ∷ letters) = line (codes "  ERR " ++ letter ∷ letters)
 abbrev pub bits_text : ℕ → ℕ → List ℕ
 bits_text width bits = octal_of (width / 3) bits
 
+-- a line with the word, the parcel and the bits that stand there
 abbrev pub central_line : ℕ → ℕ → ℕ → ℕ → List ℕ
 central_line word parcel width bits = line (codes "  " ++ (octal_of 6 word ++ (codes " " ++ (octal_of 1 parcel ++ (codes " " ++ bits_text width bits)))))
 
+-- a line with a peripheral word and its offset
 abbrev pub peripheral_line : ℕ → ℕ → List ℕ
 peripheral_line word bits = line (codes "  " ++ (octal_of 4 word ++ (codes " " ++ octal_of 4 bits)))
 
+-- central words, a line each, all at parcel 0
 abbrev pub data_lines : ℕ → List ℕ → List ℕ
 data_lines word [] = []
 data_lines word (bits ∷ words) = central_line word 0 60 bits ++ data_lines (word + 1) words
 
+-- peripheral words, a line each
 abbrev pub peripheral_lines : ℕ → List ℕ → List ℕ
 peripheral_lines word [] = []
 peripheral_lines word (bits ∷ words) = peripheral_line word bits ++ peripheral_lines (word + 1) words
@@ -59,21 +65,26 @@ central_lines linking operation place [] = []
 central_lines linking op.Instruction place (bits ∷ fields) = central_line (place / 4) (place % 4) (width_of (bits ∷ fields)) (joined linking (bits ∷ fields))
 central_lines linking operation place (bits ∷ fields) = data_lines (place / 4) (cut 60 (width_of (bits ∷ fields) / 60) (joined linking (bits ∷ fields)))
 
+-- in a peripheral deck each word of a statement has a line; BSSZ has none
 abbrev pub peripheral_item_lines : Linking → Operation → ℕ → List Bits → List ℕ
 peripheral_item_lines linking op.Bssz place fields = []
 peripheral_item_lines linking operation place fields = peripheral_lines place (cut 12 (width_of fields / 12) (joined linking fields))
 
+-- the lines of a statement's items, by the kind of its deck
 abbrev pub item_lines : DeckKind → Linking → Coded → List ℕ
 item_lines Periph linking coded = peripheral_item_lines linking coded.settled.operation coded.settled.place coded.fields
 item_lines kind linking coded = central_lines linking coded.settled.operation coded.settled.place coded.fields
 
+-- a statement in the listing: its cards, its letters, its items
 abbrev pub statement_lines : Object → Shown → List ℕ
 statement_lines object shown =
     card_lines shown.statement.before shown.statement.cards ++ (letters_line shown.letters ++ flat_map (item_lines object.kind (alone object.rows)) shown.coded)
 
+-- the BLOCK line: name, base and length
 abbrev pub block_line : BlockRow → List ℕ
 block_line row = line (codes "BLOCK " ++ (row.name ++ (codes " " ++ (octal_of 8 row.base ++ (codes " " ++ octal_of 8 row.length_is)))))
 
+-- whether a statement has a letter
 abbrev pub is_flagged : Shown → Bool
 is_flagged shown = nat_lt 0 (length shown.letters)
 

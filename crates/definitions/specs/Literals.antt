@@ -1,21 +1,23 @@
 -- Literals: the words behind equals signs, each distinct word once, in order of first use (COMPASS 60492600, literals; that they come last is ours).
-use Rattle.std.specs.Prelude.{ℕ, ◌+◌, ◌==◌, List, [], ◌∷◌, ◌++◌, Option, Some, None, Result, Ok, Err, Bool, nat_lt, flat_map, filter_map, unwrap_or, ℤ, pos, neg_ℤ, if◌then◌else◌}
+use Rattle.std.specs.Prelude.{ℕ, ◌+◌, ◌==◌, List, [], ◌∷◌, ◌++◌, Option, Some, None, Result, Ok, Err, nat_lt, flat_map, filter_map, unwrap_or, ℤ, pos, neg_ℤ, if◌then◌else◌}
 use Rattle.std.specs.List.{list_any}
 use Rattle.definitions.specs.Symbols.{Number, Value, TooGreat}
-use Rattle.definitions.specs.Expressions.{Sign, NoSign, PlusSign, MinusSign, Literal, OfNumber, OfItem, Element, ALiteral, Expression, elements_of}
+use Rattle.definitions.specs.Expressions.{Sign, MinusSign, Literal, OfNumber, OfItem, Element, ALiteral, Expression, elements_of}
 use Rattle.definitions.specs.Forms.{Form, Added, Block}
 use Rattle.definitions.specs.Coding.{coded_in, item_in}
-use Rattle.definitions.specs.Matching.{Instruction, Field, NoField, OfK, OfN}
+use Rattle.definitions.specs.Matching.{Field, NoField, OfK, OfN}
 use Rattle.definitions.specs.Operands.{Operand, CentralOperand, WordsOperand, BitsOperand, Datum, ExpressionWord, BitField}
 use Rattle.definitions.specs.Settled.{Settled}
 use Rattle.definitions.specs.Blocks.{literals_block}
 use Rattle.definitions.specs.declared.marks.Letter.{Letter}
 use Rattle.definitions.specs.declared.marks.Letter.TheVariants as letter
 
+-- a number with its sign
 abbrev pub signed_number : Sign → ℕ → ℤ
 signed_number MinusSign n = neg_ℤ (pos n)
 signed_number sign n = pos n
 
+-- a signed number in a word of 60 bits; zero where it is too great
 abbrev pub number_bits : Sign → Number → ℕ
 number_bits sign (Value n) = unwrap_or (coded_in 60 (signed_number sign n)) 0
 number_bits sign TooGreat = 0
@@ -25,22 +27,27 @@ abbrev pub literal_word : Literal → ℕ
 literal_word (OfNumber sign number) = number_bits sign number
 literal_word (OfItem item) = unwrap_or (item_in 60 item) 0
 
+-- the literal that an element is, if it is one
 abbrev pub literal_in : Element → Option Literal
 literal_in (ALiteral literal) = Some literal
 literal_in _ = None
 
+-- the literals of an expression from left to right
 abbrev pub literals_in : Expression → List Literal
 literals_in e = filter_map literal_in (elements_of e)
 
+-- the literals in K or n
 abbrev pub field_literals : Field → List Literal
 field_literals NoField = []
 field_literals (OfK e) = literals_in e
 field_literals (OfN e) = literals_in e
 
+-- the literals in a word of CON; DATA has none
 abbrev pub datum_literals : Datum → List Literal
 datum_literals (ExpressionWord e) = literals_in e
 datum_literals _ = []
 
+-- the literals in a field of a VFD, if it has an expression
 abbrev pub value_literals : Option Expression → List Literal
 value_literals None = []
 value_literals (Some e) = literals_in e
@@ -52,9 +59,11 @@ operand_literals (WordsOperand data') = flat_map datum_literals data'
 operand_literals (BitsOperand fields) = flat_map (λ (field : BitField). value_literals field.value) fields
 operand_literals _ = []
 
+-- the words with this one at the end, if it is not yet among them
 abbrev pub with_word : ℕ → List ℕ → List ℕ
 with_word word words = if list_any (λ other. other == word) words then words else words ++ word ∷ []
 
+-- the words with those of the literals that follow
 abbrev pub with_literals : List Literal → List ℕ → List ℕ
 with_literals [] words = words
 with_literals (literal ∷ literals) words = with_literals literals (with_word (literal_word literal) words)
@@ -64,6 +73,7 @@ abbrev pub literal_words : List Settled → List ℕ
 literal_words [] = []
 literal_words (settled ∷ earlier) = with_literals (operand_literals settled.operand) (literal_words earlier)
 
+-- how many of the words stand in front of this one
 abbrev pub offset_of : ℕ → List ℕ → ℕ
 offset_of word [] = 0
 offset_of word (other ∷ words) = if other == word then 0 else 1 + offset_of word words
@@ -72,6 +82,7 @@ offset_of word (other ∷ words) = if other == word then 0 else 1 + offset_of wo
 abbrev pub offset_form : ℕ → Result Form Letter
 offset_form offset = if nat_lt offset 131072 then Ok (record { number = pos offset; part = Some (Added (Block literals_block)) }) else Err letter.A
 
+-- where the word of a literal stands; a number that is too great is A
 abbrev pub literal_form : List ℕ → Literal → Result Form Letter
 literal_form words (OfNumber sign TooGreat) = Err letter.A
 literal_form words literal = offset_form (offset_of (literal_word literal) words)

@@ -2,9 +2,8 @@
 use Rattle.std.specs.Prelude.{ℕ, ◌+◌, ◌-◌, ◌*◌, ◌==◌, List, [], ◌∷◌, ◌++◌, Option, Some, None, Bool, true, false, ◌&&◌, nat_le, codes, length, if◌then◌else◌}
 use Rattle.std.specs.List.{slice_split}
 use Rattle.definitions.specs.Characters.{same_text, is_among}
-use Rattle.definitions.specs.Pieces.{Mark, Comma, Plus, Minus, Star, Slash, Equals, Piece, IsMark, IsItem, Run, subfields_of}
-use Rattle.definitions.specs.Symbols.{Register}
-use Rattle.definitions.specs.Expressions.{Expression, Sign, PlusSign, Term, Operator, Times, Divide, Add, Subtract, Element, ANumber, AnItem, ASymbol, ARegister, LocationCounter, OriginCounter, ALiteral, Link, expression_of, is_plain}
+use Rattle.definitions.specs.Pieces.{Mark, Comma, Plus, Minus, Star, Slash, Equals, Piece, IsMark, IsItem, Run}
+use Rattle.definitions.specs.Expressions.{Expression, Sign, PlusSign, Term, Operator, Subtract, Element, ARegister, Link, expression_of, is_plain}
 use Rattle.definitions.specs.CentralTable.{Row, SumRow, central_rows, ignoring_rows, sum_rows}
 use Rattle.definitions.specs.declared.marks.NumberBase.{NumberBase}
 
@@ -14,18 +13,22 @@ pub record Places : Type 0 where
   pub j : ℕ
   pub k : ℕ
 
+-- all three digits 0
 abbrev pub no_places : Places
 no_places = record { i = 0; j = 0; k = 0 }
 
+-- whether a character of a pattern is i, j or k
 abbrev pub is_place : ℕ → Bool
 is_place c = is_among c (codes "ijk")
 
+-- the digits with the one for this place set
 abbrev pub with_place : ℕ → ℕ → Places → Places
 with_place c digit places =
     if c == 105 then record { i = digit; j = places.j; k = places.k }
     else if c == 106 then record { i = places.i; j = digit; k = places.k }
     else record { i = places.i; j = places.j; k = digit }
 
+-- 0 to 7
 abbrev pub is_octal_digit : ℕ → Bool
 is_octal_digit c = nat_le 48 c && nat_le c 55
 
@@ -37,6 +40,7 @@ matched (p ∷ ps) (c ∷ cs) places =
     if (if is_place p then is_octal_digit c else (p == c)) then next else None
 matched _ _ places = None
 
+-- whether an operation is that of a pattern, as BX6 is BXi
 abbrev pub is_operation : List ℕ → List ℕ → Bool
 is_operation pattern operation = elim (matched pattern operation no_places) [ Some places ↦ true | None ↦ false ]
 
@@ -66,16 +70,19 @@ mark_text Star = codes "*"
 mark_text Slash = codes "/"
 mark_text Equals = codes "="
 
+-- a subfield's text for comparing with registers; an item shows as a blank, which no pattern has
 abbrev pub plain_text : List Piece → List ℕ
 plain_text [] = []
 plain_text (IsMark mark ∷ pieces) = mark_text mark ++ plain_text pieces
 plain_text (Run text ∷ pieces) = text ++ plain_text pieces
 plain_text (IsItem item ∷ pieces) = codes " "
 
+-- the field K or n of an expression without registers, if there is one
 abbrev pub plain_field : (Expression → Field) → Places → Option Expression → Option Match
 plain_field field places None = None
 plain_field field places (Some e) = if is_plain true e then Some (record { places = places; field = field e }) else None
 
+-- the field beside digits that are found
 abbrev pub with_field : Field → Option Places → Option Match
 with_field field None = None
 with_field field (Some places) = Some (record { places = places; field = field })
@@ -87,12 +94,14 @@ subfield_matched base pattern pieces so_far =
     else if same_text pattern (codes "n") then plain_field OfN so_far.places (expression_of base pieces)
     else with_field so_far.field (matched pattern (plain_text pieces) so_far.places)
 
+-- each subfield with its pattern; there must be as many of either
 abbrev pub subfields_matched : NumberBase → List (List ℕ) → List (List Piece) → Option Match → Option Match
 subfields_matched base [] [] so_far = so_far
 subfields_matched base (pattern ∷ patterns) (pieces ∷ others) None = None
 subfields_matched base (pattern ∷ patterns) (pieces ∷ others) (Some so_far) = subfields_matched base patterns others (subfield_matched base pattern pieces so_far)
 subfields_matched base _ _ so_far = None
 
+-- a digit of a code: that of its place, or itself
 abbrev pub digit_in : Places → ℕ → ℕ
 digit_in places c =
     if c == 105 then places.i else if c == 106 then places.j else if c == 107 then places.k else c - 48
@@ -102,10 +111,12 @@ abbrev pub code_digits : Places → List ℕ → List ℕ
 code_digits places [] = []
 code_digits places (c ∷ cs) = if is_among c (codes "Kn") then [] else digit_in places c ∷ code_digits places cs
 
+-- the number of octal digits, behind those that make the value so far
 abbrev pub octal_number : ℕ → List ℕ → ℕ
 octal_number value [] = value
 octal_number value (digit ∷ digits) = octal_number (value * 8 + digit) digits
 
+-- the instruction that a code makes with the digits and the field found
 abbrev pub instruction_of : List ℕ → Match → Instruction
 instruction_of code found =
     let digits = code_digits found.places code in
@@ -117,15 +128,18 @@ pub data Central : Type 0 where
   NoSuchOperand : Central
   IsInstruction : Instruction → Central
 
+-- the digits of the operation, before any operand is matched
 abbrev pub with_places : List ℕ → Option Places → Option Match
 with_places code None = None
 with_places code (Some places) = Some (record { places = places; field = NoField })
 
+-- the instruction of a row that fits; where it does not, other rows count, and the operation is known at least
 abbrev pub or_operand : List ℕ → Option Match → Central → Central
 or_operand code None NoSuchOperation = NoSuchOperand
 or_operand code None rest = rest
 or_operand code (Some found) rest = IsInstruction (instruction_of code found)
 
+-- an operation and its subfields as a row has them, if it does
 abbrev pub row_match : NumberBase → Row → List ℕ → List (List Piece) → Option Match
 row_match base row operation subfields = subfields_matched base (slice_split (λ c. c == 44) row.operand) subfields (with_places row.code (matched row.operation operation no_places))
 
@@ -139,6 +153,7 @@ among_rows base operation subfields (row ∷ rows) =
       | false ↦ rest
     ]
 
+-- the instruction of the first row with this operation, whatever its operand; or what other rows give
 abbrev pub among_ignoring : List ℕ → List Row → Central → Central
 among_ignoring operation [] rest = rest
 among_ignoring operation (row ∷ rows) rest = if is_operation row.operation operation then IsInstruction (instruction_of row.code (record { places = no_places; field = NoField })) else among_ignoring operation rows rest
@@ -149,17 +164,21 @@ pub record Sum : Type 0 where
   pub registers : List ℕ
   pub others : List Term
 
+-- the sign of a register in a sum; a plus in front of the first one is left out
 abbrev pub sign_text : Bool → Operator → List ℕ
 sign_text first Subtract = codes "-"
 sign_text first _ = if first then [] else codes "+"
 
+-- whether no register stands there yet
 abbrev pub is_none_yet : List ℕ → Bool
 is_none_yet text = length text == 0
 
+-- a term that is one register joins the registers, every other term the others
 abbrev pub onto_sum : Term → Element → List Link → Sum → Sum
 onto_sum term (ARegister r) [] sum = record { sign = PlusSign; registers = sum.registers ++ (sign_text (is_none_yet sum.registers) term.operator ++ r.letter ∷ (48 + r.digit) ∷ []); others = sum.others }
 onto_sum term element links sum = record { sign = sum.sign; registers = sum.registers; others = sum.others ++ term ∷ [] }
 
+-- a sum with further terms taken apart
 abbrev pub sum_of : List Term → Sum → Sum
 sum_of [] sum = sum
 sum_of (term ∷ terms) sum = sum_of terms (onto_sum term term.element term.factors sum)
@@ -169,14 +188,17 @@ abbrev pub sum_code : SumRow → List Term → List ℕ
 sum_code row [] = row.alone
 sum_code row (term ∷ terms) = row.with_K
 
+-- the field K of the terms that are no register; no field where there are none
 abbrev pub sum_field : Sign → List Term → Field
 sum_field sign [] = NoField
 sum_field sign (term ∷ terms) = OfK (record { sign = sign; terms = term ∷ terms })
 
+-- whether a field has no register, and no literal that is longer than a word
 abbrev pub is_plain_field : Field → Bool
 is_plain_field (OfK e) = is_plain true e
 is_plain_field _ = true
 
+-- the instruction of a row whose registers fit, where it has a code with or without K as needed; else that of other rows
 abbrev pub or_sum : List ℕ → Sum → Option Places → Central → Central
 or_sum code sum None rest = or_operand code None rest
 or_sum code sum (Some places) rest =
@@ -184,10 +206,12 @@ or_sum code sum (Some places) rest =
     then IsInstruction (instruction_of code (record { places = places; field = sum_field sum.sign sum.others }))
     else or_operand code None rest
 
+-- the digits of the operation, and those of the registers of its sum
 abbrev pub registers_matched : SumRow → List ℕ → Sum → Option Places → Option Places
 registers_matched row operation sum None = None
 registers_matched row operation sum (Some places) = matched row.registers sum.registers places
 
+-- the instruction of a sum by the first row that fits; what is no sum fits none
 abbrev pub among_sums : List ℕ → Option Sum → List SumRow → Central
 among_sums operation sum [] = NoSuchOperation
 among_sums operation None (row ∷ rows) = if is_operation row.operation operation then NoSuchOperand else among_sums operation None rows
@@ -198,6 +222,7 @@ among_sums operation (Some sum) (row ∷ rows) =
       | false ↦ rest
     ]
 
+-- an expression taken apart, if there is one
 abbrev pub sum_read : Option Expression → Option Sum
 sum_read None = None
 sum_read (Some e) = Some (sum_of e.terms (record { sign = e.sign; registers = []; others = [] }))
@@ -207,6 +232,7 @@ abbrev pub single : NumberBase → List (List Piece) → Option Expression
 single base (pieces ∷ []) = expression_of base pieces
 single base _ = None
 
+-- what is found first, or the other where the operation is in no row
 abbrev pub or_else : Central → Central → Central
 or_else NoSuchOperation other = other
 or_else central other = central

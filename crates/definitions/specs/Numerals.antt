@@ -10,6 +10,7 @@ digits_of base (suc count) value = digits_of base count (value / base) ++ (48 + 
 abbrev pub number_of : ℕ → List ℕ → ℕ
 number_of base digits = fold (λ value digit. value * base + (digit - 48)) 0 digits
 
+-- the value as so many octal digits
 abbrev pub octal_of : ℕ → ℕ → List ℕ
 octal_of count value = digits_of 8 count value
 

@@ -3,13 +3,13 @@ use Rattle.std.specs.Prelude.{ℕ, List, [], ◌∷◌, Bool, true, false, map, 
 use Rattle.std.specs.List.{list_any}
 use Rattle.definitions.specs.Cards.{Card}
 use Rattle.definitions.specs.Statements.{Statement, statements_of}
-use Rattle.definitions.specs.Fields.{Fields, fields_of}
+use Rattle.definitions.specs.Fields.{fields_of}
 use Rattle.definitions.specs.Operations.{kind_of, is_end}
 use Rattle.definitions.specs.Settled.{Settled, Definition}
 use Rattle.definitions.specs.Settling.{settled_all}
 use Rattle.definitions.specs.Literals.{literal_words}
 use Rattle.definitions.specs.Lengths.{BlockRow, block_rows}
-use Rattle.definitions.specs.StatementItems.{Context, Bits, items_of}
+use Rattle.definitions.specs.StatementItems.{Context, items_of}
 use Rattle.definitions.specs.Letters.{letters_of, in_order, entries_of, externals_of}
 use Rattle.definitions.specs.Words.{Coded}
 use Rattle.definitions.specs.declared.marks.DeckKind.{DeckKind}
@@ -36,21 +36,25 @@ pub record Object : Type 0 where
   pub entries : List Definition
   pub externals : List (List ℕ)
 
+-- whether END is among the statements
 abbrev pub has_end : List Statement → Bool
 has_end statements = list_any (λ (statement : Statement). is_end (fields_of statement.cards)) statements
 
--- the statements up to END, newest first; and those behind it
+-- the statements up to END
 abbrev pub up_to_end : List Statement → List Statement
 up_to_end [] = []
 up_to_end (statement ∷ earlier) = elim (has_end earlier) [ true ↦ up_to_end earlier | false ↦ statement ∷ earlier ]
 
+-- the statements behind END, newest first
 abbrev pub behind_end : List Statement → List Statement
 behind_end [] = []
 behind_end (statement ∷ earlier) = elim (has_end earlier) [ true ↦ statement ∷ behind_end earlier | false ↦ [] ]
 
+-- a statement with the fields it makes
 abbrev pub coded_of : Context → Settled → Coded
 coded_of context settled = record { settled = settled; fields = items_of context settled settled.operation }
 
+-- a statement up to END in the listing, with its letters and its items
 abbrev pub shown_of : Context → Settled → Shown
 shown_of context settled = record { statement = settled.statement; letters = in_order (letters_of context settled); coded = coded_of context settled ∷ [] }
 
@@ -58,6 +62,7 @@ shown_of context settled = record { statement = settled.statement; letters = in_
 abbrev pub only_listed : Statement → Shown
 only_listed statement = record { statement = statement; letters = []; coded = [] }
 
+-- the object of a deck whose context is known, with the statements behind its END
 abbrev pub object_in : List ℕ → Context → List Statement → Object
 object_in name context behind = record {
   name = name;
@@ -70,12 +75,15 @@ object_in name context behind = record {
   externals = externals_of context.settled;
 }
 
+-- what the settled statements of a deck make known: its kind, its blocks and its literals
 abbrev pub context_of : DeckKind → List Settled → Context
 context_of kind settled = record { kind = kind; settled = settled; rows = block_rows kind settled; literals = literal_words settled }
 
+-- the kind of a deck, from its statements newest first
 abbrev pub kind_of_statements : List Statement → DeckKind
 kind_of_statements statements = kind_of (map (λ (statement : Statement). fields_of statement.cards) (reverse statements))
 
+-- the object of a name, the statements up to END, and those behind it
 abbrev pub object_from : List ℕ → List Statement → List Statement → Object
 object_from name statements behind =
     let kind = kind_of_statements statements in

@@ -1,18 +1,16 @@
 -- Operands: what a variable field is to its operation, before any name is known.
-use Rattle.std.specs.Prelude.{ℕ, ◌+◌, ◌*◌, ◌/◌, ◌-◌, ◌==◌, List, [], ◌∷◌, ◌++◌, Option, Some, None, Bool, true, false, not, ◌&&◌, nat_le, codes, map, length, drop, take, take_while, replicate, if◌then◌else◌}
-use Rattle.std.specs.List.{list_any}
+use Rattle.std.specs.Prelude.{ℕ, ◌+◌, ◌*◌, ◌/◌, ◌==◌, List, [], ◌∷◌, ◌++◌, Option, Some, None, Bool, true, false, not, ◌&&◌, nat_le, codes, map, length, drop, take, take_while, replicate, if◌then◌else◌}
 use Rattle.definitions.specs.Characters.{is_among, same_text, blank}
 use Rattle.definitions.specs.Items.{Item}
-use Rattle.definitions.specs.Pieces.{Comma, Plus, Minus, Slash, Piece, IsMark, IsItem, Run, pieces_of, subfields_of}
-use Rattle.definitions.specs.Symbols.{Number, Value, TooGreat, number_read, is_block_name, is_nominal, is_linked_name}
+use Rattle.definitions.specs.Pieces.{Plus, Minus, Slash, Piece, IsMark, IsItem, Run, pieces_of, subfields_of}
+use Rattle.definitions.specs.Symbols.{Number, Value, number_read, is_block_name, is_linked_name}
 use Rattle.definitions.specs.Expressions.{Sign, NoSign, PlusSign, MinusSign, Expression, expression_of, is_plain}
-use Rattle.definitions.specs.Coding.{words_needed}
-use Rattle.definitions.specs.PeripheralTable.{PeripheralForm, Ignored, Short, ShortJump, Shift, Wide, Long, PeripheralRow, peripheral_row}
-use Rattle.definitions.specs.Matching.{Instruction, Central, NoSuchOperation, NoSuchOperand, IsInstruction, Field, NoField, OfK, OfN, central_of}
+use Rattle.definitions.specs.PeripheralTable.{PeripheralForm, Ignored, Long, PeripheralRow, peripheral_row}
+use Rattle.definitions.specs.Matching.{Instruction, Central, IsInstruction, central_of}
 use Rattle.definitions.specs.Operations as op
 use Rattle.definitions.specs.Operations.{Operation}
 use Rattle.definitions.specs.declared.marks.DeckKind.{DeckKind}
-use Rattle.definitions.specs.declared.marks.DeckKind.TheVariants.{Rel, Abs, Periph}
+use Rattle.definitions.specs.declared.marks.DeckKind.TheVariants.{Periph}
 use Rattle.definitions.specs.declared.marks.NumberBase.{NumberBase}
 
 -- what fills words of DATA or CON
@@ -27,6 +25,7 @@ pub record BitField : Type 0 where
   pub width : ℕ
   pub value : Option Expression
 
+-- what stands in a variable field
 pub data Operand : Type 0 where
   -- nothing is read
   Unread : Operand
@@ -47,23 +46,27 @@ pub data Operand : Type 0 where
   -- USE of a name with `/`
   UseRefused : Operand
 
--- how many bits a word has, and how many units of instructions
+-- how many bits a word has
 abbrev pub word_bits : DeckKind → ℕ
 word_bits Periph = 12
 word_bits _ = 60
 
+-- four parcels in a central word; a peripheral word is one unit
 abbrev pub units : DeckKind → ℕ
 units Periph = 1
 units _ = 4
 
+-- the bits of a parcel, or of a peripheral word
 abbrev pub unit_bits : DeckKind → ℕ
 unit_bits Periph = 12
 unit_bits _ = 15
 
+-- whether CON and VFD may have literals
 abbrev pub allows_literals : DeckKind → Bool
 allows_literals Periph = false
 allows_literals _ = true
 
+-- an expression that is there, without registers, and without literals where they are not allowed
 abbrev pub plain_expression : Bool → Option Expression → Option Expression
 plain_expression literals None = None
 plain_expression literals (Some e) = if is_plain literals e then Some e else None
@@ -78,10 +81,12 @@ onto_all None rest = None
 onto_all (Some x) None = None
 onto_all (Some x) (Some xs) = Some (x ∷ xs)
 
+-- a number with its sign as a word of DATA, if there is one
 abbrev pub number_word : Sign → Option Number → Option Datum
 number_word sign None = None
 number_word sign (Some number) = Some (NumberWord sign number)
 
+-- a subfield of DATA: nothing, a number with or without a sign, or an item
 abbrev pub data_word : NumberBase → List Piece → Option Datum
 data_word base [] = Some ZeroWord
 data_word base (Run text ∷ []) = number_word NoSign (number_read base text)
@@ -90,18 +95,22 @@ data_word base (IsMark Minus ∷ Run text ∷ []) = number_word MinusSign (numbe
 data_word base (IsItem item ∷ []) = Some (ItemWords item)
 data_word base _ = None
 
+-- an expression as a word of CON, if there is one
 abbrev pub expression_word : Option Expression → Option Datum
 expression_word None = None
 expression_word (Some e) = Some (ExpressionWord e)
 
+-- a subfield of CON: nothing, or an expression
 abbrev pub con_word : Bool → NumberBase → List Piece → Option Datum
 con_word literals base [] = Some ZeroWord
 con_word literals base (piece ∷ pieces) = expression_word (plain_of literals base (piece ∷ pieces))
 
+-- what fills the words of all subfields, if each is lawful
 abbrev pub all_words : (List Piece → Option Datum) → List (List Piece) → Option (List Datum)
 all_words word [] = Some []
 all_words word (subfield ∷ subfields) = onto_all (word subfield) (all_words word subfields)
 
+-- words, or V where a subfield is not lawful
 abbrev pub words_operand : Option (List Datum) → Operand
 words_operand None = BadOperand
 words_operand (Some words) = WordsOperand words
@@ -111,10 +120,12 @@ abbrev pub count_read : ℕ → Option Number → Option ℕ
 count_read most (Some (Value n)) = if nat_le 1 n && nat_le n most then Some n else None
 count_read most _ = None
 
+-- a field of a VFD, if its width and its value are lawful
 abbrev pub bit_field : Option ℕ → Option (Option Expression) → Option BitField
 bit_field (Some width) (Some value) = Some (record { width = width; value = value })
 bit_field _ _ = None
 
+-- an expression that is written, if it is lawful
 abbrev pub given_expression : Option Expression → Option (Option Expression)
 given_expression None = None
 given_expression (Some e) = Some (Some e)
@@ -125,10 +136,12 @@ vfd_field literals base (Run width ∷ IsMark Slash ∷ []) = bit_field (count_r
 vfd_field literals base (Run width ∷ IsMark Slash ∷ pieces) = bit_field (count_read 60 (number_read base width)) (given_expression (plain_of literals base pieces))
 vfd_field literals base _ = None
 
+-- the fields of all subfields, if each is lawful
 abbrev pub all_fields : (List Piece → Option BitField) → List (List Piece) → Option (List BitField)
 all_fields field [] = Some []
 all_fields field (subfield ∷ subfields) = onto_all (field subfield) (all_fields field subfields)
 
+-- fields, or V where one of them is not lawful
 abbrev pub bits_operand : Option (List BitField) → Operand
 bits_operand None = BadOperand
 bits_operand (Some fields) = BitsOperand fields
@@ -137,6 +150,7 @@ bits_operand (Some fields) = BitsOperand fields
 abbrev pub word_characters : DeckKind → ℕ
 word_characters kind = word_bits kind / 6
 
+-- so many words of characters, with blanks where the text ends; V without a lawful count
 abbrev pub text_operand : DeckKind → Option ℕ → List ℕ → Operand
 text_operand kind None text = BadOperand
 text_operand kind (Some count) text =
@@ -149,14 +163,17 @@ dis_operand kind base text =
     let count = take_while (λ c. not (c == 44)) text in
     if nat_le (1 + length count) (length text) then text_operand kind (count_read 100 (number_read base count)) (drop (1 + length count) text) else BadOperand
 
+-- an expression, or V where there is none
 abbrev pub value_operand : Option Expression → Operand
 value_operand None = BadOperand
 value_operand (Some e) = ValueOperand e
 
+-- the operand of BSS, BSSZ, ORG, LOC and EQU: one subfield, without registers and literals
 abbrev pub one_value : NumberBase → List (List Piece) → Operand
 one_value base (pieces ∷ []) = value_operand (plain_of false base pieces)
 one_value base _ = BadOperand
 
+-- the name that a subfield of ENTRY or EXT is, if it is lawful
 abbrev pub linked_name : List Piece → Option (List ℕ)
 linked_name (Run text ∷ []) = if is_linked_name text then Some text else None
 linked_name _ = None
@@ -169,36 +186,43 @@ use_operand (c ∷ cs) =
     else if same_text (c ∷ cs) (codes "*") then UseBefore
     else if is_block_name (c ∷ cs) then UseName (c ∷ cs) else BadOperand
 
+-- the operand of BASE: O or D
 abbrev pub base_operand : List ℕ → Operand
 base_operand text = if same_text text (codes "O") then Unread else if same_text text (codes "D") then Unread else BadOperand
 
+-- the instruction that was found, or V
 abbrev pub central_operand : Central → Operand
 central_operand (IsInstruction instruction) = CentralOperand instruction
 central_operand _ = BadOperand
 
+-- m, or m and d
 abbrev pub one_or_two : PeripheralRow → List (Option Expression) → Operand
 one_or_two row (Some m ∷ []) = PeripheralOperand row (m ∷ [])
 one_or_two row (Some m ∷ Some d ∷ []) = PeripheralOperand row (m ∷ d ∷ [])
 one_or_two row _ = BadOperand
 
+-- one value and no more
 abbrev pub just_one : PeripheralRow → List (Option Expression) → Operand
 just_one row (Some d ∷ []) = PeripheralOperand row (d ∷ [])
 just_one row _ = BadOperand
 
+-- as many values as the form has, or V; PSN ignores what stands there
 abbrev pub by_form : PeripheralRow → PeripheralForm → List (Option Expression) → Operand
 by_form row Ignored values = PeripheralOperand row []
 by_form row Long values = one_or_two row values
 by_form row _ values = just_one row values
 
+-- the operand of a peripheral instruction: expressions without registers and literals
 abbrev pub peripheral_operand : NumberBase → Option PeripheralRow → List (List Piece) → Operand
 peripheral_operand base None subfields = BadOperand
 peripheral_operand base (Some row) subfields = by_form row row.form (map (plain_of false base) subfields)
 
+-- the operand of an instruction, by the kind of its deck
 abbrev pub instruction_operand : DeckKind → NumberBase → List ℕ → List (List Piece) → Operand
 instruction_operand Periph base operation subfields = peripheral_operand base (peripheral_row operation) subfields
 instruction_operand _ base operation subfields = central_operand (central_of base operation subfields)
 
--- the operand of an operation; the field of ENTRY and EXT is read where the deck's kind has them
+-- the operand of an operation: what its variable field is to it
 abbrev pub operand_of : DeckKind → NumberBase → Operation → List ℕ → List ℕ → Operand
 operand_of kind base op.Base operation text = base_operand text
 operand_of kind base op.Use operation text = use_operand text
@@ -215,35 +239,3 @@ operand_of kind base op.Entry operation text = NamesOperand (map linked_name (su
 operand_of kind base op.Ext operation text = NamesOperand (map linked_name (subfields_of (pieces_of text)))
 operand_of kind base op.Instruction operation text = instruction_operand kind base operation (subfields_of (pieces_of text))
 operand_of kind base _ operation text = Unread
-
--- the sizes of operands, in words
-abbrev pub datum_words : DeckKind → Datum → ℕ
-datum_words kind (ItemWords item) = words_needed (word_bits kind) item
-datum_words kind _ = 1
-
-abbrev pub words_of : DeckKind → List Datum → ℕ
-words_of kind [] = 0
-words_of kind (datum ∷ data') = datum_words kind datum + words_of kind data'
-
-abbrev pub bits_of : List BitField → ℕ
-bits_of [] = 0
-bits_of (field ∷ fields) = field.width + bits_of fields
-
-abbrev pub field_bits : Field → ℕ
-field_bits NoField = 0
-field_bits (OfK e) = 18
-field_bits (OfN e) = 6
-
-abbrev pub form_units : PeripheralForm → ℕ
-form_units Wide = 2
-form_units Long = 2
-form_units _ = 1
-
--- how many units of its deck an operand fills
-abbrev pub size_of : DeckKind → Operand → ℕ
-size_of kind (CentralOperand instruction) = (3 * instruction.count + field_bits instruction.field) / 15
-size_of kind (PeripheralOperand row values) = form_units row.form
-size_of kind (WordsOperand data') = words_of kind data' * units kind
-size_of kind (BitsOperand fields) = (bits_of fields + word_bits kind - 1) / word_bits kind * units kind
-size_of kind (TextOperand count text) = count * units kind
-size_of kind _ = 0

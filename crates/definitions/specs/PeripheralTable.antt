@@ -19,6 +19,7 @@ pub data PeripheralForm : Type 0 where
   -- m in a second word, and d
   Long : PeripheralForm
 
+-- an operation, its code of two octal digits, and what stands behind them
 pub record PeripheralRow : Type 0 where
   pub operation : List ℕ
   pub code : ℕ
@@ -33,6 +34,7 @@ from_code code form (operation ∷ operations) = record { operation = operation;
 abbrev pub named : List ℕ → List (List ℕ)
 named text = slice_split (λ c. c == 32) text
 
+-- the peripheral instructions in the order of their codes
 abbrev pub peripheral_rows : List PeripheralRow
 peripheral_rows =
     from_code 0o00 Ignored (named (codes "PSN"))
@@ -60,5 +62,6 @@ abbrev pub row_among : List ℕ → List PeripheralRow → Option PeripheralRow
 row_among operation [] = None
 row_among operation (row ∷ rows) = if same_text row.operation operation then Some row else row_among operation rows
 
+-- the row of an operation in the peripheral table, if it has one
 abbrev pub peripheral_row : List ℕ → Option PeripheralRow
 peripheral_row operation = row_among operation peripheral_rows

@@ -5,6 +5,7 @@ use Rattle.std.specs.List.{onto_first}
 use Rattle.definitions.specs.Characters.{blank}
 use Rattle.definitions.specs.Items.{Item, Counted, item_at}
 
+-- the five marks that separate, and the equals sign of a literal
 pub data Mark : Type 0 where
   Comma : Mark
   Plus : Mark
@@ -13,6 +14,7 @@ pub data Mark : Type 0 where
   Slash : Mark
   Equals : Mark
 
+-- a mark, an item, or a run of characters that are neither
 pub data Piece : Type 0 where
   IsMark : Mark → Piece
   IsItem : Item → Piece
@@ -36,6 +38,7 @@ mark_of c =
     if c == 44 then Some Comma else if c == 43 then Some Plus else if c == 45 then Some Minus
     else if c == 42 then Some Star else if c == 47 then Some Slash else None
 
+-- a mark, or else the character itself
 abbrev pub begun_by : ℕ → Option Mark → Begun
 begun_by c None = ByOther c
 begun_by c (Some mark) = ByMark mark
@@ -45,11 +48,13 @@ abbrev pub begun_by_item : ℕ → Option Counted → Begun
 begun_by_item c None = begun_by c (mark_of c)
 begun_by_item c (Some counted) = ByItem counted
 
+-- what begins with this character at this spot: a mark, an item, or neither
 abbrev pub begun_at : Spot → ℕ → List ℕ → Begun
 begun_at AtStart c rest = if c == 61 then ByMark Equals else begun_by_item c (item_at (c ∷ rest))
 begun_at AtEquals c rest = begun_by_item c (item_at (c ∷ rest))
 begun_at Inside c rest = begun_by c (mark_of c)
 
+-- where in a field one stands behind what began
 abbrev pub spot_behind : Begun → Spot
 spot_behind (ByMark Equals) = AtEquals
 spot_behind (ByMark mark) = AtStart
@@ -62,10 +67,12 @@ left_of (ByMark mark) = 0
 left_of (ByItem counted) = counted.taken - 1
 left_of (ByOther c) = 0
 
+-- a character in front of a run, or as a run by itself
 abbrev pub onto_run : ℕ → List Piece → List Piece
 onto_run c (Run cs ∷ pieces) = Run (c ∷ cs) ∷ pieces
 onto_run c pieces = Run (c ∷ []) ∷ pieces
 
+-- what began, in front of the pieces that follow
 abbrev pub onto_pieces : Begun → List Piece → List Piece
 onto_pieces (ByMark mark) pieces = IsMark mark ∷ pieces
 onto_pieces (ByItem counted) pieces = IsItem counted.item ∷ pieces
@@ -79,6 +86,7 @@ pieces_at spot zero (c ∷ cs) =
     let begun = begun_at spot c cs in
     onto_pieces begun (pieces_at (spot_behind begun) (left_of begun) cs)
 
+-- the pieces of a variable field
 abbrev pub pieces_of : List ℕ → List Piece
 pieces_of text = pieces_at AtStart 0 text
 

@@ -1,20 +1,22 @@
 -- Places: the least lawful place at or behind the end of the latest earlier placed statement of the block
 -- (COMPASS 60492600, forcing upper; which instructions ask for upper is ours).
-use Rattle.std.specs.Prelude.{ℕ, ◌≡◌, ◌≢◌, IsTrue, ◌+◌, ◌-◌, ◌*◌, ◌/◌, ◌%◌, ◌==◌, List, [], ◌∷◌, Bool, true, false, not, ◌&&◌, ◌||◌, codes, length, nat_le, if◌then◌else◌}
-use Rattle.definitions.specs.Characters.{same_text, is_among}
+use Rattle.std.specs.Prelude.{ℕ, ◌≡◌, ◌≢◌, IsTrue, ◌+◌, ◌-◌, ◌*◌, ◌/◌, ◌%◌, ◌==◌, List, [], ◌∷◌, Bool, true, false, not, ◌&&◌, ◌||◌, codes, if◌then◌else◌}
+use Rattle.definitions.specs.Characters.{same_text}
 use Rattle.definitions.specs.Symbols.{is_symbol}
 use Rattle.definitions.specs.Operations as op
 use Rattle.definitions.specs.Operations.{Operation}
-use Rattle.definitions.specs.Operands.{Operand, BadOperand, units, size_of}
+use Rattle.definitions.specs.Operands.{Operand, BadOperand, units}
+use Rattle.definitions.specs.Sizes.{size_of}
 use Rattle.definitions.specs.Settled.{Settled}
 use Rattle.definitions.specs.declared.marks.DeckKind.{DeckKind}
-use Rattle.definitions.specs.declared.marks.DeckKind.TheVariants.{Rel, Abs, Periph}
+use Rattle.definitions.specs.declared.marks.DeckKind.TheVariants.{Periph}
 
 -- how many words a block has at most
 abbrev pub most_words : DeckKind → ℕ
 most_words Periph = 4096
 most_words _ = 131072
 
+-- whether an operand is flagged V
 abbrev pub is_bad : Operand → Bool
 is_bad BadOperand = true
 is_bad _ = false
@@ -35,6 +37,7 @@ is_reserving op.Org = true
 is_reserving op.Loc = true
 is_reserving _ = false
 
+-- instructions, and unknown operations, which are placed as instructions are
 abbrev pub is_machine : Operation → Bool
 is_machine op.Instruction = true
 is_machine op.Unknown = true
@@ -54,6 +57,7 @@ is_no_minus Periph operation = false
 is_no_minus kind op.Vfd = true
 is_no_minus kind _ = false
 
+-- whether the location field is a `-`, and that is lawful
 abbrev pub has_minus : DeckKind → Operation → List ℕ → Bool
 has_minus kind operation location = same_text location (codes "-") && not (is_no_minus kind operation)
 
@@ -71,6 +75,7 @@ is_long Periph operation operand = false
 is_long kind op.Instruction operand = size_of kind operand == 2
 is_long kind _ operand = false
 
+-- the place, or the next word where a long instruction would begin in parcel 3
 abbrev pub past_last_parcel : Bool → ℕ → ℕ
 past_last_parcel long place = if long && (place % 4 == 3) then place + 1 else place
 
@@ -85,6 +90,7 @@ pub record Position : Type 0 where
   pub end : ℕ
   pub asks : Bool
 
+-- the position of a block behind these statements; it is 0 before the first one
 abbrev pub position_in : List ℕ → List Settled → Position
 position_in block [] = record { end = 0; asks = false }
 position_in block (settled ∷ earlier) =
@@ -97,12 +103,13 @@ asks_upper operation subfields =
     same_text operation (codes "JP") || same_text operation (codes "RJ") || same_text operation (codes "PS")
     || (same_text operation (codes "EQ") && (subfields == 1))
 
+-- whether the block asks for upper behind a statement; in peripheral decks, or behind a faulty one, it never does
 abbrev pub asks_after : DeckKind → Operation → Operand → List ℕ → ℕ → Bool
 asks_after Periph operation operand name subfields = false
 asks_after kind op.Instruction operand name subfields = not (is_bad operand) && asks_upper name subfields
 asks_after kind _ operand name subfields = false
 
--- where a statement may stand: at a word, or behind none but whole parcels
+-- where a statement may stand: at a word where it has to, and a long instruction in front of the last parcel
 pub record MayStand (kind : DeckKind) (operation : Operation) (operand : Operand) (location : List ℕ) (asks : Bool) (place : ℕ) : Type 0 where
   pub data_at_word : IsTrue (is_at_word operation operand) → place % units kind ≡ 0
   pub upper_at_word : IsTrue (is_upper kind operation location asks) → place % units kind ≡ 0

@@ -8,7 +8,6 @@ use Rattle.definitions.specs.Forms.{Form}
 use Rattle.definitions.specs.Operations.{Operation}
 use Rattle.definitions.specs.Operands.{Operand}
 use Rattle.definitions.specs.declared.marks.Letter.{Letter}
-use Rattle.definitions.specs.declared.marks.NumberBase.{NumberBase}
 
 -- what a statement does to the stack of blocks
 pub data BlockChange : Type 0 where
@@ -27,6 +26,7 @@ pub record Definition : Type 0 where
   pub name : List ℕ
   pub form : Form
 
+-- a statement with all that it and those before it decide
 pub record Settled : Type 0 where
   pub statement : Statement
   pub fields : Fields
@@ -56,6 +56,7 @@ abbrev pub defined_in : List ℕ → List Definition → Option Form
 defined_in name [] = None
 defined_in name (definition ∷ definitions) = if same_text name definition.name then Some definition.form else defined_in name definitions
 
+-- the first of two values, or the second where that is missing
 abbrev pub or_form : Option Form → Option Form → Option Form
 or_form None other = other
 or_form (Some form) other = Some form

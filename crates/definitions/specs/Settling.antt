@@ -1,23 +1,23 @@
 -- One statement after another: what each is once those before it are known.
-use Rattle.std.specs.Prelude.{ℕ, ◌+◌, ◌*◌, ◌/◌, ◌==◌, List, [], ◌∷◌, ◌++◌, Option, Some, None, Result, Ok, Err, Bool, true, false, not, ◌&&◌, ◌||◌, nat_le, codes, length, map, if◌then◌else◌}
+use Rattle.std.specs.Prelude.{ℕ, ◌+◌, ◌*◌, ◌==◌, List, [], ◌∷◌, ◌++◌, Option, Some, None, Result, Ok, Err, Bool, true, false, not, ◌&&◌, ◌||◌, nat_le, codes, length, map, if◌then◌else◌}
 use Rattle.std.specs.List.{list_all}
 use Rattle.definitions.specs.Characters.{same_text}
-use Rattle.definitions.specs.Cards.{Card}
 use Rattle.definitions.specs.Statements.{Statement, is_stray}
 use Rattle.definitions.specs.Fields.{Fields, fields_of}
 use Rattle.definitions.specs.Pieces.{pieces_of, subfields_of}
 use Rattle.definitions.specs.Symbols.{is_symbol}
-use Rattle.definitions.specs.Forms.{Form, Added, External, absolute}
+use Rattle.definitions.specs.Forms.{Form, Added, External}
 use Rattle.definitions.specs.Operations as op
 use Rattle.definitions.specs.Operations.{Operation, operation_of, base_after, is_neutral}
-use Rattle.definitions.specs.Operands.{Operand, BadOperand, NamesOperand, UseName, UseRefused, Unread, operand_of, size_of, units}
-use Rattle.definitions.specs.Settled.{Settled, BlockChange, NoChange, Setting, Kept, Counts, Ended, Definition, defined, defined_in}
+use Rattle.definitions.specs.Operands.{Operand, NamesOperand, UseName, UseRefused, operand_of, units}
+use Rattle.definitions.specs.Sizes.{size_of}
+use Rattle.definitions.specs.Settled.{Settled, Setting, Kept, Counts, Ended, Definition, defined, defined_in}
 use Rattle.definitions.specs.Blocks.{block_after, is_accepted, change_of}
 use Rattle.definitions.specs.Places.{Position, position_in, has_place, is_bad, is_machine, is_data, is_no_minus, least_place, to_word, asks_after, most_words}
 use Rattle.definitions.specs.Counters.{word_form, word_of_place, location_at}
 use Rattle.definitions.specs.EarlyValues.{early_names, early_value, reserved, origin_word, location_value, equated, number_or_zero, letter_of, is_absolute_deck}
 use Rattle.definitions.specs.declared.marks.DeckKind.{DeckKind}
-use Rattle.definitions.specs.declared.marks.DeckKind.TheVariants.{Rel, Abs, Periph}
+use Rattle.definitions.specs.declared.marks.DeckKind.TheVariants.{Rel, Periph}
 use Rattle.definitions.specs.declared.marks.NumberBase.{NumberBase}
 use Rattle.definitions.specs.declared.marks.Letter.{Letter}
 use Rattle.definitions.specs.declared.marks.Letter.TheVariants as letter
@@ -29,9 +29,11 @@ is_labelled op.Bss = true
 is_labelled op.Bssz = true
 is_labelled operation = is_machine operation || is_data operation
 
+-- the letter, where it applies
 abbrev pub letter_where : Bool → Letter → List Letter
 letter_where b fault = if b then fault ∷ [] else []
 
+-- whether a symbol is defined by one of these statements
 abbrev pub is_defined : List ℕ → List Settled → Bool
 is_defined name earlier = elim (defined name earlier) [ Some form ↦ true | None ↦ false ]
 
@@ -63,18 +65,21 @@ is_refused Periph op.Entry operand location earlier = true
 is_refused kind op.Ext operand location earlier = is_absolute_deck kind
 is_refused kind operation operand location earlier = false
 
--- the names of an EXT that are defined before, or stand in it twice; and those that it defines
+-- a name that EXT defines: its value is the external of that name
 abbrev pub external : List ℕ → Definition
 external name = record { name = name; form = record { number = pos 0; part = Some (Added (External name)) } }
 
+-- whether a name is defined before, or stands earlier in the same EXT
 abbrev pub is_known : List ℕ → List Definition → List Settled → Bool
 is_known name so_far earlier = elim (defined_in name so_far) [ Some form ↦ true | None ↦ is_defined name earlier ]
 
+-- the externals of an EXT, each name that is new, behind those so far
 abbrev pub externals : List (Option (List ℕ)) → List Definition → List Settled → List Definition
 externals [] so_far earlier = so_far
 externals (None ∷ names) so_far earlier = externals names so_far earlier
 externals (Some name ∷ names) so_far earlier = externals names (if is_known name so_far earlier then so_far else so_far ++ external name ∷ []) earlier
 
+-- the letters of the names of an EXT: V for what is no lawful name, D for one that is not new
 abbrev pub external_letters : List (Option (List ℕ)) → List Definition → List Settled → List Letter
 external_letters [] so_far earlier = []
 external_letters (None ∷ names) so_far earlier = letter.V ∷ external_letters names so_far earlier
@@ -86,6 +91,7 @@ external_letters (Some name ∷ names) so_far earlier =
 abbrev pub first_definition : List ℕ → Form → List Settled → List Definition
 first_definition name form earlier = if is_symbol name && not (is_defined name earlier) then record { name = name; form = form } ∷ [] else []
 
+-- what a statement defines: EQU its symbol as the value, EXT its externals, other labelled ones theirs as `*`
 abbrev pub definitions_of : DeckKind → Operation → Operand → List ℕ → Form → Form → List Settled → List Definition
 definitions_of kind op.Equ operand location value counter earlier = first_definition location value earlier
 definitions_of Rel op.Ext (NamesOperand names) location value counter earlier = externals names [] earlier
@@ -95,10 +101,12 @@ definitions_of kind operation operand location value counter earlier = if is_lab
 abbrev pub end_of_size : DeckKind → ℕ → ℕ → ℕ
 end_of_size kind place size = if nat_le (place + size) (most_words kind * units kind) then place + size else place
 
+-- an ORG ends at the word it goes to, a faulty one at its place
 abbrev pub end_or_place : DeckKind → ℕ → Result ℕ Letter → ℕ
 end_or_place kind place (Err fault) = place
 end_or_place kind place (Ok word) = word * units kind
 
+-- where a statement ends: at its ORG, behind its reservation, or behind its items
 abbrev pub end_of : DeckKind → Operation → Operand → ℕ → Result Form Letter → List ℕ → ℕ
 end_of kind op.Org operand place value block = end_or_place kind place (origin_word kind block value)
 end_of kind op.Bss operand place value block = place + number_or_zero (reserved kind place value) * units kind
@@ -106,19 +114,23 @@ end_of kind op.Bssz operand place value block = place + number_or_zero (reserved
 end_of kind op.Loc operand place value block = place
 end_of kind operation operand place value block = end_of_size kind place (size_of kind operand)
 
+-- what ORG does: it ends the setting of a LOC, and a faulty one leaves it in force
 abbrev pub setting_of_origin : Result ℕ Letter → Setting
 setting_of_origin (Err fault) = Kept
 setting_of_origin (Ok word) = Ended
 
+-- what LOC does: it sets the counter, and a faulty one leaves it as it was
 abbrev pub setting_of_location : Result Form Letter → Setting
 setting_of_location (Err fault) = Kept
 setting_of_location (Ok form) = Counts form
 
+-- what a statement does to the location counter; only ORG and LOC do anything
 abbrev pub setting_of : DeckKind → Operation → Result Form Letter → List ℕ → Setting
 setting_of kind op.Org value block = setting_of_origin (origin_word kind block value)
 setting_of kind op.Loc value block = setting_of_location (location_value kind value)
 setting_of kind operation value block = Kept
 
+-- whether a run begins: an ORG that is not faulty begins one
 abbrev pub is_run : Setting → Bool
 is_run Ended = true
 is_run _ = false
@@ -132,6 +144,7 @@ value_letters kind op.Bssz place value block = letter_of (reserved kind place va
 value_letters kind op.Equ place value block = letter_of value
 value_letters kind operation place value block = []
 
+-- the letters of the names of an EXT, and V for a bad operand
 abbrev pub operand_letters : DeckKind → Operation → Operand → List Settled → List Letter
 operand_letters Rel op.Ext (NamesOperand names) earlier = external_letters names [] earlier
 operand_letters kind operation operand earlier = letter_where (is_bad operand) letter.V
@@ -141,6 +154,7 @@ abbrev pub size_letters : DeckKind → Operation → Operand → ℕ → List Le
 size_letters kind operation operand place =
     letter_where (not (nat_le (place + size_of kind operand) (most_words kind * units kind))) letter.A
 
+-- the letters of the location field, and O alone or those of the variable field
 abbrev pub settled_letters : DeckKind → Operation → Operand → List ℕ → ℕ → Result Form Letter → List ℕ → List Settled → List Letter
 settled_letters kind operation operand location place value block earlier =
     location_letters kind operation location earlier
@@ -185,6 +199,7 @@ settled_with kind earlier statement fields operation operand =
     let origin = word_form kind block (word_of_place kind place) in
     settled_at kind earlier statement fields operation operand place location origin (early_value (early_names earlier location origin) operand)
 
+-- the number base behind these statements
 abbrev pub base_of : List Settled → NumberBase
 base_of earlier = base_after (map (λ (settled : Settled). settled.fields) earlier)
 
@@ -195,6 +210,7 @@ settle kind earlier statement =
     let operation = operation_of kind fields.operation in
     settled_with kind earlier statement fields operation (operand_of kind (base_of earlier) operation fields.operation fields.variable)
 
+-- one statement more, settled
 abbrev pub settle_onto : DeckKind → List Settled → Statement → List Settled
 settle_onto kind earlier statement = settle kind earlier statement ∷ earlier
 

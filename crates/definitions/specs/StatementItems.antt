@@ -1,21 +1,22 @@
 -- The items of a statement: fields of so many bits one behind the other, with their contents and letters
 -- (COMPASS 60492600, data generation; 6600 reference 60100000, instruction formats).
-use Rattle.std.specs.Prelude.{ℕ, ◌+◌, ◌-◌, ◌*◌, ◌/◌, ◌%◌, List, [], ◌∷◌, ◌++◌, Option, Some, None, Result, Ok, Err, Bool, true, false, ◌&&◌, nat_le, map, ℤ, pos, negsuc, ◌+ℤ◌, ◌-ℤ◌, neg_ℤ, unsigned_abs, if◌then◌else◌}
+use Rattle.std.specs.Prelude.{ℕ, ◌+◌, ◌-◌, ◌*◌, ◌/◌, ◌%◌, List, [], ◌∷◌, ◌++◌, Option, Some, None, Result, Ok, Err, Bool, ◌&&◌, nat_le, map, ℤ, pos, negsuc, ◌+ℤ◌, ◌-ℤ◌, neg_ℤ, unsigned_abs, if◌then◌else◌}
 use Rattle.definitions.specs.Items.{Item}
 use Rattle.definitions.specs.Symbols.{Number, Value, TooGreat}
-use Rattle.definitions.specs.Expressions.{Sign, NoSign, Expression, Term, Element, AnItem, Operator, Add}
-use Rattle.definitions.specs.Forms.{Form, Names, Part, Added, Subtracted, Base, Block, External, absolute, is_absolute, is_negative, item_number, value_of}
+use Rattle.definitions.specs.Expressions.{Sign, NoSign, Expression, Term, Element, AnItem}
+use Rattle.definitions.specs.Forms.{Form, Names, Part, Added, Subtracted, Block, External, absolute, is_absolute, item_number, value_of}
 use Rattle.definitions.specs.Coding.{coded, coded_in, item_in, item_bits, words_needed}
-use Rattle.definitions.specs.PeripheralTable.{PeripheralForm, Ignored, Short, ShortJump, Shift, Wide, Long, PeripheralRow}
-use Rattle.definitions.specs.Matching.{Instruction, Field, NoField, OfK, OfN}
+use Rattle.definitions.specs.PeripheralTable.{PeripheralForm, Short, ShortJump, Shift, Wide, Long}
+use Rattle.definitions.specs.Matching.{Field, NoField, OfK, OfN}
 use Rattle.definitions.specs.Operations as op
 use Rattle.definitions.specs.Operations.{Operation}
-use Rattle.definitions.specs.Operands.{Operand, CentralOperand, PeripheralOperand, WordsOperand, BitsOperand, TextOperand, Datum, ZeroWord, NumberWord, ItemWords, ExpressionWord, BitField, word_bits, units, bits_of}
+use Rattle.definitions.specs.Operands.{Operand, CentralOperand, PeripheralOperand, WordsOperand, BitsOperand, TextOperand, Datum, ZeroWord, NumberWord, ItemWords, ExpressionWord, BitField, word_bits, units}
+use Rattle.definitions.specs.Sizes.{bits_of}
 use Rattle.definitions.specs.Literals.{signed_number, literal_form}
 use Rattle.definitions.specs.Lengths.{BlockRow, base_in}
 use Rattle.definitions.specs.Settled.{Settled, defined}
 use Rattle.definitions.specs.declared.marks.DeckKind.{DeckKind}
-use Rattle.definitions.specs.declared.marks.DeckKind.TheVariants.{Rel, Abs, Periph}
+use Rattle.definitions.specs.declared.marks.DeckKind.TheVariants.{Rel}
 use Rattle.definitions.specs.declared.marks.Letter.{Letter}
 use Rattle.definitions.specs.declared.marks.Letter.TheVariants as letter
 
@@ -24,6 +25,7 @@ pub data Content : Type 0 where
   Known : ℕ → Content
   Linked : Form → Content
 
+-- a field: its width, its content, and its letters
 pub record Bits : Type 0 where
   pub width : ℕ
   pub content : Content
@@ -36,6 +38,7 @@ pub record Context : Type 0 where
   pub rows : List BlockRow
   pub literals : List ℕ
 
+-- bits that are known, without a letter
 abbrev pub known : ℕ → ℕ → Bits
 known width bits = record { width = width; content = Known bits; letters = [] }
 
@@ -43,6 +46,7 @@ known width bits = record { width = width; content = Known bits; letters = [] }
 abbrev pub faulty : ℕ → Letter → Bits
 faulty width fault = record { width = width; content = Known 0; letters = fault ∷ [] }
 
+-- bits that are known, or 0 with A where the value does not fit
 abbrev pub known_if : ℕ → Option ℕ → Bits
 known_if width None = faulty width letter.A
 known_if width (Some bits) = known width bits
@@ -60,7 +64,7 @@ part_value block external (Some (Added (External name))) = external name
 part_value block external (Some (Subtracted (Block name))) = neg_ℤ (block name)
 part_value block external (Some (Subtracted (External name))) = neg_ℤ (external name)
 
--- the number that a form is in an absolute deck
+-- the number that a form is in an absolute or peripheral deck
 abbrev pub number_in : Context → Form → ℤ
 number_in context form = form.number +ℤ part_value (λ name. pos (base_in name context.rows)) (λ name. pos 0) form.part
 
@@ -70,10 +74,12 @@ linked_bits width form =
     if is_absolute form then known_if width (coded_in width form.number)
     else if nat_le 18 width then record { width = width; content = Linked form; letters = [] } else faulty width letter.R
 
+-- the field of a value: in REL decks the link may still have to make it, in others it is a number
 abbrev pub form_bits : Context → DeckKind → ℕ → Form → Bits
 form_bits context Rel width form = linked_bits width form
 form_bits context kind width form = known_if width (coded_in width (number_in context form))
 
+-- the field of a value, or 0 with its letter
 abbrev pub value_bits : Context → ℕ → Result Form Letter → Bits
 value_bits context width (Err fault) = faulty width fault
 value_bits context width (Ok form) = form_bits context context.kind width form
@@ -83,13 +89,16 @@ abbrev pub whole_term : Element → Option Item
 whole_term (AnItem item) = Some item
 whole_term _ = None
 
+-- the item of a term that has no factors
 abbrev pub alone : Term → Option Item
 alone term = elim term.factors [ [] ↦ whole_term term.element | link ∷ links ↦ None ]
 
+-- the item that is the whole of an expression without a sign
 abbrev pub whole_item : Sign → List Term → Option Item
 whole_item NoSign (term ∷ []) = alone term
 whole_item _ _ = None
 
+-- an item is placed in the field, of anything else the value is taken
 abbrev pub item_or_value : Context → Settled → ℕ → Expression → Option Item → Bits
 item_or_value context settled width e None = value_bits context width (value_of (final_names context settled) e)
 item_or_value context settled width e (Some item) = known_if width (item_in width item)
@@ -98,6 +107,7 @@ item_or_value context settled width e (Some item) = known_if width (item_in widt
 abbrev pub expression_bits : Context → Settled → ℕ → Expression → Bits
 expression_bits context settled width e = item_or_value context settled width e (whole_item e.sign e.terms)
 
+-- the number of an item's bits, or A where it has no room
 abbrev pub item_value : Option ℕ → Result Form Letter
 item_value None = Err letter.A
 item_value (Some bits) = Ok (absolute (pos bits))
@@ -112,6 +122,7 @@ abbrev pub count_bits : ℤ → Bits
 count_bits (pos n) = if nat_le n 63 then known 6 n else faulty 6 letter.A
 count_bits (negsuc n) = if nat_le (n + 1) 60 then known 6 (60 - (n + 1)) else faulty 6 letter.A
 
+-- the count of LX, AX and MX from its value, which must be absolute, else R
 abbrev pub count_of : Result Form Letter → Bits
 count_of (Err fault) = faulty 6 fault
 count_of (Ok form) = if is_absolute form then count_bits form.number else faulty 6 letter.R
@@ -120,9 +131,11 @@ count_of (Ok form) = if is_absolute form then count_bits form.number else faulty
 abbrev pub is_short : ℤ → Bool
 is_short n = nat_le (unsigned_abs n) 31
 
+-- a number from -37 to 37 octal in 6 bits, or A
 abbrev pub short_bits : ℤ → Bits
 short_bits n = if is_short n then known 6 (coded 6 n) else faulty 6 letter.A
 
+-- the count of SHN in 6 bits
 abbrev pub shift_of : Context → Result Form Letter → Bits
 shift_of context (Err fault) = faulty 6 fault
 shift_of context (Ok form) = short_bits (number_in context form)
@@ -134,11 +147,13 @@ displacement_of context settled (Ok form) =
     if is_absolute form && is_short form.number then known 6 (coded 6 form.number)
     else short_bits (number_in context form -ℤ number_in context settled.location)
 
+-- the field of a central instruction: K in 18 bits, n as a count in 6, or none
 abbrev pub field_bits : Context → Settled → Field → List Bits
 field_bits context settled NoField = []
 field_bits context settled (OfK e) = expression_bits context settled 18 e ∷ []
 field_bits context settled (OfN e) = count_of (small_value context settled e (whole_item e.sign e.terms)) ∷ []
 
+-- d behind m, or 0 where m stands alone
 abbrev pub second_value : Context → Settled → List Expression → Bits
 second_value context settled [] = known 6 0
 second_value context settled (d ∷ others) = expression_bits context settled 6 d
@@ -152,16 +167,19 @@ peripheral_bits context settled Wide (c ∷ others) = expression_bits context se
 peripheral_bits context settled Long (m ∷ others) = second_value context settled others ∷ expression_bits context settled 12 m ∷ []
 peripheral_bits context settled form values = known 6 0 ∷ []
 
+-- a signed number in a field, or 0 with A
 abbrev pub number_bits : ℕ → Sign → Number → Bits
 number_bits width sign (Value n) = known_if width (coded_in width (signed_number sign n))
 number_bits width sign TooGreat = faulty width letter.A
 
+-- what fills a word of DATA or CON; an item takes as many words as it needs
 abbrev pub datum_bits : Context → Settled → Datum → Bits
 datum_bits context settled ZeroWord = known (word_bits context.kind) 0
 datum_bits context settled (NumberWord sign number) = number_bits (word_bits context.kind) sign number
 datum_bits context settled (ItemWords item) = known (words_needed (word_bits context.kind) item * word_bits context.kind) (item_bits (words_needed (word_bits context.kind) item * word_bits context.kind) item)
 datum_bits context settled (ExpressionWord e) = expression_bits context settled (word_bits context.kind) e
 
+-- the value of a VFD's field, or 0 where none is written
 abbrev pub vfd_value : Context → Settled → ℕ → Option Expression → Bits
 vfd_value context settled width None = known width 0
 vfd_value context settled width (Some e) = expression_bits context settled width e
@@ -170,6 +188,7 @@ vfd_value context settled width (Some e) = expression_bits context settled width
 abbrev pub filling : ℕ → ℕ → Bits
 filling word bits = known ((word - bits % word) % word) 0
 
+-- the fields of an operand, one behind the other
 abbrev pub operand_bits : Context → Settled → Operand → List Bits
 operand_bits context settled (CentralOperand instruction) = known (3 * instruction.count) instruction.digits ∷ field_bits context settled instruction.field
 operand_bits context settled (PeripheralOperand row values) = known 6 row.code ∷ peripheral_bits context settled row.form values

@@ -1,6 +1,6 @@
 -- Statements: which cards belong together, and their text (COMPASS 60492600, statement format).
 -- Lists of cards and of statements are read newest first.
-use Rattle.std.specs.Prelude.{ℕ, ◌≡◌, ⊤, zero, suc, List, [], ◌∷◌, ◌++◌, Bool, true, false, not, ◌&&◌, ◌||◌, nat_le, length, drop, reverse, flat_map, if◌then◌else◌}
+use Rattle.std.specs.Prelude.{ℕ, ◌≡◌, ⊤, suc, List, [], ◌∷◌, ◌++◌, Bool, true, false, not, ◌&&◌, ◌||◌, nat_le, length, drop, flat_map, if◌then◌else◌}
 use Rattle.definitions.specs.Cards.{Card, is_comma_card, is_comment, padded}
 
 -- the cards of a statement, and how many cards of the deck stand before them
@@ -22,6 +22,7 @@ has_owner (card ∷ earlier) = if is_comma_card card then has_owner earlier else
 abbrev pub continues : List Card → Card → Bool
 continues earlier card = is_comma_card card && has_owner earlier && nat_le (comma_cards earlier) 8
 
+-- the latest statement with a card more
 abbrev pub onto_latest : Card → List Statement → List Statement
 onto_latest card [] = []
 onto_latest card (latest ∷ earlier) = record { before = latest.before; cards = latest.cards ++ card ∷ [] } ∷ earlier

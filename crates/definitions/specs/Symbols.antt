@@ -1,5 +1,5 @@
 -- Symbols, register names and numbers as runs of characters (COMPASS 60492600, names, registers, numeric constants).
-use Rattle.std.specs.Prelude.{ℕ, ◌+◌, ◌-◌, ◌*◌, ◌^◌, ◌==◌, List, [], ◌∷◌, Option, Some, None, Bool, true, false, not, ◌&&◌, ◌||◌, nat_le, nat_lt, length, drop, codes, take_while, if◌then◌else◌}
+use Rattle.std.specs.Prelude.{ℕ, ◌-◌, ◌*◌, ◌^◌, ◌==◌, List, [], ◌∷◌, Option, Some, None, Bool, true, false, not, ◌&&◌, ◌||◌, nat_le, nat_lt, length, drop, codes, take_while, if◌then◌else◌}
 use Rattle.std.specs.List.{list_all}
 use Rattle.definitions.specs.Characters.{is_digit, is_symbol_character, is_among, same_text}
 use Rattle.definitions.specs.Numerals.{number_of}
@@ -11,12 +11,14 @@ pub record Register : Type 0 where
   pub letter : ℕ
   pub digit : ℕ
 
+-- a register: A0 to A7, B0 to B7 or X0 to X7
 abbrev pub register_of : List ℕ → Option Register
 register_of (letter ∷ digit ∷ []) =
     if is_among letter (codes "ABX") && nat_le 48 digit && nat_le digit 55
     then Some (record { letter = letter; digit = digit - 48 }) else None
 register_of _ = None
 
+-- whether a text is the name of a register
 abbrev pub is_register : List ℕ → Bool
 is_register text = elim (register_of text) [ Some r ↦ true | None ↦ false ]
 
@@ -33,6 +35,7 @@ is_symbol text = begins_symbol text && list_all is_symbol_character text && nat_
 abbrev pub is_linked_name : List ℕ → Bool
 is_linked_name text = is_symbol text && nat_le (length text) 7
 
+-- whether a block is the nominal one
 abbrev pub is_nominal : List ℕ → Bool
 is_nominal text = same_text text (codes "0")
 
@@ -60,6 +63,7 @@ scale_of [] = Some 0
 scale_of (s ∷ digits) =
     if (s == 83) && nat_le 1 (length digits) && nat_le (length digits) 2 && list_all is_digit digits then Some (number_of 10 digits) else None
 
+-- the number with its scale, if that is lawful
 abbrev pub scaled_by : NumberBase → List ℕ → Option ℕ → Option ℕ
 scaled_by base digits None = None
 scaled_by base digits (Some scale) = scaled base digits scale
@@ -72,6 +76,7 @@ behind_digits base digits (c ∷ rest) =
     else if c == 68 then scaled_by Decimal digits (scale_of rest)
     else scaled_by base digits (scale_of (c ∷ rest))
 
+-- a number up to the greatest, or the mark of one above it
 abbrev pub bounded : Option ℕ → Option Number
 bounded None = None
 bounded (Some value) = Some (if nat_le value greatest then Value value else TooGreat)

@@ -1,25 +1,26 @@
 -- Words: what the items of a block leave in each word (COMPASS 60492600, ORG; that the latest run counts alone is ours).
-use Rattle.std.specs.Prelude.{ℕ, zero, suc, ◌+◌, ◌-◌, ◌*◌, ◌/◌, ◌%◌, ◌^◌, ◌==◌, List, [], ◌∷◌, ◌++◌, Option, Some, None, Bool, true, false, not, ◌&&◌, nat_lt, map, filter, fold, sum, if◌then◌else◌}
-use Rattle.std.specs.List.{list_any, onto_first}
+use Rattle.std.specs.Prelude.{ℕ, zero, suc, ◌+◌, ◌-◌, ◌*◌, ◌/◌, ◌%◌, ◌^◌, ◌==◌, List, [], ◌∷◌, ◌++◌, Bool, true, false, nat_lt, filter, if◌then◌else◌}
+use Rattle.std.specs.List.{list_any}
 use Rattle.definitions.specs.Characters.{same_text}
-use Rattle.definitions.specs.Coding.{coded_in}
 use Rattle.definitions.specs.Forms.{Form}
 use Rattle.definitions.specs.Operations as op
 use Rattle.definitions.specs.Operations.{Operation}
-use Rattle.definitions.specs.Operands.{units, unit_bits, word_bits}
+use Rattle.definitions.specs.Operands.{units, unit_bits}
 use Rattle.definitions.specs.Settled.{Settled}
 use Rattle.definitions.specs.StatementItems.{Bits, Content, Known, Linked}
 use Rattle.definitions.specs.declared.marks.DeckKind.{DeckKind}
-use Rattle.definitions.specs.declared.marks.DeckKind.TheVariants.{Rel, Abs, Periph}
+use Rattle.definitions.specs.declared.marks.DeckKind.TheVariants.{Periph}
 
 -- how the link makes bits of a form in a field
 abbrev pub Linking : Type 0
 Linking = ℕ → Form → ℕ
 
+-- bits that are known, or those that the link makes
 abbrev pub content_bits : Linking → ℕ → Content → ℕ
 content_bits linking width (Known bits) = bits
 content_bits linking width (Linked form) = linking width form
 
+-- how many bits the fields have together
 abbrev pub width_of : List Bits → ℕ
 width_of [] = 0
 width_of (bits ∷ fields) = bits.width + width_of fields
@@ -40,10 +41,12 @@ pub record Parcel : Type 0 where
   pub bits : ℕ
   pub is_instruction : Bool
 
+-- bits as parcels one behind the other, from a place on
 abbrev pub parcels_from : Bool → ℕ → List ℕ → List Parcel
 parcels_from instruction place [] = []
 parcels_from instruction place (bits ∷ others) = record { place = place; bits = bits; is_instruction = instruction } ∷ parcels_from instruction (place + 1) others
 
+-- whether an operation is an instruction
 abbrev pub is_instruction : Operation → Bool
 is_instruction op.Instruction = true
 is_instruction operation = false
@@ -61,12 +64,13 @@ parcels_of kind linking coded = elim coded.fields [
       (cut (unit_bits kind) (coded.settled.end - coded.settled.place) (joined linking coded.fields))
 ]
 
--- the runs of a block, latest first: an ORG begins one
+-- a statement's parcels join the latest run; an ORG begins another
 abbrev pub onto_runs : Bool → List Parcel → List (List Parcel) → List (List Parcel)
 onto_runs true parcels runs = [] ∷ runs
 onto_runs false parcels [] = parcels ∷ []
 onto_runs false parcels (run ∷ runs) = (run ++ parcels) ∷ runs
 
+-- the runs of a block, latest first
 abbrev pub runs_of : DeckKind → Linking → List ℕ → List Coded → List (List Parcel)
 runs_of kind linking block [] = [] ∷ []
 runs_of kind linking block (coded ∷ earlier) =
@@ -115,10 +119,12 @@ abbrev pub with_number : ℕ → List ℕ → List ℕ
 with_number n [] = n ∷ []
 with_number n (m ∷ ms) = if n == m then m ∷ ms else if nat_lt n m then n ∷ m ∷ ms else m ∷ with_number n ms
 
+-- the words in which a run has parcels, among those of other runs
 abbrev pub words_in_run : DeckKind → List Parcel → List ℕ → List ℕ
 words_in_run kind [] words = words
 words_in_run kind (unit ∷ parcels) words = with_number (unit.place / units kind) (words_in_run kind parcels words)
 
+-- the words in which the runs of a block have parcels, in increasing order
 abbrev pub words_in : DeckKind → List (List Parcel) → List ℕ
 words_in kind [] = []
 words_in kind (run ∷ runs) = words_in_run kind run (words_in kind runs)
@@ -128,6 +134,7 @@ pub record StoredWord : Type 0 where
   pub offset : ℕ
   pub value : ℕ
 
+-- each of these words with what the latest run has there
 abbrev pub stored : DeckKind → List (List Parcel) → List ℕ → List StoredWord
 stored kind runs [] = []
 stored kind runs (word ∷ words) = record { offset = word; value = word_of_parcels kind (latest_in_word kind word runs) } ∷ stored kind runs words

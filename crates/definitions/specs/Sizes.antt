@@ -1,0 +1,43 @@
+-- Sizes: how many parcels or peripheral words an operand fills (6600 reference 60100000, instruction formats; COMPASS 60492600, data generation).
+use Rattle.std.specs.Prelude.{ℕ, ◌+◌, ◌-◌, ◌*◌, ◌/◌, List, [], ◌∷◌}
+use Rattle.definitions.specs.Coding.{words_needed}
+use Rattle.definitions.specs.PeripheralTable.{PeripheralForm, Wide, Long}
+use Rattle.definitions.specs.Matching.{Field, NoField, OfK, OfN}
+use Rattle.definitions.specs.Operands.{Operand, CentralOperand, PeripheralOperand, WordsOperand, BitsOperand, TextOperand, Datum, ItemWords, BitField, word_bits, units}
+use Rattle.definitions.specs.declared.marks.DeckKind.{DeckKind}
+
+-- how many words a piece of DATA or CON fills
+abbrev pub datum_words : DeckKind → Datum → ℕ
+datum_words kind (ItemWords item) = words_needed (word_bits kind) item
+datum_words kind _ = 1
+
+-- how many words the subfields of DATA or CON fill
+abbrev pub words_of : DeckKind → List Datum → ℕ
+words_of kind [] = 0
+words_of kind (datum ∷ data') = datum_words kind datum + words_of kind data'
+
+-- how many bits the fields of a VFD have together
+abbrev pub bits_of : List BitField → ℕ
+bits_of [] = 0
+bits_of (field ∷ fields) = field.width + bits_of fields
+
+-- 18 bits for K and 6 for n
+abbrev pub field_bits : Field → ℕ
+field_bits NoField = 0
+field_bits (OfK e) = 18
+field_bits (OfN e) = 6
+
+-- how many words a peripheral instruction has: two where a value needs the second
+abbrev pub form_units : PeripheralForm → ℕ
+form_units Wide = 2
+form_units Long = 2
+form_units _ = 1
+
+-- how many units of its deck an operand fills
+abbrev pub size_of : DeckKind → Operand → ℕ
+size_of kind (CentralOperand instruction) = (3 * instruction.count + field_bits instruction.field) / 15
+size_of kind (PeripheralOperand row values) = form_units row.form
+size_of kind (WordsOperand data') = words_of kind data' * units kind
+size_of kind (BitsOperand fields) = (bits_of fields + word_bits kind - 1) / word_bits kind * units kind
+size_of kind (TextOperand count text) = count * units kind
+size_of kind _ = 0
