@@ -1,14 +1,8 @@
 -- The texts of faults (ours).
 use Rattle.std.specs.Prelude.{ℕ, List, ◌++◌, codes, decimal}
-use Rattle.service_main.specs.declared.cards.card_columns.CardFault.{CardFault}
-use Rattle.service_main.specs.declared.cards.card_columns.CardFault.TheVariants.{TooWide, BadCharacter}
+use Rattle.cards.specs.CardReads.{card_fault_text}
 use Rattle.service_main.specs.declared.asm_fault.AsmFault.{AsmFault}
 use Rattle.service_main.specs.declared.asm_fault.AsmFault.TheVariants as asm
-
--- the name, and the column
-abbrev pub card_fault_text : CardFault → List ℕ
-card_fault_text TooWide = codes "TooWide"
-card_fault_text (BadCharacter column) = codes "BadCharacter " ++ decimal column
 
 -- the name, and the numbers, each after one blank
 abbrev pub fault_text : AsmFault → List ℕ

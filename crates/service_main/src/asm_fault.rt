@@ -1,6 +1,6 @@
 //! The faults of a run, and their texts.
 
-use crate::cards::CardFault;
+use cards::CardFault;
 use std::alloc::{AllocError, AllocFailed};
 use std::fmt;
 
@@ -27,20 +27,6 @@ pub enum AsmFault {
     WriteFault { sent: usize },
     /// The first card is no IDENT card, or the name of a deck is not 1 to 7 letters and digits.
     BadName { line: u64 },
-}
-
-impl fmt::Display for CardFault {
-    ghost use Rattle.std.specs.Prelude.{Some};
-    ghost use Rattle.service_main.specs.Faults.{card_fault_text};
-
-    ghost output = { λ fault. Some (card_fault_text fault) };
-
-    fn fmt<W: fmt::Write>(&self, f: &mut fmt::Formatter<W>) -> fmt::Result {
-        match self {
-            CardFault::TooWide => write!(f, "TooWide"),
-            CardFault::BadCharacter { column } => write!(f, "BadCharacter {column}"),
-        }
-    }
 }
 
 impl fmt::Display for AsmFault {

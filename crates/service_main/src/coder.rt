@@ -1,12 +1,12 @@
 //! Codes the statements of a deck: their places, items and letters.
-ghost use Rattle.std.specs.Prelude.{◌<◌, ◌≤◌, ◌+◌};
+ghost use Rattle.std.specs.Prelude.{◌<◌, ◌≤◌, ◌+◌, length};
 ghost use Rattle.service_main.specs.Parcels.{parcels_of};
 
-use crate::cards::{Card, Fields, read_text, split_fields, statement_len};
 use crate::cpu_opcodes::{Coding, Instruction, find};
 use crate::expr_forms::read_operand;
 use crate::letter_sets::{Letter, Letters};
 use crate::parcel_packer::{Code, Place, Upper, Words};
+use cards::{Card, Fields, fields, statements};
 use std::alloc::{AllocError, Global};
 
 /// The code of a statement, and its place.
@@ -72,14 +72,10 @@ pub fn code_deck(alloc: Global, cards: &[Card]) -> Result<CodedDeck, AllocError>
         asks_upper: false,
         has_ended: false,
     };
-    let mut text = Vec::new(alloc);
-    let mut rest = cards;
-    while !rest.is_empty() {
-        let (statement, after) = rest.split_at(statement_len(rest));
-        read_text(statement, &mut text)?;
-        let coded = state.code(statement, &text);
-        deck.push(statement.len(), coded)?;
-        rest = after;
+    for span in statements(alloc, cards)?.as_slice() {
+        let statement = span.of(cards);
+        let coded = state.code(statement);
+        deck.push(span.count, coded)?;
     }
     Ok(deck)
 }
@@ -115,42 +111,44 @@ impl CodedDeck {
 }
 
 impl CoderState {
-    /// Codes a statement with its text. What follows an END is only listed; so is a comment.
-    fn code(&mut self, statement: &[Card], text: &[u8]) -> Coded {
+    /// Codes a statement. What follows an END is only listed; so is a comment.
+    fn code(&mut self, statement: &[Card]) -> Coded
+        requires { length statement.now ≤ 10 }
+    {
         match statement.first() {
             Some(head) if !self.has_ended && !head.is_comment() => {
-                if head.is_continuation() {
+                if head.is_comma_card() {
                     flagged(Letter::C)
                 } else {
-                    self.code_fields(&split_fields(text))
+                    self.code_fields(&fields(statement))
                 }
             }
             _ => plain(),
         }
     }
 
-    fn code_fields(&mut self, fields: &Fields<'_>) -> Coded {
-        match read_operation(fields.operation) {
+    fn code_fields(&mut self, fields: &Fields) -> Coded {
+        match read_operation(fields.operation()) {
             Operation::Listed => plain(),
-            Operation::Blank if fields.location.is_empty() => plain(),
+            Operation::Blank if fields.location().is_empty() => plain(),
             Operation::Blank | Operation::Placeless => flagged(Letter::O),
             Operation::End => {
                 self.has_ended = true;
                 plain()
             }
-            Operation::Unknown => self.stand_empty(fields.location, Letter::O),
+            Operation::Unknown => self.stand_empty(fields.location(), Letter::O),
             Operation::Instruction(instruction) => self.code_instruction(instruction, fields),
         }
     }
 
-    fn code_instruction(&mut self, instruction: Instruction, fields: &Fields<'_>) -> Coded {
-        let coding = match read_operand(fields.variable) {
+    fn code_instruction(&mut self, instruction: Instruction, fields: &Fields) -> Coded {
+        let coding = match read_operand(fields.variable()) {
             Some(operand) => instruction.code(&operand),
             None => None,
         };
         match coding {
-            Some(coding) => self.stand(fields.location, coding, instruction.asks_upper()),
-            None => self.stand_empty(fields.location, Letter::V),
+            Some(coding) => self.stand(fields.location(), coding, instruction.asks_upper()),
+            None => self.stand_empty(fields.location(), Letter::V),
         }
     }
 

@@ -4,7 +4,7 @@ ghost use Rattle.std.specs.Io.KnownBytes.{IsAtEnd};
 ghost use Rattle.service_main.specs.Runs.{ConsumesSome, IsBeforeWriting, IsOfNoPort, input_count_after};
 
 use crate::asm_fault::AsmFault;
-use crate::cards::{Card, CardFault, DeckName, name_on_ident};
+use cards::{Card, CardFault, DeckName, fields};
 use std::alloc::Global;
 use std::io::Read;
 use text_ports::{Counted, LineBuf, LineIs, next_line};
@@ -68,13 +68,26 @@ fn add_line(
             });
         }
     };
-    if let Some(name) = name_on_ident(&card) {
-        begin_deck(alloc, deck, number, name)?;
+    let alone = [card];
+    let fields = fields(&alone);
+    if let b"IDENT" = fields.operation() {
+        begin_deck(alloc, deck, number, before_mark(fields.variable()))?;
     }
+    let [card] = alone;
     match deck {
         Some(deck) => deck.push(card),
         None => Err(AsmFault::BadName { line: number }),
     }
+}
+
+/// What stands before the first comma or blank.
+fn before_mark(text: &[u8]) -> &[u8] {
+    for (k, column) in text.iter().enumerate() {
+        if *column == b',' || *column == b' ' {
+            return text.split_at(k).0;
+        }
+    }
+    text
 }
 
 fn begin_deck(
@@ -85,7 +98,7 @@ fn begin_deck(
 ) -> Result<(), AsmFault>
     ensures { IfErr result IsOfNoPort }
 {
-    let Some(name) = DeckName::read(name) else {
+    let Ok(name) = DeckName::read(name) else {
         return Err(AsmFault::BadName { line: number });
     };
     if deck.is_some() {

@@ -1,12 +1,12 @@
 //! The listing of a deck, and its part of the image.
 ghost use Rattle.std.specs.Prelude.{◌<◌};
 
-use crate::cards::Card;
 use crate::coder::{CodedDeck, CodedStatement, Item};
 use crate::deck_input::Deck;
 use crate::letter_sets::{ALPHABET, Letters};
 use crate::output_text::Text;
 use crate::parcel_packer::{Code, Parcel, Word};
+use cards::Card;
 use std::alloc::AllocError;
 
 /// The address at which the first relocatable deck stands.

@@ -3,7 +3,6 @@
 #![tactic(auto)]
 
 mod asm_fault;
-mod cards;
 mod coder;
 mod cpu_opcodes;
 mod deck_input;
@@ -16,7 +15,6 @@ mod parcel_packer;
 mod running;
 
 pub use asm_fault::AsmFault;
-pub use cards::CardFault;
 pub use running::{Tally, asm_run, asm_status};
 
 #[cfg(test)]

@@ -1,0 +1,44 @@
+-- Columns with blanks behind them, and the text of cards.
+use Rattle.std.proofs.Common.{ℕ, ◌≡◌, ◌+◌, ◌-◌, ◌≤◌, ◌<◌, List, [], ◌∷◌, ◌++◌, length, take, drop, get_or, replicate, sym, ◌∙◌, ap, arith, length-append, append_assoc}
+use Rattle.std.proofs.lemmas.List.{take-take, take-append-le, length-replicate, length-take-le, replicate-append-replicate, at_drop_more}
+use Rattle.std.specs.List.{flat_map}
+use Rattle.definitions.specs.Characters.{blank}
+use Rattle.definitions.specs.Cards.{padded}
+use Rattle.definitions.specs.Statements.{text_of}
+
+-- as many columns as are asked for
+pub length-padded : (width : ℕ) (card : List ℕ) → length (padded width card) ≡ width
+length-padded width card =
+    length-take-le width (card ++ replicate width blank)
+    (omega (arith, length-append card (replicate width blank), length-replicate width blank))
+
+-- fewer columns of a padded card are the card padded to fewer columns
+pub take-padded : (few many : ℕ) (card : List ℕ) → few ≤ many → take few (padded many card) ≡ padded few card
+take-padded few many card h =
+    let e : few + (many - few) ≡ many = omega arith in
+    take-take few many (card ++ replicate many blank) h
+    ∙ ap (λ (n : ℕ). take few (card ++ replicate n blank)) (sym e)
+    ∙ ap (λ (l : List ℕ). take few (card ++ l)) (sym (replicate-append-replicate few (many - few) blank))
+    ∙ ap (take few) (sym (append_assoc card (replicate few blank) (replicate (many - few) blank)))
+    ∙ take-append-le few (card ++ replicate few blank) (replicate (many - few) blank)
+    (omega (arith, length-append card (replicate few blank), length-replicate few blank))
+
+-- the columns of a comma card that are read
+abbrev pub comma_columns : List ℕ → List ℕ
+comma_columns card = drop 1 (padded 72 card)
+
+-- the columns of the first card begin the text
+pub text_of-first : (cards others : List (List ℕ)) (first text none columns : List ℕ) → cards ≡ first ∷ others → none ≡ [] →
+    columns ≡ padded 72 first → text ≡ none ++ columns → text ++ flat_map comma_columns others ≡ text_of cards
+text_of-first cards others first text none columns e n c t =
+    ap (λ (l : List ℕ). l ++ flat_map comma_columns others) (t ∙ ap (λ (l : List ℕ). l ++ columns) n ∙ c) ∙ sym (ap text_of e)
+
+-- one comma card more
+pub flat_map-next : (text after columns whole : List ℕ) (others : List (List ℕ)) (i : ℕ) → i < length others → after ≡ text ++ columns →
+    columns ≡ comma_columns (get_or others i []) → text ++ flat_map comma_columns (drop i others) ≡ whole →
+    after ++ flat_map comma_columns (drop (i + 1) others) ≡ whole
+flat_map-next text after columns whole others i h a c e =
+    ap (λ (l : List ℕ). l ++ flat_map comma_columns (drop (i + 1) others)) (a ∙ ap (λ (l : List ℕ). text ++ l) c)
+    ∙ append_assoc text (comma_columns (get_or others i [])) (flat_map comma_columns (drop (i + 1) others))
+    ∙ ap (λ (l : List ℕ). text ++ l) (sym (at_drop_more (flat_map comma_columns) others i [] h))
+    ∙ e

@@ -1,0 +1,61 @@
+-- Steps over the columns of cards.
+use Rattle.std.proofs.Common.{◌≡◌, ◌≢◌, ℕ, ◌+◌, ◌-◌, ◌≤◌, ◌<◌, zero, suc, List, [], ◌∷◌, ◌++◌, length, take, drop, refl, sym, ap, ◌∙◌, arith, get_or}
+use Rattle.std.specs.Prelude.{replicate}
+use Rattle.std.proofs.lemmas.Bool.{ne_eqb}
+use Rattle.std.proofs.lemmas.List.{take_more, take-take, take-replicate, drop-replicate, take_at}
+use Rattle.definitions.specs.Cards.{trimmed, onto_columns, padded}
+use Rattle.definitions.specs.Characters.{blank}
+use Rattle.cards.specs.Columns.{IsPadded}
+
+-- a blank more at the end is dropped
+trimmed-blank : (cs : List ℕ) → trimmed (cs ++ blank ∷ []) ≡ trimmed cs
+trimmed-blank [] = refl
+trimmed-blank (c ∷ cs) = ap (onto_columns c) (trimmed-blank cs)
+
+-- in front of columns that do not end here
+onto_columns-more : (c d : ℕ) (cs : List ℕ) → onto_columns c (cs ++ d ∷ []) ≡ c ∷ (cs ++ d ∷ [])
+onto_columns-more c d [] = refl
+onto_columns-more c d (e ∷ cs) = refl
+
+-- behind another character nothing is dropped
+trimmed-other : (cs : List ℕ) (d : ℕ) → d ≢ blank → trimmed (cs ++ d ∷ []) ≡ cs ++ d ∷ []
+trimmed-other [] d other = rw (ne_eqb d 32 other) refl
+trimmed-other (c ∷ cs) d other = ap (onto_columns c) (trimmed-other cs d other) ∙ onto_columns-more c d cs
+
+-- a blank column keeps the length
+pub trimmed-keeps : (line : List ℕ) (len k : ℕ) → k < length line → get_or line k 0 ≡ blank → take len line ≡ trimmed (take k line) → take len line ≡ trimmed (take (k + 1) line)
+trimmed-keeps line len k within is so_far =
+    so_far ∙ sym (trimmed-blank (take k line)) ∙ ap trimmed (ap (λ c. take k line ++ c ∷ []) (sym is) ∙ sym (take_more line k 0 within))
+
+-- another column ends what is kept
+pub trimmed-ends : (line : List ℕ) (k : ℕ) → k < length line → get_or line k 0 ≢ blank → take (k + 1) line ≡ trimmed (take (k + 1) line)
+trimmed-ends line k within other =
+    take_more line k 0 within ∙ sym (trimmed-other (take k line) (get_or line k 0) other) ∙ ap trimmed (sym (take_more line k 0 within))
+
+-- as many blanks as are wanted are enough
+blanks-enough : (n few many : ℕ) (cs : List ℕ) → n ≤ few → few ≤ many → take n (cs ++ replicate many blank) ≡ take n (cs ++ replicate few blank)
+blanks-enough zero few many cs h more = refl
+blanks-enough (suc n) few many [] h more = take-replicate (suc n) many blank (omega arith) ∙ sym (take-replicate (suc n) few blank h)
+blanks-enough (suc n) few many (c ∷ cs) h more = ap (λ l. c ∷ l) (blanks-enough n few many cs (omega arith) more)
+
+-- the first columns of a padded card
+pub padded-shorter : (few many : ℕ) (cs : List ℕ) → few ≤ many → take few (padded many cs) ≡ padded few cs
+padded-shorter few many cs more = take-take few many (cs ++ replicate many blank) more ∙ blanks-enough few few many cs (omega arith) more
+
+-- blanks behind the columns, as far as the card goes
+padded-whole : (m n : ℕ) (cs : List ℕ) → length cs ≤ m → m ≤ n → take m (cs ++ replicate n blank) ≡ cs ++ replicate (m - length cs) blank
+padded-whole m n [] room more = take-replicate m n blank more ∙ ap (λ k. replicate k blank) (let e : m ≡ m - 0 = omega arith in e)
+padded-whole zero n (c ∷ cs) room more = absurd (omega arith)
+padded-whole (suc m) n (c ∷ cs) room more =
+    ap (λ l. c ∷ l) (padded-whole m n cs (omega arith) (omega arith))
+    ∙ ap (λ k. c ∷ (cs ++ replicate k blank)) (let e : m - length cs ≡ suc m - suc (length cs) = omega arith in e)
+
+-- columns that stand in front of the blanks of a new card
+pub IsPadded-copied : (text front back : List ℕ) → length text ≤ 80 → front ≡ text → back ≡ drop (length text) (replicate 80 blank) → IsPadded (length text) (front ++ back)
+IsPadded-copied text front back room is behind = record {
+  within = room;
+  blank_behind =
+      let all : front ++ back ≡ text ++ replicate (80 - length text) blank = ap (λ l. l ++ back) is ∙ ap (λ l. text ++ l) (behind ∙ drop-replicate (length text) 80 blank) in
+      let kept : take (length text) (front ++ back) ≡ text = ap (λ l. take (length text) (l ++ back)) is ∙ take_at text back (length text) refl in
+      all ∙ sym (padded-whole 80 80 text room (omega arith)) ∙ ap (padded 80) (sym kept);
+}

@@ -1,0 +1,6 @@
+pub mod BeforeSteps
+pub mod ColumnSteps
+pub mod SpanSteps
+pub mod PartLaws
+pub mod ReadingLaws
+pub mod ColumnLaws

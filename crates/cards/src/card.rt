@@ -1,0 +1,136 @@
+//! One card.
+ghost use Rattle.std.specs.Prelude.{◌≡◌, ◌≤◌, length, take, position, is_none};
+ghost use Rattle.definitions.specs.Cards.{card_of, is_comma_card, is_comment, padded, trimmed};
+ghost use Rattle.definitions.specs.Characters.{display_code_of};
+ghost use Rattle.cards.specs.CardReads.{read_as};
+
+use std::fmt;
+use std::marker::Model;
+use text_ports::display_of;
+
+/// How many columns a card has.
+const COLUMNS: usize = 80;
+
+/// How many of its columns a statement is read from; the others are only listed.
+const READ_COLUMNS: usize = 72;
+
+/// A card: 0 to 80 columns, each a character with a display code, without trailing blanks.
+/// Contracts see it as the list of its columns (COMPASS 60492600, statement format).
+#[derive(Drop)]
+pub struct Card {
+    columns: [u8; COLUMNS],
+    len: usize,
+}
+
+impl Model for Card {
+    ghost use Rattle.std.specs.Prelude.{ℕ, List, take};
+    ghost use Rattle.cards.specs.Columns.{IsPadded};
+
+    ghost Value = { List ℕ };
+
+    ghost view = { λ c. take c.len c.columns };
+
+    ghost invariant = { λ c. IsPadded c.len c.columns };
+}
+
+/// Why a line is no card.
+#[derive(Clone, Copy, Debug, PartialEq, Eq)]
+pub enum CardFault {
+    /// It has more than 80 columns without its trailing blanks.
+    TooWide,
+    /// The character in this column, counted from 1, is the first without a display code.
+    BadCharacter { column: usize },
+}
+
+impl fmt::Display for CardFault {
+    ghost use Rattle.std.specs.Prelude.{Some};
+    ghost use Rattle.cards.specs.CardReads.{card_fault_text};
+
+    ghost output = { λ fault. Some (card_fault_text fault) };
+
+    fn fmt<W: fmt::Write>(&self, f: &mut fmt::Formatter<W>) -> fmt::Result {
+        match self {
+            CardFault::TooWide => write!(f, "TooWide"),
+            CardFault::BadCharacter { column } => write!(f, "BadCharacter {column}"),
+        }
+    }
+}
+
+impl Card {
+    /// The card that a line shows. Trailing blanks are dropped; then `TooWide` comes before
+    /// `BadCharacter`.
+    pub fn read(line: &[u8]) -> Result<Card, CardFault>
+        ensures { read_as result ≡ card_of line.now }
+    {
+        let columns = line.split_at(trimmed_len(line)).0;
+        if columns.len() > COLUMNS {
+            return Err(CardFault::TooWide);
+        }
+        match first_bad(columns) {
+            Some(place) => Err(CardFault::BadCharacter { column: 1 + place }),
+            None => Ok(Card::of_columns(columns)),
+        }
+    }
+
+    fn of_columns(text: &[u8]) -> Card
+        requires { length text.now ≤ 80 }
+        ensures { result ≡ text.now }
+    {
+        let mut columns = [b' '; COLUMNS];
+        columns.split_at_mut(text.len()).0.copy_from_slice(text);
+        Card {
+            columns,
+            len: text.len(),
+        }
+    }
+
+    /// The columns up to the last that is not blank.
+    pub fn as_slice(&self) -> &[u8]
+        ensures columns { result.now ≡ self.now }
+        ensures short { length self.now ≤ 80 }
+    {
+        self.columns.split_at(self.len).0
+    }
+
+    /// Columns 1 to 72, padded with blanks.
+    pub fn read_columns(&self) -> &[u8]
+        ensures { result.now ≡ padded 72 self.now }
+    {
+        self.columns.split_at(READ_COLUMNS).0
+    }
+
+    /// Whether `*` in column 1 makes this a comment.
+    pub fn is_comment(&self) -> bool
+        ensures { result ≡ is_comment self.now }
+    {
+        self.columns[0] == b'*'
+    }
+
+    /// Whether `,` in column 1 makes this a card that continues another.
+    pub fn is_comma_card(&self) -> bool
+        ensures { result ≡ is_comma_card self.now }
+    {
+        self.columns[0] == b','
+    }
+}
+
+/// How many columns a line has without its trailing blanks.
+fn trimmed_len(line: &[u8]) -> usize
+    ensures within { result ≤ length line.now }
+    ensures kept { take result line.now ≡ trimmed line.now }
+{
+    let mut len = 0;
+    for (k, column) in line.iter().enumerate() {
+        if *column != b' ' {
+            len = k + 1;
+        }
+    }
+    len
+}
+
+/// The place, from 0, of the first character without a display code.
+fn first_bad(columns: &[u8]) -> Option<usize>
+    ensures { result ≡ position (λ c. is_none (display_code_of c)) columns.now }
+{
+    columns.iter().position(|c| display_of(*c).is_none())
+}

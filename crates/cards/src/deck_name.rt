@@ -1,0 +1,77 @@
+//! The names of decks.
+ghost use Rattle.std.specs.Prelude.{◌≡◌, ◌≤◌, ◌||◌, length, IsTrue, ◌↔◌, IsOk, IfOk};
+ghost use Rattle.std.specs.List.{list_all};
+ghost use Rattle.definitions.specs.Characters.{is_digit, is_letter};
+ghost use Rattle.definitions.specs.DeckInput.{is_deck_name};
+
+use std::marker::Model;
+
+/// How many characters the name of a deck has at most.
+const MOST_CHARACTERS: usize = 7;
+
+/// The name of a deck: 1 to 7 letters and digits. Contracts see it as the list of its characters.
+#[derive(Drop)]
+pub struct DeckName {
+    characters: [u8; MOST_CHARACTERS],
+    len: usize,
+}
+
+impl Model for DeckName {
+    ghost use Rattle.std.specs.Prelude.{ℕ, List, take, ◌≤◌};
+
+    ghost Value = { List ℕ };
+
+    ghost view = { λ n. take n.len n.characters };
+
+    ghost invariant = { λ n. n.len ≤ 7 };
+}
+
+/// The characters are no name of a deck.
+#[derive(Clone, Copy, Debug, PartialEq, Eq)]
+pub struct BadName;
+
+impl DeckName {
+    /// The name that these characters make, if they make one.
+    pub fn read(text: &[u8]) -> Result<DeckName, BadName>
+        ensures accepts { IsOk result ↔ IsTrue (is_deck_name text.now) }
+        ensures name { IfOk result (λ name. name ≡ text.now) }
+    {
+        if is_name(text) {
+            Ok(DeckName::of_characters(text))
+        } else {
+            Err(BadName)
+        }
+    }
+
+    fn of_characters(text: &[u8]) -> DeckName
+        requires { length text.now ≤ 7 }
+        ensures { result ≡ text.now }
+    {
+        let mut characters = [b' '; MOST_CHARACTERS];
+        characters.split_at_mut(text.len()).0.copy_from_slice(text);
+        DeckName {
+            characters,
+            len: text.len(),
+        }
+    }
+
+    pub fn as_slice(&self) -> &[u8]
+        ensures name { result.now ≡ self.now }
+        ensures short { length self.now ≤ 7 }
+    {
+        self.characters.split_at(self.len).0
+    }
+}
+
+fn is_name(text: &[u8]) -> bool
+    ensures { result ≡ is_deck_name text.now }
+{
+    !text.is_empty() && text.len() <= MOST_CHARACTERS && has_name_characters(text)
+}
+
+fn has_name_characters(text: &[u8]) -> bool
+    ensures { result ≡ list_all (λ c. is_letter c || is_digit c) text.now }
+{
+    text.iter()
+        .all(|c| c.is_ascii_uppercase() || c.is_ascii_digit())
+}

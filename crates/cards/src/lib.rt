@@ -1,0 +1,24 @@
+//! Cards, the names of decks, statements and their fields, exactly as the definitions have them.
+//! Nothing here knows an operation but DIS, or a symbol.
+#![tactic(auto)]
+
+mod card;
+mod card_fields;
+mod card_text;
+mod counted_items;
+mod deck_name;
+mod field_parts;
+mod statement_fields;
+mod statement_list;
+mod variable_fields;
+
+pub use card::{Card, CardFault};
+pub use card_fields::fields;
+pub use deck_name::{BadName, DeckName};
+pub use statement_fields::Fields;
+pub use statement_list::{Span, StatementList, statements};
+
+#[cfg(test)]
+mod tests_cards;
+#[cfg(test)]
+mod tests_fields;
