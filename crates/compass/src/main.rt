@@ -4,16 +4,15 @@
 
 ghost use Rattle.std.specs.Prelude.{◌≡◌, ℕ, ◌<◌, pos};
 
+use clap::error::ErrorKind;
 use clap::{ArgMatches, Command, Error};
-use service_main::{AsmFault, asm_run, asm_status};
+use service_main::{AsmFault, Tally, asm_run, asm_status};
 use std::alloc::Global;
 use std::env;
 use std::io::{self, BufReader};
 use std::process::ExitCode;
+use std::rt::Env;
 use text_ports::Counted;
-
-/// Where the words can't be kept.
-const STATUS_OUT_OF_MEMORY: u8 = 4;
 
 /// The command line: its one command is `asm`, and `clap` writes its texts.
 fn read_words<'a>(alloc: Global, words: &'a [String]) -> Result<ArgMatches<'a>, Error> {
@@ -38,21 +37,33 @@ fn assemble<R: AllocGlobal + Input + Print + Eprint>(rt: &R) -> ExitCode {
         ),
         Err(_) => Err(AsmFault::OutOfMemory),
     };
-    if let Err(fault) = &result {
-        let _ = eprintln!(rt; "compass: {fault}");
-    }
-    ExitCode::from(asm_status(&result))
+    tell(rt, &result)
 }
 
-/// Does what the words ask for; a fault of the command line is told by `clap`, with status 2.
+/// The line of a fault on standard error, if there is one, and the status of a run.
+fn tell<R: Eprint>(rt: &R, outcome: &Result<Tally, AsmFault>) -> ExitCode {
+    if let Err(fault) = outcome {
+        let _ = eprintln!(rt; "compass: {fault}");
+    }
+    ExitCode::from(asm_status(outcome))
+}
+
+/// Does what the words ask for.
 fn run<R: AllocGlobal + Input + Print + Eprint>(rt: &R, words: &[String]) -> ExitCode {
     match read_words(rt.alloc(), words) {
         Ok(_) => assemble(rt),
-        Err(error) => {
-            let _ = error.print(rt);
-            ExitCode::from(status_of(error.exit_code()))
-        }
+        Err(error) => answer(rt, &error),
     }
+}
+
+/// Tells what `clap` answers to words that ask for no run: help, version or a fault, with its
+/// status; want of memory is a fault as in a run.
+fn answer<R: Print + Eprint>(rt: &R, error: &Error) -> ExitCode {
+    if error.kind() == ErrorKind::OutOfMemory {
+        return tell(rt, &Err(AsmFault::OutOfMemory));
+    }
+    let _ = error.print(rt);
+    ExitCode::from(status_of(error.exit_code()))
 }
 
 /// The status that `clap` gives to words that it answers itself: 0 for help and version, 2 for a
@@ -63,13 +74,14 @@ fn status_of(exit_code: i32) -> u8
     u8::try_from(exit_code).unwrap_or(2)
 }
 
+/// The words of the command line, or none where there is no memory for them.
+fn words_of<R: AllocGlobal + Env>(rt: &R) -> Option<Vec<String>> {
+    env::args(rt).ok()?.collect(rt.alloc()).ok()
+}
+
 fn main(rt: HostRuntime) -> ExitCode {
-    let words = match env::args(&rt) {
-        Ok(args) => args.collect::<Vec<String>>(rt.alloc()),
-        Err(_) => return ExitCode::from(STATUS_OUT_OF_MEMORY),
-    };
-    match words {
-        Ok(words) => run(&rt, words.as_slice()),
-        Err(_) => ExitCode::from(STATUS_OUT_OF_MEMORY),
+    match words_of(&rt) {
+        Some(words) => run(&rt, words.as_slice()),
+        None => tell(&rt, &Err(AsmFault::OutOfMemory)),
     }
 }
