@@ -1,12 +1,10 @@
 -- The parts of a text that its fields are.
-use Rattle.std.proofs.Common.{ℕ, zero, suc, ◌≡◌, ◌≢◌, ◌+◌, ◌-◌, ◌<◌, ◌≤◌, inl, inr, List, [], ◌∷◌, ◌++◌, Bool, true, false, not, cond, ◌&&◌, ◌==◌, nat_lt, if◌then◌else◌, length, take, drop, codes, refl, sym, ◌∙◌, ap, ap₂, arith, ltb-true, ltb-false, eq-eqb, ne_eqb, lt-ltb, le-ltb, drop-drop, Decides}
+use Rattle.std.proofs.Common.{ℕ, suc, ◌≡◌, ◌+◌, ◌-◌, ◌<◌, ◌≤◌, inl, inr, List, [], ◌∷◌, Bool, cond, ◌==◌, if◌then◌else◌, length, drop, refl, sym, ◌∙◌, ap, ap₂, arith, lt-ltb, le-ltb, drop-drop, Decides}
 use Rattle.std.specs.List.{prefix_len}
-use Rattle.std.proofs.lemmas.List.{length-drop, drop_all, take_all}
-use Rattle.std.proofs.lemmas.List.Sums.{prefix_len-le-length}
+use Rattle.std.proofs.lemmas.List.{length-drop, drop_all}
 use Rattle.std.proofs.lemmas.Bool.Decides.{eqb_tells, Decides-eqb, Decides-and}
 use Rattle.definitions.specs.Characters.{blank, same_text}
-use Rattle.definitions.specs.Pieces.{AtStart, field_at}
-use Rattle.definitions.specs.Fields.{Fields, word_of, without_blanks, from_location, next_field, variable_of, fields_of_text}
+use Rattle.definitions.specs.Fields.{without_blanks}
 use Rattle.cards.specs.FieldParts.{in_time}
 
 -- what the test of two texts tells

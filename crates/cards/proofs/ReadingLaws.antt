@@ -1,23 +1,10 @@
 -- The steps of reading a variable field.
-use Rattle.std.proofs.Common.{ℕ, zero, suc, ◌≡◌, ◌≢◌, ◌+◌, ◌-◌, ◌<◌, ◌≤◌, inl, inr, List, [], ◌∷◌, Bool, true, false, ◌==◌, if◌then◌else◌, Option, Some, None, length, take, drop, get_or, refl, sym, ◌∙◌, ap, ap₂, subst, arith, drop-drop, codes, eq-eqb, ne_eqb}
-use Rattle.std.specs.Prelude.{is_some}
+use Rattle.std.proofs.Common.{ℕ, zero, suc, ◌≡◌, ◌+◌, inl, inr, List, [], ◌∷◌, Bool, false, if◌then◌else◌, length, take, drop, refl, sym, ◌∙◌, ap, subst, arith, drop-drop, codes}
 use Rattle.std.proofs.lemmas.Bool.Decides.{eqb_tells}
 use Rattle.definitions.specs.Characters.{blank, same_text}
-use Rattle.definitions.specs.Items.{Counted}
-use Rattle.definitions.specs.Pieces.{Mark, Comma, Plus, Minus, Star, Slash, Spot, AtStart, Inside, mark_of, begun_by, begun_by_item, begun_at, spot_behind, left_of, field_at}
+use Rattle.definitions.specs.Pieces.{Spot, AtStart, begun_at, spot_behind, left_of, field_at}
 use Rattle.definitions.specs.Fields.{variable_of}
-use Rattle.cards.specs.ItemLengths.{taken_by}
-
--- the field ends at a blank outside an item
-field_at-blank : (spot : Spot) (c : ℕ) (cs : List ℕ) → c ≡ blank → field_at spot zero (c ∷ cs) ≡ []
-field_at-blank spot c cs h =
-    ap (λ (t : Bool). if t then [] else c ∷ field_at (spot_behind (begun_at spot c cs)) (left_of (begun_at spot c cs)) cs) (eq-eqb c blank h)
-
--- the field goes on with any other character
-field_at-other : (spot : Spot) (c : ℕ) (cs : List ℕ) → c ≢ blank →
-    field_at spot zero (c ∷ cs) ≡ c ∷ field_at (spot_behind (begun_at spot c cs)) (left_of (begun_at spot c cs)) cs
-field_at-other spot c cs h =
-    ap (λ (t : Bool). if t then [] else c ∷ field_at (spot_behind (begun_at spot c cs)) (left_of (begun_at spot c cs)) cs) (ne_eqb c blank h)
+use Rattle.definitions.proofs.FieldLaws.{field_at-blank, field_at-other}
 
 -- a field begins its text
 pub take-field_at : (spot : Spot) (left : ℕ) (text : List ℕ) → take (length (field_at spot left text)) text ≡ field_at spot left text

@@ -86,12 +86,12 @@ without_blanks-split (c ∷ gap) begun h =
     ∙ without_blanks-split gap begun (record { blanks = h.blanks.1; ends = h.ends })
 
 -- the field ends at a blank outside an item
-field_at-blank : (spot : Spot) (c : ℕ) (cs : List ℕ) → c ≡ blank → field_at spot zero (c ∷ cs) ≡ []
+pub field_at-blank : (spot : Spot) (c : ℕ) (cs : List ℕ) → c ≡ blank → field_at spot zero (c ∷ cs) ≡ []
 field_at-blank spot c cs h =
     ap (λ (t : Bool). if t then [] else c ∷ field_at (spot_behind (begun_at spot c cs)) (left_of (begun_at spot c cs)) cs) (eq-eqb c blank h)
 
 -- the field goes on with any other character
-field_at-other : (spot : Spot) (c : ℕ) (cs : List ℕ) → c ≢ blank →
+pub field_at-other : (spot : Spot) (c : ℕ) (cs : List ℕ) → c ≢ blank →
     field_at spot zero (c ∷ cs) ≡ c ∷ field_at (spot_behind (begun_at spot c cs)) (left_of (begun_at spot c cs)) cs
 field_at-other spot c cs h =
     ap (λ (t : Bool). if t then [] else c ∷ field_at (spot_behind (begun_at spot c cs)) (left_of (begun_at spot c cs)) cs) (ne_eqb c blank h)

@@ -1,6 +1,5 @@
-use Rattle.std.proofs.Common.{◌∙◌, [], ap, sym, drop, length, length-append, arith}
+use Rattle.std.proofs.Common.{◌∙◌, [], ap, drop, length, length-append, arith}
 use Rattle.std.proofs.lemmas.List.{get_or_read}
-use Rattle.definitions.specs.Cards.{padded}
 use Rattle.cards.proofs.ColumnLaws.{comma_columns, length-padded, text_of-first, flat_map-next}
 use Rattle.cards.proofs.card_text.statement_text.Goals as goal
 
