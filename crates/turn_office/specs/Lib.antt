@@ -1,0 +1,5 @@
+pub mod Histories
+pub mod Told
+pub mod Rule
+pub mod Seats
+pub mod Boards

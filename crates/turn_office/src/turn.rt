@@ -1,0 +1,131 @@
+//! The steps of a turn, each of one kind of the table in the crate's documentation.
+ghost use Rattle.std.specs.Prelude.{◌≡◌, ◌≤◌, [], ◌∷◌, length, Some, None};
+ghost use Rattle.turn_office.specs.declared.views.Stage.TheVariants.{Idle};
+ghost use Rattle.turn_office.specs.Rule.{CanEnd, HasDrawn, HasEnded, HasLearned, HasTurn, IsFloor, WaitsFor, seen_of};
+ghost use Rattle.turn_office.specs.Told.{opened, ended};
+
+use crate::rule::{Draw, Floor, Give, Learn, Look, Place, Said};
+use crate::sequential::Sequential;
+use std::hint;
+use std::snapshot::Snapshot;
+use std::sync::Wait;
+
+/// The word of the turns that have ended: the ticket that is served.
+const SERVING: usize = 0;
+
+/// The word of the tickets drawn: the next ticket.
+const TICKET: usize = 1;
+
+/// How often a waiting seat looks before it sleeps.
+const LOOKS: u32 = 100;
+
+/// The slot of the object.
+const OBJECT: usize = 0;
+
+/// Kind 2: draws a ticket.
+pub(crate) fn draw<O: Sequential>(floor: &Floor<O>, place: &mut Place<O>) -> u64
+    requires own { (place.old.table_id ≡ floor.now.table_id) × IsFloor floor.now.table_id }
+    requires rests { (place.old.me.0.stage ≡ Idle) × (1 ≤ length place.old.me.0.chairs) }
+    ensures own { (place.new.table_id ≡ place.old.table_id) × (place.new.id ≡ place.old.id) }
+    ensures drawn { HasDrawn result place.old.me place.new.me }
+{
+    floor.fetch_add::<Draw>(place, TICKET, 1)
+}
+
+/// Kind 3: sleeps until the ticket is served, and takes the slot then.
+/// The word passes no ticket that is out, so a sleeper's low 32 bits differ once it is served.
+pub(crate) fn wait_turn<O: Sequential, R: Wait>(
+    rt: &R,
+    floor: &Floor<O>,
+    place: &mut Place<O>,
+    ticket: u64,
+)
+    requires own { (place.old.table_id ≡ floor.now.table_id) × IsFloor floor.now.table_id }
+    requires waits { WaitsFor ticket place.old.me.0 }
+    ensures own { (place.new.table_id ≡ place.old.table_id) × (place.new.id ≡ place.old.id) }
+    ensures turn { HasTurn place.old.me place.new.me }
+{
+    let mut looks = 0;
+    for _ in rt.forever() {
+        let serving = floor.load::<Look>(place, SERVING);
+        if serving == ticket {
+            return;
+        }
+        pause(rt, floor, serving, looks);
+        looks = looks.saturating_add(1);
+    }
+    unreachable!()
+}
+
+/// Waits a moment at the first looks, since most turns are short, and sleeps at the later ones.
+fn pause<O: Sequential, R: Wait>(rt: &R, floor: &Floor<O>, serving: u64, looks: u32)
+    requires { IsFloor floor.now.table_id }
+{
+    if looks < LOOKS {
+        hint::spin_loop();
+    } else {
+        floor.park(rt, SERVING, (serving % (1 << 32)) as u32);
+    }
+}
+
+/// Kind 7: the object out of its slot.
+pub(crate) fn take_out<O: Sequential>(floor: &Floor<O>, place: &mut Place<O>) -> O
+    requires own { place.old.table_id ≡ floor.now.table_id }
+    requires turn { (d : O) × (place.old.me.1 ≡ (0, Some d) ∷ []) }
+    ensures own { (place.new.table_id ≡ place.old.table_id) × (place.new.id ≡ place.old.id) }
+    ensures out { (place.old.me.1 ≡ (0, Some result) ∷ []) × (place.new.me ≡ (place.old.me.0, (0, None) ∷ [])) }
+{
+    let Some(object) = floor.exchange(place, OBJECT, None) else {
+        unreachable!()
+    };
+    object
+}
+
+/// Kind 8: the object home into its slot.
+pub(crate) fn put_home<O: Sequential>(floor: &Floor<O>, place: &mut Place<O>, object: O)
+    requires own { place.old.table_id ≡ floor.now.table_id }
+    requires out { place.old.me.1 ≡ (0, None) ∷ [] }
+    ensures own { (place.new.table_id ≡ place.old.table_id) × (place.new.id ≡ place.old.id) }
+    ensures home { place.new.me ≡ (place.old.me.0, (0, Some object) ∷ []) }
+{
+    let before = floor.exchange(place, OBJECT, Some(object));
+    let None = before else { unreachable!() };
+}
+
+/// Kind 4: ends the turn, and wakes those who wait. Where nobody else has drawn a ticket by then,
+/// nobody sleeps: who draws later finds its ticket served.
+pub(crate) fn end_turn<O: Sequential, W: Said<O, O::Call, O::Reply>>(
+    floor: &Floor<O>,
+    place: &mut Place<O>,
+    number: usize,
+    call: &Snapshot<O::Call>,
+    reply: &O::Reply,
+)
+    requires own { (place.old.table_id ≡ floor.now.table_id) × IsFloor floor.now.table_id }
+    requires told { W.told ≡ Some (ended floor.now.key.seats floor.now.key.first.value call.now.value reply.now) }
+    requires stepped { CanEnd O.allowed call.now.value reply.now number (seen_of place.old.me.0) place.old.me }
+    ensures own { (place.new.table_id ≡ place.old.table_id) × (place.new.id ≡ place.old.id) }
+    ensures ended { HasEnded O.allowed (ended floor.now.key.seats floor.now.key.first.value call.now.value reply.now) call.now.value reply.now number (seen_of place.old.me.0) place.new.me }
+{
+    let _ = number;
+    let _ = call;
+    let _ = reply;
+    let ticket = floor.fetch_add::<Give<W>>(place, SERVING, 1);
+    if floor.peek(TICKET) != ticket.wrapping_add(1) {
+        floor.wake_all(SERVING);
+    }
+}
+
+/// Kind 6: sees the history so far.
+pub(crate) fn learn<O: Sequential, W: Said<O, O::Call, O::Reply>>(
+    floor: &Floor<O>,
+    place: &mut Place<O>,
+)
+    requires own { (place.old.table_id ≡ floor.now.table_id) × IsFloor floor.now.table_id }
+    requires told { W.told ≡ Some (opened floor.now.key.seats floor.now.key.first.value) }
+    requires rests { place.old.me.0.stage ≡ Idle }
+    ensures own { (place.new.table_id ≡ place.old.table_id) × (place.new.id ≡ place.old.id) }
+    ensures learned { HasLearned O.allowed (opened floor.now.key.seats floor.now.key.first.value) place.old.me place.new.me }
+{
+    floor.load::<Learn<W>>(place, SERVING);
+}
