@@ -1,5 +1,5 @@
 -- The rule is kept where seats share their numbers out and take them in; a new office keeps it, and where all numbers are back, the object is.
-use Rattle.std.proofs.Common.{◌≡◌, ℕ, zero, suc, ◌+◌, ◌<◌, ◌≤◌, List, [], ◌∷◌, ◌++◌, length, set, sym, refl, ap, ◌∙◌, subst, ⊎_elim, arith, Option, sum_by, Some, length-append, append-nil}
+use Rattle.std.proofs.Common.{◌≡◌, ℕ, zero, suc, ◌+◌, ◌<◌, ◌≤◌, List, [], ◌∷◌, ◌++◌, length, replicate, set, sym, refl, ap, ◌∙◌, subst, ⊎_elim, arith, Option, sum_by, Some, length-append, append-nil}
 use Rattle.std.proofs.lemmas.List.Sums.{sum_by-append}
 use Rattle.std.proofs.lemmas.List.Elements.{All-nil}
 use Rattle.std.proofs.lemmas.List.FromFn.{length-map-range_with_len}
@@ -72,6 +72,7 @@ module _ {T C R : Type 0} (allowed : T → C → R → T → Type 0) (seats : �
         object = r.object;
         out = r.out;
         holder = r.holder;
+        bells = r.bells;
         few = r.few;
         leads = r.leads;
         of_seats = r.of_seats;
@@ -101,6 +102,7 @@ module _ {T C R : Type 0} (allowed : T → C → R → T → Type 0) (seats : �
         object = r.object;
         out = r.out;
         holder = r.holder;
+        bells = r.bells;
         few = r.few;
         leads = r.leads;
         of_seats = r.of_seats;
@@ -115,12 +117,13 @@ module _ {T C R : Type 0} (allowed : T → C → R → T → Type 0) (seats : �
       }
 
   -- a new office has a table that keeps the rule
-  pub opens : seats ≤ 64 → Kept allowed seats first (opening (0 ∷ 0 ∷ []) (Some first ∷ []) (undealt seats))
+  pub opens : seats ≤ 64 → Kept allowed seats first (opening (replicate 66 0) (Some first ∷ []) (undealt seats))
   opens few = record {
     log = [];
     object = first;
     out = 0;
     holder = λ _. 0;
+    bells = replicate 64 0;
     few = few;
     leads = refl;
     of_seats = All-nil (λ (e : Entry C R). e.by < seats);

@@ -1,5 +1,5 @@
 -- Each step of a turn keeps the rule of the table, and tells what it promises.
-use Rattle.std.proofs.Common.{◌≡◌, ◌≢◌, ℕ, ◌+◌, ◌-◌, ◌%◌, ◌^◌, ◌<◌, ◌≤◌, ◌==◌, if◌then◌else◌, Bool, cond, List, [], ◌∷◌, ◌++◌, map, length, get_or, set, sym, refl, ap, ◌∙◌, subst, arith, Option, Some, length-set, length-append, count_by, eq-eqb, ne_eqb}
+use Rattle.std.proofs.Common.{◌≡◌, ◌≢◌, ℕ, zero, suc, ◌+◌, ◌-◌, ◌%◌, ◌^◌, ◌<◌, ◌≤◌, ◌==◌, if◌then◌else◌, Bool, cond, List, [], ◌∷◌, ◌++◌, map, length, get_or, set, sym, refl, ap, ◌∙◌, subst, arith, Option, Some, length-set, length-append, count_by, eq-eqb, ne_eqb}
 use mathlib.Core.Logic.{dite}
 use mathlib.Core.Option.{none, some, some-injective}
 use Rattle.std.proofs.Math.Nat.{mod-add-mod}
@@ -17,7 +17,7 @@ use Rattle.turn_office.specs.declared.views.View.{View}
 use Rattle.turn_office.specs.declared.views.Stage.{Stage}
 use Rattle.turn_office.specs.declared.views.Stage.TheVariants.{Idle, Waits, Serves}
 use Rattle.turn_office.specs.Histories.{entry, Continues}
-use Rattle.turn_office.specs.Rule.{Kept, Fits, IsStage, NobodyServes, Standing, chair, view, staged, at_rest, tickets_of, times, drew, looked, gave, learned, CanEnd, HasEnded, HasLearned}
+use Rattle.turn_office.specs.Rule.{Kept, Fits, IsStage, NobodyServes, Standing, chair, view, staged, at_rest, tickets_of, times, drew, looked, gave, learned, rang, CanEnd, HasEnded, HasLearned}
 use Rattle.turn_office.specs.Told.{Told, opened, ended}
 use Rattle.turn_office.proofs.Sums.{sum_set, sum_same, sum_two, sum_le, found_inside, each_set}
 use Rattle.turn_office.proofs.Stages.{ticket_or, idle_serves_not, waiting_serves_not, nobody_before, no_ticket}
@@ -36,6 +36,12 @@ only_one (y ∷ z ∷ zs) x one = absurd (omega (arith, one))
 -- one more of a number that is kept modulo 2^64
 one_more : (n : ℕ) → (n % 18446744073709551616 + 1) % 18446744073709551616 ≡ (n + 1) % 18446744073709551616
 one_more n = mod-add-mod n 18446744073709551616 1
+
+-- a change past the first two elements of a list
+set_past : {X : Type 0} (x y : X) (zs : List X) (i : ℕ) (z : X) → 2 ≤ i → set (x ∷ y ∷ zs) i z ≡ x ∷ y ∷ set zs (i - 2) z
+set_past x y zs zero z later = absurd (omega arith)
+set_past x y zs (suc zero) z later = absurd (omega arith)
+set_past x y zs (suc (suc i)) z later = ap (λ (k : ℕ). x ∷ y ∷ set zs k z) (omega arith)
 
 -- one turn more and one ticket less
 more_less : (n long out : ℕ) → long ≡ n + 1 → 0 < out → n + out ≡ long + (out - 1)
@@ -110,10 +116,11 @@ module _ {T C R : Type 0} (allowed : T → C → R → T → Type 0) (seats : �
     object = r.object;
     out = r.out + 1;
     holder = put r.holder (length r.log + r.out) id;
+    bells = r.bells;
     few = r.few;
     leads = r.leads;
     of_seats = r.of_seats;
-    words = ap (λ (ws : List ℕ). set ws 1 ((get_or ws 1 0 + 1) % 18446744073709551616)) r.words ∙ ap (λ (n : ℕ). (length r.log % 18446744073709551616) ∷ n ∷ []) (one_more (length r.log + r.out) ∙ ap (λ (n : ℕ). n % 18446744073709551616) (omega arith));
+    words = ap (λ (ws : List ℕ). set ws 1 ((get_or ws 1 0 + 1) % 18446744073709551616)) r.words ∙ ap (λ (n : ℕ). (length r.log % 18446744073709551616) ∷ n ∷ r.bells) (one_more (length r.log + r.out) ∙ ap (λ (n : ℕ). n % 18446744073709551616) (omega arith));
     homes = r.homes;
     at_home = λ nobody. r.at_home (nobody_before s.views id v w at (λ d serves. absurd (idle_serves_not v.stage d idle serves)) nobody);
     tickets = omega (arith, no_ticket v idle, sum_set tickets_of s.views id v w at, r.tickets);
@@ -161,6 +168,7 @@ module _ {T C R : Type 0} (allowed : T → C → R → T → Type 0) (seats : �
         object = r.object;
         out = r.out;
         holder = r.holder;
+        bells = r.bells;
         few = r.few;
         leads = r.leads;
         of_seats = r.of_seats;
@@ -215,11 +223,12 @@ module _ {T C R : Type 0} (allowed : T → C → R → T → Type 0) (seats : �
         object = after;
         out = r.out - 1;
         holder = r.holder;
+        bells = r.bells;
         few = r.few;
         leads = leads_after allowed first r.object after r.log number call reply r.leads (subst (λ (d : T). allowed d call reply after) mine.stage.0 steps);
         of_seats = of_seats_after seats r.log number call reply r.of_seats mine.chairs.0.0;
         words = ap (λ (ws : List ℕ). set ws 0 ((get_or ws 0 0 + 1) % 18446744073709551616)) r.words
-            ∙ (λ i. (one_more (length r.log) ∙ ap (λ (n : ℕ). n % 18446744073709551616) (sym long)) i ∷ (ap (λ (n : ℕ). n % 18446744073709551616) (more_less (length r.log) (length log) r.out long mine.stage.1) i ∷ []));
+            ∙ (λ i. (one_more (length r.log) ∙ ap (λ (n : ℕ). n % 18446744073709551616) (sym long)) i ∷ (ap (λ (n : ℕ). n % 18446744073709551616) (more_less (length r.log) (length log) r.out long mine.stage.1) i ∷ r.bells));
         homes = length-set s.homes 0 (some (Some after)) ∙ r.homes;
         at_home = λ nobody. only_one s.homes (some (Some after)) r.homes;
         tickets = let t = sum_set tickets_of s.views id v w at in omega (arith, t, r.tickets);
@@ -287,6 +296,7 @@ module _ {T C R : Type 0} (allowed : T → C → R → T → Type 0) (seats : �
         object = r.object;
         out = r.out;
         holder = r.holder;
+        bells = r.bells;
         few = r.few;
         leads = r.leads;
         of_seats = r.of_seats;
@@ -311,3 +321,27 @@ module _ {T C R : Type 0} (allowed : T → C → R → T → Type 0) (seats : �
     (λ told said'. subst (λ (t : Told T C R). HasLearned allowed t me (view me.0.stage (map (λ c. chair c.number r.log) me.0.chairs), me.1)) (ap (λ (o : Option (Told T C R)). unwrap_or o (opened seats first)) (sym is ∙ said'))
         (record { log = r.log; legal = record { last = r.object; leads = r.leads; of_seats = r.of_seats }; continues = chairs_continue seats r.log me.0.chairs (r.each id me.0 at).chairs; rests = refl })),
   )
+
+  -- the state after a bell was rung
+  belled : (s : State (Option T) (View T C R)) (r : Rule s) (id word n : ℕ) (v : View T C R) → get_elem? s.views id ≡ some v → 2 ≤ word → Rule record { words = set s.words word n; homes = s.homes; views = set s.views id v }
+  belled s r id word n v at later = subst (λ (views : List (View T C R)). Rule record { words = set s.words word n; homes = s.homes; views = views }) (sym (set_again s.views id v at)) (record {
+    log = r.log;
+    object = r.object;
+    out = r.out;
+    holder = r.holder;
+    bells = set r.bells (word - 2) n;
+    few = r.few;
+    leads = r.leads;
+    of_seats = r.of_seats;
+    words = ap (λ (ws : List ℕ). set ws word n) r.words ∙ set_past (length r.log % 18446744073709551616) ((length r.log + r.out) % 18446744073709551616) r.bells word n later;
+    homes = r.homes;
+    at_home = r.at_home;
+    tickets = r.tickets;
+    numbers = r.numbers;
+    apart = r.apart;
+    each = r.each;
+  })
+
+  -- kind 9
+  pub rings : (slots id word : ℕ) (me : Standing T C R) → 2 ≤ word → Allows Rule slots id me word (λ n. (n + 1) % 2 ^ 64) (rang (step slots word 1 0 none) me)
+  rings slots id word me later s r deep at fits = (me.0, keeps, tt, belled s r id word ((get_or s.words word 0 + 1) % 18446744073709551616) me.0 at later, refl)

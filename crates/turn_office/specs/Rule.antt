@@ -81,16 +81,17 @@ abbrev pub NobodyServes : {T C R : Type 0} → List (View T C R) → Type 0
 NobodyServes {T} {C} {R} views = (seat : ℕ) (v : View T C R) (d : T) → get_elem? views seat ≡ some v → v.stage ≢ Serves d
 
 module _ {T C R : Type 0} (allowed : T → C → R → T → Type 0) (seats : ℕ) (first : T) where
-  -- there is one legal history; the words count its entries and the tickets drawn, and the object after it is in the slot unless a seat serves
+  -- there is one legal history; the first two words count its entries and the tickets drawn, and the object after it is in the slot unless a seat serves
   pub record Kept (s : State (Option T) (View T C R)) : Type 0 where
     pub log : List (Entry C R)
     pub object : T
     pub out : ℕ
     pub holder : ℕ → ℕ
+    pub bells : List ℕ
     pub few : seats ≤ 64
     pub leads : Leads allowed first log object
     pub of_seats : IsOfSeats seats log
-    pub words : s.words ≡ (length log % 2 ^ 64) ∷ ((length log + out) % 2 ^ 64) ∷ []
+    pub words : s.words ≡ (length log % 2 ^ 64) ∷ ((length log + out) % 2 ^ 64) ∷ bells
     pub homes : length s.homes ≡ 1
     pub at_home : NobodyServes s.views → s.homes ≡ some (Some object) ∷ []
     pub tickets : sum_by tickets_of s.views ≡ out
@@ -122,6 +123,10 @@ module _ {T C R : Type 0} where
   -- kind 2 tells that a ticket was drawn
   abbrev pub drew : At T → Standing T C R → ℕ → Standing T C R → Type 0
   drew at me found after = HasDrawn found me after
+
+  -- kind 9 tells nothing
+  abbrev pub rang : At T → Standing T C R → ℕ → Standing T C R → Type 0
+  rang at me found after = after ≡ me
 
   -- kind 3 tells a waiting seat that the turn is its own, or nothing
   abbrev pub looked : At T → Standing T C R → ℕ → Standing T C R → Type 0
@@ -164,6 +169,6 @@ module _ {T C R : Type 0} (allowed : T → C → R → T → Type 0) where
     pub of_seats : IsOfSeats seats log
     pub each : AllByRecursion (λ c. Continues c.number c.seen log) chairs
 
--- the table of an office
+-- the table of an office: the two counts and a bell for each ticket that can be out, and the slot
 abbrev pub IsFloor : TableId → Type 0
-IsFloor id = (id.words ≡ 2) × (id.slots ≡ 1)
+IsFloor id = (id.words ≡ 66) × (id.slots ≡ 1)

@@ -6,6 +6,7 @@ ghost use Rattle.turn_office.specs.Seats.{AreOf, new_seats};
 use crate::rule::{Board, Deal, Opening, Place};
 use crate::seat::Seat;
 use crate::sequential::Sequential;
+use crate::turn::WORDS;
 use atomic_table::{Refused, Table};
 use std::alloc::{AllocFailed, Global};
 use std::marker::Model;
@@ -91,7 +92,7 @@ fn lay<O: Sequential>(
         return Err(AllocFailed { value: object });
     }
     slots.push_reserved(Some(object));
-    match Table::new(alloc, &[0, 0], slots, &about) {
+    match Table::new(alloc, &[0; WORDS], slots, &about) {
         Ok((board, dealer)) => Ok((Office { board, seats }, dealer)),
         Err(Refused { slots }) => Err(AllocFailed { value: only(slots) }),
     }

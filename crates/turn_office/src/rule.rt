@@ -1,6 +1,7 @@
 //! The rule over the words, the slot and the views, and what each step tells.
 //! Word 0 is the number of turns that have ended, word 1 the number of tickets drawn, both modulo
-//! 2^64. Slot 0 has the object while nobody has the turn.
+//! 2^64; the other 64 are bells, which those who wait sleep on and the rule says nothing of. Slot 0
+//! has the object while nobody has the turn.
 ghost use Rattle.std.specs.Prelude.{ℕ, Option, Some, None};
 ghost use Rattle.turn_office.specs.Told.{Told};
 
@@ -80,6 +81,15 @@ impl<O: Sequential, W: Said<O, O::Call, O::Reply>> Play<Option<O>, View<O, O::Ca
     ghost use Rattle.turn_office.specs.Rule.{gave};
 
     ghost then = { gave O.allowed W.told };
+}
+
+/// The bell of the next ticket is rung.
+pub struct Ring;
+
+impl<O: Sequential> Play<Option<O>, View<O, O::Call, O::Reply>> for Ring {
+    ghost use Rattle.turn_office.specs.Rule.{rang};
+
+    ghost then = { rang };
 }
 
 /// A seat sees the history so far.

@@ -1,10 +1,10 @@
 //! The steps of a turn, each of one kind of the table in the crate's documentation.
-ghost use Rattle.std.specs.Prelude.{◌≡◌, ◌≤◌, [], ◌∷◌, length, Some, None};
+ghost use Rattle.std.specs.Prelude.{◌≡◌, ◌<◌, ◌≤◌, [], ◌∷◌, length, Some, None};
 ghost use Rattle.turn_office.specs.declared.views.Stage.TheVariants.{Idle};
 ghost use Rattle.turn_office.specs.Rule.{CanEnd, HasDrawn, HasEnded, HasLearned, HasTurn, IsFloor, WaitsFor, seen_of};
 ghost use Rattle.turn_office.specs.Told.{opened, ended};
 
-use crate::rule::{Draw, Floor, Give, Learn, Look, Place, Said};
+use crate::rule::{Draw, Floor, Give, Learn, Look, Place, Ring, Said};
 use crate::sequential::Sequential;
 use std::hint;
 use std::snapshot::Snapshot;
@@ -15,6 +15,16 @@ const SERVING: usize = 0;
 
 /// The word of the tickets drawn: the next ticket.
 const TICKET: usize = 1;
+
+/// The first of the bells.
+const FIRST_BELL: usize = 2;
+
+/// How many bells there are: one for each seat that an office may have, and so for each ticket that
+/// is out.
+const BELLS: u64 = 64;
+
+/// How many words the table of an office has.
+pub(crate) const WORDS: usize = FIRST_BELL + BELLS as usize;
 
 /// How often a waiting seat looks before it sleeps.
 const LOOKS: u32 = 100;
@@ -32,8 +42,16 @@ pub(crate) fn draw<O: Sequential>(floor: &Floor<O>, place: &mut Place<O>) -> u64
     floor.fetch_add::<Draw>(place, TICKET, 1)
 }
 
-/// Kind 3: sleeps until the ticket is served, and takes the slot then.
-/// The word passes no ticket that is out, so a sleeper's low 32 bits differ once it is served.
+/// The bell that the holder of a ticket sleeps on. No two of the tickets that are out share one.
+fn bell_of(ticket: u64) -> usize
+    ensures { (2 ≤ result) × (result < 66) }
+{
+    FIRST_BELL + (ticket % BELLS) as usize
+}
+
+/// Kind 3: waits until the ticket is served, and takes the slot then. The bell is read before the
+/// word: where the word is not yet the ticket, the bell has not been rung for it, so it has another
+/// value once it is, and who sleeps on it wakes.
 pub(crate) fn wait_turn<O: Sequential, R: Wait>(
     rt: &R,
     floor: &Floor<O>,
@@ -45,26 +63,28 @@ pub(crate) fn wait_turn<O: Sequential, R: Wait>(
     ensures own { (place.new.table_id ≡ place.old.table_id) × (place.new.id ≡ place.old.id) }
     ensures turn { HasTurn place.old.me place.new.me }
 {
+    let bell = bell_of(ticket);
     let mut looks = 0;
     for _ in rt.forever() {
+        let rung = floor.peek(bell);
         let serving = floor.load::<Look>(place, SERVING);
         if serving == ticket {
             return;
         }
-        pause(rt, floor, serving, looks);
+        pause(rt, floor, bell, rung, looks);
         looks = looks.saturating_add(1);
     }
     unreachable!()
 }
 
 /// Waits a moment at the first looks, since most turns are short, and sleeps at the later ones.
-fn pause<O: Sequential, R: Wait>(rt: &R, floor: &Floor<O>, serving: u64, looks: u32)
-    requires { IsFloor floor.now.table_id }
+fn pause<O: Sequential, R: Wait>(rt: &R, floor: &Floor<O>, bell: usize, rung: u64, looks: u32)
+    requires { IsFloor floor.now.table_id × (bell < 66) }
 {
     if looks < LOOKS {
         hint::spin_loop();
     } else {
-        floor.park(rt, SERVING, (serving % (1 << 32)) as u32);
+        floor.park(rt, bell, (rung % (1 << 32)) as u32);
     }
 }
 
@@ -92,8 +112,8 @@ pub(crate) fn put_home<O: Sequential>(floor: &Floor<O>, place: &mut Place<O>, ob
     let None = before else { unreachable!() };
 }
 
-/// Kind 4: ends the turn, and wakes those who wait. Where nobody else has drawn a ticket by then,
-/// nobody sleeps: who draws later finds its ticket served.
+/// Kind 4: ends the turn, and wakes who has the next ticket. Where nobody has drawn it by then,
+/// nobody sleeps for it: who draws it later finds it served.
 pub(crate) fn end_turn<O: Sequential, W: Said<O, O::Call, O::Reply>>(
     floor: &Floor<O>,
     place: &mut Place<O>,
@@ -110,10 +130,23 @@ pub(crate) fn end_turn<O: Sequential, W: Said<O, O::Call, O::Reply>>(
     let _ = number;
     let _ = call;
     let _ = reply;
-    let ticket = floor.fetch_add::<Give<W>>(place, SERVING, 1);
-    if floor.peek(TICKET) != ticket.wrapping_add(1) {
-        floor.wake_all(SERVING);
+    let next = floor
+        .fetch_add::<Give<W>>(place, SERVING, 1)
+        .wrapping_add(1);
+    if floor.peek(TICKET) != next {
+        ring(floor, place, bell_of(next));
     }
+}
+
+/// Kind 9: rings a bell, and wakes who sleeps on it.
+fn ring<O: Sequential>(floor: &Floor<O>, place: &mut Place<O>, bell: usize)
+    requires own { (place.old.table_id ≡ floor.now.table_id) × IsFloor floor.now.table_id }
+    requires bell { (2 ≤ bell) × (bell < 66) }
+    ensures own { (place.new.table_id ≡ place.old.table_id) × (place.new.id ≡ place.old.id) }
+    ensures same { place.new.me ≡ place.old.me }
+{
+    floor.fetch_add::<Ring>(place, bell, 1);
+    floor.wake_all(bell);
 }
 
 /// Kind 6: sees the history so far.
