@@ -1,5 +1,5 @@
 -- Where seats stand in their turns.
-use Rattle.std.proofs.Common.{◌≡◌, ◌≢◌, ℕ, List, set, sym, ap, ◌∙◌, arith}
+use Rattle.std.proofs.Common.{◌≡◌, ◌≢◌, ℕ, ◌==◌, Bool, MatchBool, List, set, sym, ap, ◌∙◌, subst, arith, eq-eqb, ne_eqb}
 use mathlib.Core.Logic.{dite}
 use mathlib.Core.Option.{some, some-injective}
 use native.Mathlib.Decide.{ℕ_discrete}
@@ -41,3 +41,7 @@ nobody_before {T} {C} {R} views id v w at goes nobody seat x d there serves = di
 -- a seat at rest has no ticket
 pub no_ticket : {T C R : Type 0} (v : View T C R) → v.stage ≡ Idle → tickets_of v ≡ 0
 no_ticket v idle = ap (λ stage. tickets_of (view stage v.chairs)) idle
+
+-- what holds where two numbers are one, and what holds where they are not, by their test
+pub by_test : (n m : ℕ) (A B : Type 0) → (n ≡ m → A) → (n ≢ m → B) → MatchBool (n == m) A B
+by_test n m A B one two = dite (ℕ_discrete n m) (λ e. subst (λ (b : Bool). MatchBool b A B) (sym (eq-eqb n m e)) (one e)) (λ ne. subst (λ (b : Bool). MatchBool b A B) (sym (ne_eqb n m ne)) (two ne))

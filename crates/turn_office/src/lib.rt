@@ -21,10 +21,13 @@
 //! | 5 | a load in joining a seat | `Seat::meet`, `Office::close` | the keeper has the other's numbers, with what was seen under each; the other has none |
 //! | 6 | a load of `serving` | `Seat::meet` | the caller has seen the history so far under each of its numbers |
 //! | 7, 8 | the exchange of the slot, out and home | `Seat::call` | nothing |
+//! | 9 | a `fetch_add` on a bell | `Seat::call` | nothing |
 //!
-//! Beside them a waiting seat parks on `serving`, the end of a turn looks at `ticket` and wakes those
-//! who park, and `Office::close` takes the table apart: nobody learns anything by these, but that the
-//! last seat has seen the whole history. All steps are sequentially consistent.
+//! The bells are 64 words more, one for each ticket that can be out. Who waits long makes the bell of
+//! its ticket odd and sleeps on it; the end of a turn looks at the bell of the next ticket, and where
+//! it is odd makes it even and wakes. Sleeping, waking and looking at a word without a seat change
+//! nothing that is known. `Office::close` takes the table apart: the last seat has then seen the whole
+//! history. All steps are sequentially consistent.
 //!
 //! Not promised: that a call gets its turn, in what time, or in which order seats that never met
 //! make their calls.

@@ -1,5 +1,5 @@
 //! The steps of a turn, each of one kind of the table in the crate's documentation.
-ghost use Rattle.std.specs.Prelude.{◌≡◌, ◌<◌, ◌≤◌, [], ◌∷◌, length, Some, None};
+ghost use Rattle.std.specs.Prelude.{◌≡◌, ◌<◌, ◌≤◌, [], ◌∷◌, length, MatchBool, Some, None};
 ghost use Rattle.turn_office.specs.declared.views.Stage.TheVariants.{Idle};
 ghost use Rattle.turn_office.specs.Rule.{CanEnd, HasDrawn, HasEnded, HasLearned, HasTurn, IsFloor, WaitsFor, seen_of};
 ghost use Rattle.turn_office.specs.Told.{opened, ended};
@@ -26,8 +26,11 @@ const BELLS: u64 = 64;
 /// How many words the table of an office has.
 pub(crate) const WORDS: usize = FIRST_BELL + BELLS as usize;
 
-/// How often a waiting seat looks before it sleeps.
-const LOOKS: u32 = 100;
+/// How many turns may be ahead of a seat that looks before it sleeps: with more, it sleeps at once.
+const NEAR: u64 = 3;
+
+/// How often a seat looks before it sleeps: about as long as falling asleep and waking take.
+const LOOKS: u32 = 4000;
 
 /// The slot of the object.
 const OBJECT: usize = 0;
@@ -49,9 +52,19 @@ fn bell_of(ticket: u64) -> usize
     FIRST_BELL + (ticket % BELLS) as usize
 }
 
-/// Kind 3: waits until the ticket is served, and takes the slot then. The bell is read before the
-/// word: where the word is not yet the ticket, the bell has not been rung for it, so it has another
-/// value once it is, and who sleeps on it wakes.
+/// Kind 3: looks whether the ticket is served, and takes the slot then.
+fn takes_turn<O: Sequential>(floor: &Floor<O>, place: &mut Place<O>, ticket: u64) -> bool
+    requires own { (place.old.table_id ≡ floor.now.table_id) × IsFloor floor.now.table_id }
+    requires waits { WaitsFor ticket place.old.me.0 }
+    ensures own { (place.new.table_id ≡ place.old.table_id) × (place.new.id ≡ place.old.id) }
+    ensures turn { MatchBool result (HasTurn place.old.me place.new.me) (place.new.me ≡ place.old.me) }
+{
+    let serving = floor.load::<Look>(place, SERVING);
+    serving == ticket
+}
+
+/// Waits until the ticket is served, and takes the slot then. Most turns are far shorter than a
+/// sleep, so a seat that is soon next looks for a while before it sleeps.
 pub(crate) fn wait_turn<O: Sequential, R: Wait>(
     rt: &R,
     floor: &Floor<O>,
@@ -63,29 +76,78 @@ pub(crate) fn wait_turn<O: Sequential, R: Wait>(
     ensures own { (place.new.table_id ≡ place.old.table_id) × (place.new.id ≡ place.old.id) }
     ensures turn { HasTurn place.old.me place.new.me }
 {
+    let ahead = ticket.wrapping_sub(floor.peek(SERVING));
+    let looks = if ahead > NEAR { 0 } else { LOOKS };
+    if !takes_turn_soon(floor, place, ticket, looks) {
+        sleep_until_turn(rt, floor, place, ticket);
+    }
+}
+
+/// Looks for the turn so many times.
+fn takes_turn_soon<O: Sequential>(
+    floor: &Floor<O>,
+    place: &mut Place<O>,
+    ticket: u64,
+    looks: u32,
+) -> bool
+    requires own { (place.old.table_id ≡ floor.now.table_id) × IsFloor floor.now.table_id }
+    requires waits { WaitsFor ticket place.old.me.0 }
+    ensures own { (place.new.table_id ≡ place.old.table_id) × (place.new.id ≡ place.old.id) }
+    ensures turn { MatchBool result (HasTurn place.old.me place.new.me) (place.new.me ≡ place.old.me) }
+{
+    for _ in 0..looks {
+        if takes_turn(floor, place, ticket) {
+            return true;
+        }
+        hint::spin_loop();
+    }
+    false
+}
+
+/// Sleeps on the ticket's bell until the ticket is served. The bell is watched before each look: so
+/// a turn that ends after the look finds it watched, and rings it.
+fn sleep_until_turn<O: Sequential, R: Wait>(
+    rt: &R,
+    floor: &Floor<O>,
+    place: &mut Place<O>,
+    ticket: u64,
+)
+    requires own { (place.old.table_id ≡ floor.now.table_id) × IsFloor floor.now.table_id }
+    requires waits { WaitsFor ticket place.old.me.0 }
+    ensures own { (place.new.table_id ≡ place.old.table_id) × (place.new.id ≡ place.old.id) }
+    ensures turn { HasTurn place.old.me place.new.me }
+{
     let bell = bell_of(ticket);
-    let mut looks = 0;
     for _ in rt.forever() {
-        let rung = floor.peek(bell);
-        let serving = floor.load::<Look>(place, SERVING);
-        if serving == ticket {
+        let watched = watch(floor, place, bell);
+        if takes_turn(floor, place, ticket) {
             return;
         }
-        pause(rt, floor, bell, rung, looks);
-        looks = looks.saturating_add(1);
+        if is_watched(watched) {
+            floor.park(rt, bell, (watched % (1 << 32)) as u32);
+        }
     }
     unreachable!()
 }
 
-/// Waits a moment at the first looks, since most turns are short, and sleeps at the later ones.
-fn pause<O: Sequential, R: Wait>(rt: &R, floor: &Floor<O>, bell: usize, rung: u64, looks: u32)
-    requires { IsFloor floor.now.table_id × (bell < 66) }
+/// Whether somebody sleeps on a bell, or is about to: its number is odd.
+fn is_watched(bell: u64) -> bool {
+    bell % 2 == 1
+}
+
+/// Kind 9: makes the number of a bell odd where it is even, and tells what it is then. Another may
+/// have made it odd meanwhile, so it may tell an even number: then it is to be watched again.
+fn watch<O: Sequential>(floor: &Floor<O>, place: &mut Place<O>, bell: usize) -> u64
+    requires own { (place.old.table_id ≡ floor.now.table_id) × IsFloor floor.now.table_id }
+    requires bell { (2 ≤ bell) × (bell < 66) }
+    ensures own { (place.new.table_id ≡ place.old.table_id) × (place.new.id ≡ place.old.id) }
+    ensures same { place.new.me ≡ place.old.me }
 {
-    if looks < LOOKS {
-        hint::spin_loop();
-    } else {
-        floor.park(rt, bell, (rung % (1 << 32)) as u32);
+    let found = floor.peek(bell);
+    if is_watched(found) {
+        return found;
     }
+    floor.fetch_add::<Ring>(place, bell, 1).wrapping_add(1)
 }
 
 /// Kind 7: the object out of its slot.
@@ -112,8 +174,7 @@ pub(crate) fn put_home<O: Sequential>(floor: &Floor<O>, place: &mut Place<O>, ob
     let None = before else { unreachable!() };
 }
 
-/// Kind 4: ends the turn, and wakes who has the next ticket. Where nobody has drawn it by then,
-/// nobody sleeps for it: who draws it later finds it served.
+/// Kind 4: ends the turn, and wakes who sleeps for the next one.
 pub(crate) fn end_turn<O: Sequential, W: Said<O, O::Call, O::Reply>>(
     floor: &Floor<O>,
     place: &mut Place<O>,
@@ -130,23 +191,21 @@ pub(crate) fn end_turn<O: Sequential, W: Said<O, O::Call, O::Reply>>(
     let _ = number;
     let _ = call;
     let _ = reply;
-    let next = floor
-        .fetch_add::<Give<W>>(place, SERVING, 1)
-        .wrapping_add(1);
-    if floor.peek(TICKET) != next {
-        ring(floor, place, bell_of(next));
-    }
+    let ticket = floor.fetch_add::<Give<W>>(place, SERVING, 1);
+    ring(floor, place, bell_of(ticket.wrapping_add(1)));
 }
 
-/// Kind 9: rings a bell, and wakes who sleeps on it.
+/// Kind 9: where somebody watches a bell, makes its number even and wakes who sleeps on it.
 fn ring<O: Sequential>(floor: &Floor<O>, place: &mut Place<O>, bell: usize)
     requires own { (place.old.table_id ≡ floor.now.table_id) × IsFloor floor.now.table_id }
     requires bell { (2 ≤ bell) × (bell < 66) }
     ensures own { (place.new.table_id ≡ place.old.table_id) × (place.new.id ≡ place.old.id) }
     ensures same { place.new.me ≡ place.old.me }
 {
-    floor.fetch_add::<Ring>(place, bell, 1);
-    floor.wake_all(bell);
+    if is_watched(floor.peek(bell)) {
+        floor.fetch_add::<Ring>(place, bell, 1);
+        floor.wake_all(bell);
+    }
 }
 
 /// Kind 6: sees the history so far.

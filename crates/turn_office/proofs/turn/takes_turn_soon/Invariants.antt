@@ -1,5 +1,5 @@
 use Rattle.std.proofs.Common.{◌≡◌}
-use Rattle.turn_office.proofs.turn.wait_turn.Given as goal
+use Rattle.turn_office.proofs.turn.takes_turn_soon.Given as goal
 
 -- while it waits, the seat is as it was
 abbrev pub invariant-loop : goal.invariant-loop
