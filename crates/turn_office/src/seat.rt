@@ -39,7 +39,8 @@ impl<O: Sequential> Seat<O> {
         self.number
     }
 
-    /// Makes one call of the office's object, in a turn of its own. It waits for the turn.
+    /// Makes one call of the office's object, in a turn of its own. It waits for the turn, in which
+    /// it does nothing but the step.
     pub fn call<R: Wait>(&mut self, rt: &R, office: &Office<O>, call: O::Call) -> O::Reply
         requires { self.old.office ≡ office.now.id }
         ensures same { (self.new.office ≡ self.old.office) × (self.new.number ≡ self.old.number) }
@@ -57,7 +58,8 @@ impl<O: Sequential> Seat<O> {
     }
 
     /// Both seats see one history, which begins with what each had seen. It waits for nobody, and
-    /// takes no memory.
+    /// takes no memory: all that the other has goes over to this seat (kinds 1 and 5), which looks at
+    /// the history for both (kind 6), and the other's number goes back (kind 1).
     pub fn meet<R>(
         &mut self,
         rt: &R,

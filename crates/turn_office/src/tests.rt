@@ -4,6 +4,7 @@ ghost use Rattle.turn_office.specs.Seats.{AreOf};
 
 use crate::{CloseFault, Office, Seat, SeatList, Sequential};
 use std::alloc::AllocError;
+use std::mem::size_of;
 use std::sync::Wait;
 use std::test::Fail;
 use std::thread;
@@ -103,6 +104,7 @@ fn closes_with_all_seats_alone(rt: HostRuntime) -> Result<(), Fail> {
 #[test]
 fn eight_threads_make_8000_calls(rt: HostRuntime) -> Result<(), Fail> {
     let (office, seats) = Office::open(rt.alloc(), Sum { total: 0 }, 8)?;
+    assert!(rt; size_of::<Seat<Sum>>() == size_of::<usize>());
     let seats = add_from_all(&rt, &office, seats)?;
     match office.close(seats) {
         Ok(sum) => assert!(rt; sum.total == 8 * CALLS),
