@@ -23,6 +23,7 @@ use Rattle.turn_office.proofs.Sums.{sum_set, sum_same, sum_two, sum_le, found_in
 use Rattle.turn_office.proofs.Stages.{ticket_or, idle_serves_not, waiting_serves_not, nobody_before, no_ticket}
 use Rattle.turn_office.proofs.Longer.{continues_here, continues_after, silent_between, of_seats_after, leads_after}
 
+-- the first element of a list
 abbrev head_or : {X : Type 0} → X → List X → X
 head_or d [] = d
 head_or d (x ∷ xs) = x
@@ -51,9 +52,11 @@ more_less n long out is some_out = omega arith
 abbrev put : (ℕ → ℕ) → ℕ → ℕ → ℕ → ℕ
 put f t x n = if n == t then x else f n
 
+-- the ticket is its seat's
 put_here : (f : ℕ → ℕ) (t x n : ℕ) → n ≡ t → put f t x n ≡ x
 put_here f t x n e = ap (λ (b : Bool). if b then x else f n) (eq-eqb n t e)
 
+-- the other tickets are as they were
 put_else : (f : ℕ → ℕ) (t x n : ℕ) → n ≢ t → put f t x n ≡ f n
 put_else f t x n ne = ap (λ (b : Bool). if b then x else f n) (ne_eqb n t ne)
 
@@ -68,6 +71,7 @@ module _ {T C R : Type 0} (log : List (Entry C R)) (object : T) (out : ℕ) (hol
 abbrev weight : ℕ → ℕ → ℕ
 weight n m = cond (n == m) 1 0
 
+-- a number is the same as itself
 weight_same : (n m : ℕ) → n ≡ m → weight n m ≡ 1
 weight_same n m e = ap (λ (b : Bool). cond {A = ℕ} b 1 0) (eq-eqb n m e)
 
@@ -105,6 +109,7 @@ times_known log n [] = refl
 times_known {C} {R} log n (c ∷ cs) = let f : Chair C R → ℕ = λ x. weight x.number n in let more = times_known log n cs in omega (arith, sum_by-cons f (chair c.number log) (map (λ c. chair c.number log) cs), sum_by-cons f c cs, more)
 
 module _ {T C R : Type 0} (allowed : T → C → R → T → Type 0) (seats : ℕ) (first : T) where
+  -- the rule of this office
   abbrev Rule : State (Option T) (View T C R) → Type 0
   Rule = Kept allowed seats first
 
