@@ -17,7 +17,7 @@ use Rattle.turn_office.specs.Histories.{Continues}
 use Rattle.turn_office.specs.Rule.{Kept, Fits, IsStage, NobodyServes, view, chair, nobody, rest_of, first_of, both_of, tickets_of, times, undealt, Ends}
 use Rattle.turn_office.proofs.Dealing.{once, new_fit}
 use Rattle.turn_office.proofs.Stages.{nobody_before, no_ticket}
-use Rattle.turn_office.proofs.Sums.{sum_set, sum_two, each_set}
+use Rattle.turn_office.proofs.Sums.{sum_set, sum_two, each_set, each_more}
 
 module _ {X : Type 0} where
   -- what holds of each element of two lists holds of each element of their join
@@ -29,11 +29,6 @@ module _ {X : Type 0} where
   each_part : (P : X → Type 0) (xs ys : List X) → AllByRecursion P (xs ++ ys) → AllByRecursion P xs × AllByRecursion P ys
   each_part P [] ys h = (tt, h)
   each_part P (x ∷ xs) ys h = let more = each_part P xs ys h.1 in ((h.0, more.0), more.1)
-
-  -- what follows for each element follows for all
-  each_more : (P Q : X → Type 0) → ((x : X) → P x → Q x) → (xs : List X) → AllByRecursion P xs → AllByRecursion Q xs
-  each_more P Q more [] h = tt
-  each_more P Q more (x ∷ xs) h = (more x h.0, each_more P Q more xs h.1)
 
   -- a sum where one part is cut in two
   sum_cut : (f : X → ℕ) (xs : List X) (i : ℕ) (x left right : X) → get_elem? xs i ≡ some x → f right + f left ≡ f x → sum_by f (set xs i left ++ right ∷ []) ≡ sum_by f xs

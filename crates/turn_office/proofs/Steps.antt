@@ -19,7 +19,7 @@ use Rattle.turn_office.specs.declared.views.Stage.TheVariants.{Idle, Waits, Serv
 use Rattle.turn_office.specs.Histories.{entry, Continues}
 use Rattle.turn_office.specs.Rule.{Kept, Fits, IsStage, NobodyServes, Standing, chair, view, staged, at_rest, tickets_of, times, drew, looked, gave, learned, rang, CanEnd, HasEnded, HasLearned}
 use Rattle.turn_office.specs.Told.{Told, opened, ended}
-use Rattle.turn_office.proofs.Sums.{sum_set, sum_same, sum_two, sum_le, found_inside, each_set}
+use Rattle.turn_office.proofs.Sums.{sum_set, sum_same, sum_two, sum_le, found_inside, each_set, each_more}
 use Rattle.turn_office.proofs.Stages.{ticket_or, idle_serves_not, waiting_serves_not, nobody_before, no_ticket}
 use Rattle.turn_office.proofs.Longer.{continues_here, continues_after, silent_between, of_seats_after, leads_after}
 
@@ -97,11 +97,6 @@ module _ {C R : Type 0} (seats : ℕ) (log : List (Entry C R)) where
   chairs_known : (cs : List (Chair C R)) → AllByRecursion (λ c. (c.number < seats) × Continues c.number c.seen log) cs → AllByRecursion (λ c. (c.number < seats) × Continues c.number c.seen log) (map (λ c. chair c.number log) cs)
   chairs_known [] all = tt
   chairs_known (c ∷ cs) all = ((all.0.0, continues_here c.number log), chairs_known cs all.1)
-
-  -- the history begins with what was seen under each number of a seat
-  chairs_continue : (cs : List (Chair C R)) → AllByRecursion (λ c. (c.number < seats) × Continues c.number c.seen log) cs → AllByRecursion (λ c. Continues c.number c.seen log) cs
-  chairs_continue [] all = tt
-  chairs_continue (c ∷ cs) all = (all.0.1, chairs_continue cs all.1)
 
 -- a seat has the same numbers when it has seen the whole history
 times_known : {C R : Type 0} (log : List (Entry C R)) (n : ℕ) (cs : List (Chair C R)) → count_by (λ c. c.number == n) (map (λ c. chair c.number log) cs) ≡ count_by (λ c. c.number == n) cs
@@ -324,7 +319,7 @@ module _ {T C R : Type 0} (allowed : T → C → R → T → Type 0) (seats : �
     tt,
     known s r id me.0 at,
     (λ told said'. subst (λ (t : Told T C R). HasLearned allowed t me (view me.0.stage (map (λ c. chair c.number r.log) me.0.chairs), me.1)) (ap (λ (o : Option (Told T C R)). unwrap_or o (opened seats first)) (sym is ∙ said'))
-        (record { log = r.log; legal = record { last = r.object; leads = r.leads; of_seats = r.of_seats }; continues = chairs_continue seats r.log me.0.chairs (r.each id me.0 at).chairs; rests = refl })),
+        (record { log = r.log; legal = record { last = r.object; leads = r.leads; of_seats = r.of_seats }; continues = each_more _ _ (λ c h. h.1) me.0.chairs (r.each id me.0 at).chairs; rests = refl })),
   )
 
   -- the state after a bell was rung

@@ -1,6 +1,7 @@
 -- Sums over the views of a table, and what holds of each view after a step of one seat.
 use Rattle.std.proofs.Common.{◌≡◌, ◌≢◌, ℕ, zero, suc, ◌+◌, ◌<◌, ◌≤◌, List, [], ◌∷◌, length, set, sym, refl, ap, subst, ⊎_elim, arith, sum_by}
 use Rattle.std.proofs.lemmas.List.Sums.{sum_by-cons}
+use Rattle.std.specs.List.{AllByRecursion}
 use mathlib.Core.Option.{some, some-injective, some-ne-none}
 use lib.ListN.{get_elem?}
 use Rattle.atomic_table.proofs.Lists.{at_set}
@@ -44,3 +45,8 @@ found_inside (z ∷ zs) (suc i) x at = let more = found_inside zs i x at in omeg
 -- what holds of each view where one seat has a new one
 pub each_set : {X : Type 0} (P : ℕ → X → Type 0) (xs : List X) (i : ℕ) (y : X) → P i y → ((j : ℕ) (x : X) → j ≢ i → get_elem? xs j ≡ some x → P j x) → (j : ℕ) (x : X) → get_elem? (set xs i y) j ≡ some x → P j x
 each_set P xs i y mine others j x at = ⊎_elim (λ (t : (j ≡ i) × (y ≡ x)). subst (λ (q : ℕ × _). P q.0 q.1) (λ k. (sym t.0 k, t.1 k)) mine) (λ (t : (j ≢ i) × (get_elem? xs j ≡ some x)). others j x t.0 t.1) (at_set xs i j y x at)
+
+-- what follows for each element follows for all
+pub each_more : {X : Type 0} (P Q : X → Type 0) → ((x : X) → P x → Q x) → (xs : List X) → AllByRecursion P xs → AllByRecursion Q xs
+each_more P Q more [] h = tt
+each_more P Q more (x ∷ xs) h = (more x h.0, each_more P Q more xs h.1)

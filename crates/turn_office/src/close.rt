@@ -11,7 +11,6 @@ use crate::office::{Office, SeatList};
 use crate::rule::{Floor, Place, TakeIn};
 use crate::seat::Seat;
 use crate::sequential::Sequential;
-use std::fmt;
 
 /// Why an office does not close. It comes back with the seats that were handed in, untouched.
 #[derive(Drop)]

@@ -105,7 +105,8 @@ fn takes_turn_soon<O: Sequential>(
 }
 
 /// Sleeps on the ticket's bell until the ticket is served. The bell is watched before each look: so
-/// a turn that ends after the look finds it watched, and rings it.
+/// a turn that ends after the look finds it watched, and rings it. Where it finds it even after all,
+/// who rings late for an older ticket with this bell has just changed it, and wakes too.
 fn sleep_until_turn<O: Sequential, R: Wait>(
     rt: &R,
     floor: &Floor<O>,
@@ -174,7 +175,8 @@ pub(crate) fn put_home<O: Sequential>(floor: &Floor<O>, place: &mut Place<O>, ob
     let None = before else { unreachable!() };
 }
 
-/// Kind 4: ends the turn, and wakes who sleeps for the next one.
+/// Kind 4: ends the turn, and wakes who sleeps for the next one. The number, the call and the reply
+/// are for the proof alone.
 pub(crate) fn end_turn<O: Sequential, W: Said<O, O::Call, O::Reply>>(
     floor: &Floor<O>,
     place: &mut Place<O>,
