@@ -3,7 +3,7 @@ ghost use Rattle.std.specs.Prelude.{◌≡◌, ◌≤◌, ◌<◌, ◌+◌, ◌^
 ghost use Rattle.std.specs.List.{prefix_len};
 ghost use Rattle.definitions.specs.Characters.{is_digit, is_among};
 ghost use Rattle.definitions.specs.Numerals.{number_of};
-ghost use Rattle.definitions.specs.Items.{item_at, item_behind};
+ghost use Rattle.definitions.specs.CountedItems.{counted_item_at, counted_item_behind};
 ghost use Rattle.cards.specs.ItemLengths.{taken_by};
 
 /// How many characters an item has at most, without its count and letter.
@@ -48,7 +48,7 @@ fn capped_number(digits: &[u8]) -> usize
 /// How many characters an item takes, whose count of so many digits this text follows.
 fn len_behind(digits: usize, count: usize, text: &[u8]) -> Option<usize>
     requires { digits + length text.now < 2 ^ 64 }
-    ensures len { result ≡ taken_by (item_behind digits count text.now) }
+    ensures len { result ≡ taken_by (counted_item_behind digits count text.now) }
     ensures some { IfSome result (λ len. 0 < len) }
 {
     let (letter, rest) = text.split_first()?;
@@ -61,7 +61,7 @@ fn len_behind(digits: usize, count: usize, text: &[u8]) -> Option<usize>
 
 /// How many characters the item takes that begins this text, if one does.
 pub(crate) fn item_len(text: &[u8]) -> Option<usize>
-    ensures len { result ≡ taken_by (item_at text.now) }
+    ensures len { result ≡ taken_by (counted_item_at text.now) }
     ensures some { IfSome result (λ len. 0 < len) }
 {
     let digits = digit_count(text);

@@ -2,7 +2,7 @@
 ghost use Rattle.std.specs.Prelude.{◌≡◌, ◌==◌, ◌≤◌, ◌+◌, not, length, drop, codes};
 ghost use Rattle.std.specs.List.{prefix_len};
 ghost use Rattle.definitions.specs.Characters.{blank, same_text};
-ghost use Rattle.definitions.specs.Fields.{word_of, without_blanks, from_location, variable_of, fields_of_text};
+ghost use Rattle.definitions.specs.Fields.{unbroken_front, without_blanks, from_location, variable_of, fields_of_text};
 ghost use Rattle.cards.specs.FieldParts.{part_of, fields_at, AreWithin, in_time};
 
 use crate::variable_fields::variable_len;
@@ -64,8 +64,8 @@ fn word_at(text: &[u8], start: usize) -> Part
     requires { start ≤ length text.now }
     ensures same { result.start ≡ start }
     ensures within { result.start + result.len ≤ length text.now }
-    ensures len { result.len ≡ length (word_of (drop start text.now)) }
-    ensures word { part_of text.now result ≡ word_of (drop start text.now) }
+    ensures len { result.len ≡ length (unbroken_front (drop start text.now)) }
+    ensures word { part_of text.now result ≡ unbroken_front (drop start text.now) }
 {
     Part {
         start,

@@ -1,7 +1,7 @@
 //! Where a variable field ends: at the first blank that lies in no counted item.
 ghost use Rattle.std.specs.Prelude.{◌≡◌, ◌≤◌, ◌<◌, ◌+◌, ◌∷◌, length, drop, slice_index, is_some, MatchOption};
-ghost use Rattle.definitions.specs.Pieces.{AtStart, field_at, mark_of, begun_by, begun_by_item, begun_at};
-ghost use Rattle.definitions.specs.Items.{item_at};
+ghost use Rattle.definitions.specs.Pieces.{AtStart, field_at, mark_of, begun_by, begun_by_counted_item, begun_at};
+ghost use Rattle.definitions.specs.CountedItems.{counted_item_at};
 ghost use Rattle.cards.specs.Readings.{spot_of, Leads, extent_at};
 
 use crate::counted_items::item_len;
@@ -45,7 +45,7 @@ fn behind_other(c: u8) -> Reading
 /// What is reached behind the first character of a text, where an item may begin there.
 fn behind_item(text: &[u8]) -> Reading
     requires { 0 < length text.now }
-    ensures { Leads (begun_by_item (slice_index text.now 0) (item_at (slice_index text.now 0 ∷ drop 1 text.now))) result }
+    ensures { Leads (begun_by_counted_item (slice_index text.now 0) (counted_item_at (slice_index text.now 0 ∷ drop 1 text.now))) result }
 {
     match item_len(text) {
         Some(len) => Reading {

@@ -1,12 +1,12 @@
 -- `expression_of` against the grammar: what is read is spelt, and what is spelt is read.
 use Rattle.std.proofs.Common.{◌≡◌, inl, inr, List, [], ◌∷◌, ◌++◌, Option, Some, None, refl, sym, ◌∙◌, ap, subst, append_assoc}
 use Rattle.std.specs.Prelude.{codes}
-use Rattle.definitions.specs.Pieces.{Plus, Minus, Star, Equals, Piece, IsMark, IsItem, Run}
-use Rattle.definitions.specs.Expressions.{Sign, NoSign, PlusSign, MinusSign, OfNumber, OfItem, Element, ANumber, AnItem, ASymbol, ARegister, LocationCounter, OriginCounter, ALiteral, Operator, Add, Subtract, Link, Term, Expression, ElementOf, links_of, Grouped, grouped, with_sign, expression_of}
+use Rattle.definitions.specs.Pieces.{Plus, Minus, Star, Equals, Piece, IsMark, IsCountedItem, Plain}
+use Rattle.definitions.specs.Expressions.{Sign, NoSign, PlusSign, MinusSign, OfNumber, OfCountedItem, Element, ANumber, ACountedItem, ASymbol, ARegister, LocationCounter, OriginCounter, ALiteral, Operator, Add, Subtract, OperatorElement, Term, Expression, ElementOf, pairs_of, Grouped, grouped, with_sign, expression_of}
 use Rattle.definitions.specs.Grammar.{sign_pieces, IsElement, operator_of, Spells}
 use Rattle.definitions.specs.declared.marks.NumberBase.{NumberBase}
-use Rattle.definitions.proofs.GrammarLaws.{AreLinks, StartsWithElement, links_of-read, links_of-spelt, links_of-start}
-use Rattle.definitions.proofs.TermLaws.{JoinsTerms, AreJoined, links_in, term_of, IsGrouping, grouped-groups, onto_grouped-term, grouped-links_in, pieces_before, AreFactors-links, AreFactors-joined, AreLinks-factors, AreTerms-links, AreTerms-joined, AreLinks-terms}
+use Rattle.definitions.proofs.GrammarLaws.{AreLinks, StartsWithElement, pairs_of-read, pairs_of-spelt, pairs_of-start}
+use Rattle.definitions.proofs.TermLaws.{JoinsTerms, AreJoined, links_in, term_of, IsGrouping, grouped-groups, onto_grouped-term, grouped-links_in, pieces_before, AreFactors-pairs, AreFactors-joined, AreLinks-factors, AreTerms-pairs, AreTerms-joined, AreLinks-terms}
 
 -- the expression with this sign and these terms
 abbrev pub expression_with : Sign → List Term → Expression
@@ -18,18 +18,18 @@ operator_of-joins NoSign = tt
 operator_of-joins PlusSign = tt
 operator_of-joins MinusSign = tt
 
--- links that start with a term's element make terms that are spelt behind the sign
-pub Spells-grouped : (base : NumberBase) (sign : Sign) (links : List Link) (pieces : List Piece) (e : Expression) →
-    StartsWithElement base (operator_of sign) links pieces → with_sign sign (Some links) ≡ Some e → Spells base e (sign_pieces sign ++ pieces)
-Spells-grouped base sign links pieces e (element, more, front, rest, starts, split, is, are) read =
+-- pairs that start with a term's element make terms that are spelt behind the sign
+pub Spells-grouped : (base : NumberBase) (sign : Sign) (pairs : List OperatorElement) (pieces : List Piece) (e : Expression) →
+    StartsWithElement base (operator_of sign) pairs pieces → with_sign sign (Some pairs) ≡ Some e → Spells base e (sign_pieces sign ++ pieces)
+Spells-grouped base sign pairs pieces e (element, more, front, rest, starts, split, is, are) read =
     let made : IsGrouping (grouped more) more = grouped-groups more in
     let others : List Term = (grouped more).terms in
     let first : Term = term_of (operator_of sign) element (grouped more).factors in
-    let same : expression_with sign (grouped links).terms ≡ e = cc in
-    let start : (grouped links).terms ≡ first ∷ others =
-    ap (λ (l : List Link). (grouped l).terms) starts
+    let same : expression_with sign (grouped pairs).terms ≡ e = cc in
+    let start : (grouped pairs).terms ≡ first ∷ others =
+    ap (λ (l : List OperatorElement). (grouped l).terms) starts
     ∙ ap (λ (group : Grouped). group.terms) (onto_grouped-term element (operator_of sign) (grouped more) (operator_of-joins sign)) in
-    let part = AreLinks-factors base (grouped more).factors (links_in others) rest made.0 (subst (λ (l : List Link). AreLinks base l rest) made.2 are) in (
+    let part = AreLinks-factors base (grouped more).factors (links_in others) rest made.0 (subst (λ (l : List OperatorElement). AreLinks base l rest) made.2 are) in (
       first,
       others,
       front ++ part.0,
@@ -43,42 +43,42 @@ Spells-grouped base sign links pieces e (element, more, front, rest, starts, spl
     )
 
 -- what is read behind a sign is spelt behind it
-pub Spells-with_sign : (base : NumberBase) (sign : Sign) (pieces : List Piece) (e : Expression) (read : Option (List Link)) →
-    links_of base (ElementOf (operator_of sign)) pieces ≡ read → with_sign sign read ≡ Some e → Spells base e (sign_pieces sign ++ pieces)
-Spells-with_sign base sign pieces e None links expression = cc
-Spells-with_sign base sign pieces e (Some l) links expression =
-    Spells-grouped base sign l pieces e (links_of-read base (ElementOf (operator_of sign)) pieces l links) expression
+pub Spells-with_sign : (base : NumberBase) (sign : Sign) (pieces : List Piece) (e : Expression) (read : Option (List OperatorElement)) →
+    pairs_of base (ElementOf (operator_of sign)) pieces ≡ read → with_sign sign read ≡ Some e → Spells base e (sign_pieces sign ++ pieces)
+Spells-with_sign base sign pieces e None pairs expression = cc
+Spells-with_sign base sign pieces e (Some l) pairs expression =
+    Spells-grouped base sign l pieces e (pairs_of-read base (ElementOf (operator_of sign)) pieces l pairs) expression
 
 -- what is read is spelt
 pub Spells-expression_of : (base : NumberBase) (pieces : List Piece) (e : Expression) → expression_of base pieces ≡ Some e → Spells base e pieces
-Spells-expression_of base (IsMark Plus ∷ pieces) e read = Spells-with_sign base PlusSign pieces e (links_of base (ElementOf Add) pieces) refl read
-Spells-expression_of base (IsMark Minus ∷ pieces) e read = Spells-with_sign base MinusSign pieces e (links_of base (ElementOf Subtract) pieces) refl read
-Spells-expression_of base pieces e read = Spells-with_sign base NoSign pieces e (links_of base (ElementOf Add) pieces) refl read
+Spells-expression_of base (IsMark Plus ∷ pieces) e read = Spells-with_sign base PlusSign pieces e (pairs_of base (ElementOf Add) pieces) refl read
+Spells-expression_of base (IsMark Minus ∷ pieces) e read = Spells-with_sign base MinusSign pieces e (pairs_of base (ElementOf Subtract) pieces) refl read
+Spells-expression_of base pieces e read = Spells-with_sign base NoSign pieces e (pairs_of base (ElementOf Add) pieces) refl read
 
 -- pieces that are spelt like pieces without a sign are read without one
 pub without_sign : (base : NumberBase) (other front rest : List Piece) → front ≡ other →
-    expression_of base (other ++ rest) ≡ with_sign NoSign (links_of base (ElementOf Add) (other ++ rest)) →
-    expression_of base (front ++ rest) ≡ with_sign NoSign (links_of base (ElementOf Add) (front ++ rest))
+    expression_of base (other ++ rest) ≡ with_sign NoSign (pairs_of base (ElementOf Add) (other ++ rest)) →
+    expression_of base (front ++ rest) ≡ with_sign NoSign (pairs_of base (ElementOf Add) (front ++ rest))
 without_sign base other front rest spelt read =
-    subst (λ (p : List Piece). expression_of base (p ++ rest) ≡ with_sign NoSign (links_of base (ElementOf Add) (p ++ rest))) (sym spelt) read
+    subst (λ (p : List Piece). expression_of base (p ++ rest) ≡ with_sign NoSign (pairs_of base (ElementOf Add) (p ++ rest))) (sym spelt) read
 
 -- an element begins with no sign
 pub expression_of-element : (base : NumberBase) (element : Element) (front rest : List Piece) → IsElement base element front →
-    expression_of base (front ++ rest) ≡ with_sign NoSign (links_of base (ElementOf Add) (front ++ rest))
-expression_of-element base (ANumber number) front rest (text, run, spelt) = without_sign base (Run text ∷ []) front rest spelt refl
-expression_of-element base (AnItem item) front rest spelt = without_sign base (IsItem item ∷ []) front rest spelt refl
-expression_of-element base (ASymbol name) front rest (text, run, spelt) = without_sign base (Run text ∷ []) front rest spelt refl
-expression_of-element base (ARegister register) front rest (text, run, spelt) = without_sign base (Run text ∷ []) front rest spelt refl
+    expression_of base (front ++ rest) ≡ with_sign NoSign (pairs_of base (ElementOf Add) (front ++ rest))
+expression_of-element base (ANumber number) front rest (text, run, spelt) = without_sign base (Plain text ∷ []) front rest spelt refl
+expression_of-element base (ACountedItem item) front rest spelt = without_sign base (IsCountedItem item ∷ []) front rest spelt refl
+expression_of-element base (ASymbol name) front rest (text, run, spelt) = without_sign base (Plain text ∷ []) front rest spelt refl
+expression_of-element base (ARegister register) front rest (text, run, spelt) = without_sign base (Plain text ∷ []) front rest spelt refl
 expression_of-element base LocationCounter front rest (inl spelt) = without_sign base (IsMark Star ∷ []) front rest spelt refl
-expression_of-element base LocationCounter front rest (inr spelt) = without_sign base (IsMark Star ∷ Run (codes "L") ∷ []) front rest spelt refl
-expression_of-element base OriginCounter front rest spelt = without_sign base (IsMark Star ∷ Run (codes "O") ∷ []) front rest spelt refl
+expression_of-element base LocationCounter front rest (inr spelt) = without_sign base (IsMark Star ∷ Plain (codes "L") ∷ []) front rest spelt refl
+expression_of-element base OriginCounter front rest spelt = without_sign base (IsMark Star ∷ Plain (codes "O") ∷ []) front rest spelt refl
 expression_of-element base (ALiteral (OfNumber sign number)) front rest (text, n, spelt) =
-    without_sign base (IsMark Equals ∷ (sign_pieces sign ++ Run text ∷ [])) front rest spelt refl
-expression_of-element base (ALiteral (OfItem item)) front rest spelt = without_sign base (IsMark Equals ∷ IsItem item ∷ []) front rest spelt refl
+    without_sign base (IsMark Equals ∷ (sign_pieces sign ++ Plain text ∷ [])) front rest spelt refl
+expression_of-element base (ALiteral (OfCountedItem item)) front rest spelt = without_sign base (IsMark Equals ∷ IsCountedItem item ∷ []) front rest spelt refl
 
 -- an expression is read behind its sign
 pub expression_of-signed : (base : NumberBase) (sign : Sign) (element : Element) (front rest : List Piece) → IsElement base element front →
-    expression_of base (sign_pieces sign ++ (front ++ rest)) ≡ with_sign sign (links_of base (ElementOf (operator_of sign)) (front ++ rest))
+    expression_of base (sign_pieces sign ++ (front ++ rest)) ≡ with_sign sign (pairs_of base (ElementOf (operator_of sign)) (front ++ rest))
 expression_of-signed base NoSign element front rest is = expression_of-element base element front rest is
 expression_of-signed base PlusSign element front rest is = refl
 expression_of-signed base MinusSign element front rest is = refl
@@ -86,12 +86,12 @@ expression_of-signed base MinusSign element front rest is = refl
 -- what is spelt is read
 pub expression_of-spelt : (base : NumberBase) (pieces : List Piece) (e : Expression) → Spells base e pieces → expression_of base pieces ≡ Some e
 expression_of-spelt base pieces e (first, others, front, rest, terms, operator, spelt, (start, more, split, is, factors), are) =
-    let links : AreLinks base (first.factors ++ links_in others) (more ++ rest) =
-    AreFactors-links base first.factors (links_in others) more rest factors (AreTerms-links base others rest are) in
-    let read : links_of base (ElementOf (operator_of e.sign)) (start ++ (more ++ rest)) ≡ Some (links_in (first ∷ others)) =
-    subst (λ (o : Operator). links_of base (ElementOf o) (start ++ (more ++ rest)) ≡ Some (links_in (first ∷ others))) operator
-    (links_of-start base first.operator first.element (first.factors ++ links_in others) start (more ++ rest) is links
-    (links_of-spelt base (first.factors ++ links_in others) (more ++ rest) links)) in
+    let pairs : AreLinks base (first.factors ++ links_in others) (more ++ rest) =
+    AreFactors-pairs base first.factors (links_in others) more rest factors (AreTerms-pairs base others rest are) in
+    let read : pairs_of base (ElementOf (operator_of e.sign)) (start ++ (more ++ rest)) ≡ Some (links_in (first ∷ others)) =
+    subst (λ (o : Operator). pairs_of base (ElementOf o) (start ++ (more ++ rest)) ≡ Some (links_in (first ∷ others))) operator
+    (pairs_of-start base first.operator first.element (first.factors ++ links_in others) start (more ++ rest) is pairs
+    (pairs_of-spelt base (first.factors ++ links_in others) (more ++ rest) pairs)) in
     let joined : AreJoined (first ∷ others) =
     (subst JoinsTerms (sym operator) (operator_of-joins e.sign), AreFactors-joined base first.factors more factors, AreTerms-joined base others rest are) in
     let whole : pieces ≡ sign_pieces e.sign ++ (start ++ (more ++ rest)) =

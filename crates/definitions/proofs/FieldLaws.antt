@@ -5,56 +5,56 @@ use Rattle.std.proofs.lemmas.List.Sums.{take_while-cons}
 use Rattle.std.proofs.Math.Seq.{drop-append_seam}
 use Rattle.definitions.specs.Characters.{blank, same_text}
 use Rattle.definitions.specs.Pieces.{Spot, AtStart, begun_at, spot_behind, left_of, field_at}
-use Rattle.definitions.specs.Fields.{Fields, word_of, without_blanks, from_location, variable_of, fields_of_text}
-use Rattle.definitions.specs.Cuts.{IsWord, AreBlanks, HasBegun, IsLead, IsExtent, IsVariable, HasVariable, HasOperation, IsCut}
+use Rattle.definitions.specs.Fields.{Fields, unbroken_front, without_blanks, from_location, variable_of, fields_of_text}
+use Rattle.definitions.specs.Cuts.{IsUnbroken, AreBlanks, HasBegun, IsLead, IsExtent, IsVariable, HasVariable, HasOperation, IsCut}
 
 -- what follows the word that begins a text
 abbrev behind_word : List ℕ → List ℕ
-behind_word text = drop (length (word_of text)) text
+behind_word text = drop (length (unbroken_front text)) text
 
 -- the end of a text, where it begins before column 30
 abbrev in_time : List ℕ → List ℕ → List ℕ
 in_time text rest = if nat_lt (length text - length rest) 29 then rest else []
 
 -- no word begins at a blank
-word_of-blank : (c : ℕ) (cs : List ℕ) → c ≡ blank → word_of (c ∷ cs) ≡ []
-word_of-blank c cs h =
-    take_while-cons (λ d. not (d == blank)) c cs ∙ ap (λ (t : Bool). cond (not t) (c ∷ word_of cs) []) (eq-eqb c blank h)
+unbroken_front-blank : (c : ℕ) (cs : List ℕ) → c ≡ blank → unbroken_front (c ∷ cs) ≡ []
+unbroken_front-blank c cs h =
+    take_while-cons (λ d. not (d == blank)) c cs ∙ ap (λ (t : Bool). cond (not t) (c ∷ unbroken_front cs) []) (eq-eqb c blank h)
 
 -- a word goes on with any other character
-word_of-other : (c : ℕ) (cs : List ℕ) → c ≢ blank → word_of (c ∷ cs) ≡ c ∷ word_of cs
-word_of-other c cs h =
-    take_while-cons (λ d. not (d == blank)) c cs ∙ ap (λ (t : Bool). cond (not t) (c ∷ word_of cs) []) (ne_eqb c blank h)
+unbroken_front-other : (c : ℕ) (cs : List ℕ) → c ≢ blank → unbroken_front (c ∷ cs) ≡ c ∷ unbroken_front cs
+unbroken_front-other c cs h =
+    take_while-cons (λ d. not (d == blank)) c cs ∙ ap (λ (t : Bool). cond (not t) (c ∷ unbroken_front cs) []) (ne_eqb c blank h)
 
 -- a text is its word and the rest
-word_splits : (text : List ℕ) → (rest : List ℕ) × (text ≡ word_of text ++ rest) × IsWord (word_of text) rest
+word_splits : (text : List ℕ) → (rest : List ℕ) × (text ≡ unbroken_front text ++ rest) × IsUnbroken (unbroken_front text) rest
 word_splits [] = ([], refl, record { unbroken = tt; ends = tt })
 word_splits (c ∷ cs) =
-    let P : List ℕ → Type 0 = λ w. (rest : List ℕ) × (c ∷ cs ≡ w ++ rest) × IsWord w rest in
+    let P : List ℕ → Type 0 = λ w. (rest : List ℕ) × (c ∷ cs ≡ w ++ rest) × IsUnbroken w rest in
     elim (eqb_tells c blank) [
-      | inl h ↦ subst P (sym (word_of-blank c cs h.1)) (c ∷ cs, refl, record { unbroken = tt; ends = h.1 })
+      | inl h ↦ subst P (sym (unbroken_front-blank c cs h.1)) (c ∷ cs, refl, record { unbroken = tt; ends = h.1 })
       | inr h ↦
           let s = word_splits cs in
-          subst P (sym (word_of-other c cs h.1))
+          subst P (sym (unbroken_front-other c cs h.1))
           (s.0, ap (λ (t : List ℕ). c ∷ t) s.1, record { unbroken = (h.1, s.2.unbroken); ends = s.2.ends })
     ]
 
 -- a text has no other word
-word_of-split : (word rest : List ℕ) → IsWord word rest → word_of (word ++ rest) ≡ word
-word_of-split [] [] h = refl
-word_of-split [] (c ∷ cs) h = word_of-blank c cs h.ends
-word_of-split (c ∷ word) rest h =
-    word_of-other c (word ++ rest) h.unbroken.0
-    ∙ ap (λ (t : List ℕ). c ∷ t) (word_of-split word rest (record { unbroken = h.unbroken.1; ends = h.ends }))
+unbroken_front-split : (word rest : List ℕ) → IsUnbroken word rest → unbroken_front (word ++ rest) ≡ word
+unbroken_front-split [] [] h = refl
+unbroken_front-split [] (c ∷ cs) h = unbroken_front-blank c cs h.ends
+unbroken_front-split (c ∷ word) rest h =
+    unbroken_front-other c (word ++ rest) h.unbroken.0
+    ∙ ap (λ (t : List ℕ). c ∷ t) (unbroken_front-split word rest (record { unbroken = h.unbroken.1; ends = h.ends }))
 
 -- what follows the word is the rest
-behind_word-split : (word rest : List ℕ) → IsWord word rest → behind_word (word ++ rest) ≡ rest
+behind_word-split : (word rest : List ℕ) → IsUnbroken word rest → behind_word (word ++ rest) ≡ rest
 behind_word-split word rest h =
-    ap (λ (w : List ℕ). drop (length w) (word ++ rest)) (word_of-split word rest h) ∙ drop-append_seam word rest
+    ap (λ (w : List ℕ). drop (length w) (word ++ rest)) (unbroken_front-split word rest h) ∙ drop-append_seam word rest
 
 -- what follows the word that begins a text is its rest
-behind_word-rest : (text rest : List ℕ) → text ≡ word_of text ++ rest → IsWord (word_of text) rest → behind_word text ≡ rest
-behind_word-rest text rest e h = ap behind_word e ∙ behind_word-split (word_of text) rest h
+behind_word-rest : (text rest : List ℕ) → text ≡ unbroken_front text ++ rest → IsUnbroken (unbroken_front text) rest → behind_word text ≡ rest
+behind_word-rest text rest e h = ap behind_word e ∙ behind_word-split (unbroken_front text) rest h
 
 -- blanks are passed over
 without_blanks-blank : (c : ℕ) (cs : List ℕ) → c ≡ blank → without_blanks (c ∷ cs) ≡ without_blanks cs
@@ -259,21 +259,21 @@ behind_operation_only text operation behind variable (gap, begun, e, h, inr w) =
 -- the operation and the variable field that are found in what begins behind the location field
 abbrev AreFound : List ℕ → List ℕ → Fields → Type 0
 AreFound text begun fields =
-    (fields.operation ≡ word_of begun)
-    × (fields.variable ≡ variable_of (word_of begun) (in_time text (without_blanks (behind_word begun))))
+    (fields.operation ≡ unbroken_front begun)
+    × (fields.variable ≡ variable_of (unbroken_front begun) (in_time text (without_blanks (behind_word begun))))
 
 -- where nothing begins, neither is found
 found-nil : (text : List ℕ) (fields : Fields) → fields.operation ≡ [] → fields.variable ≡ [] → AreFound text [] fields
 found-nil text fields e k = (e, k ∙ sym (variable_of-nil []) ∙ ap (λ (t : List ℕ). variable_of [] t) (sym (in_time-nil text)))
 
 -- a lawful operation with what is lawful behind it is what is found
-found-begun : (text rest : List ℕ) (fields : Fields) → IsWord fields.operation rest →
+found-begun : (text rest : List ℕ) (fields : Fields) → IsUnbroken fields.operation rest →
     HasVariable text fields.operation rest fields.variable → AreFound text (fields.operation ++ rest) fields
 found-begun text rest fields h k = (
-  sym (word_of-split fields.operation rest h),
+  sym (unbroken_front-split fields.operation rest h),
   behind_operation_only text fields.operation rest fields.variable k
       ∙ ap₂ (λ (o b : List ℕ). variable_of o (in_time text (without_blanks b)))
-      (sym (word_of-split fields.operation rest h)) (sym (behind_word-split fields.operation rest h)),
+      (sym (unbroken_front-split fields.operation rest h)) (sym (behind_word-split fields.operation rest h)),
 )
 
 -- nothing else is lawful behind a location field
@@ -289,14 +289,14 @@ behind_location_only text behind fields (gap, begun, e, h, inr w) =
 -- the three fields of a text whose location field begins there
 abbrev AreAllFound : List ℕ → List ℕ → Fields → Type 0
 AreAllFound text first fields =
-    (fields.location ≡ word_of first) × AreFound text (in_time text (without_blanks (behind_word first))) fields
+    (fields.location ≡ unbroken_front first) × AreFound text (in_time text (without_blanks (behind_word first))) fields
 
 -- a lawful location field with what is lawful behind it is what is found
-all_found : (text rest : List ℕ) (fields : Fields) → IsWord fields.location rest → HasOperation text rest fields →
+all_found : (text rest : List ℕ) (fields : Fields) → IsUnbroken fields.location rest → HasOperation text rest fields →
     AreAllFound text (fields.location ++ rest) fields
 all_found text rest fields h k =
     let P : List ℕ → Type 0 = λ t. AreFound text (in_time text (without_blanks t)) fields in
-    (sym (word_of-split fields.location rest h), subst P (sym (behind_word-split fields.location rest h)) (behind_location_only text rest fields k))
+    (sym (unbroken_front-split fields.location rest h), subst P (sym (behind_word-split fields.location rest h)) (behind_location_only text rest fields k))
 
 -- fields of three parts
 abbrev of_parts : List ℕ → List ℕ → List ℕ → Fields
@@ -319,18 +319,18 @@ cut_only text fields (lead, first, e, l, (rest, k, h, o)) =
 abbrev fields_with : List ℕ → List ℕ → List ℕ → Fields
 fields_with text location begun = record {
   location = location;
-  operation = word_of begun;
-  variable = variable_of (word_of begun) (in_time text (without_blanks (behind_word begun)));
+  operation = unbroken_front begun;
+  variable = variable_of (unbroken_front begun) (in_time text (without_blanks (behind_word begun)));
 }
 
 -- what is found where an operation begins is lawful
 operation_lawful : (text begun : List ℕ) →
-    (rest : List ℕ) × (begun ≡ word_of begun ++ rest) × IsWord (word_of begun) rest
-    × HasVariable text (word_of begun) rest (variable_of (word_of begun) (in_time text (without_blanks (behind_word begun))))
+    (rest : List ℕ) × (begun ≡ unbroken_front begun ++ rest) × IsUnbroken (unbroken_front begun) rest
+    × HasVariable text (unbroken_front begun) rest (variable_of (unbroken_front begun) (in_time text (without_blanks (behind_word begun))))
 operation_lawful text begun =
     let s = word_splits begun in
-    let P : List ℕ → Type 0 = λ t. HasVariable text (word_of begun) s.0 (variable_of (word_of begun) (in_time text (without_blanks t))) in
-    (s.0, s.1, s.2, subst P (sym (behind_word-rest begun s.0 s.1 s.2)) (behind_operation_lawful text (word_of begun) s.0))
+    let P : List ℕ → Type 0 = λ t. HasVariable text (unbroken_front begun) s.0 (variable_of (unbroken_front begun) (in_time text (without_blanks t))) in
+    (s.0, s.1, s.2, subst P (sym (behind_word-rest begun s.0 s.1 s.2)) (behind_operation_lawful text (unbroken_front begun) s.0))
 
 -- what is found behind a location field is lawful
 behind_location_lawful : (text behind location : List ℕ) →
@@ -339,10 +339,10 @@ behind_location_lawful text behind location =
     let s = blanks_split behind in
     let b = without_blanks behind in
     let P : List ℕ → Type 0 = λ begun.
-    (HasBegun text b × ((rest : List ℕ) × (b ≡ word_of begun ++ rest) × IsWord (word_of begun) rest
-    × HasVariable text (word_of begun) rest (variable_of (word_of begun) (in_time text (without_blanks (behind_word begun))))))
-    ⊎ ((¬ HasBegun text b) × (word_of begun ≡ [])
-    × (variable_of (word_of begun) (in_time text (without_blanks (behind_word begun))) ≡ [])) in (
+    (HasBegun text b × ((rest : List ℕ) × (b ≡ unbroken_front begun ++ rest) × IsUnbroken (unbroken_front begun) rest
+    × HasVariable text (unbroken_front begun) rest (variable_of (unbroken_front begun) (in_time text (without_blanks (behind_word begun))))))
+    ⊎ ((¬ HasBegun text b) × (unbroken_front begun ≡ [])
+    × (variable_of (unbroken_front begun) (in_time text (without_blanks (behind_word begun))) ≡ [])) in (
       s.0,
       b,
       s.1,
@@ -360,7 +360,7 @@ cut_lawful text =
     let s = lead_splits text in
     let w = word_splits (from_location text) in
     let P : List ℕ → Type 0 = λ t.
-    HasOperation text w.0 (fields_with text (word_of (from_location text)) (in_time text (without_blanks t))) in (
+    HasOperation text w.0 (fields_with text (unbroken_front (from_location text)) (in_time text (without_blanks t))) in (
       s.0,
       from_location text,
       s.1,
@@ -370,6 +370,6 @@ cut_lawful text =
         w.1,
         w.2,
         subst P (sym (behind_word-rest (from_location text) w.0 w.1 w.2))
-            (behind_location_lawful text w.0 (word_of (from_location text))),
+            (behind_location_lawful text w.0 (unbroken_front (from_location text))),
       ),
     )

@@ -10,12 +10,12 @@ use Rattle.std.proofs.Math.Nat.{mul-le-mul_right, mul-lt-mul_of_pos_right}
 use Rattle.std.proofs.Math.Pow.{pow_mono}
 use Rattle.std.proofs.lemmas.List.{length-replicate}
 use Rattle.definitions.specs.Characters.{characters, display_code_of}
-use Rattle.definitions.specs.Items.{Item, bits_needed}
+use Rattle.definitions.specs.CountedItems.{CountedItem, bits_needed}
 use Rattle.definitions.specs.Symbols.{Number, Value, TooGreat}
-use Rattle.definitions.specs.Expressions.{Sign, Literal, OfNumber, OfItem}
-use Rattle.definitions.specs.Forms.{item_number}
-use Rattle.definitions.specs.Coding.{fits, coded, coded_in, item_in, item_bits, blanks}
-use Rattle.definitions.specs.Literals.{literal_word, number_bits, signed_number, with_word, with_literals, literal_words, operand_literals}
+use Rattle.definitions.specs.Expressions.{Sign, Literal, OfNumber, OfCountedItem}
+use Rattle.definitions.specs.Forms.{characters_number}
+use Rattle.definitions.specs.Coding.{fits, coded, coded_in, counted_item_in, counted_item_bits, blanks}
+use Rattle.definitions.specs.Literals.{literal_word, literal_number_bits, signed_number, with_word, with_literals, literal_words, operand_literals}
 use Rattle.definitions.specs.Settled.{Settled}
 use Rattle.definitions.proofs.WordLaws.{pow_positive, picked_cond}
 
@@ -53,17 +53,17 @@ folded_below a (c ∷ cs) =
     rw (six_more (length cs)) (omega arith)
 
 -- an item's number has six bits a character
-pub item_number-below : (cs : List ℕ) → item_number cs < 2 ^ (6 * length cs)
-item_number-below cs = let h = folded_below 0 cs in omega arith
+pub characters_number-below : (cs : List ℕ) → characters_number cs < 2 ^ (6 * length cs)
+characters_number-below cs = let h = folded_below 0 cs in omega arith
 
 -- characters that fill six bits each, and then zero bits
-shifted_below : (cs : List ℕ) (bits more : ℕ) → 6 * length cs + more ≡ bits → item_number cs * 2 ^ more < 2 ^ bits
+shifted_below : (cs : List ℕ) (bits more : ℕ) → 6 * length cs + more ≡ bits → characters_number cs * 2 ^ more < 2 ^ bits
 shifted_below cs bits more e =
     let split : 2 ^ bits ≡ 2 ^ (6 * length cs) * 2 ^ more = ap (λ k. 2 ^ k) (sym e) ∙ pow-add 2 (6 * length cs) more in
-    rw split (mul-lt-mul_of_pos_right (item_number-below cs) (pow_positive more))
+    rw split (mul-lt-mul_of_pos_right (characters_number-below cs) (pow_positive more))
 
-right_below : (cs : List ℕ) (bits : ℕ) → 6 * length cs ≤ bits → item_number cs < 2 ^ bits
-right_below cs bits h = let below = item_number-below cs in let up : 2 ^ (6 * length cs) ≤ 2 ^ bits = pow_mono h in omega arith
+right_below : (cs : List ℕ) (bits : ℕ) → 6 * length cs ≤ bits → characters_number cs < 2 ^ bits
+right_below cs bits h = let below = characters_number-below cs in let up : 2 ^ (6 * length cs) ≤ 2 ^ bits = pow_mono h in omega arith
 
 filled_length : (cs : List ℕ) (count : ℕ) → length cs ≤ count → length (cs ++ blanks (count - length cs)) ≡ count
 filled_length cs count h = length-append cs (blanks (count - length cs)) ∙ ap (λ n. length cs + n) (length-replicate (count - length cs) 32) ∙ (omega arith)
@@ -72,8 +72,8 @@ led_length : (cs : List ℕ) (count : ℕ) → length cs ≤ count → length (b
 led_length cs count h = length-append (blanks (count - length cs)) cs ∙ ap (λ n. n + length cs) (length-replicate (count - length cs) 32) ∙ (omega arith)
 
 -- the four ways an item stands in a field
-item_bits-below : (width : ℕ) (item : Item) → 6 * length item.characters ≤ 6 * (width / 6) → item_bits width item < 2 ^ width
-item_bits-below width item room =
+counted_item_bits-below : (width : ℕ) (item : CountedItem) → 6 * length item.characters ≤ 6 * (width / 6) → counted_item_bits width item < 2 ^ width
+counted_item_bits-below width item room =
     let cs = item.characters in
     let count = width / 6 in
     let within : 6 * count ≤ width = omega arith in
@@ -86,21 +86,21 @@ item_bits-below width item room =
     (right_below cs width (omega arith))
     (shifted_below cs width (width - 6 * length cs) (omega arith))))
 
-needed_more : (item : Item) → 6 * length item.characters ≤ bits_needed item
+needed_more : (item : CountedItem) → 6 * length item.characters ≤ bits_needed item
 needed_more item = omega arith
 
-item_in-below : (width : ℕ) (item : Item) (b : Bool) → nat_le (bits_needed item) (6 * (width / 6)) ≡ b → unwrap_or (item_in width item) 0 < 2 ^ width
-item_in-below width item true e = rw e (item_bits-below width item (let h = leb-true (bits_needed item) (6 * (width / 6)) e in let n = needed_more item in omega arith))
-item_in-below width item false e = rw e (pow_positive width)
+counted_item_in-below : (width : ℕ) (item : CountedItem) (b : Bool) → nat_le (bits_needed item) (6 * (width / 6)) ≡ b → unwrap_or (counted_item_in width item) 0 < 2 ^ width
+counted_item_in-below width item true e = rw e (counted_item_bits-below width item (let h = leb-true (bits_needed item) (6 * (width / 6)) e in let n = needed_more item in omega arith))
+counted_item_in-below width item false e = rw e (pow_positive width)
 
-number_bits-below : (sign : Sign) (number : Number) → number_bits sign number < 2 ^ 60
-number_bits-below sign (Value n) = coded_in-below 60 (signed_number sign n) (fits 60 (signed_number sign n)) refl
-number_bits-below sign TooGreat = pow_positive 60
+literal_number_bits-below : (sign : Sign) (number : Number) → literal_number_bits sign number < 2 ^ 60
+literal_number_bits-below sign (Value n) = coded_in-below 60 (signed_number sign n) (fits 60 (signed_number sign n)) refl
+literal_number_bits-below sign TooGreat = pow_positive 60
 
 -- a literal's word fits
 pub literal_word-below : (literal : Literal) → literal_word literal < 2 ^ 60
-literal_word-below (OfNumber sign number) = number_bits-below sign number
-literal_word-below (OfItem item) = item_in-below 60 item (nat_le (bits_needed item) (6 * (60 / 6))) refl
+literal_word-below (OfNumber sign number) = literal_number_bits-below sign number
+literal_word-below (OfCountedItem item) = counted_item_in-below 60 item (nat_le (bits_needed item) (6 * (60 / 6))) refl
 
 abbrev AreWords : List ℕ → Type 0
 AreWords words = AllByRecursion (λ word. word < 2 ^ 60) words

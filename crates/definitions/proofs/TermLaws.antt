@@ -1,8 +1,8 @@
--- How `grouped` makes terms of links, and that the grammar's terms are links.
+-- How `grouped` makes terms of pairs, and that the grammar's terms are pairs.
 use Rattle.std.proofs.Common.{◌≡◌, List, [], ◌∷◌, ◌++◌, refl, sym, ◌∙◌, ap, subst, append_assoc}
 use Rattle.std.proofs.lemmas.List.{append-nil}
 use Rattle.definitions.specs.Pieces.{Mark, Piece, IsMark}
-use Rattle.definitions.specs.Expressions.{Element, Operator, Times, Divide, Add, Subtract, Link, Term, Grouped, onto_grouped, grouped}
+use Rattle.definitions.specs.Expressions.{Element, Operator, Times, Divide, Add, Subtract, OperatorElement, Term, Grouped, onto_grouped, grouped}
 use Rattle.definitions.specs.Grammar.{IsFactorMark, IsTermMark, AreFactors, AreTerms}
 use Rattle.definitions.specs.declared.marks.NumberBase.{NumberBase}
 use Rattle.definitions.proofs.GrammarLaws.{link_of, mark_between, AreLinks}
@@ -21,55 +21,55 @@ JoinsTerms Divide = ⊥
 JoinsTerms Add = Unit {0}
 JoinsTerms Subtract = Unit {0}
 
--- each link has an operator that stands between factors
-abbrev pub AreFactorLinks : List Link → Type 0
+-- each pair has an operator that stands between factors
+abbrev pub AreFactorLinks : List OperatorElement → Type 0
 AreFactorLinks [] = Unit {0}
-AreFactorLinks (link ∷ links) = JoinsFactors link.operator × AreFactorLinks links
+AreFactorLinks (pair ∷ pairs) = JoinsFactors pair.operator × AreFactorLinks pairs
 
 -- each term and factor has an operator of its kind
 abbrev pub AreJoined : List Term → Type 0
 AreJoined [] = Unit {0}
 AreJoined (term ∷ terms) = JoinsTerms term.operator × AreFactorLinks term.factors × AreJoined terms
 
--- the links that terms are made of
-abbrev pub links_in : List Term → List Link
+-- the pairs that terms are made of
+abbrev pub links_in : List Term → List OperatorElement
 links_in [] = []
 links_in (term ∷ terms) = link_of term.operator term.element ∷ (term.factors ++ links_in terms)
 
 -- the grouping with these factors and terms
-abbrev pub grouped_as : List Link → List Term → Grouped
+abbrev pub grouped_as : List OperatorElement → List Term → Grouped
 grouped_as factors terms = record { factors = factors; terms = terms }
 
 -- the term with this operator, element and factors
-abbrev pub term_of : Operator → Element → List Link → Term
+abbrev pub term_of : Operator → Element → List OperatorElement → Term
 term_of operator element factors = record { operator = operator; element = element; factors = factors }
 
--- the factors and terms are joined, and made of these links
-abbrev pub IsGrouping : Grouped → List Link → Type 0
-IsGrouping group links = AreFactorLinks group.factors × AreJoined group.terms × (links ≡ group.factors ++ links_in group.terms)
+-- the factors and terms are joined, and made of these pairs
+abbrev pub IsGrouping : Grouped → List OperatorElement → Type 0
+IsGrouping group pairs = AreFactorLinks group.factors × AreJoined group.terms × (pairs ≡ group.factors ++ links_in group.terms)
 
--- a link in front of a grouping makes a grouping
-pub onto_grouped-groups : (link : Link) (o : Operator) (group : Grouped) (links : List Link) → link.operator ≡ o → IsGrouping group links →
-    IsGrouping (onto_grouped link o group) (link ∷ links)
-onto_grouped-groups link Times group links same (factors, terms, made) = ((subst JoinsFactors (sym same) tt, factors), terms, ap (λ (l : List Link). link ∷ l) made)
-onto_grouped-groups link Divide group links same (factors, terms, made) = ((subst JoinsFactors (sym same) tt, factors), terms, ap (λ (l : List Link). link ∷ l) made)
-onto_grouped-groups link Add group links same (factors, terms, made) =
-    (tt, (tt, factors, terms), ap (λ (o : Operator). link_of o link.element ∷ links) same ∙ ap (λ (l : List Link). link_of Add link.element ∷ l) made)
-onto_grouped-groups link Subtract group links same (factors, terms, made) =
-    (tt, (tt, factors, terms), ap (λ (o : Operator). link_of o link.element ∷ links) same ∙ ap (λ (l : List Link). link_of Subtract link.element ∷ l) made)
+-- a pair in front of a grouping makes a grouping
+pub onto_grouped-groups : (pair : OperatorElement) (o : Operator) (group : Grouped) (pairs : List OperatorElement) → pair.operator ≡ o → IsGrouping group pairs →
+    IsGrouping (onto_grouped pair o group) (pair ∷ pairs)
+onto_grouped-groups pair Times group pairs same (factors, terms, made) = ((subst JoinsFactors (sym same) tt, factors), terms, ap (λ (l : List OperatorElement). pair ∷ l) made)
+onto_grouped-groups pair Divide group pairs same (factors, terms, made) = ((subst JoinsFactors (sym same) tt, factors), terms, ap (λ (l : List OperatorElement). pair ∷ l) made)
+onto_grouped-groups pair Add group pairs same (factors, terms, made) =
+    (tt, (tt, factors, terms), ap (λ (o : Operator). link_of o pair.element ∷ pairs) same ∙ ap (λ (l : List OperatorElement). link_of Add pair.element ∷ l) made)
+onto_grouped-groups pair Subtract group pairs same (factors, terms, made) =
+    (tt, (tt, factors, terms), ap (λ (o : Operator). link_of o pair.element ∷ pairs) same ∙ ap (λ (l : List OperatorElement). link_of Subtract pair.element ∷ l) made)
 
--- what links are grouped to is made of the links
-pub grouped-groups : (links : List Link) → IsGrouping (grouped links) links
+-- what pairs are grouped to is made of the pairs
+pub grouped-groups : (pairs : List OperatorElement) → IsGrouping (grouped pairs) pairs
 grouped-groups [] = (tt, tt, refl)
-grouped-groups (link ∷ links) = onto_grouped-groups link link.operator (grouped links) links refl (grouped-groups links)
+grouped-groups (pair ∷ pairs) = onto_grouped-groups pair pair.operator (grouped pairs) pairs refl (grouped-groups pairs)
 
 -- a factor goes to the factors
-pub onto_grouped-factor : (link : Link) (o : Operator) (group : Grouped) → JoinsFactors o →
-    onto_grouped link o group ≡ grouped_as (link ∷ group.factors) group.terms
-onto_grouped-factor link Times group joins = refl
-onto_grouped-factor link Divide group joins = refl
-onto_grouped-factor link Add group joins = absurd joins
-onto_grouped-factor link Subtract group joins = absurd joins
+pub onto_grouped-factor : (pair : OperatorElement) (o : Operator) (group : Grouped) → JoinsFactors o →
+    onto_grouped pair o group ≡ grouped_as (pair ∷ group.factors) group.terms
+onto_grouped-factor pair Times group joins = refl
+onto_grouped-factor pair Divide group joins = refl
+onto_grouped-factor pair Add group joins = absurd joins
+onto_grouped-factor pair Subtract group joins = absurd joins
 
 -- a term takes the factors
 pub onto_grouped-term : (element : Element) (o : Operator) (group : Grouped) → JoinsTerms o →
@@ -79,22 +79,22 @@ onto_grouped-term element Divide group joins = absurd joins
 onto_grouped-term element Add group joins = refl
 onto_grouped-term element Subtract group joins = refl
 
--- factors in front of links go in front of their factors
-pub grouped-factors : (factors links : List Link) → AreFactorLinks factors →
-    grouped (factors ++ links) ≡ grouped_as (factors ++ (grouped links).factors) (grouped links).terms
-grouped-factors [] links joins = refl
-grouped-factors (link ∷ factors) links (joins, more) =
-    ap (onto_grouped link link.operator) (grouped-factors factors links more)
-    ∙ onto_grouped-factor link link.operator (grouped_as (factors ++ (grouped links).factors) (grouped links).terms) joins
+-- factors in front of pairs go in front of their factors
+pub grouped-factors : (factors pairs : List OperatorElement) → AreFactorLinks factors →
+    grouped (factors ++ pairs) ≡ grouped_as (factors ++ (grouped pairs).factors) (grouped pairs).terms
+grouped-factors [] pairs joins = refl
+grouped-factors (pair ∷ factors) pairs (joins, more) =
+    ap (onto_grouped pair pair.operator) (grouped-factors factors pairs more)
+    ∙ onto_grouped-factor pair pair.operator (grouped_as (factors ++ (grouped pairs).factors) (grouped pairs).terms) joins
 
--- the links of terms group to the terms
+-- the pairs of terms group to the terms
 pub grouped-links_in : (terms : List Term) → AreJoined terms → grouped (links_in terms) ≡ grouped_as [] terms
 grouped-links_in [] joined = refl
 grouped-links_in (term ∷ terms) (joins, factors, joined) =
     ap (onto_grouped (link_of term.operator term.element) term.operator)
     (grouped-factors term.factors (links_in terms) factors
     ∙ (ap (λ (group : Grouped). grouped_as (term.factors ++ group.factors) group.terms) (grouped-links_in terms joined)
-    ∙ ap (λ (l : List Link). grouped_as l terms) (append-nil term.factors)))
+    ∙ ap (λ (l : List OperatorElement). grouped_as l terms) (append-nil term.factors)))
     ∙ onto_grouped-term term.element term.operator (grouped_as term.factors terms) joins
 
 -- the mark of a factor's operator is the operator's mark
@@ -151,47 +151,47 @@ pieces_behind pieces front rest more mark other spelt same =
 pub pieces_before : (front rest first second : List Piece) → rest ≡ first ++ second → front ++ rest ≡ (front ++ first) ++ second
 pieces_before front rest first second split = ap (λ (p : List Piece). front ++ p) split ∙ sym (append_assoc front first second)
 
--- factors with links behind them are links
-pub AreFactors-links : (base : NumberBase) (factors links : List Link) (front rest : List Piece) → AreFactors base factors front → AreLinks base links rest →
-    AreLinks base (factors ++ links) (front ++ rest)
-AreFactors-links base [] links front rest none are = subst (λ (p : List Piece). AreLinks base links (p ++ rest)) (sym none) are
-AreFactors-links base (link ∷ factors) links front rest (mark, first, more, spelt, marked, is, factors_are) are = (
+-- factors with pairs behind them are pairs
+pub AreFactors-pairs : (base : NumberBase) (factors pairs : List OperatorElement) (front rest : List Piece) → AreFactors base factors front → AreLinks base pairs rest →
+    AreLinks base (factors ++ pairs) (front ++ rest)
+AreFactors-pairs base [] pairs front rest none are = subst (λ (p : List Piece). AreLinks base pairs (p ++ rest)) (sym none) are
+AreFactors-pairs base (pair ∷ factors) pairs front rest (mark, first, more, spelt, marked, is, factors_are) are = (
   first,
   more ++ rest,
-  pieces_behind front first more rest mark (mark_between link.operator) spelt (IsFactorMark-is link.operator mark marked),
+  pieces_behind front first more rest mark (mark_between pair.operator) spelt (IsFactorMark-is pair.operator mark marked),
   is,
-  AreFactors-links base factors links more rest factors_are are,
+  AreFactors-pairs base factors pairs more rest factors_are are,
 )
 
 -- factors have the operators of factors
-pub AreFactors-joined : (base : NumberBase) (factors : List Link) (pieces : List Piece) → AreFactors base factors pieces → AreFactorLinks factors
+pub AreFactors-joined : (base : NumberBase) (factors : List OperatorElement) (pieces : List Piece) → AreFactors base factors pieces → AreFactorLinks factors
 AreFactors-joined base [] pieces none = tt
-AreFactors-joined base (link ∷ factors) pieces (mark, first, more, spelt, marked, is, are) =
-    (IsFactorMark-joins link.operator mark marked, AreFactors-joined base factors more are)
+AreFactors-joined base (pair ∷ factors) pieces (mark, first, more, spelt, marked, is, are) =
+    (IsFactorMark-joins pair.operator mark marked, AreFactors-joined base factors more are)
 
--- links that begin with factors are factors, and links behind them
-pub AreLinks-factors : (base : NumberBase) (factors links : List Link) (pieces : List Piece) → AreFactorLinks factors → AreLinks base (factors ++ links) pieces →
-    (front : List Piece) × (rest : List Piece) × (pieces ≡ front ++ rest) × AreFactors base factors front × AreLinks base links rest
-AreLinks-factors base [] links pieces joined are = ([], pieces, refl, refl, are)
-AreLinks-factors base (link ∷ factors) links pieces (joins, joined) (first, more, spelt, is, are) =
-    let part = AreLinks-factors base factors links more joined are in
-    let mark = mark_between link.operator in (
+-- pairs that begin with factors are factors, and pairs behind them
+pub AreLinks-factors : (base : NumberBase) (factors pairs : List OperatorElement) (pieces : List Piece) → AreFactorLinks factors → AreLinks base (factors ++ pairs) pieces →
+    (front : List Piece) × (rest : List Piece) × (pieces ≡ front ++ rest) × AreFactors base factors front × AreLinks base pairs rest
+AreLinks-factors base [] pairs pieces joined are = ([], pieces, refl, refl, are)
+AreLinks-factors base (pair ∷ factors) pairs pieces (joins, joined) (first, more, spelt, is, are) =
+    let part = AreLinks-factors base factors pairs more joined are in
+    let mark = mark_between pair.operator in (
       IsMark mark ∷ (first ++ part.0),
       part.1,
       spelt ∙ ap (λ (p : List Piece). IsMark mark ∷ p) (pieces_before first more part.0 part.1 part.2),
-      (mark, first, part.0, refl, mark_between-factor link.operator joins, is, part.3),
+      (mark, first, part.0, refl, mark_between-factor pair.operator joins, is, part.3),
       part.4,
     )
 
--- terms are the links that they are made of
-pub AreTerms-links : (base : NumberBase) (terms : List Term) (pieces : List Piece) → AreTerms base terms pieces → AreLinks base (links_in terms) pieces
-AreTerms-links base [] pieces none = none
-AreTerms-links base (term ∷ terms) pieces (mark, front, rest, spelt, marked, (first, more, split, is, factors), are) = (
+-- terms are the pairs that they are made of
+pub AreTerms-pairs : (base : NumberBase) (terms : List Term) (pieces : List Piece) → AreTerms base terms pieces → AreLinks base (links_in terms) pieces
+AreTerms-pairs base [] pieces none = none
+AreTerms-pairs base (term ∷ terms) pieces (mark, front, rest, spelt, marked, (first, more, split, is, factors), are) = (
   first,
   more ++ rest,
   spelt ∙ pieces_behind (IsMark mark ∷ front) first more rest mark (mark_between term.operator) (ap (λ (p : List Piece). IsMark mark ∷ p) split) (IsTermMark-is term.operator mark marked),
   is,
-  AreFactors-links base term.factors (links_in terms) more rest factors (AreTerms-links base terms rest are),
+  AreFactors-pairs base term.factors (links_in terms) more rest factors (AreTerms-pairs base terms rest are),
 )
 
 -- terms have the operators of terms
@@ -200,7 +200,7 @@ AreTerms-joined base [] pieces none = tt
 AreTerms-joined base (term ∷ terms) pieces (mark, front, rest, spelt, marked, (first, more, split, is, factors), are) =
     (IsTermMark-joins term.operator mark marked, AreFactors-joined base term.factors more factors, AreTerms-joined base terms rest are)
 
--- links that terms are made of are the terms
+-- pairs that terms are made of are the terms
 pub AreLinks-terms : (base : NumberBase) (terms : List Term) (pieces : List Piece) → AreJoined terms → AreLinks base (links_in terms) pieces → AreTerms base terms pieces
 AreLinks-terms base [] pieces joined none = none
 AreLinks-terms base (term ∷ terms) pieces (joins, factors, joined) (first, more, spelt, is, are) =

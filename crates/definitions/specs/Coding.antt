@@ -1,8 +1,8 @@
 -- How a value and an item stand in a field of so many bits (COMPASS 60492600, data generation; negative numbers by ones' complement).
 use Rattle.std.specs.Prelude.{ℕ, ◌+◌, ◌-◌, ◌*◌, ◌/◌, ◌^◌, ◌==◌, List, ◌++◌, Option, Some, None, Bool, nat_le, length, replicate, ℤ, pos, negsuc, unsigned_abs, if◌then◌else◌}
 use Rattle.definitions.specs.Characters.{blank}
-use Rattle.definitions.specs.Items.{Item, bits_needed}
-use Rattle.definitions.specs.Forms.{item_number}
+use Rattle.definitions.specs.CountedItems.{CountedItem, bits_needed}
+use Rattle.definitions.specs.Forms.{characters_number}
 
 -- a value fits where its size is at most the greatest of the field
 abbrev pub fits : ℕ → ℤ → Bool
@@ -22,20 +22,20 @@ abbrev pub blanks : ℕ → List ℕ
 blanks count = replicate count blank
 
 -- H: then blanks, then zero bits; A: behind blanks; L: then zero bits; R: behind zero bits; C: as L, with 12 zero bits at least
-abbrev pub item_bits : ℕ → Item → ℕ
-item_bits width item =
+abbrev pub counted_item_bits : ℕ → CountedItem → ℕ
+counted_item_bits width item =
     let count = width / 6 in
     let n = length item.characters in
-    let codes_alone = item_number item.characters in
-    if item.letter == 72 then item_number (item.characters ++ blanks (count - n)) * 2 ^ (width - 6 * count)
-    else if item.letter == 65 then item_number (blanks (count - n) ++ item.characters)
+    let codes_alone = characters_number item.characters in
+    if item.letter == 72 then characters_number (item.characters ++ blanks (count - n)) * 2 ^ (width - 6 * count)
+    else if item.letter == 65 then characters_number (blanks (count - n) ++ item.characters)
     else if item.letter == 82 then codes_alone
     else codes_alone * 2 ^ (width - 6 * n)
 
 -- an item that is all of a field, if it has room there
-abbrev pub item_in : ℕ → Item → Option ℕ
-item_in width item = if nat_le (bits_needed item) (6 * (width / 6)) then Some (item_bits width item) else None
+abbrev pub counted_item_in : ℕ → CountedItem → Option ℕ
+counted_item_in width item = if nat_le (bits_needed item) (6 * (width / 6)) then Some (counted_item_bits width item) else None
 
 -- how many words of so many bits an item takes in DATA
-abbrev pub words_needed : ℕ → Item → ℕ
+abbrev pub words_needed : ℕ → CountedItem → ℕ
 words_needed word item = (bits_needed item + word - 1) / word

@@ -4,7 +4,7 @@ use Rattle.definitions.specs.Characters.{same_text}
 use Rattle.definitions.specs.Symbols.{is_nominal}
 use Rattle.definitions.specs.Forms.{Form, absolute, Added, Block}
 use Rattle.definitions.specs.Operands.{units}
-use Rattle.definitions.specs.Settled.{Settled, Kept, Counts, Ended}
+use Rattle.definitions.specs.Settled.{Settled, Unchanged, Counts, Ended}
 use Rattle.definitions.specs.declared.marks.DeckKind.{DeckKind}
 use Rattle.definitions.specs.declared.marks.DeckKind.TheVariants.{Rel}
 
@@ -26,7 +26,7 @@ abbrev pub location_set : List ℕ → List Settled → Option (Form × ℕ)
 location_set block [] = None
 location_set block (settled ∷ earlier) =
     elim settled.setting [
-      | Kept ↦ location_set block earlier
+      | Unchanged ↦ location_set block earlier
       | Counts form ↦ if same_text settled.block block then Some (form, settled.place) else location_set block earlier
       | Ended ↦ if same_text settled.block block then None else location_set block earlier
     ]

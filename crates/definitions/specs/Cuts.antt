@@ -16,7 +16,7 @@ BeginsHere [] = ⊤
 BeginsHere (c ∷ cs) = c ≢ blank
 
 -- a run without blanks, as long as it goes
-pub record IsWord (word rest : List ℕ) : Type 0 where
+pub record IsUnbroken (word rest : List ℕ) : Type 0 where
   pub unbroken : AllByRecursion (λ c. c ≢ blank) word
   pub ends : EndsHere rest
 
@@ -59,11 +59,11 @@ HasVariable text operation behind variable =
 abbrev pub HasOperation : List ℕ → List ℕ → Fields → Type 0
 HasOperation text behind fields =
     (gap : List ℕ) × (begun : List ℕ) × (behind ≡ gap ++ begun) × AreBlanks gap begun
-    × ((HasBegun text begun × ((rest : List ℕ) × (begun ≡ fields.operation ++ rest) × IsWord fields.operation rest × HasVariable text fields.operation rest fields.variable))
+    × ((HasBegun text begun × ((rest : List ℕ) × (begun ≡ fields.operation ++ rest) × IsUnbroken fields.operation rest × HasVariable text fields.operation rest fields.variable))
     ⊎ (¬ HasBegun text begun × (fields.operation ≡ []) × (fields.variable ≡ [])))
 
 -- the lawful cut of a text into its three fields
 abbrev pub IsCut : List ℕ → Fields → Type 0
 IsCut text fields =
     (lead : List ℕ) × (first : List ℕ) × (text ≡ lead ++ first) × IsLead lead first
-    × ((rest : List ℕ) × (first ≡ fields.location ++ rest) × IsWord fields.location rest × HasOperation text rest fields)
+    × ((rest : List ℕ) × (first ≡ fields.location ++ rest) × IsUnbroken fields.location rest × HasOperation text rest fields)

@@ -2,8 +2,8 @@
 use Rattle.std.specs.Prelude.{ℕ, List, [], ◌∷◌, Option, Some, None, Bool, true, false, ◌&&◌, nat_le, codes, map, flat_map, if◌then◌else◌}
 use Rattle.std.specs.List.{list_all}
 use Rattle.definitions.specs.Characters.{same_text}
-use Rattle.definitions.specs.Items.{Item, bits_needed}
-use Rattle.definitions.specs.Pieces.{Plus, Minus, Star, Slash, Equals, Piece, IsMark, IsItem, Run}
+use Rattle.definitions.specs.CountedItems.{CountedItem, bits_needed}
+use Rattle.definitions.specs.Pieces.{Plus, Minus, Star, Slash, Equals, Piece, IsMark, IsCountedItem, Plain}
 use Rattle.definitions.specs.Symbols.{Register, register_of, is_symbol, Number, number_read}
 use Rattle.definitions.specs.declared.marks.NumberBase.{NumberBase}
 
@@ -16,12 +16,12 @@ pub data Sign : Type 0 where
 -- what an equals sign stands before
 pub data Literal : Type 0 where
   OfNumber : Sign → Number → Literal
-  OfItem : Item → Literal
+  OfCountedItem : CountedItem → Literal
 
 -- what an expression is made of: numbers, items, symbols, registers, the two counters and literals
 pub data Element : Type 0 where
   ANumber : Number → Element
-  AnItem : Item → Element
+  ACountedItem : CountedItem → Element
   ASymbol : List ℕ → Element
   ARegister : Register → Element
   LocationCounter : Element
@@ -36,7 +36,7 @@ pub data Operator : Type 0 where
   Subtract : Operator
 
 -- an operator with the element behind it
-pub record Link : Type 0 where
+pub record OperatorElement : Type 0 where
   pub operator : Operator
   pub element : Element
 
@@ -44,7 +44,7 @@ pub record Link : Type 0 where
 pub record Term : Type 0 where
   pub operator : Operator
   pub element : Element
-  pub factors : List Link
+  pub factors : List OperatorElement
 
 -- the sum of its terms; the sign is that of the first one
 pub record Expression : Type 0 where
@@ -62,8 +62,8 @@ element_of_name base text None = if is_symbol text then Some (ASymbol text) else
 element_of_name base text (Some register) = Some (ARegister register)
 
 -- the element that a run of characters spells, if it spells one
-abbrev pub element_of_run : NumberBase → List ℕ → Option Element
-element_of_run base text = element_of_name base text (register_of text)
+abbrev pub element_of_text : NumberBase → List ℕ → Option Element
+element_of_text base text = element_of_name base text (register_of text)
 
 -- behind a star where an element may begin: `*L` is the location counter too
 abbrev pub counter_of : List ℕ → Option Element
@@ -82,67 +82,67 @@ pub data Awaited : Type 0 where
   ElementOf : Operator → Awaited
 
 -- an operator and its element in front of those behind them, where all are lawful
-abbrev pub onto_links : Operator → Option Element → Option (List Link) → Option (List Link)
-onto_links operator None links = None
-onto_links operator (Some element) None = None
-onto_links operator (Some element) (Some links) = Some (record { operator = operator; element = element } ∷ links)
+abbrev pub onto_pairs : Operator → Option Element → Option (List OperatorElement) → Option (List OperatorElement)
+onto_pairs operator None pairs = None
+onto_pairs operator (Some element) None = None
+onto_pairs operator (Some element) (Some pairs) = Some (record { operator = operator; element = element } ∷ pairs)
 
 -- elements with the operators between them
-abbrev pub links_of : NumberBase → Awaited → List Piece → Option (List Link)
-links_of base AnOperator [] = Some []
-links_of base AnOperator (IsMark Plus ∷ pieces) = links_of base (ElementOf Add) pieces
-links_of base AnOperator (IsMark Minus ∷ pieces) = links_of base (ElementOf Subtract) pieces
-links_of base AnOperator (IsMark Star ∷ pieces) = links_of base (ElementOf Times) pieces
-links_of base AnOperator (IsMark Slash ∷ pieces) = links_of base (ElementOf Divide) pieces
-links_of base AnOperator (piece ∷ pieces) = None
-links_of base (ElementOf o) (Run text ∷ pieces) = onto_links o (element_of_run base text) (links_of base AnOperator pieces)
-links_of base (ElementOf o) (IsItem item ∷ pieces) = onto_links o (Some (AnItem item)) (links_of base AnOperator pieces)
-links_of base (ElementOf o) (IsMark Star ∷ Run text ∷ pieces) = onto_links o (counter_of text) (links_of base AnOperator pieces)
-links_of base (ElementOf o) (IsMark Star ∷ IsItem item ∷ pieces) = None
-links_of base (ElementOf o) (IsMark Star ∷ IsMark Equals ∷ pieces) = None
-links_of base (ElementOf o) (IsMark Star ∷ pieces) = onto_links o (Some LocationCounter) (links_of base AnOperator pieces)
-links_of base (ElementOf o) (IsMark Equals ∷ Run text ∷ pieces) = onto_links o (literal_of NoSign (number_read base text)) (links_of base AnOperator pieces)
-links_of base (ElementOf o) (IsMark Equals ∷ IsItem item ∷ pieces) = onto_links o (Some (ALiteral (OfItem item))) (links_of base AnOperator pieces)
-links_of base (ElementOf o) (IsMark Equals ∷ IsMark Plus ∷ Run text ∷ pieces) = onto_links o (literal_of PlusSign (number_read base text)) (links_of base AnOperator pieces)
-links_of base (ElementOf o) (IsMark Equals ∷ IsMark Minus ∷ Run text ∷ pieces) = onto_links o (literal_of MinusSign (number_read base text)) (links_of base AnOperator pieces)
-links_of base (ElementOf o) pieces = None
+abbrev pub pairs_of : NumberBase → Awaited → List Piece → Option (List OperatorElement)
+pairs_of base AnOperator [] = Some []
+pairs_of base AnOperator (IsMark Plus ∷ pieces) = pairs_of base (ElementOf Add) pieces
+pairs_of base AnOperator (IsMark Minus ∷ pieces) = pairs_of base (ElementOf Subtract) pieces
+pairs_of base AnOperator (IsMark Star ∷ pieces) = pairs_of base (ElementOf Times) pieces
+pairs_of base AnOperator (IsMark Slash ∷ pieces) = pairs_of base (ElementOf Divide) pieces
+pairs_of base AnOperator (piece ∷ pieces) = None
+pairs_of base (ElementOf o) (Plain text ∷ pieces) = onto_pairs o (element_of_text base text) (pairs_of base AnOperator pieces)
+pairs_of base (ElementOf o) (IsCountedItem item ∷ pieces) = onto_pairs o (Some (ACountedItem item)) (pairs_of base AnOperator pieces)
+pairs_of base (ElementOf o) (IsMark Star ∷ Plain text ∷ pieces) = onto_pairs o (counter_of text) (pairs_of base AnOperator pieces)
+pairs_of base (ElementOf o) (IsMark Star ∷ IsCountedItem item ∷ pieces) = None
+pairs_of base (ElementOf o) (IsMark Star ∷ IsMark Equals ∷ pieces) = None
+pairs_of base (ElementOf o) (IsMark Star ∷ pieces) = onto_pairs o (Some LocationCounter) (pairs_of base AnOperator pieces)
+pairs_of base (ElementOf o) (IsMark Equals ∷ Plain text ∷ pieces) = onto_pairs o (literal_of NoSign (number_read base text)) (pairs_of base AnOperator pieces)
+pairs_of base (ElementOf o) (IsMark Equals ∷ IsCountedItem item ∷ pieces) = onto_pairs o (Some (ALiteral (OfCountedItem item))) (pairs_of base AnOperator pieces)
+pairs_of base (ElementOf o) (IsMark Equals ∷ IsMark Plus ∷ Plain text ∷ pieces) = onto_pairs o (literal_of PlusSign (number_read base text)) (pairs_of base AnOperator pieces)
+pairs_of base (ElementOf o) (IsMark Equals ∷ IsMark Minus ∷ Plain text ∷ pieces) = onto_pairs o (literal_of MinusSign (number_read base text)) (pairs_of base AnOperator pieces)
+pairs_of base (ElementOf o) pieces = None
 
 -- the factors in front, and the terms behind them
 pub record Grouped : Type 0 where
-  pub factors : List Link
+  pub factors : List OperatorElement
   pub terms : List Term
 
 -- behind a star or slash an element is a factor; behind plus or minus it makes a term with the factors that follow
-abbrev pub onto_grouped : Link → Operator → Grouped → Grouped
-onto_grouped link Times rest = record { factors = link ∷ rest.factors; terms = rest.terms }
-onto_grouped link Divide rest = record { factors = link ∷ rest.factors; terms = rest.terms }
-onto_grouped link Add rest = record { factors = []; terms = record { operator = Add; element = link.element; factors = rest.factors } ∷ rest.terms }
-onto_grouped link Subtract rest = record { factors = []; terms = record { operator = Subtract; element = link.element; factors = rest.factors } ∷ rest.terms }
+abbrev pub onto_grouped : OperatorElement → Operator → Grouped → Grouped
+onto_grouped pair Times rest = record { factors = pair ∷ rest.factors; terms = rest.terms }
+onto_grouped pair Divide rest = record { factors = pair ∷ rest.factors; terms = rest.terms }
+onto_grouped pair Add rest = record { factors = []; terms = record { operator = Add; element = pair.element; factors = rest.factors } ∷ rest.terms }
+onto_grouped pair Subtract rest = record { factors = []; terms = record { operator = Subtract; element = pair.element; factors = rest.factors } ∷ rest.terms }
 
 -- elements and their operators, put together to terms
-abbrev pub grouped : List Link → Grouped
+abbrev pub grouped : List OperatorElement → Grouped
 grouped [] = record { factors = []; terms = [] }
-grouped (link ∷ links) = onto_grouped link link.operator (grouped links)
+grouped (pair ∷ pairs) = onto_grouped pair pair.operator (grouped pairs)
 
 -- the expression of a leading sign and the elements behind it, if they are lawful
-abbrev pub with_sign : Sign → Option (List Link) → Option Expression
+abbrev pub with_sign : Sign → Option (List OperatorElement) → Option Expression
 with_sign sign None = None
-with_sign sign (Some links) = Some (record { sign = sign; terms = (grouped links).terms })
+with_sign sign (Some pairs) = Some (record { sign = sign; terms = (grouped pairs).terms })
 
 -- the expression that the pieces of a subfield spell, if they spell one
 abbrev pub expression_of : NumberBase → List Piece → Option Expression
-expression_of base (IsMark Plus ∷ pieces) = with_sign PlusSign (links_of base (ElementOf Add) pieces)
-expression_of base (IsMark Minus ∷ pieces) = with_sign MinusSign (links_of base (ElementOf Subtract) pieces)
-expression_of base pieces = with_sign NoSign (links_of base (ElementOf Add) pieces)
+expression_of base (IsMark Plus ∷ pieces) = with_sign PlusSign (pairs_of base (ElementOf Add) pieces)
+expression_of base (IsMark Minus ∷ pieces) = with_sign MinusSign (pairs_of base (ElementOf Subtract) pieces)
+expression_of base pieces = with_sign NoSign (pairs_of base (ElementOf Add) pieces)
 
 -- the elements of an expression, from left to right
 abbrev pub elements_of : Expression → List Element
-elements_of e = flat_map (λ term. term.element ∷ map (λ link. link.element) term.factors) e.terms
+elements_of e = flat_map (λ term. term.element ∷ map (λ pair. pair.element) term.factors) e.terms
 
 -- a literal is allowed where literals are, if its item fits one word
 abbrev pub is_allowed_literal : Bool → Literal → Bool
 is_allowed_literal literals (OfNumber sign number) = literals
-is_allowed_literal literals (OfItem item) = literals && nat_le (bits_needed item) 60
+is_allowed_literal literals (OfCountedItem item) = literals && nat_le (bits_needed item) 60
 
 -- an element that is no register, and a literal only where it is allowed
 abbrev pub is_allowed : Bool → Element → Bool

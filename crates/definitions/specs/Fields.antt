@@ -12,8 +12,8 @@ pub record Fields : Type 0 where
   pub variable : List ℕ
 
 -- the run without blanks that begins a text
-abbrev pub word_of : List ℕ → List ℕ
-word_of text = take_while (λ c. not (c == blank)) text
+abbrev pub unbroken_front : List ℕ → List ℕ
+unbroken_front text = take_while (λ c. not (c == blank)) text
 
 -- a text from its first character that is no blank
 abbrev pub without_blanks : List ℕ → List ℕ
@@ -28,7 +28,7 @@ from_location (c ∷ cs) = if c == blank then cs else c ∷ cs
 -- what follows a word and its blanks, where it begins before column 30 of the text
 abbrev pub next_field : List ℕ → List ℕ → List ℕ
 next_field text from =
-    let rest = without_blanks (drop (length (word_of from)) from) in
+    let rest = without_blanks (drop (length (unbroken_front from)) from) in
     if nat_lt (length text - length rest) 29 then rest else []
 
 -- DIS takes the rest of the text
@@ -40,7 +40,7 @@ abbrev pub fields_of_text : List ℕ → Fields
 fields_of_text text =
     let first = from_location text in
     let second = next_field text first in
-    record { location = word_of first; operation = word_of second; variable = variable_of (word_of second) (next_field text second) }
+    record { location = unbroken_front first; operation = unbroken_front second; variable = variable_of (unbroken_front second) (next_field text second) }
 
 -- all three fields empty
 abbrev pub no_fields : Fields

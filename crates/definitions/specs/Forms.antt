@@ -2,23 +2,23 @@
 -- (COMPASS 60492600, evaluation of expressions; the range is ours).
 use Rattle.std.specs.Prelude.{ℕ, ◌*◌, ◌+◌, ◌==◌, List, [], ◌∷◌, Option, Some, None, Result, Ok, Err, Bool, true, false, ◌&&◌, nat_le, length, fold, unwrap_or, ℤ, pos, negsuc, ◌+ℤ◌, ◌*ℤ◌, neg_ℤ, unsigned_abs, int_div, if◌then◌else◌}
 use Rattle.definitions.specs.Characters.{display_code_of, same_text}
-use Rattle.definitions.specs.Items.{Item}
+use Rattle.definitions.specs.CountedItems.{CountedItem}
 use Rattle.definitions.specs.Symbols.{Number, Value, TooGreat, greatest}
-use Rattle.definitions.specs.Expressions.{Literal, Element, ANumber, AnItem, ASymbol, ARegister, LocationCounter, OriginCounter, ALiteral, Operator, Divide, Subtract, Link, Term, Expression}
+use Rattle.definitions.specs.Expressions.{Literal, Element, ANumber, ACountedItem, ASymbol, ARegister, LocationCounter, OriginCounter, ALiteral, Operator, Divide, Subtract, OperatorElement, Term, Expression}
 use Rattle.definitions.specs.declared.marks.Letter.{Letter}
 use Rattle.definitions.specs.declared.marks.Letter.TheVariants as letter
 
--- what is known at the link alone: where a block stands, what an external is; the literals block is `=`
-pub data Base : Type 0 where
-  Block : List ℕ → Base
-  External : List ℕ → Base
+-- what is known at the pair alone: where a block stands, what an external is; the literals block is `=`
+pub data Relocation : Type 0 where
+  Block : List ℕ → Relocation
+  External : List ℕ → Relocation
 
--- a base that is added, or subtracted
+-- a relocation that is added, or subtracted
 pub data Part : Type 0 where
-  Added : Base → Part
-  Subtracted : Base → Part
+  Added : Relocation → Part
+  Subtracted : Relocation → Part
 
--- a number, and the base that is added to it or subtracted from it, if there is one
+-- a number, and the relocation that is added to it or subtracted from it, if there is one
 pub record Form : Type 0 where
   pub number : ℤ
   pub part : Option Part
@@ -30,11 +30,11 @@ pub record Names : Type 0 where
   pub location : Form
   pub origin : Form
 
--- a number without a base
+-- a number without a relocation
 abbrev pub absolute : ℤ → Form
 absolute number = record { number = number; part = None }
 
--- whether a form has no base
+-- whether a form has no relocation
 abbrev pub is_absolute : Form → Bool
 is_absolute form = elim form.part [ None ↦ true | Some part ↦ false ]
 
@@ -47,54 +47,54 @@ is_negative (negsuc n) = true
 abbrev pub is_in_range : ℤ → Bool
 is_in_range number = nat_le (unsigned_abs number) greatest
 
--- whether two bases are the same block, or the same external
-abbrev pub same_base : Base → Base → Bool
-same_base (Block a) (Block b) = same_text a b
-same_base (External a) (External b) = same_text a b
-same_base _ _ = false
+-- whether two relocations are the same block, or the same external
+abbrev pub same_relocation : Relocation → Relocation → Bool
+same_relocation (Block a) (Block b) = same_text a b
+same_relocation (External a) (External b) = same_text a b
+same_relocation _ _ = false
 
--- while a sum goes on: its number, and its bases with what each is multiplied by
+-- while a sum goes on: its number, and its relocations with what each is multiplied by
 pub record Running : Type 0 where
   pub number : ℤ
-  pub bases : List (Base × ℤ)
+  pub relocations : List (Relocation × ℤ)
 
--- the base of a form, once or -1 times, if it has one
-abbrev pub running_part : Option Part → List (Base × ℤ)
+-- the relocation of a form, once or -1 times, if it has one
+abbrev pub running_part : Option Part → List (Relocation × ℤ)
 running_part None = []
-running_part (Some (Added base)) = (base, pos 1) ∷ []
-running_part (Some (Subtracted base)) = (base, negsuc 0) ∷ []
+running_part (Some (Added relocation)) = (relocation, pos 1) ∷ []
+running_part (Some (Subtracted relocation)) = (relocation, negsuc 0) ∷ []
 
--- a base so many times more among bases
-abbrev pub plus_base : Base → ℤ → List (Base × ℤ) → List (Base × ℤ)
-plus_base base times [] = (base, times) ∷ []
-plus_base base times (other ∷ others) = if same_base base other.0 then (other.0, other.1 +ℤ times) ∷ others else other ∷ plus_base base times others
+-- a relocation so many times more among relocations
+abbrev pub plus_relocation : Relocation → ℤ → List (Relocation × ℤ) → List (Relocation × ℤ)
+plus_relocation relocation times [] = (relocation, times) ∷ []
+plus_relocation relocation times (other ∷ others) = if same_relocation relocation other.0 then (other.0, other.1 +ℤ times) ∷ others else other ∷ plus_relocation relocation times others
 
 -- whether a number is 0
 abbrev pub is_zero : ℤ → Bool
 is_zero (pos n) = n == 0
 is_zero (negsuc n) = false
 
--- the bases whose multiple is not 0
-abbrev pub remaining : List (Base × ℤ) → List (Base × ℤ)
+-- the relocations whose multiple is not 0
+abbrev pub remaining : List (Relocation × ℤ) → List (Relocation × ℤ)
 remaining [] = []
-remaining (base ∷ bases) = if is_zero base.1 then remaining bases else base ∷ remaining bases
+remaining (relocation ∷ relocations) = if is_zero relocation.1 then remaining relocations else relocation ∷ remaining relocations
 
--- no base, or one of them once
-abbrev pub part_of : ℤ → List (Base × ℤ) → Result Form Letter
+-- no relocation, or one of them once
+abbrev pub part_of : ℤ → List (Relocation × ℤ) → Result Form Letter
 part_of number [] = Ok (absolute number)
-part_of number (base ∷ []) =
-    if unsigned_abs base.1 == 1
-    then Ok (record { number = number; part = Some (if is_negative base.1 then Subtracted base.0 else Added base.0) })
+part_of number (relocation ∷ []) =
+    if unsigned_abs relocation.1 == 1
+    then Ok (record { number = number; part = Some (if is_negative relocation.1 then Subtracted relocation.0 else Added relocation.0) })
     else Err letter.R
-part_of number (base ∷ other ∷ bases) = Err letter.R
+part_of number (relocation ∷ other ∷ relocations) = Err letter.R
 
 -- the number that an item's codes make
-abbrev pub item_number : List ℕ → ℕ
-item_number characters = fold (λ value c. value * 64 + unwrap_or (display_code_of c) 0) 0 characters
+abbrev pub characters_number : List ℕ → ℕ
+characters_number characters = fold (λ value c. value * 64 + unwrap_or (display_code_of c) 0) 0 characters
 
 -- an item in an expression is its number; more than 10 characters are A
-abbrev pub item_form : Item → Result Form Letter
-item_form item = if nat_le (length item.characters) 10 then Ok (absolute (pos (item_number item.characters))) else Err letter.A
+abbrev pub counted_item_form : CountedItem → Result Form Letter
+counted_item_form item = if nat_le (length item.characters) 10 then Ok (absolute (pos (characters_number item.characters))) else Err letter.A
 
 -- the value of a number; one above the greatest is A
 abbrev pub number_form : Number → Result Form Letter
@@ -109,7 +109,7 @@ symbol_form (Some form) = Ok form
 -- the value of an element, or its letter
 abbrev pub element_form : Names → Element → Result Form Letter
 element_form names (ANumber number) = number_form number
-element_form names (AnItem item) = item_form item
+element_form names (ACountedItem item) = counted_item_form item
 element_form names (ASymbol name) = symbol_form (names.symbol name)
 element_form names (ARegister register) = Err letter.V
 element_form names LocationCounter = Ok names.location
@@ -135,20 +135,20 @@ combined_with operator a (Err fault) = Err fault
 combined_with operator a (Ok b) = combined operator a b
 
 -- an element's form, and then its factors from left to right
-abbrev pub product : Names → Result Form Letter → List Link → Result Form Letter
+abbrev pub product : Names → Result Form Letter → List OperatorElement → Result Form Letter
 product names form [] = form
-product names (Err fault) (link ∷ links) = product names (Err fault) links
-product names (Ok form) (link ∷ links) = product names (combined_with link.operator form (element_form names link.element)) links
+product names (Err fault) (pair ∷ pairs) = product names (Err fault) pairs
+product names (Ok form) (pair ∷ pairs) = product names (combined_with pair.operator form (element_form names pair.element)) pairs
 
 -- a number, with the other sign where it is subtracted
 abbrev pub signed : Operator → ℤ → ℤ
 signed Subtract n = neg_ℤ n
 signed _ n = n
 
--- bases added to those of a running sum, or subtracted from them
-abbrev pub plus_bases : Operator → List (Base × ℤ) → List (Base × ℤ) → List (Base × ℤ)
-plus_bases operator [] bases = bases
-plus_bases operator (base ∷ others) bases = plus_bases operator others (plus_base base.0 (signed operator base.1) bases)
+-- relocations added to those of a running sum, or subtracted from them
+abbrev pub plus_relocations : Operator → List (Relocation × ℤ) → List (Relocation × ℤ) → List (Relocation × ℤ)
+plus_relocations operator [] relocations = relocations
+plus_relocations operator (relocation ∷ others) relocations = plus_relocations operator others (plus_relocation relocation.0 (signed operator relocation.1) relocations)
 
 -- a running sum, or A where its number is out of range
 abbrev pub running_in_range : Running → Result Running Letter
@@ -158,7 +158,7 @@ running_in_range running = if is_in_range running.number then Ok running else Er
 abbrev pub plus_term : Operator → Running → Result Form Letter → Result Running Letter
 plus_term operator running (Err fault) = Err fault
 plus_term operator running (Ok form) =
-    running_in_range (record { number = running.number +ℤ signed operator form.number; bases = plus_bases operator (running_part form.part) running.bases })
+    running_in_range (record { number = running.number +ℤ signed operator form.number; relocations = plus_relocations operator (running_part form.part) running.relocations })
 
 -- the sum so far and all terms behind it, or the letter of the first fault
 abbrev pub sum_from : Names → Result Running Letter → List Term → Result Running Letter
@@ -166,11 +166,11 @@ sum_from names running [] = running
 sum_from names (Err fault) (term ∷ terms) = sum_from names (Err fault) terms
 sum_from names (Ok running) (term ∷ terms) = sum_from names (plus_term term.operator running (product names (element_form names term.element) term.factors)) terms
 
--- the value of a finished sum, in which at most one base is left
+-- the value of a finished sum, in which at most one relocation is left
 abbrev pub closed : Result Running Letter → Result Form Letter
 closed (Err fault) = Err fault
-closed (Ok running) = part_of running.number (remaining running.bases)
+closed (Ok running) = part_of running.number (remaining running.relocations)
 
 -- the value of an expression, or the letter of its first fault from left to right
 abbrev pub value_of : Names → Expression → Result Form Letter
-value_of names e = closed (sum_from names (Ok (record { number = pos 0; bases = [] })) e.terms)
+value_of names e = closed (sum_from names (Ok (record { number = pos 0; relocations = [] })) e.terms)

@@ -4,18 +4,18 @@
 --   element = number | item | symbol | register | "*" | "*L" | "*O" | literal
 --   literal = "=" ["+" | "-"] number | "=" item
 use Rattle.std.specs.Prelude.{ℕ, ◌≡◌, ◌⊎◌, List, [], ◌∷◌, ◌++◌, Some, None, true, false, codes}
-use Rattle.definitions.specs.Pieces.{Mark, Plus, Minus, Star, Slash, Equals, Piece, IsMark, IsItem, Run}
+use Rattle.definitions.specs.Pieces.{Mark, Plus, Minus, Star, Slash, Equals, Piece, IsMark, IsCountedItem, Plain}
 use Rattle.definitions.specs.Symbols.{register_of, is_symbol, Number, number_read}
-use Rattle.definitions.specs.Expressions.{Sign, NoSign, PlusSign, MinusSign, Literal, OfNumber, OfItem, Element, ANumber, AnItem, ASymbol, ARegister, LocationCounter, OriginCounter, ALiteral, Operator, Times, Divide, Add, Subtract, Link, Term, Expression}
+use Rattle.definitions.specs.Expressions.{Sign, NoSign, PlusSign, MinusSign, Literal, OfNumber, OfCountedItem, Element, ANumber, ACountedItem, ASymbol, ARegister, LocationCounter, OriginCounter, ALiteral, Operator, Times, Divide, Add, Subtract, OperatorElement, Term, Expression}
 use Rattle.definitions.specs.declared.marks.NumberBase.{NumberBase}
 
 -- a run that is no register and no symbol, and spells this number
-abbrev pub IsNumberRun : NumberBase → List ℕ → Number → Type 0
-IsNumberRun base text number = (register_of text ≡ None) × (is_symbol text ≡ false) × (number_read base text ≡ Some number)
+abbrev pub IsNumberText : NumberBase → List ℕ → Number → Type 0
+IsNumberText base text number = (register_of text ≡ None) × (is_symbol text ≡ false) × (number_read base text ≡ Some number)
 
 -- a run that is a symbol, and that symbol's name
-abbrev pub IsSymbolRun : List ℕ → List ℕ → Type 0
-IsSymbolRun text name = (register_of text ≡ None) × (is_symbol text ≡ true) × (name ≡ text)
+abbrev pub IsSymbolText : List ℕ → List ℕ → Type 0
+IsSymbolText text name = (register_of text ≡ None) × (is_symbol text ≡ true) × (name ≡ text)
 
 -- the sign in front of an expression, or of a literal's number
 abbrev pub sign_pieces : Sign → List Piece
@@ -25,17 +25,17 @@ sign_pieces MinusSign = IsMark Minus ∷ []
 
 -- the pieces spell the literal: an equals sign, and a number with its sign or an item behind it
 abbrev pub IsLiteral : NumberBase → Literal → List Piece → Type 0
-IsLiteral base (OfNumber sign number) pieces = (text : List ℕ) × (number_read base text ≡ Some number) × (pieces ≡ IsMark Equals ∷ (sign_pieces sign ++ Run text ∷ []))
-IsLiteral base (OfItem item) pieces = pieces ≡ IsMark Equals ∷ IsItem item ∷ []
+IsLiteral base (OfNumber sign number) pieces = (text : List ℕ) × (number_read base text ≡ Some number) × (pieces ≡ IsMark Equals ∷ (sign_pieces sign ++ Plain text ∷ []))
+IsLiteral base (OfCountedItem item) pieces = pieces ≡ IsMark Equals ∷ IsCountedItem item ∷ []
 
 -- the pieces spell the element
 abbrev pub IsElement : NumberBase → Element → List Piece → Type 0
-IsElement base (ANumber number) pieces = (text : List ℕ) × IsNumberRun base text number × (pieces ≡ Run text ∷ [])
-IsElement base (AnItem item) pieces = pieces ≡ IsItem item ∷ []
-IsElement base (ASymbol name) pieces = (text : List ℕ) × IsSymbolRun text name × (pieces ≡ Run text ∷ [])
-IsElement base (ARegister register) pieces = (text : List ℕ) × (register_of text ≡ Some register) × (pieces ≡ Run text ∷ [])
-IsElement base LocationCounter pieces = (pieces ≡ IsMark Star ∷ []) ⊎ (pieces ≡ IsMark Star ∷ Run (codes "L") ∷ [])
-IsElement base OriginCounter pieces = pieces ≡ IsMark Star ∷ Run (codes "O") ∷ []
+IsElement base (ANumber number) pieces = (text : List ℕ) × IsNumberText base text number × (pieces ≡ Plain text ∷ [])
+IsElement base (ACountedItem item) pieces = pieces ≡ IsCountedItem item ∷ []
+IsElement base (ASymbol name) pieces = (text : List ℕ) × IsSymbolText text name × (pieces ≡ Plain text ∷ [])
+IsElement base (ARegister register) pieces = (text : List ℕ) × (register_of text ≡ Some register) × (pieces ≡ Plain text ∷ [])
+IsElement base LocationCounter pieces = (pieces ≡ IsMark Star ∷ []) ⊎ (pieces ≡ IsMark Star ∷ Plain (codes "L") ∷ [])
+IsElement base OriginCounter pieces = pieces ≡ IsMark Star ∷ Plain (codes "O") ∷ []
 IsElement base (ALiteral literal) pieces = IsLiteral base literal pieces
 
 -- the mark of an operator between factors, and between terms
@@ -51,11 +51,11 @@ IsTermMark Subtract mark = mark ≡ Minus
 IsTermMark _ mark = ⊥
 
 -- the pieces spell factors, each behind its star or slash
-abbrev pub AreFactors : NumberBase → List Link → List Piece → Type 0
+abbrev pub AreFactors : NumberBase → List OperatorElement → List Piece → Type 0
 AreFactors base [] pieces = pieces ≡ []
-AreFactors base (link ∷ links) pieces =
+AreFactors base (pair ∷ pairs) pieces =
     (mark : Mark) × (front : List Piece) × (rest : List Piece) × (pieces ≡ IsMark mark ∷ (front ++ rest))
-    × IsFactorMark link.operator mark × IsElement base link.element front × AreFactors base links rest
+    × IsFactorMark pair.operator mark × IsElement base pair.element front × AreFactors base pairs rest
 
 -- an element with its factors
 abbrev pub IsTerm : NumberBase → Term → List Piece → Type 0

@@ -13,15 +13,15 @@ word_line Periph word = line (octal_of 4 word.offset ++ (codes " " ++ octal_of 4
 word_line kind word = line (octal_of 6 word.offset ++ (codes " " ++ octal_of 20 word.value))
 
 -- the stored words of a deck in a link; those beyond its memory are left out
-abbrev pub words_of : List Based → Based → List StoredWord
-words_of all based =
+abbrev pub section_words : List Based → Based → List StoredWord
+section_words all based =
     filter (λ word. not (is_beyond based.object.kind word)) (object_words (linking_of all based) based.object based.base)
 
 -- the section of a deck: its name, kind and base, and its stored words
 abbrev pub section : List Based → Based → List ℕ
 section all based =
     line (codes "DECK " ++ (based.object.name ++ (codes " " ++ (kind_text based.object.kind ++ (codes " " ++ octal_of 6 based.base)))))
-    ++ flat_map (word_line based.object.kind) (words_of all based)
+    ++ flat_map (word_line based.object.kind) (section_words all based)
 
 -- a REL deck that passes the end of memory has no section
 abbrev pub section_by : DeckKind → Bool → List Based → Based → List ℕ

@@ -6,7 +6,7 @@ use Rattle.definitions.specs.Operations as op
 use Rattle.definitions.specs.Operations.{Operation}
 use Rattle.definitions.specs.Operands.{Operand, NamesOperand}
 use Rattle.definitions.specs.Settled.{Settled, Definition, defined, defined_in}
-use Rattle.definitions.specs.StatementItems.{Bits, Context, operand_bits}
+use Rattle.definitions.specs.StatementItems.{Item, Context, operand_items}
 use Rattle.definitions.specs.declared.marks.DeckKind.{DeckKind}
 use Rattle.definitions.specs.declared.marks.DeckKind.TheVariants.{Periph}
 use Rattle.definitions.specs.declared.marks.Letter.{Letter}
@@ -53,7 +53,7 @@ entry_letters kind settled operation operand = []
 abbrev pub letters_of : Context → Settled → List Letter
 letters_of context settled =
     settled.letters ++ (entry_letters context.kind context.settled settled.operation settled.operand
-    ++ flat_map (λ (bits : Bits). bits.letters) (operand_bits context settled settled.operand))
+    ++ flat_map (λ (bits : Item). bits.letters) (operand_items context settled settled.operand))
 
 -- the good names of an ENTRY with their forms, those before it among them, each once
 abbrev pub with_entry : List ℕ → List Letter → Option Form → List Definition → List Definition

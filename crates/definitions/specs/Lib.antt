@@ -3,7 +3,7 @@ pub mod Numerals
 pub mod InputLines
 pub mod Cards
 pub mod Statements
-pub mod Items
+pub mod CountedItems
 pub mod Pieces
 pub mod Fields
 pub mod Cuts

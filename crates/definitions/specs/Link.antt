@@ -9,7 +9,7 @@ use Rattle.definitions.specs.Operands.{unit_bits, word_bits}
 use Rattle.definitions.specs.Settled.{Definition}
 use Rattle.definitions.specs.Blocks.{literals_block, is_named}
 use Rattle.definitions.specs.Lengths.{BlockRow, base_in, total_length}
-use Rattle.definitions.specs.StatementItems.{Bits, Known, Linked, part_value}
+use Rattle.definitions.specs.StatementItems.{Item, Known, Linked, part_value}
 use Rattle.definitions.specs.Words.{Coded, Linking, StoredWord, stored_words}
 use Rattle.definitions.specs.Objects.{Object}
 use Rattle.definitions.specs.Listing.{line}
@@ -144,11 +144,11 @@ missing_lines names deck [] = []
 missing_lines names deck (name ∷ externals) = (if is_named name names then [] else link_line (codes "U") deck (codes " " ++ name) ∷ []) ++ missing_lines names deck externals
 
 -- whether the value that the link gives a field does not fit there
-abbrev pub is_unfit : List Based → Based → Bits → Bool
+abbrev pub is_unfit : List Based → Based → Item → Bool
 is_unfit all based bits = elim bits.content [ Known n ↦ false | Linked form ↦ elim (coded_in bits.width (linked_value all based form)) [ Some n ↦ false | None ↦ true ] ]
 
 -- the words in which fields begin that don't fit; `from` is the bit at which the first field begins
-abbrev pub unfit_words : List Based → Based → ℕ → List Bits → List ℕ
+abbrev pub unfit_words : List Based → Based → ℕ → List Item → List ℕ
 unfit_words all based from [] = []
 unfit_words all based from (bits ∷ fields) =
     (if is_unfit all based bits then from / word_bits based.object.kind ∷ [] else []) ++ unfit_words all based (from + bits.width) fields

@@ -6,7 +6,7 @@ use Rattle.definitions.specs.Coding.{coded_in}
 use Rattle.definitions.specs.Operations as op
 use Rattle.definitions.specs.Operations.{Operation}
 use Rattle.definitions.specs.Lengths.{BlockRow, base_in}
-use Rattle.definitions.specs.StatementItems.{Bits, part_value}
+use Rattle.definitions.specs.StatementItems.{Item, part_value}
 use Rattle.definitions.specs.Words.{Coded, Linking, joined, width_of, cut}
 use Rattle.definitions.specs.Objects.{Object, Shown}
 use Rattle.definitions.specs.declared.marks.DeckKind.{DeckKind}
@@ -23,8 +23,8 @@ kind_text Abs = codes "ABS"
 kind_text Periph = codes "PERIPH"
 
 -- the bits of a form in a listing: the deck stands at 0, and so does each external
-abbrev pub alone : List BlockRow → Linking
-alone rows width form = unwrap_or (coded_in width (form.number +ℤ part_value (λ name. pos (base_in name rows)) (λ name. pos 0) form.part)) 0
+abbrev pub unlinked : List BlockRow → Linking
+unlinked rows width form = unwrap_or (coded_in width (form.number +ℤ part_value (λ name. pos (base_in name rows)) (λ name. pos 0) form.part)) 0
 
 -- cards, each behind its number in the deck, where so many cards stand before them
 abbrev pub card_lines : ℕ → List Card → List ℕ
@@ -59,14 +59,14 @@ peripheral_lines word [] = []
 peripheral_lines word (bits ∷ words) = peripheral_line word bits ++ peripheral_lines (word + 1) words
 
 -- an instruction has one line, data have one for each word; BSSZ has none
-abbrev pub central_lines : Linking → Operation → ℕ → List Bits → List ℕ
+abbrev pub central_lines : Linking → Operation → ℕ → List Item → List ℕ
 central_lines linking op.Bssz place fields = []
 central_lines linking operation place [] = []
 central_lines linking op.Instruction place (bits ∷ fields) = central_line (place / 4) (place % 4) (width_of (bits ∷ fields)) (joined linking (bits ∷ fields))
 central_lines linking operation place (bits ∷ fields) = data_lines (place / 4) (cut 60 (width_of (bits ∷ fields) / 60) (joined linking (bits ∷ fields)))
 
 -- in a peripheral deck each word of a statement has a line; BSSZ has none
-abbrev pub peripheral_item_lines : Linking → Operation → ℕ → List Bits → List ℕ
+abbrev pub peripheral_item_lines : Linking → Operation → ℕ → List Item → List ℕ
 peripheral_item_lines linking op.Bssz place fields = []
 peripheral_item_lines linking operation place fields = peripheral_lines place (cut 12 (width_of fields / 12) (joined linking fields))
 
@@ -78,7 +78,7 @@ item_lines kind linking coded = central_lines linking coded.settled.operation co
 -- a statement in the listing: its cards, its letters, its items
 abbrev pub statement_lines : Object → Shown → List ℕ
 statement_lines object shown =
-    card_lines shown.statement.before shown.statement.cards ++ (letters_line shown.letters ++ flat_map (item_lines object.kind (alone object.rows)) shown.coded)
+    card_lines shown.statement.before shown.statement.cards ++ (letters_line shown.letters ++ flat_map (item_lines object.kind (unlinked object.rows)) shown.coded)
 
 -- the BLOCK line: name, base and length
 abbrev pub block_line : BlockRow → List ℕ
@@ -92,7 +92,7 @@ is_flagged shown = nat_lt 0 (length shown.letters)
 abbrev pub errors_of : Object → ℕ
 errors_of object = length (filter is_flagged object.shown)
 
--- the listing of a deck alone
+-- the listing of a deck unlinked
 abbrev pub deck_listing : Object → List ℕ
 deck_listing object =
     line (codes "DECK " ++ (object.name ++ (codes " " ++ kind_text object.kind)))

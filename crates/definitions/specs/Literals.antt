@@ -2,9 +2,9 @@
 use Rattle.std.specs.Prelude.{ℕ, ◌+◌, ◌==◌, List, [], ◌∷◌, ◌++◌, Option, Some, None, Result, Ok, Err, nat_lt, flat_map, filter_map, unwrap_or, ℤ, pos, neg_ℤ, if◌then◌else◌}
 use Rattle.std.specs.List.{list_any}
 use Rattle.definitions.specs.Symbols.{Number, Value, TooGreat}
-use Rattle.definitions.specs.Expressions.{Sign, MinusSign, Literal, OfNumber, OfItem, Element, ALiteral, Expression, elements_of}
+use Rattle.definitions.specs.Expressions.{Sign, MinusSign, Literal, OfNumber, OfCountedItem, Element, ALiteral, Expression, elements_of}
 use Rattle.definitions.specs.Forms.{Form, Added, Block}
-use Rattle.definitions.specs.Coding.{coded_in, item_in}
+use Rattle.definitions.specs.Coding.{coded_in, counted_item_in}
 use Rattle.definitions.specs.Matching.{Field, NoField, OfK, OfN}
 use Rattle.definitions.specs.Operands.{Operand, CentralOperand, WordsOperand, BitsOperand, Datum, ExpressionWord, BitField}
 use Rattle.definitions.specs.Settled.{Settled}
@@ -18,14 +18,14 @@ signed_number MinusSign n = neg_ℤ (pos n)
 signed_number sign n = pos n
 
 -- a signed number in a word of 60 bits; zero where it is too great
-abbrev pub number_bits : Sign → Number → ℕ
-number_bits sign (Value n) = unwrap_or (coded_in 60 (signed_number sign n)) 0
-number_bits sign TooGreat = 0
+abbrev pub literal_number_bits : Sign → Number → ℕ
+literal_number_bits sign (Value n) = unwrap_or (coded_in 60 (signed_number sign n)) 0
+literal_number_bits sign TooGreat = 0
 
 -- the word that DATA would make; of a number that is too great the zero word
 abbrev pub literal_word : Literal → ℕ
-literal_word (OfNumber sign number) = number_bits sign number
-literal_word (OfItem item) = unwrap_or (item_in 60 item) 0
+literal_word (OfNumber sign number) = literal_number_bits sign number
+literal_word (OfCountedItem item) = unwrap_or (counted_item_in 60 item) 0
 
 -- the literal that an element is, if it is one
 abbrev pub literal_in : Element → Option Literal

@@ -1,8 +1,8 @@
 -- Operands: what a variable field is to its operation, before any name is known.
 use Rattle.std.specs.Prelude.{ℕ, ◌+◌, ◌*◌, ◌/◌, ◌==◌, List, [], ◌∷◌, ◌++◌, Option, Some, None, Bool, true, false, not, ◌&&◌, nat_le, codes, map, length, drop, take, take_while, replicate, if◌then◌else◌}
 use Rattle.definitions.specs.Characters.{is_among, same_text, blank}
-use Rattle.definitions.specs.Items.{Item}
-use Rattle.definitions.specs.Pieces.{Plus, Minus, Slash, Piece, IsMark, IsItem, Run, pieces_of, subfields_of}
+use Rattle.definitions.specs.CountedItems.{CountedItem}
+use Rattle.definitions.specs.Pieces.{Plus, Minus, Slash, Piece, IsMark, IsCountedItem, Plain, pieces_of, subfields_of}
 use Rattle.definitions.specs.Symbols.{Number, Value, number_read, is_block_name, is_linked_name}
 use Rattle.definitions.specs.Expressions.{Sign, NoSign, PlusSign, MinusSign, Expression, expression_of, is_plain}
 use Rattle.definitions.specs.PeripheralTable.{PeripheralForm, Ignored, Long, PeripheralRow, peripheral_row}
@@ -17,7 +17,7 @@ use Rattle.definitions.specs.declared.marks.NumberBase.{NumberBase}
 pub data Datum : Type 0 where
   ZeroWord : Datum
   NumberWord : Sign → Number → Datum
-  ItemWords : Item → Datum
+  CountedItemWords : CountedItem → Datum
   ExpressionWord : Expression → Datum
 
 -- a field of a VFD; without an expression it is 0
@@ -89,10 +89,10 @@ number_word sign (Some number) = Some (NumberWord sign number)
 -- a subfield of DATA: nothing, a number with or without a sign, or an item
 abbrev pub data_word : NumberBase → List Piece → Option Datum
 data_word base [] = Some ZeroWord
-data_word base (Run text ∷ []) = number_word NoSign (number_read base text)
-data_word base (IsMark Plus ∷ Run text ∷ []) = number_word PlusSign (number_read base text)
-data_word base (IsMark Minus ∷ Run text ∷ []) = number_word MinusSign (number_read base text)
-data_word base (IsItem item ∷ []) = Some (ItemWords item)
+data_word base (Plain text ∷ []) = number_word NoSign (number_read base text)
+data_word base (IsMark Plus ∷ Plain text ∷ []) = number_word PlusSign (number_read base text)
+data_word base (IsMark Minus ∷ Plain text ∷ []) = number_word MinusSign (number_read base text)
+data_word base (IsCountedItem item ∷ []) = Some (CountedItemWords item)
 data_word base _ = None
 
 -- an expression as a word of CON, if there is one
@@ -132,8 +132,8 @@ given_expression (Some e) = Some (Some e)
 
 -- `n/e`, where e may be missing
 abbrev pub vfd_field : Bool → NumberBase → List Piece → Option BitField
-vfd_field literals base (Run width ∷ IsMark Slash ∷ []) = bit_field (count_read 60 (number_read base width)) (Some None)
-vfd_field literals base (Run width ∷ IsMark Slash ∷ pieces) = bit_field (count_read 60 (number_read base width)) (given_expression (plain_of literals base pieces))
+vfd_field literals base (Plain width ∷ IsMark Slash ∷ []) = bit_field (count_read 60 (number_read base width)) (Some None)
+vfd_field literals base (Plain width ∷ IsMark Slash ∷ pieces) = bit_field (count_read 60 (number_read base width)) (given_expression (plain_of literals base pieces))
 vfd_field literals base _ = None
 
 -- the fields of all subfields, if each is lawful
@@ -175,7 +175,7 @@ one_value base _ = BadOperand
 
 -- the name that a subfield of ENTRY or EXT is, if it is lawful
 abbrev pub linked_name : List Piece → Option (List ℕ)
-linked_name (Run text ∷ []) = if is_linked_name text then Some text else None
+linked_name (Plain text ∷ []) = if is_linked_name text then Some text else None
 linked_name _ = None
 
 -- USE: a block name, `*`, or nothing; a text with `/` is refused

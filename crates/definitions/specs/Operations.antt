@@ -56,9 +56,9 @@ abbrev pub is_peripheral : List ℕ → Bool
 is_peripheral operation = elim (peripheral_row operation) [ Some row ↦ true | None ↦ false ]
 
 -- whether an operation is an instruction in a deck of this kind
-abbrev pub is_instruction : DeckKind → List ℕ → Bool
-is_instruction Periph operation = is_peripheral operation
-is_instruction _ operation = is_central operation
+abbrev pub is_instruction_name : DeckKind → List ℕ → Bool
+is_instruction_name Periph operation = is_peripheral operation
+is_instruction_name _ operation = is_central operation
 
 -- the pseudo-instruction of this name, if it is among them
 abbrev pub pseudo_among : List ℕ → List (List ℕ × Operation) → Option Operation
@@ -67,7 +67,7 @@ pseudo_among operation (row ∷ rows) = if same_text row.0 operation then Some r
 
 -- the pseudo-instruction that is found, else an instruction of the deck's kind, else unknown
 abbrev pub or_instruction : DeckKind → List ℕ → Option Operation → Operation
-or_instruction kind operation None = if is_instruction kind operation then Instruction else Unknown
+or_instruction kind operation None = if is_instruction_name kind operation then Instruction else Unknown
 or_instruction kind operation (Some found) = found
 
 -- the operation that a field names in a deck of this kind
@@ -94,21 +94,21 @@ kind_of (fields ∷ later) =
     if is_neutral operation then kind_of later else kind_made operation
 
 -- a BASE that is accepted
-abbrev pub base_set : Fields → Option NumberBase
-base_set fields =
+abbrev pub number_base_set : Fields → Option NumberBase
+number_base_set fields =
     if same_text fields.operation (codes "BASE")
     then (if same_text fields.variable (codes "O") then Some Octal else if same_text fields.variable (codes "D") then Some Decimal else None)
     else None
 
 -- the base that is set here, or else the one before
-abbrev pub or_base : Option NumberBase → NumberBase → NumberBase
-or_base None base = base
-or_base (Some base) other = base
+abbrev pub or_number_base : Option NumberBase → NumberBase → NumberBase
+or_number_base None base = base
+or_number_base (Some base) other = base
 
 -- the number base behind statements, newest first
-abbrev pub base_after : List Fields → NumberBase
-base_after [] = Decimal
-base_after (fields ∷ earlier) = or_base (base_set fields) (base_after earlier)
+abbrev pub number_base_after : List Fields → NumberBase
+number_base_after [] = Decimal
+number_base_after (fields ∷ earlier) = or_number_base (number_base_set fields) (number_base_after earlier)
 
 -- whether a statement is END
 abbrev pub is_end : Fields → Bool

@@ -3,7 +3,7 @@
 use Rattle.std.specs.Prelude.{ℕ, zero, suc, ◌-◌, ◌==◌, List, [], ◌∷◌, Option, Some, None, if◌then◌else◌}
 use Rattle.std.specs.List.{onto_first}
 use Rattle.definitions.specs.Characters.{blank}
-use Rattle.definitions.specs.Items.{Item, Counted, item_at}
+use Rattle.definitions.specs.CountedItems.{CountedItem, CountedSpan, counted_item_at}
 
 -- the five marks that separate, and the equals sign of a literal
 pub data Mark : Type 0 where
@@ -17,8 +17,8 @@ pub data Mark : Type 0 where
 -- a mark, an item, or a run of characters that are neither
 pub data Piece : Type 0 where
   IsMark : Mark → Piece
-  IsItem : Item → Piece
-  Run : List ℕ → Piece
+  IsCountedItem : CountedItem → Piece
+  Plain : List ℕ → Piece
 
 -- where in a field: at its start or behind a mark, behind an equals sign there, or elsewhere
 pub data Spot : Type 0 where
@@ -29,7 +29,7 @@ pub data Spot : Type 0 where
 -- what begins at a character
 pub data Begun : Type 0 where
   ByMark : Mark → Begun
-  ByItem : Counted → Begun
+  ByCountedItem : CountedSpan → Begun
   ByOther : ℕ → Begun
 
 -- the five marks that separate
@@ -44,39 +44,39 @@ begun_by c None = ByOther c
 begun_by c (Some mark) = ByMark mark
 
 -- an item may begin at the start, behind one of the five marks, and behind an equals sign that stands there
-abbrev pub begun_by_item : ℕ → Option Counted → Begun
-begun_by_item c None = begun_by c (mark_of c)
-begun_by_item c (Some counted) = ByItem counted
+abbrev pub begun_by_counted_item : ℕ → Option CountedSpan → Begun
+begun_by_counted_item c None = begun_by c (mark_of c)
+begun_by_counted_item c (Some counted) = ByCountedItem counted
 
 -- what begins with this character at this spot: a mark, an item, or neither
 abbrev pub begun_at : Spot → ℕ → List ℕ → Begun
-begun_at AtStart c rest = if c == 61 then ByMark Equals else begun_by_item c (item_at (c ∷ rest))
-begun_at AtEquals c rest = begun_by_item c (item_at (c ∷ rest))
+begun_at AtStart c rest = if c == 61 then ByMark Equals else begun_by_counted_item c (counted_item_at (c ∷ rest))
+begun_at AtEquals c rest = begun_by_counted_item c (counted_item_at (c ∷ rest))
 begun_at Inside c rest = begun_by c (mark_of c)
 
 -- where in a field one stands behind what began
 abbrev pub spot_behind : Begun → Spot
 spot_behind (ByMark Equals) = AtEquals
 spot_behind (ByMark mark) = AtStart
-spot_behind (ByItem counted) = Inside
+spot_behind (ByCountedItem counted) = Inside
 spot_behind (ByOther c) = Inside
 
 -- how many characters more belong to what began
 abbrev pub left_of : Begun → ℕ
 left_of (ByMark mark) = 0
-left_of (ByItem counted) = counted.taken - 1
+left_of (ByCountedItem counted) = counted.taken - 1
 left_of (ByOther c) = 0
 
 -- a character in front of a run, or as a run by itself
-abbrev pub onto_run : ℕ → List Piece → List Piece
-onto_run c (Run cs ∷ pieces) = Run (c ∷ cs) ∷ pieces
-onto_run c pieces = Run (c ∷ []) ∷ pieces
+abbrev pub onto_plain : ℕ → List Piece → List Piece
+onto_plain c (Plain cs ∷ pieces) = Plain (c ∷ cs) ∷ pieces
+onto_plain c pieces = Plain (c ∷ []) ∷ pieces
 
 -- what began, in front of the pieces that follow
 abbrev pub onto_pieces : Begun → List Piece → List Piece
 onto_pieces (ByMark mark) pieces = IsMark mark ∷ pieces
-onto_pieces (ByItem counted) pieces = IsItem counted.item ∷ pieces
-onto_pieces (ByOther c) pieces = onto_run c pieces
+onto_pieces (ByCountedItem counted) pieces = IsCountedItem counted.item ∷ pieces
+onto_pieces (ByOther c) pieces = onto_plain c pieces
 
 -- the pieces of a text at a spot, behind so many characters of an item
 abbrev pub pieces_at : Spot → ℕ → List ℕ → List Piece

@@ -16,10 +16,10 @@ pub data BlockChange : Type 0 where
   Closes : BlockChange
 
 -- what a statement does to the location counter of its block: LOC sets it, ORG ends a setting
-pub data Setting : Type 0 where
-  Kept : Setting
-  Counts : Form → Setting
-  Ended : Setting
+pub data LocationSetting : Type 0 where
+  Unchanged : LocationSetting
+  Counts : Form → LocationSetting
+  Ended : LocationSetting
 
 -- a symbol with its value
 pub record Definition : Type 0 where
@@ -43,7 +43,7 @@ pub record Settled : Type 0 where
   pub asks : Bool
   -- whether an ORG begins a new run here
   pub begins_run : Bool
-  pub setting : Setting
+  pub setting : LocationSetting
   pub location : Form
   pub origin : Form
   -- the symbols whose first definition this is

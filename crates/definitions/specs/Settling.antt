@@ -8,10 +8,10 @@ use Rattle.definitions.specs.Pieces.{pieces_of, subfields_of}
 use Rattle.definitions.specs.Symbols.{is_symbol}
 use Rattle.definitions.specs.Forms.{Form, Added, External}
 use Rattle.definitions.specs.Operations as op
-use Rattle.definitions.specs.Operations.{Operation, operation_of, base_after, is_neutral}
+use Rattle.definitions.specs.Operations.{Operation, operation_of, number_base_after, is_neutral}
 use Rattle.definitions.specs.Operands.{Operand, NamesOperand, UseName, UseRefused, operand_of, units}
 use Rattle.definitions.specs.Sizes.{size_of}
-use Rattle.definitions.specs.Settled.{Settled, Setting, Kept, Counts, Ended, Definition, defined, defined_in}
+use Rattle.definitions.specs.Settled.{Settled, LocationSetting, Unchanged, Counts, Ended, Definition, defined, defined_in}
 use Rattle.definitions.specs.Blocks.{block_after, is_accepted, change_of}
 use Rattle.definitions.specs.Places.{Position, position_in, has_place, is_bad, is_machine, is_data, is_no_minus, least_place, to_word, asks_after, most_words}
 use Rattle.definitions.specs.Counters.{word_form, word_of_place, location_at}
@@ -115,23 +115,23 @@ end_of kind op.Loc operand place value block = place
 end_of kind operation operand place value block = end_of_size kind place (size_of kind operand)
 
 -- what ORG does: it ends the setting of a LOC, and a faulty one leaves it in force
-abbrev pub setting_of_origin : Result ℕ Letter → Setting
-setting_of_origin (Err fault) = Kept
+abbrev pub setting_of_origin : Result ℕ Letter → LocationSetting
+setting_of_origin (Err fault) = Unchanged
 setting_of_origin (Ok word) = Ended
 
 -- what LOC does: it sets the counter, and a faulty one leaves it as it was
-abbrev pub setting_of_location : Result Form Letter → Setting
-setting_of_location (Err fault) = Kept
+abbrev pub setting_of_location : Result Form Letter → LocationSetting
+setting_of_location (Err fault) = Unchanged
 setting_of_location (Ok form) = Counts form
 
 -- what a statement does to the location counter; only ORG and LOC do anything
-abbrev pub setting_of : DeckKind → Operation → Result Form Letter → List ℕ → Setting
+abbrev pub setting_of : DeckKind → Operation → Result Form Letter → List ℕ → LocationSetting
 setting_of kind op.Org value block = setting_of_origin (origin_word kind block value)
 setting_of kind op.Loc value block = setting_of_location (location_value kind value)
-setting_of kind operation value block = Kept
+setting_of kind operation value block = Unchanged
 
 -- whether a run begins: an ORG that is not faulty begins one
-abbrev pub is_run : Setting → Bool
+abbrev pub is_run : LocationSetting → Bool
 is_run Ended = true
 is_run _ = false
 
@@ -200,15 +200,15 @@ settled_with kind earlier statement fields operation operand =
     settled_at kind earlier statement fields operation operand place location origin (early_value (early_names earlier location origin) operand)
 
 -- the number base behind these statements
-abbrev pub base_of : List Settled → NumberBase
-base_of earlier = base_after (map (λ (settled : Settled). settled.fields) earlier)
+abbrev pub number_base_of : List Settled → NumberBase
+number_base_of earlier = number_base_after (map (λ (settled : Settled). settled.fields) earlier)
 
 -- the next statement behind those that are settled
 abbrev pub settle : DeckKind → List Settled → Statement → Settled
 settle kind earlier statement =
     let fields = fields_of statement.cards in
     let operation = operation_of kind fields.operation in
-    settled_with kind earlier statement fields operation (operand_of kind (base_of earlier) operation fields.operation fields.variable)
+    settled_with kind earlier statement fields operation (operand_of kind (number_base_of earlier) operation fields.operation fields.variable)
 
 -- one statement more, settled
 abbrev pub settle_onto : DeckKind → List Settled → Statement → List Settled

@@ -3,18 +3,18 @@ use Rattle.std.specs.Prelude.{ℕ, ◌+◌, ◌-◌, ◌*◌, ◌/◌, List, [],
 use Rattle.definitions.specs.Coding.{words_needed}
 use Rattle.definitions.specs.PeripheralTable.{PeripheralForm, Wide, Long}
 use Rattle.definitions.specs.Matching.{Field, NoField, OfK, OfN}
-use Rattle.definitions.specs.Operands.{Operand, CentralOperand, PeripheralOperand, WordsOperand, BitsOperand, TextOperand, Datum, ItemWords, BitField, word_bits, units}
+use Rattle.definitions.specs.Operands.{Operand, CentralOperand, PeripheralOperand, WordsOperand, BitsOperand, TextOperand, Datum, CountedItemWords, BitField, word_bits, units}
 use Rattle.definitions.specs.declared.marks.DeckKind.{DeckKind}
 
 -- how many words a piece of DATA or CON fills
 abbrev pub datum_words : DeckKind → Datum → ℕ
-datum_words kind (ItemWords item) = words_needed (word_bits kind) item
+datum_words kind (CountedItemWords item) = words_needed (word_bits kind) item
 datum_words kind _ = 1
 
 -- how many words the subfields of DATA or CON fill
-abbrev pub words_of : DeckKind → List Datum → ℕ
-words_of kind [] = 0
-words_of kind (datum ∷ data') = datum_words kind datum + words_of kind data'
+abbrev pub data_words : DeckKind → List Datum → ℕ
+data_words kind [] = 0
+data_words kind (datum ∷ data') = datum_words kind datum + data_words kind data'
 
 -- how many bits the fields of a VFD have together
 abbrev pub bits_of : List BitField → ℕ
@@ -22,10 +22,10 @@ bits_of [] = 0
 bits_of (field ∷ fields) = field.width + bits_of fields
 
 -- 18 bits for K and 6 for n
-abbrev pub field_bits : Field → ℕ
-field_bits NoField = 0
-field_bits (OfK e) = 18
-field_bits (OfN e) = 6
+abbrev pub field_width : Field → ℕ
+field_width NoField = 0
+field_width (OfK e) = 18
+field_width (OfN e) = 6
 
 -- how many words a peripheral instruction has: two where a value needs the second
 abbrev pub form_units : PeripheralForm → ℕ
@@ -35,9 +35,9 @@ form_units _ = 1
 
 -- how many units of its deck an operand fills
 abbrev pub size_of : DeckKind → Operand → ℕ
-size_of kind (CentralOperand instruction) = (3 * instruction.count + field_bits instruction.field) / 15
+size_of kind (CentralOperand instruction) = (3 * instruction.count + field_width instruction.field) / 15
 size_of kind (PeripheralOperand row values) = form_units row.form
-size_of kind (WordsOperand data') = words_of kind data' * units kind
+size_of kind (WordsOperand data') = data_words kind data' * units kind
 size_of kind (BitsOperand fields) = (bits_of fields + word_bits kind - 1) / word_bits kind * units kind
 size_of kind (TextOperand count text) = count * units kind
 size_of kind _ = 0

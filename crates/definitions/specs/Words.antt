@@ -7,7 +7,7 @@ use Rattle.definitions.specs.Operations as op
 use Rattle.definitions.specs.Operations.{Operation}
 use Rattle.definitions.specs.Operands.{units, unit_bits}
 use Rattle.definitions.specs.Settled.{Settled}
-use Rattle.definitions.specs.StatementItems.{Bits, Content, Known, Linked}
+use Rattle.definitions.specs.StatementItems.{Item, Content, Known, Linked}
 use Rattle.definitions.specs.declared.marks.DeckKind.{DeckKind}
 use Rattle.definitions.specs.declared.marks.DeckKind.TheVariants.{Periph}
 
@@ -21,12 +21,12 @@ content_bits linking width (Known bits) = bits
 content_bits linking width (Linked form) = linking width form
 
 -- how many bits the fields have together
-abbrev pub width_of : List Bits → ℕ
+abbrev pub width_of : List Item → ℕ
 width_of [] = 0
 width_of (bits ∷ fields) = bits.width + width_of fields
 
 -- fields one behind the other, as one number
-abbrev pub joined : Linking → List Bits → ℕ
+abbrev pub joined : Linking → List Item → ℕ
 joined linking [] = 0
 joined linking (bits ∷ fields) = content_bits linking bits.width bits.content * 2 ^ width_of fields + joined linking fields
 
@@ -54,7 +54,7 @@ is_instruction operation = false
 -- a statement with its fields
 pub record Coded : Type 0 where
   pub settled : Settled
-  pub fields : List Bits
+  pub fields : List Item
 
 -- a statement's fields fill the parcels from its place to its end; one without fields leaves them as they are
 abbrev pub parcels_of : DeckKind → Linking → Coded → List Parcel
