@@ -1,11 +1,12 @@
 -- The cut of a text into fields: each part that the scanning functions find is the lawful one, and the only one.
-use Rattle.std.proofs.Common.{ℕ, zero, suc, ◌≡◌, ◌≢◌, ◌-◌, ◌<◌, ◌≤◌, ◌⊎◌, inl, inr, List, [], ◌∷◌, ◌++◌, Bool, true, false, cond, not, ◌&&◌, ◌==◌, nat_lt, if◌then◌else◌, length, drop, codes, refl, sym, ◌∙◌, ap, ap₂, subst, arith, ltb-true, ltb-false, eq-eqb, ne_eqb}
+use Rattle.std.proofs.Common.{ℕ, zero, suc, ◌≡◌, ◌≢◌, ◌-◌, ◌<◌, ◌≤◌, ◌⊎◌, inl, inr, List, [], ◌∷◌, ◌++◌, Bool, true, false, cond, not, ◌==◌, nat_lt, if◌then◌else◌, length, drop, codes, refl, sym, ◌∙◌, ap, ap₂, subst, arith, ltb-true, ltb-false, eq-eqb, ne_eqb}
 use Rattle.std.proofs.lemmas.Bool.Decides.{eqb_tells}
 use Rattle.std.proofs.lemmas.List.Sums.{take_while-cons}
 use Rattle.std.proofs.Math.Seq.{drop-append_seam}
 use Rattle.definitions.specs.Characters.{blank, same_text}
 use Rattle.definitions.specs.Pieces.{Spot, AtStart, begun_at, spot_behind, left_of, field_at}
 use Rattle.definitions.specs.Fields.{Fields, unbroken_front, without_blanks, from_location, variable_of, fields_of_text}
+use Rattle.definitions.proofs.TextLaws.{same_text_tells}
 use Rattle.definitions.specs.Cuts.{IsUnbroken, AreBlanks, HasBegun, IsLead, IsExtent, IsVariable, HasVariable, HasOperation, IsCut}
 
 -- what follows the word that begins a text
@@ -126,20 +127,6 @@ field_at-split spot zero (c ∷ field) rest h =
     field_at-other spot c (field ++ rest) h.0
     ∙ ap (λ (t : List ℕ). c ∷ t)
     (field_at-split (spot_behind (begun_at spot c (field ++ rest))) (left_of (begun_at spot c (field ++ rest))) field rest h.1)
-
--- what the test of two texts tells
-same_text_tells : (a b : List ℕ) → ((same_text a b ≡ true) × (a ≡ b)) ⊎ ((same_text a b ≡ false) × (a ≢ b))
-same_text_tells [] [] = inl (refl, refl)
-same_text_tells [] (d ∷ b) = inr (refl, λ e. cc)
-same_text_tells (c ∷ a) [] = inr (refl, λ e. cc)
-same_text_tells (c ∷ a) (d ∷ b) =
-    elim (eqb_tells c d) [
-      | inl h ↦ elim (same_text_tells a b) [
-        | inl k ↦ inl (ap₂ (λ (s t : Bool). s && t) h.0 k.0, cc)
-        | inr k ↦ inr (ap₂ (λ (s t : Bool). s && t) h.0 k.0, λ e. k.1 (cc))
-      ]
-      | inr h ↦ inr (ap (λ (s : Bool). s && same_text a b) h.0, λ e. h.1 (cc))
-    ]
 
 -- what the test of the column tells
 in_time_tells : (text rest : List ℕ) →

@@ -1,8 +1,8 @@
 -- What `pairs_of` reads, as a relation: elements, each behind the mark of its operator.
-use Rattle.std.proofs.Common.{ℕ, ◌≡◌, inl, inr, List, [], ◌∷◌, ◌++◌, Option, Some, None, Bool, true, false, ◌==◌, refl, sym, ◌∙◌, ap, subst, if◌then◌else◌}
+use Rattle.std.proofs.Common.{ℕ, ◌≡◌, inl, inr, List, [], ◌∷◌, ◌++◌, Option, Some, None, Bool, true, false, refl, sym, ◌∙◌, ap, subst, if◌then◌else◌}
 use Rattle.std.specs.Prelude.{codes}
-use Rattle.std.proofs.lemmas.Bool.{eqb-true, and_parts}
 use Rattle.definitions.specs.Characters.{same_text}
+use Rattle.definitions.proofs.TextLaws.{same_text-true}
 use Rattle.definitions.specs.Pieces.{Mark, Plus, Minus, Star, Slash, Equals, Piece, IsMark, IsCountedItem, Plain}
 use Rattle.definitions.specs.Symbols.{Register, register_of, is_symbol, Number, number_read}
 use Rattle.definitions.specs.Expressions.{Sign, NoSign, PlusSign, MinusSign, OfNumber, OfCountedItem, Element, ANumber, ACountedItem, ASymbol, ARegister, LocationCounter, OriginCounter, ALiteral, Operator, Times, Divide, Add, Subtract, OperatorElement, element_of_number, element_of_name, element_of_text, counter_of, literal_of, Awaited, AnOperator, ElementOf, onto_pairs, pairs_of}
@@ -38,17 +38,6 @@ StartsWithElement base operator pairs pieces =
 abbrev pub AreRead : NumberBase → Awaited → List OperatorElement → List Piece → Type 0
 AreRead base AnOperator pairs pieces = AreLinks base pairs pieces
 AreRead base (ElementOf operator) pairs pieces = StartsWithElement base operator pairs pieces
-
--- texts that test the same are the same
-pub same_text-true : (a b : List ℕ) → same_text a b ≡ true → a ≡ b
-same_text-true [] [] h = refl
-same_text-true [] (y ∷ ys) h = cc
-same_text-true (x ∷ xs) [] h = cc
-same_text-true (x ∷ xs) (y ∷ ys) h =
-    let parts : ((x == y) ≡ true) × (same_text xs ys ≡ true) = and_parts (x == y) (same_text xs ys) h in
-    let heads : x ≡ y = eqb-true x y parts.0 in
-    let tails : xs ≡ ys = same_text-true xs ys parts.1 in
-    cc
 
 -- what is an element under one reading is it under an equal one
 pub same_element : (base : NumberBase) (x y : Element) (pieces : List Piece) → Some x ≡ Some y → IsElement base x pieces → IsElement base y pieces

@@ -1,13 +1,19 @@
+-- The laws, in the order of the definitions that they speak of.
+pub mod TextLaws
 pub mod NumeralLaws
 pub mod StatementLaws
-pub mod PlaceLaws
-pub mod LengthLaws
-pub mod WordLaws
-pub mod LiteralLaws
 pub mod FieldLaws
-pub mod WorkedCentral
-pub mod WorkedKinds
-pub mod WorkedCards
 pub mod GrammarLaws
 pub mod TermLaws
 pub mod ExpressionLaws
+pub mod PlaceLaws
+pub mod LiteralLaws
+pub mod LengthLaws
+pub mod StateSteps
+-- pub mod ViewLaws
+-- pub mod TailLaws
+pub mod WordLaws
+-- Worked decks, computed.
+pub mod WorkedCards
+pub mod WorkedCentral
+pub mod WorkedKinds

@@ -1,6 +1,6 @@
 -- Each literal fits a word of 60 bits.
 use Rattle.std.proofs.Common.{◌≡◌, ℕ, suc, ◌+◌, ◌-◌, ◌*◌, ◌/◌, ◌^◌, ◌<◌, ◌≤◌, Bool, true, false, List, [], ◌∷◌, ◌++◌, length, Option, None, Some, refl, sym, ap, ◌∙◌, arith, length-append}
-use Rattle.std.specs.Prelude.{All, fold, unwrap_or, nat_eq, ℤ, pos, negsuc, nat_le}
+use Rattle.std.specs.Prelude.{All, fold, unwrap_or, nat_eq, ℤ, pos, negsuc, nat_le, ◌||◌}
 use Rattle.std.specs.List.{AllByRecursion, list_any}
 use Rattle.std.proofs.lemmas.Nat.{pow-add}
 use Rattle.std.proofs.lemmas.List.Elements.{All-from_recursion}
@@ -15,7 +15,7 @@ use Rattle.definitions.specs.Symbols.{Number, Value, TooGreat}
 use Rattle.definitions.specs.Expressions.{Sign, Literal, OfNumber, OfCountedItem}
 use Rattle.definitions.specs.Forms.{characters_number}
 use Rattle.definitions.specs.Coding.{fits, coded, coded_in, counted_item_in, counted_item_bits, blanks}
-use Rattle.definitions.specs.Literals.{literal_word, literal_number_bits, signed_number, with_word, with_literals, literal_words, operand_literals}
+use Rattle.definitions.specs.Literals.{literal_word, literal_number_bits, signed_number, most_literals, with_word, with_literals, literal_words, operand_literals}
 use Rattle.definitions.specs.Settled.{Settled}
 use Rattle.definitions.proofs.WordLaws.{pow_positive, picked_cond}
 
@@ -110,7 +110,7 @@ push_word [] word h k = (k, tt)
 push_word (w ∷ ws) word h k = (h.0, push_word ws word h.1 k)
 
 with_word-below : (word : ℕ) (words : List ℕ) → AreWords words → word < 2 ^ 60 → AreWords (with_word word words)
-with_word-below word words h k = picked_cond AreWords (list_any (λ other. nat_eq other word) words) words (words ++ word ∷ []) h (push_word words word h k)
+with_word-below word words h k = picked_cond AreWords (list_any (λ other. nat_eq other word) words || nat_le most_literals (length words)) words (words ++ word ∷ []) h (push_word words word h k)
 
 with_literals-below : (literals : List Literal) (words : List ℕ) → AreWords words → AreWords (with_literals literals words)
 with_literals-below [] words h = h
@@ -118,7 +118,7 @@ with_literals-below (literal ∷ literals) words h = with_literals-below literal
 
 literal_words-by_recursion : (settled : List Settled) → AreWords (literal_words settled)
 literal_words-by_recursion [] = tt
-literal_words-by_recursion (latest ∷ earlier) = with_literals-below (operand_literals latest.operand) (literal_words earlier) (literal_words-by_recursion earlier)
+literal_words-by_recursion (latest ∷ earlier) = with_literals-below (operand_literals latest.read.operand) (literal_words earlier) (literal_words-by_recursion earlier)
 
 pub literal_words-below : (settled : List Settled) → All (λ word. word < 2 ^ 60) (literal_words settled)
 literal_words-below settled = All-from_recursion _ (literal_words settled) (literal_words-by_recursion settled)

@@ -3,20 +3,13 @@ use Rattle.std.proofs.Common.{◌≡◌, List, [], ◌∷◌, ◌++◌, Bool, tr
 use Rattle.std.specs.Prelude.{◌&&◌, nat_le}
 use Rattle.std.proofs.lemmas.List.{length-reverse}
 use Rattle.std.proofs.lemmas.Grind.{reverse_onto}
+use Rattle.std.proofs.lemmas.Bool.{and_parts}
 use Rattle.definitions.specs.Cards.{Card, is_comma_card}
 use Rattle.definitions.specs.Statements.{Statement, statements_of, cards_in, AreNumbered, onto_latest, continues, has_owner, comma_cards}
 
-and_left : (a b : Bool) → (a && b) ≡ true → a ≡ true
-and_left true b e = refl
-and_left false b e = e
-
-and_right : (a b : Bool) → (a && b) ≡ true → b ≡ true
-and_right true b e = e
-and_right false b e = cc
-
 -- what continues has an owner in front of it
 has_owner-continues : (earlier : List Card) (card : Card) → continues earlier card ≡ true → has_owner earlier ≡ true
-has_owner-continues earlier card e = and_right (is_comma_card card) (has_owner earlier) (and_left (is_comma_card card && has_owner earlier) (nat_le (comma_cards earlier) 8) e)
+has_owner-continues earlier card e = (and_parts (is_comma_card card) (has_owner earlier) (and_parts (is_comma_card card && has_owner earlier) (nat_le (comma_cards earlier) 8) e).0).1
 
 -- there is a latest statement
 abbrev HasLatest : List Statement → Type 0

@@ -6,8 +6,9 @@ use Rattle.std.proofs.Math.Nat.{mod-lt, pow-suc as pow-succ}
 use Rattle.std.proofs.lemmas.Nat.{pow-add, mul-add-lt}
 use Rattle.std.proofs.lemmas.List.Elements.{All-from_recursion}
 use Rattle.definitions.specs.Characters.{same_text}
-use Rattle.definitions.specs.Operands.{units, unit_bits, word_bits}
-use Rattle.definitions.specs.Words.{Parcel, Coded, Linking, StoredWord, cut, parcels_from, parcels_of, onto_runs, runs_of, in_word, latest_in_word, pass, filling_of, bits_at, last_places, word_of_parcels, stored, words_in, stored_words, joined, is_instruction}
+use Rattle.definitions.specs.Kinds.{units, unit_bits, word_bits}
+use Rattle.definitions.specs.Operations.{is_instruction}
+use Rattle.definitions.specs.Words.{Parcel, Coded, Linking, StoredWord, cut, parcels_from, parcels_of, onto_runs, runs_of, in_word, latest_in_word, pass, filling_of, bits_at, last_places, word_of_parcels, stored, words_in, stored_words, joined}
 use Rattle.definitions.specs.StatementItems.{Item}
 use Rattle.definitions.specs.declared.marks.DeckKind.{DeckKind}
 use Rattle.definitions.specs.declared.marks.DeckKind.TheVariants.{Rel, Abs, Periph}
@@ -41,7 +42,7 @@ parcels_from-below instruction place limit (n ∷ ns) h = (h.0, parcels_from-bel
 parcels_of-below : (kind : DeckKind) (linking : Linking) (coded : Coded) (fields : List Item) → coded.fields ≡ fields → AreBelow (2 ^ unit_bits kind) (parcels_of kind linking coded)
 parcels_of-below kind linking coded [] e = rw e tt
 parcels_of-below kind linking coded (bits ∷ others) e =
-    rw e (parcels_from-below (is_instruction coded.settled.operation) coded.settled.place (2 ^ unit_bits kind) _ (cut_below (unit_bits kind) (coded.settled.end - coded.settled.place) (joined linking (bits ∷ others))))
+    rw e (parcels_from-below (is_instruction coded.settled.read.operation) coded.settled.place (2 ^ unit_bits kind) _ (cut_below (unit_bits kind) (coded.settled.end - coded.settled.place) (joined linking (bits ∷ others))))
 
 -- all runs have parcels with bits below this
 abbrev AreRunsBelow : ℕ → List (List Parcel) → Type 0

@@ -1,7 +1,7 @@
--- Blocks: the stack of USE, as matched brackets (COMPASS 60492600, USE; that the stack has no bound is ours).
-use Rattle.std.specs.Prelude.{ℕ, zero, suc, List, [], ◌∷◌, ◌++◌, Bool, ◌||◌, nat_lt, codes, length, if◌then◌else◌}
+-- Blocks: the stack of USE, and the blocks in order of first use (COMPASS 60492600, USE; that the stack has no bound is ours).
+use Rattle.std.specs.Prelude.{ℕ, List, [], ◌∷◌, ◌++◌, Bool, false, ◌==◌, ◌||◌, nat_lt, codes, length, drop, if◌then◌else◌}
 use Rattle.std.specs.List.{list_any}
-use Rattle.definitions.specs.Characters.{same_text}
+use Rattle.definitions.specs.Characters.{same_text, slash}
 use Rattle.definitions.specs.Operands.{Operand, UseName, UseBefore}
 use Rattle.definitions.specs.Settled.{Settled, BlockChange, NoChange, Opens, Closes}
 
@@ -17,22 +17,27 @@ literals_block = codes "="
 abbrev pub most_blocks : ℕ
 most_blocks = 64
 
--- the block of the latest USE that no later `USE *` closes; so many closings are still to be matched
-abbrev pub open_block : ℕ → List BlockChange → List ℕ
-open_block closings [] = nominal
-open_block closings (NoChange ∷ earlier) = open_block closings earlier
-open_block closings (Closes ∷ earlier) = open_block (suc closings) earlier
-open_block zero (Opens name ∷ earlier) = name
-open_block (suc closings) (Opens name ∷ earlier) = open_block closings earlier
+-- whether a block is a common one, which is named with its slashes
+abbrev pub is_common : List ℕ → Bool
+is_common [] = false
+is_common (c ∷ cs) = c == slash
+
+-- the open names, latest first: a USE opens its name, and `USE *` closes the latest open one, if there is one
+abbrev pub open_names : List BlockChange → List (List ℕ)
+open_names [] = []
+open_names (NoChange ∷ earlier) = open_names earlier
+open_names (Opens name ∷ earlier) = name ∷ open_names earlier
+open_names (Closes ∷ earlier) = drop 1 (open_names earlier)
+
+-- the block in use: that of the latest open name, else the nominal one
+abbrev pub block_in_use : List (List ℕ) → List ℕ
+block_in_use [] = nominal
+block_in_use (name ∷ names) = name
 
 -- what statements did to the stack of blocks, newest first
 abbrev pub changes : List Settled → List BlockChange
 changes [] = []
 changes (settled ∷ earlier) = settled.change ∷ changes earlier
-
--- the block in use behind these statements
-abbrev pub block_after : List Settled → List ℕ
-block_after earlier = open_block zero (changes earlier)
 
 -- whether a name is among these names
 abbrev pub is_named : List ℕ → List (List ℕ) → Bool
@@ -48,14 +53,12 @@ abbrev pub blocks_used : List BlockChange → List (List ℕ)
 blocks_used [] = nominal ∷ []
 blocks_used (change ∷ earlier) = with_opened change (blocks_used earlier)
 
--- whether a USE of this name is accepted: the 65th block is not
-abbrev pub is_accepted : List ℕ → List Settled → Bool
-is_accepted name earlier =
-    let names = blocks_used (changes earlier) in
-    is_named name names || nat_lt (length names) most_blocks
+-- whether a USE of this name is accepted, where these blocks are used: the 65th block is not
+abbrev pub is_accepted : List ℕ → List (List ℕ) → Bool
+is_accepted name names = is_named name names || nat_lt (length names) most_blocks
 
 -- what an operand does to the stack: an accepted USE opens its block, `USE *` closes one, all else changes nothing
-abbrev pub change_of : Operand → List Settled → BlockChange
-change_of (UseName name) earlier = if is_accepted name earlier then Opens name else NoChange
-change_of UseBefore earlier = Closes
-change_of _ earlier = NoChange
+abbrev pub change_of : Operand → List (List ℕ) → BlockChange
+change_of (UseName name) names = if is_accepted name names then Opens name else NoChange
+change_of UseBefore names = Closes
+change_of _ names = NoChange

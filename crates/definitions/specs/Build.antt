@@ -1,18 +1,19 @@
 -- A build: what assembling and linking decks gives, and what it counts.
 use Rattle.std.specs.Prelude.{ℕ, ◌+◌, List, [], ◌∷◌, ◌++◌, flat_map, map, length}
-use Rattle.definitions.specs.Objects.{Deck, Object, object_of}
+use Rattle.definitions.specs.DeckInput.{Deck}
+use Rattle.definitions.specs.Objects.{Object, object_of}
 use Rattle.definitions.specs.Listing.{deck_listing, errors_of}
-use Rattle.definitions.specs.Link.{based_of, link_lines}
+use Rattle.definitions.specs.Link.{layout_of, link_lines}
 use Rattle.definitions.specs.Map.{map_text}
 use Rattle.definitions.specs.Image.{image_text}
 
 -- the listing of each object in order, and the link map behind them
 abbrev pub listing_of_objects : List Object → List ℕ
-listing_of_objects objects = flat_map deck_listing objects ++ map_text (based_of objects)
+listing_of_objects objects = flat_map deck_listing objects ++ map_text (layout_of objects)
 
 -- the octal image of objects in their places
 abbrev pub image_of_objects : List Object → List ℕ
-image_of_objects objects = image_text (based_of objects)
+image_of_objects objects = image_text (layout_of objects)
 
 -- the listing of decks, with the link map
 abbrev pub listing_of : List Deck → List ℕ
@@ -38,7 +39,7 @@ abbrev pub build_of_objects : List Object → Build
 build_of_objects objects = record {
   text = listing_of_objects objects ++ image_of_objects objects;
   errors = errors_in objects;
-  links = length (link_lines (based_of objects));
+  links = length (link_lines (layout_of objects));
 }
 
 -- the build of decks

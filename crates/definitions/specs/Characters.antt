@@ -19,6 +19,29 @@ character_of code = slice_index characters code
 abbrev pub blank : ℕ
 blank = 32
 
+-- the characters that separate, and the sign of a literal
+abbrev pub comma : ℕ
+comma = 44
+
+abbrev pub plus : ℕ
+plus = 43
+
+abbrev pub minus : ℕ
+minus = 45
+
+abbrev pub star : ℕ
+star = 42
+
+abbrev pub slash : ℕ
+slash = 47
+
+abbrev pub equals : ℕ
+equals = 61
+
+-- the digit 0; the others follow in order
+abbrev pub zero_digit : ℕ
+zero_digit = 48
+
 -- whether a character is one of these
 abbrev pub is_among : ℕ → List ℕ → Bool
 is_among character set = list_any (λ c. c == character) set

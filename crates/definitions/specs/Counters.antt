@@ -3,8 +3,8 @@ use Rattle.std.specs.Prelude.{ℕ, ◌/◌, List, [], ◌∷◌, Option, Some, N
 use Rattle.definitions.specs.Characters.{same_text}
 use Rattle.definitions.specs.Symbols.{is_nominal}
 use Rattle.definitions.specs.Forms.{Form, absolute, Added, Block}
-use Rattle.definitions.specs.Operands.{units}
-use Rattle.definitions.specs.Settled.{Settled, Unchanged, Counts, Ended}
+use Rattle.definitions.specs.Kinds.{units}
+use Rattle.definitions.specs.Settled.{Settled, Counting, Unchanged, Counts, Ended}
 use Rattle.definitions.specs.declared.marks.DeckKind.{DeckKind}
 use Rattle.definitions.specs.declared.marks.DeckKind.TheVariants.{Rel}
 
@@ -21,23 +21,29 @@ word_form kind block word = if is_nominal block then absolute (pos word) else re
 abbrev pub moved : Form → ℕ → ℕ → Form
 moved form word from = record { number = form.number +ℤ (pos word -ℤ pos from); part = form.part }
 
--- the latest LOC or ORG of the block that counts: the value that a LOC set, and its place
-abbrev pub location_set : List ℕ → List Settled → Option (Form × ℕ)
-location_set block [] = None
-location_set block (settled ∷ earlier) =
+-- the LOC in force in a block: the latest one that no ORG of the block has ended
+abbrev pub counting_in : List ℕ → List Settled → Option Counting
+counting_in block [] = None
+counting_in block (settled ∷ earlier) =
     elim settled.setting [
-      | Unchanged ↦ location_set block earlier
-      | Counts form ↦ if same_text settled.block block then Some (form, settled.place) else location_set block earlier
-      | Ended ↦ if same_text settled.block block then None else location_set block earlier
+      | Unchanged ↦ counting_in block earlier
+      | Counts counting ↦ if same_text settled.block block then Some counting else counting_in block earlier
+      | Ended ↦ if same_text settled.block block then None else counting_in block earlier
     ]
 
 -- the value of `*` at a word: counted on from the LOC in force, or that of `*O` where there is none
-abbrev pub location_from : DeckKind → Form → ℕ → Option (Form × ℕ) → Form
+abbrev pub location_from : DeckKind → Form → ℕ → Option Counting → Form
 location_from kind origin word None = origin
-location_from kind origin word (Some found) = moved found.0 word (word_of_place kind found.1)
+location_from kind origin word (Some counting) = moved counting.form word (word_of_place kind counting.place)
 
--- `*` of a statement at this place of its block
-abbrev pub location_at : DeckKind → List ℕ → ℕ → List Settled → Form
-location_at kind block place earlier =
+-- the two counters of a statement
+pub record Counters : Type 0 where
+  pub location : Form
+  pub origin : Form
+
+-- the counters of a statement at this place of its block
+abbrev pub counters_at : DeckKind → List ℕ → ℕ → Option Counting → Counters
+counters_at kind block place counting =
     let word = word_of_place kind place in
-    location_from kind (word_form kind block word) word (location_set block earlier)
+    let origin = word_form kind block word in
+    record { location = location_from kind origin word counting; origin = origin }

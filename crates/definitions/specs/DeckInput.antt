@@ -5,7 +5,11 @@ use Rattle.definitions.specs.Characters.{is_letter, is_digit, same_text, blank}
 use Rattle.definitions.specs.InputLines.{InputLine, Line, TooLong, Cut}
 use Rattle.definitions.specs.Cards.{Card, CardRead, IsCard, TooWide, BadCharacter, card_of}
 use Rattle.definitions.specs.Fields.{Fields, fields_of}
-use Rattle.definitions.specs.Objects.{Deck}
+
+-- a deck: its name and its cards, oldest first
+pub record Deck : Type 0 where
+  pub name : List ℕ
+  pub cards : List Card
 
 -- what keeps input from being decks, with its line and column where they are told
 pub data InputFault : Type 0 where

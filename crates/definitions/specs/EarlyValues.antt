@@ -2,24 +2,27 @@
 -- (COMPASS 60492600, BSS, ORG, LOC, EQU; the order of the letters is ours).
 use Rattle.std.specs.Prelude.{ℕ, ◌+◌, ◌*◌, List, [], ◌∷◌, Option, Some, None, Result, Ok, Err, Bool, true, false, ◌&&◌, nat_le, nat_lt, ℤ, pos, negsuc, if◌then◌else◌}
 use Rattle.definitions.specs.Characters.{same_text}
+use Rattle.definitions.specs.Kinds.{units, most_words, is_absolute_deck}
 use Rattle.definitions.specs.Symbols.{is_nominal}
 use Rattle.definitions.specs.Forms.{Form, Names, Part, Added, Block, absolute, is_absolute, value_of}
-use Rattle.definitions.specs.Operands.{Operand, ValueOperand, units}
-use Rattle.definitions.specs.Places.{most_words}
-use Rattle.definitions.specs.Settled.{Settled, defined}
+use Rattle.definitions.specs.Operands.{Operand, ValueOperand}
+use Rattle.definitions.specs.Operations as op
+use Rattle.definitions.specs.Operations.{Operation}
+use Rattle.definitions.specs.Sizes.{size_of}
+use Rattle.definitions.specs.Counters.{Counters}
+use Rattle.definitions.specs.Settled.{LocationSetting, Unchanged, Counts, Ended}
 use Rattle.definitions.specs.declared.marks.DeckKind.{DeckKind}
-use Rattle.definitions.specs.declared.marks.DeckKind.TheVariants.{Rel}
 use Rattle.definitions.specs.declared.marks.Letter.{Letter}
 use Rattle.definitions.specs.declared.marks.Letter.TheVariants as letter
 
--- only symbols of earlier statements, and no literals
-abbrev pub early_names : List Settled → Form → Form → Names
-early_names earlier location origin = record { symbol = λ name. defined name earlier; literal = λ literal. Err letter.V; location = location; origin = origin }
+-- only symbols that are seen early, and no literals
+abbrev pub early_names : (List ℕ → Option Form) → Counters → Names
+early_names symbol counters = record { symbol = symbol; literal = λ literal. Err letter.V; location = counters.location; origin = counters.origin }
 
--- the value of the one expression, or V where the operand is none
-abbrev pub early_value : Names → Operand → Result Form Letter
-early_value names (ValueOperand e) = value_of names e
-early_value names _ = Err letter.V
+-- the value of the one expression; other operands read nothing early
+abbrev pub early_value : Names → Operand → Option (Result Form Letter)
+early_value names (ValueOperand e) = Some (value_of names e)
+early_value names _ = None
 
 -- a number of words from 0 up to, but not with, the greatest
 abbrev pub in_words : ℕ → ℤ → Result ℕ Letter
@@ -35,11 +38,6 @@ that_ends kind place (Ok n) = if nat_le (place + n * units kind) (most_words kin
 abbrev pub reserved : DeckKind → ℕ → Result Form Letter → Result ℕ Letter
 reserved kind place (Err fault) = Err fault
 reserved kind place (Ok form) = if is_absolute form then that_ends kind place (in_words (most_words kind) form.number) else Err letter.R
-
--- whether a deck is ABS or PERIPH
-abbrev pub is_absolute_deck : DeckKind → Bool
-is_absolute_deck Rel = false
-is_absolute_deck kind = true
 
 -- whether a value lies in this block, with sign plus
 abbrev pub is_in_block : List ℕ → Option Part → Bool
@@ -71,17 +69,57 @@ abbrev pub location_value : DeckKind → Result Form Letter → Result Form Lett
 location_value kind (Err fault) = Err fault
 location_value kind (Ok form) = if is_location_part form.part then with_range form (in_words (most_words kind) form.number) else Err letter.R
 
--- a faulty EQU defines absolute 0
-abbrev pub equated : Result Form Letter → Form
-equated (Err fault) = absolute (pos 0)
-equated (Ok form) = form
-
--- a number, or 0 where it is faulty
-abbrev pub number_or_zero : Result ℕ Letter → ℕ
-number_or_zero (Err fault) = 0
-number_or_zero (Ok n) = n
-
 -- the letter of what is faulty, and none of what is not
 abbrev pub letter_of : {A : Type 0} → Result A Letter → List Letter
 letter_of (Err fault) = fault ∷ []
 letter_of (Ok value) = []
+
+-- what follows from a statement's size or from its early value: its end, what becomes of the location counter, its letters
+pub record Outcome : Type 0 where
+  pub end : ℕ
+  pub setting : LocationSetting
+  pub letters : List Letter
+
+-- a statement that stays at its place, with a letter
+abbrev pub stays_with : ℕ → Letter → Outcome
+stays_with place fault = record { end = place; setting = Unchanged; letters = fault ∷ [] }
+
+-- ORG goes to its word and ends the setting of a LOC; a faulty one leaves both as they are
+abbrev pub origin_outcome : DeckKind → ℕ → Result ℕ Letter → Outcome
+origin_outcome kind place (Err fault) = stays_with place fault
+origin_outcome kind place (Ok word) = record { end = word * units kind; setting = Ended; letters = [] }
+
+-- LOC sets the counter; a faulty one leaves it as it was
+abbrev pub location_outcome : ℕ → Result Form Letter → Outcome
+location_outcome place (Err fault) = stays_with place fault
+location_outcome place (Ok form) = record { end = place; setting = Counts (record { form = form; place = place }); letters = [] }
+
+-- BSS and BSSZ end behind their words; a faulty one reserves none
+abbrev pub reserved_outcome : DeckKind → ℕ → Result ℕ Letter → Outcome
+reserved_outcome kind place (Err fault) = stays_with place fault
+reserved_outcome kind place (Ok words) = record { end = place + words * units kind; setting = Unchanged; letters = [] }
+
+-- what an operation does with its early value, at this place of this block; EQU stays where it is
+abbrev pub outcome_of_value : DeckKind → Operation → List ℕ → ℕ → Result Form Letter → Outcome
+outcome_of_value kind op.Org block place value = origin_outcome kind place (origin_word kind block value)
+outcome_of_value kind op.Loc block place value = location_outcome place (location_value kind value)
+outcome_of_value kind op.Bss block place value = reserved_outcome kind place (reserved kind place value)
+outcome_of_value kind op.Bssz block place value = reserved_outcome kind place (reserved kind place value)
+outcome_of_value kind _ block place value = record { end = place; setting = Unchanged; letters = letter_of value }
+
+-- a statement ends behind its items; one whose items would pass the block ends at its place, with A
+abbrev pub outcome_of_size : DeckKind → ℕ → ℕ → Outcome
+outcome_of_size kind place size =
+    if nat_le (place + size) (most_words kind * units kind) then record { end = place + size; setting = Unchanged; letters = [] }
+    else stays_with place letter.A
+
+-- by its early value, where it reads one, else by its size
+abbrev pub outcome_of : DeckKind → Operation → Operand → List ℕ → ℕ → Option (Result Form Letter) → Outcome
+outcome_of kind operation operand block place None = outcome_of_size kind place (size_of kind operand)
+outcome_of kind operation operand block place (Some value) = outcome_of_value kind operation block place value
+
+-- a faulty or missing value of EQU counts as absolute 0
+abbrev pub equated : Option (Result Form Letter) → Form
+equated None = absolute (pos 0)
+equated (Some (Err fault)) = absolute (pos 0)
+equated (Some (Ok form)) = form

@@ -1,33 +1,69 @@
--- The octal image (ours): each deck that has a section, with its stored words in order of address.
-use Rattle.std.specs.Prelude.{ℕ, List, [], ◌++◌, Bool, true, not, codes, filter, flat_map}
+-- The octal image (ours): each deck that has a section, with its stored words in order of address, and then the common blocks.
+use Rattle.std.specs.Prelude.{ℕ, ◌==◌, List, [], ◌∷◌, ◌++◌, Bool, true, false, not, codes, filter, flat_map, nat_lt, if◌then◌else◌}
 use Rattle.definitions.specs.Numerals.{octal_of}
-use Rattle.definitions.specs.Words.{StoredWord}
-use Rattle.definitions.specs.Listing.{line, kind_text}
-use Rattle.definitions.specs.Link.{Based, object_words, is_beyond, linking_of}
+use Rattle.definitions.specs.Kinds.{kind_text}
+use Rattle.definitions.specs.Words.{StoredWord, stored_words}
+use Rattle.definitions.specs.Objects.{Object}
+use Rattle.definitions.specs.Listing.{line}
+use Rattle.definitions.specs.Link.{Based, Common, Layout, AddressedWord, addressed, object_words, is_beyond, linking_of}
 use Rattle.definitions.specs.declared.marks.DeckKind.{DeckKind}
 use Rattle.definitions.specs.declared.marks.DeckKind.TheVariants.{Rel, Periph}
 
 -- a stored word behind its address: 20 digits behind 6, in a peripheral deck 4 behind 4
-abbrev pub word_line : DeckKind → StoredWord → List ℕ
-word_line Periph word = line (octal_of 4 word.offset ++ (codes " " ++ octal_of 4 word.value))
-word_line kind word = line (octal_of 6 word.offset ++ (codes " " ++ octal_of 20 word.value))
+abbrev pub word_line : DeckKind → AddressedWord → List ℕ
+word_line Periph word = line (octal_of 4 word.address ++ (codes " " ++ octal_of 4 word.value))
+word_line kind word = line (octal_of 6 word.address ++ (codes " " ++ octal_of 20 word.value))
 
 -- the stored words of a deck in a link; those beyond its memory are left out
-abbrev pub section_words : List Based → Based → List StoredWord
-section_words all based =
-    filter (λ word. not (is_beyond based.object.kind word)) (object_words (linking_of all based) based.object based.base)
+abbrev pub section_words : Layout → Based → List AddressedWord
+section_words layout based =
+    filter (λ word. not (is_beyond based.object.kind word)) (object_words (linking_of layout based) based.object based.base)
 
 -- the section of a deck: its name, kind and base, and its stored words
-abbrev pub section : List Based → Based → List ℕ
-section all based =
+abbrev pub section : Layout → Based → List ℕ
+section layout based =
     line (codes "DECK " ++ (based.object.name ++ (codes " " ++ (kind_text based.object.kind ++ (codes " " ++ octal_of 6 based.base)))))
-    ++ flat_map (word_line based.object.kind) (section_words all based)
+    ++ flat_map (word_line based.object.kind) (section_words layout based)
 
 -- a REL deck that passes the end of memory has no section
-abbrev pub section_by : DeckKind → Bool → List Based → Based → List ℕ
-section_by Rel true all based = []
-section_by kind is_past all based = section all based
+abbrev pub section_by : DeckKind → Bool → Layout → Based → List ℕ
+section_by Rel true layout based = []
+section_by kind is_past layout based = section layout based
 
--- the sections of the decks in order, and END
-abbrev pub image_text : List Based → List ℕ
-image_text all = flat_map (λ (based : Based). section_by based.object.kind based.is_past all based) all ++ line (codes "END")
+-- the section of an object alone at a base: externals and common blocks count as 0
+abbrev pub image_alone : Object → ℕ → List ℕ
+image_alone object base = section (record { decks = []; commons = [] }) (record { object = object; base = base; is_past = false })
+
+-- words in order of offset with one word more, which takes the place of one that stands there
+abbrev pub with_stored : StoredWord → List StoredWord → List StoredWord
+with_stored word [] = word ∷ []
+with_stored word (other ∷ words) =
+    if word.offset == other.offset then word ∷ words
+    else if nat_lt word.offset other.offset then word ∷ other ∷ words else other ∷ with_stored word words
+
+-- words in order of offset with others over them
+abbrev pub with_all_stored : List StoredWord → List StoredWord → List StoredWord
+with_all_stored [] earlier = earlier
+with_all_stored (word ∷ words) earlier = with_all_stored words (with_stored word earlier)
+
+-- the words that decks store in a block of this name: each is that of the last deck that stores it
+abbrev pub common_words : Layout → List ℕ → List Based → List StoredWord → List StoredWord
+common_words layout name [] earlier = earlier
+common_words layout name (based ∷ others) earlier =
+    common_words layout name others (with_all_stored (stored_words based.object.kind (linking_of layout based) name based.object.coded) earlier)
+
+-- the section of a common block with these words; one without words has none
+abbrev pub common_section : Common → List StoredWord → List ℕ
+common_section common [] = []
+common_section common (word ∷ words) =
+    line (codes "COMMON " ++ (common.name ++ (codes " " ++ octal_of 6 common.base))) ++ flat_map (word_line Rel) (addressed common.base (word ∷ words))
+
+-- a common block that passes the end of memory has no section
+abbrev pub common_section_by : Layout → Common → List ℕ
+common_section_by layout common = if common.is_past then [] else common_section common (common_words layout common.name layout.decks [])
+
+-- the sections of the decks in order, those of the common blocks, and END
+abbrev pub image_text : Layout → List ℕ
+image_text layout =
+    flat_map (λ (based : Based). section_by based.object.kind based.is_past layout based) layout.decks
+    ++ (flat_map (common_section_by layout) layout.commons ++ line (codes "END"))

@@ -1,11 +1,11 @@
 -- The letters of a statement, once each in alphabetical order (ours).
 use Rattle.std.specs.Prelude.{ℕ, List, [], ◌∷◌, ◌++◌, Option, Some, None, codes, flat_map, filter}
 use Rattle.definitions.specs.Characters.{is_among}
-use Rattle.definitions.specs.Forms.{Form, Added, Subtracted, Block, External}
 use Rattle.definitions.specs.Operations as op
 use Rattle.definitions.specs.Operations.{Operation}
 use Rattle.definitions.specs.Operands.{Operand, NamesOperand}
-use Rattle.definitions.specs.Settled.{Settled, Definition, defined, defined_in}
+use Rattle.definitions.specs.Settled.{Settled, defined}
+use Rattle.definitions.specs.Entries.{entry_fault}
 use Rattle.definitions.specs.StatementItems.{Item, Context, operand_items}
 use Rattle.definitions.specs.declared.marks.DeckKind.{DeckKind}
 use Rattle.definitions.specs.declared.marks.DeckKind.TheVariants.{Periph}
@@ -33,11 +33,6 @@ texts (l ∷ ls) = letter_text l ∷ texts ls
 abbrev pub in_order : List Letter → List ℕ
 in_order letters = filter (λ c. is_among c (texts letters)) (codes "ACDLORUVZ")
 
--- a name may be entered where it is defined, and is no external and no block that is subtracted
-abbrev pub entry_fault : Option Form → List Letter
-entry_fault None = letter.U ∷ []
-entry_fault (Some form) = elim form.part [ None ↦ [] | Some part ↦ elim part [ Added base ↦ elim base [ Block name ↦ [] | External name ↦ letter.R ∷ [] ] | Subtracted base ↦ letter.R ∷ [] ] ]
-
 -- the letters of a name in ENTRY; a name that is not lawful is V
 abbrev pub name_fault : List Settled → Option (List ℕ) → List Letter
 name_fault settled None = letter.V ∷ []
@@ -52,45 +47,5 @@ entry_letters kind settled operation operand = []
 -- all letters of a statement
 abbrev pub letters_of : Context → Settled → List Letter
 letters_of context settled =
-    settled.letters ++ (entry_letters context.kind context.settled settled.operation settled.operand
-    ++ flat_map (λ (bits : Item). bits.letters) (operand_items context settled settled.operand))
-
--- the good names of an ENTRY with their forms, those before it among them, each once
-abbrev pub with_entry : List ℕ → List Letter → Option Form → List Definition → List Definition
-with_entry name [] (Some form) entries = elim (defined_in name entries) [ Some other ↦ entries | None ↦ entries ++ record { name = name; form = form } ∷ [] ]
-with_entry name _ _ entries = entries
-
--- the entries so far with those of an ENTRY's names that are good
-abbrev pub with_entries : List Settled → List (Option (List ℕ)) → List Definition → List Definition
-with_entries settled [] entries = entries
-with_entries settled (None ∷ names) entries = with_entries settled names entries
-with_entries settled (Some name ∷ names) entries = with_entries settled names (with_entry name (entry_fault (defined name settled)) (defined name settled) entries)
-
--- the entries so far with those of a statement; only ENTRY makes any
-abbrev pub entries_by : List Settled → Operation → Operand → List Definition → List Definition
-entries_by settled op.Entry (NamesOperand names) entries = with_entries settled names entries
-entries_by settled operation operand entries = entries
-
--- the entries of statements that are read newest first, each name once
-abbrev pub entries_among : List Settled → List Settled → List Definition
-entries_among settled [] = []
-entries_among settled (latest ∷ earlier) = entries_by settled latest.operation latest.operand (entries_among settled earlier)
-
--- the entries of a deck; a peripheral deck has none
-abbrev pub entries_of : DeckKind → List Settled → List Definition
-entries_of Periph settled = []
-entries_of kind settled = entries_among settled settled
-
--- the external that a definition names, if it names one
-abbrev pub external_name : Definition → List (List ℕ)
-external_name definition = elim definition.form.part [ None ↦ [] | Some part ↦ elim part [ Subtracted base ↦ [] | Added base ↦ elim base [ Block name ↦ [] | External name ↦ name ∷ [] ] ] ]
-
--- the externals that a statement defines; only EXT defines any
-abbrev pub externals_by : Operation → List Definition → List (List ℕ)
-externals_by op.Ext definitions = flat_map external_name definitions
-externals_by operation definitions = []
-
--- the externals of a deck in order of definition
-abbrev pub externals_of : List Settled → List (List ℕ)
-externals_of [] = []
-externals_of (latest ∷ earlier) = externals_of earlier ++ externals_by latest.operation latest.definitions
+    settled.letters ++ (entry_letters context.kind context.settled settled.read.operation settled.read.operand
+    ++ flat_map (λ (bits : Item). bits.letters) (operand_items context settled settled.read.operand))

@@ -2,6 +2,7 @@
 use Rattle.std.specs.Prelude.{ℕ, ◌+◌, ◌/◌, ◌%◌, List, [], ◌∷◌, ◌++◌, Bool, codes, length, filter, flat_map, reverse, nat_lt, pos, ◌+ℤ◌, unwrap_or}
 use Rattle.definitions.specs.Numerals.{octal_of, digits_of, decimal_of}
 use Rattle.definitions.specs.Cards.{Card}
+use Rattle.definitions.specs.Kinds.{kind_text}
 use Rattle.definitions.specs.Coding.{coded_in}
 use Rattle.definitions.specs.Operations as op
 use Rattle.definitions.specs.Operations.{Operation}
@@ -10,17 +11,11 @@ use Rattle.definitions.specs.StatementItems.{Item, part_value}
 use Rattle.definitions.specs.Words.{Coded, Linking, joined, width_of, cut}
 use Rattle.definitions.specs.Objects.{Object, Shown}
 use Rattle.definitions.specs.declared.marks.DeckKind.{DeckKind}
-use Rattle.definitions.specs.declared.marks.DeckKind.TheVariants.{Rel, Abs, Periph}
+use Rattle.definitions.specs.declared.marks.DeckKind.TheVariants.{Periph}
 
 -- a text and the line feed that ends it
 abbrev pub line : List ℕ → List ℕ
 line text = text ++ 10 ∷ []
-
--- the kind of a deck as it is written
-abbrev pub kind_text : DeckKind → List ℕ
-kind_text Rel = codes "REL"
-kind_text Abs = codes "ABS"
-kind_text Periph = codes "PERIPH"
 
 -- the bits of a form in a listing: the deck stands at 0, and so does each external
 abbrev pub unlinked : List BlockRow → Linking
@@ -72,8 +67,8 @@ peripheral_item_lines linking operation place fields = peripheral_lines place (c
 
 -- the lines of a statement's items, by the kind of its deck
 abbrev pub item_lines : DeckKind → Linking → Coded → List ℕ
-item_lines Periph linking coded = peripheral_item_lines linking coded.settled.operation coded.settled.place coded.fields
-item_lines kind linking coded = central_lines linking coded.settled.operation coded.settled.place coded.fields
+item_lines Periph linking coded = peripheral_item_lines linking coded.settled.read.operation coded.settled.place coded.fields
+item_lines kind linking coded = central_lines linking coded.settled.read.operation coded.settled.place coded.fields
 
 -- a statement in the listing: its cards, its letters, its items
 abbrev pub statement_lines : Object → Shown → List ℕ
@@ -82,7 +77,7 @@ statement_lines object shown =
 
 -- the BLOCK line: name, base and length
 abbrev pub block_line : BlockRow → List ℕ
-block_line row = line (codes "BLOCK " ++ (row.name ++ (codes " " ++ (octal_of 8 row.base ++ (codes " " ++ octal_of 8 row.length_is)))))
+block_line row = line (codes "BLOCK " ++ (row.name ++ (codes " " ++ (octal_of 8 row.base ++ (codes " " ++ octal_of 8 row.words)))))
 
 -- whether a statement has a letter
 abbrev pub is_flagged : Shown → Bool

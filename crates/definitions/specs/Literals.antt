@@ -1,5 +1,5 @@
 -- Literals: the words behind equals signs, each distinct word once, in order of first use (COMPASS 60492600, literals; that they come last is ours).
-use Rattle.std.specs.Prelude.{ℕ, ◌+◌, ◌==◌, List, [], ◌∷◌, ◌++◌, Option, Some, None, Result, Ok, Err, nat_lt, flat_map, filter_map, unwrap_or, ℤ, pos, neg_ℤ, if◌then◌else◌}
+use Rattle.std.specs.Prelude.{ℕ, ◌+◌, ◌==◌, List, [], ◌∷◌, ◌++◌, Option, Some, None, Result, Ok, Err, ◌||◌, nat_le, nat_lt, length, flat_map, filter_map, unwrap_or, ℤ, pos, neg_ℤ, if◌then◌else◌}
 use Rattle.std.specs.List.{list_any}
 use Rattle.definitions.specs.Symbols.{Number, Value, TooGreat}
 use Rattle.definitions.specs.Expressions.{Sign, MinusSign, Literal, OfNumber, OfCountedItem, Element, ALiteral, Expression, elements_of}
@@ -59,9 +59,13 @@ operand_literals (WordsOperand data') = flat_map datum_literals data'
 operand_literals (BitsOperand fields) = flat_map (λ (field : BitField). value_literals field.value) fields
 operand_literals _ = []
 
--- the words with this one at the end, if it is not yet among them
+-- how many words the literals block has at most
+abbrev pub most_literals : ℕ
+most_literals = 131072
+
+-- the words with this one at the end, if it is not yet among them and there is room
 abbrev pub with_word : ℕ → List ℕ → List ℕ
-with_word word words = if list_any (λ other. other == word) words then words else words ++ word ∷ []
+with_word word words = if list_any (λ other. other == word) words || nat_le most_literals (length words) then words else words ++ word ∷ []
 
 -- the words with those of the literals that follow
 abbrev pub with_literals : List Literal → List ℕ → List ℕ
@@ -71,16 +75,16 @@ with_literals (literal ∷ literals) words = with_literals literals (with_word (
 -- the words of the literals block, for statements newest first
 abbrev pub literal_words : List Settled → List ℕ
 literal_words [] = []
-literal_words (settled ∷ earlier) = with_literals (operand_literals settled.operand) (literal_words earlier)
+literal_words (settled ∷ earlier) = with_literals (operand_literals settled.read.operand) (literal_words earlier)
 
 -- how many of the words stand in front of this one
 abbrev pub offset_of : ℕ → List ℕ → ℕ
 offset_of word [] = 0
 offset_of word (other ∷ words) = if other == word then 0 else 1 + offset_of word words
 
--- where a word stands in the literals block, which has at most 131,072 words
+-- where a word stands in the literals block; behind its end there is none
 abbrev pub offset_form : ℕ → Result Form Letter
-offset_form offset = if nat_lt offset 131072 then Ok (record { number = pos offset; part = Some (Added (Block literals_block)) }) else Err letter.A
+offset_form offset = if nat_lt offset most_literals then Ok (record { number = pos offset; part = Some (Added (Block literals_block)) }) else Err letter.A
 
 -- where the word of a literal stands; a number that is too great is A
 abbrev pub literal_form : List ℕ → Literal → Result Form Letter

@@ -1,23 +1,17 @@
 -- The object of a deck: its statements with their fields and letters, its blocks, entries and externals.
-use Rattle.std.specs.Prelude.{ℕ, List, [], ◌∷◌, Bool, true, false, map, reverse, ◌++◌}
-use Rattle.std.specs.List.{list_any}
-use Rattle.definitions.specs.Cards.{Card}
+use Rattle.std.specs.Prelude.{ℕ, List, [], ◌∷◌, map, reverse, ◌++◌}
+use Rattle.definitions.specs.DeckInput.{Deck}
 use Rattle.definitions.specs.Statements.{Statement, statements_of}
-use Rattle.definitions.specs.Fields.{fields_of}
-use Rattle.definitions.specs.Operations.{kind_of, is_end}
+use Rattle.definitions.specs.DeckKinds.{kind_of_statements, up_to_end, behind_end}
 use Rattle.definitions.specs.Settled.{Settled, Definition}
 use Rattle.definitions.specs.Settling.{settled_all}
 use Rattle.definitions.specs.Literals.{literal_words}
 use Rattle.definitions.specs.Lengths.{BlockRow, block_rows}
 use Rattle.definitions.specs.StatementItems.{Context, items_of}
-use Rattle.definitions.specs.Letters.{letters_of, in_order, entries_of, externals_of}
+use Rattle.definitions.specs.Letters.{letters_of, in_order}
+use Rattle.definitions.specs.Entries.{entries_of, externals_of}
 use Rattle.definitions.specs.Words.{Coded}
 use Rattle.definitions.specs.declared.marks.DeckKind.{DeckKind}
-
--- a deck: its name and its cards, oldest first
-pub record Deck : Type 0 where
-  pub name : List ℕ
-  pub cards : List Card
 
 -- a statement of the listing: its cards, its letters and its fields
 pub record Shown : Type 0 where
@@ -36,27 +30,13 @@ pub record Object : Type 0 where
   pub entries : List Definition
   pub externals : List (List ℕ)
 
--- whether END is among the statements
-abbrev pub has_end : List Statement → Bool
-has_end statements = list_any (λ (statement : Statement). is_end (fields_of statement.cards)) statements
-
--- the statements up to END
-abbrev pub up_to_end : List Statement → List Statement
-up_to_end [] = []
-up_to_end (statement ∷ earlier) = elim (has_end earlier) [ true ↦ up_to_end earlier | false ↦ statement ∷ earlier ]
-
--- the statements behind END, newest first
-abbrev pub behind_end : List Statement → List Statement
-behind_end [] = []
-behind_end (statement ∷ earlier) = elim (has_end earlier) [ true ↦ statement ∷ behind_end earlier | false ↦ [] ]
-
 -- a statement with the fields it makes
 abbrev pub coded_of : Context → Settled → Coded
-coded_of context settled = record { settled = settled; fields = items_of context settled settled.operation }
+coded_of context settled = record { settled = settled; fields = items_of context settled settled.read.operation }
 
 -- a statement up to END in the listing, with its letters and its items
 abbrev pub shown_of : Context → Settled → Shown
-shown_of context settled = record { statement = settled.statement; letters = in_order (letters_of context settled); coded = coded_of context settled ∷ [] }
+shown_of context settled = record { statement = settled.read.statement; letters = in_order (letters_of context settled); coded = coded_of context settled ∷ [] }
 
 -- what follows END is only listed
 abbrev pub only_listed : Statement → Shown
@@ -78,10 +58,6 @@ object_in name context behind = record {
 -- what the settled statements of a deck make known: its kind, its blocks and its literals
 abbrev pub context_of : DeckKind → List Settled → Context
 context_of kind settled = record { kind = kind; settled = settled; rows = block_rows kind settled; literals = literal_words settled }
-
--- the kind of a deck, from its statements newest first
-abbrev pub kind_of_statements : List Statement → DeckKind
-kind_of_statements statements = kind_of (map (λ (statement : Statement). fields_of statement.cards) (reverse statements))
 
 -- the object of a name, the statements up to END, and those behind it
 abbrev pub object_from : List ℕ → List Statement → List Statement → Object

@@ -1,8 +1,9 @@
 -- Operands: what a variable field is to its operation, before any name is known.
-use Rattle.std.specs.Prelude.{ℕ, ◌+◌, ◌*◌, ◌/◌, ◌==◌, List, [], ◌∷◌, ◌++◌, Option, Some, None, Bool, true, false, not, ◌&&◌, nat_le, codes, map, length, drop, take, take_while, replicate, if◌then◌else◌}
-use Rattle.definitions.specs.Characters.{is_among, same_text, blank}
+use Rattle.std.specs.Prelude.{ℕ, ◌+◌, ◌-◌, ◌*◌, ◌/◌, ◌==◌, List, [], ◌∷◌, ◌++◌, Option, Some, None, Bool, false, not, ◌&&◌, nat_le, codes, map, length, drop, take, take_while, replicate, if◌then◌else◌}
+use Rattle.definitions.specs.Characters.{is_among, same_text, blank, slash, comma}
 use Rattle.definitions.specs.CountedItems.{CountedItem}
 use Rattle.definitions.specs.Pieces.{Plus, Minus, Slash, Piece, IsMark, IsCountedItem, Plain, pieces_of, subfields_of}
+use Rattle.definitions.specs.Kinds.{word_bits, allows_literals}
 use Rattle.definitions.specs.Symbols.{Number, Value, number_read, is_block_name, is_linked_name}
 use Rattle.definitions.specs.Expressions.{Sign, NoSign, PlusSign, MinusSign, Expression, expression_of, is_plain}
 use Rattle.definitions.specs.PeripheralTable.{PeripheralForm, Ignored, Long, PeripheralRow, peripheral_row}
@@ -10,7 +11,7 @@ use Rattle.definitions.specs.Matching.{Instruction, Central, IsInstruction, cent
 use Rattle.definitions.specs.Operations as op
 use Rattle.definitions.specs.Operations.{Operation}
 use Rattle.definitions.specs.declared.marks.DeckKind.{DeckKind}
-use Rattle.definitions.specs.declared.marks.DeckKind.TheVariants.{Periph}
+use Rattle.definitions.specs.declared.marks.DeckKind.TheVariants.{Rel, Periph}
 use Rattle.definitions.specs.declared.marks.NumberBase.{NumberBase}
 
 -- what fills words of DATA or CON
@@ -43,28 +44,8 @@ pub data Operand : Type 0 where
   NamesOperand : List (Option (List ℕ)) → Operand
   UseName : List ℕ → Operand
   UseBefore : Operand
-  -- USE of a name with `/`
+  -- USE of a text with `/` that names no common block
   UseRefused : Operand
-
--- how many bits a word has
-abbrev pub word_bits : DeckKind → ℕ
-word_bits Periph = 12
-word_bits _ = 60
-
--- four parcels in a central word; a peripheral word is one unit
-abbrev pub units : DeckKind → ℕ
-units Periph = 1
-units _ = 4
-
--- the bits of a parcel, or of a peripheral word
-abbrev pub unit_bits : DeckKind → ℕ
-unit_bits Periph = 12
-unit_bits _ = 15
-
--- whether CON and VFD may have literals
-abbrev pub allows_literals : DeckKind → Bool
-allows_literals Periph = false
-allows_literals _ = true
 
 -- an expression that is there, without registers, and without literals where they are not allowed
 abbrev pub plain_expression : Bool → Option Expression → Option Expression
@@ -160,7 +141,7 @@ text_operand kind (Some count) text =
 -- `n,` and the characters behind the comma
 abbrev pub dis_operand : DeckKind → NumberBase → List ℕ → Operand
 dis_operand kind base text =
-    let count = take_while (λ c. not (c == 44)) text in
+    let count = take_while (λ c. not (c == comma)) text in
     if nat_le (1 + length count) (length text) then text_operand kind (count_read 100 (number_read base count)) (drop (1 + length count) text) else BadOperand
 
 -- an expression, or V where there is none
@@ -178,11 +159,23 @@ abbrev pub linked_name : List Piece → Option (List ℕ)
 linked_name (Plain text ∷ []) = if is_linked_name text then Some text else None
 linked_name _ = None
 
--- USE: a block name, `*`, or nothing; a text with `/` is refused
-abbrev pub use_operand : List ℕ → Operand
-use_operand [] = UseName (codes "0")
-use_operand (c ∷ cs) =
-    if is_among 47 (c ∷ cs) then UseRefused
+-- `/name/`, where name is a symbol of at most 7 characters
+abbrev pub is_common_name : List ℕ → Bool
+is_common_name [] = false
+is_common_name (c ∷ cs) =
+    let name = take (length cs - 1) cs in
+    (c == slash) && same_text cs (name ++ slash ∷ []) && is_linked_name name
+
+-- USE of a text with `/`: a common block in a REL deck; every other is refused
+abbrev pub common_operand : DeckKind → List ℕ → Operand
+common_operand Rel text = if is_common_name text then UseName text else UseRefused
+common_operand kind text = UseRefused
+
+-- USE: a block name, `*`, or nothing, or a text with `/`
+abbrev pub use_operand : DeckKind → List ℕ → Operand
+use_operand kind [] = UseName (codes "0")
+use_operand kind (c ∷ cs) =
+    if is_among slash (c ∷ cs) then common_operand kind (c ∷ cs)
     else if same_text (c ∷ cs) (codes "*") then UseBefore
     else if is_block_name (c ∷ cs) then UseName (c ∷ cs) else BadOperand
 
@@ -225,7 +218,7 @@ instruction_operand _ base operation subfields = central_operand (central_of bas
 -- the operand of an operation: what its variable field is to it
 abbrev pub operand_of : DeckKind → NumberBase → Operation → List ℕ → List ℕ → Operand
 operand_of kind base op.Base operation text = base_operand text
-operand_of kind base op.Use operation text = use_operand text
+operand_of kind base op.Use operation text = use_operand kind text
 operand_of kind base op.Org operation text = one_value base (subfields_of (pieces_of text))
 operand_of kind base op.Loc operation text = one_value base (subfields_of (pieces_of text))
 operand_of kind base op.Equ operation text = one_value base (subfields_of (pieces_of text))

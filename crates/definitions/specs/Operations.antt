@@ -2,14 +2,11 @@
 use Rattle.std.specs.Prelude.{ℕ, List, [], ◌∷◌, Option, Some, None, Bool, true, false, ◌||◌, codes, if◌then◌else◌}
 use Rattle.std.specs.List.{list_any}
 use Rattle.definitions.specs.Characters.{same_text}
-use Rattle.definitions.specs.Fields.{Fields}
 use Rattle.definitions.specs.CentralTable.{Row, SumRow, central_rows, ignoring_rows, sum_rows}
 use Rattle.definitions.specs.PeripheralTable.{peripheral_row}
 use Rattle.definitions.specs.Matching.{is_operation}
 use Rattle.definitions.specs.declared.marks.DeckKind.{DeckKind}
-use Rattle.definitions.specs.declared.marks.DeckKind.TheVariants.{Rel, Abs, Periph}
-use Rattle.definitions.specs.declared.marks.NumberBase.{NumberBase}
-use Rattle.definitions.specs.declared.marks.NumberBase.TheVariants.{Decimal, Octal}
+use Rattle.definitions.specs.declared.marks.DeckKind.TheVariants.{Abs, Periph}
 
 -- the operations that the language tells apart
 pub data Operation : Type 0 where
@@ -81,35 +78,39 @@ is_neutral (Some Listed) = true
 is_neutral (Some Base) = true
 is_neutral _ = false
 
--- the kind that ABS and PERIPH make; any other operation leaves REL
-abbrev pub kind_made : Option Operation → DeckKind
-kind_made (Some (Kind kind)) = kind
-kind_made _ = Rel
+-- whether an operation is an instruction
+abbrev pub is_instruction : Operation → Bool
+is_instruction Instruction = true
+is_instruction operation = false
 
--- the kind of a deck, whose statements are read oldest first
-abbrev pub kind_of : List Fields → DeckKind
-kind_of [] = Rel
-kind_of (fields ∷ later) =
-    let operation = pseudo_among fields.operation pseudo_instructions in
-    if is_neutral operation then kind_of later else kind_made operation
+-- DATA, CON, VFD and DIS
+abbrev pub is_data : Operation → Bool
+is_data Data = true
+is_data Con = true
+is_data Vfd = true
+is_data Dis = true
+is_data _ = false
 
--- a BASE that is accepted
-abbrev pub number_base_set : Fields → Option NumberBase
-number_base_set fields =
-    if same_text fields.operation (codes "BASE")
-    then (if same_text fields.variable (codes "O") then Some Octal else if same_text fields.variable (codes "D") then Some Decimal else None)
-    else None
+-- BSS, BSSZ, ORG and LOC
+abbrev pub is_reserving : Operation → Bool
+is_reserving Bss = true
+is_reserving Bssz = true
+is_reserving Org = true
+is_reserving Loc = true
+is_reserving _ = false
 
--- the base that is set here, or else the one before
-abbrev pub or_number_base : Option NumberBase → NumberBase → NumberBase
-or_number_base None base = base
-or_number_base (Some base) other = base
+-- instructions, and unknown operations, which are placed as instructions are
+abbrev pub is_machine : Operation → Bool
+is_machine Instruction = true
+is_machine Unknown = true
+is_machine _ = false
 
--- the number base behind statements, newest first
-abbrev pub number_base_after : List Fields → NumberBase
-number_base_after [] = Decimal
-number_base_after (fields ∷ earlier) = or_number_base (number_base_set fields) (number_base_after earlier)
+-- which operations have a place of their own
+abbrev pub has_place : Operation → Bool
+has_place operation = is_machine operation || is_data operation || is_reserving operation
 
--- whether a statement is END
-abbrev pub is_end : Fields → Bool
-is_end fields = same_text fields.operation (codes "END")
+-- operations that define the symbol of their location field, but EQU
+abbrev pub is_labelled : Operation → Bool
+is_labelled Bss = true
+is_labelled Bssz = true
+is_labelled operation = is_machine operation || is_data operation

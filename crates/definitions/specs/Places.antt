@@ -2,50 +2,20 @@
 -- (COMPASS 60492600, forcing upper; which instructions ask for upper is ours).
 use Rattle.std.specs.Prelude.{ℕ, ◌≡◌, ◌≢◌, IsTrue, ◌+◌, ◌-◌, ◌*◌, ◌/◌, ◌%◌, ◌==◌, List, [], ◌∷◌, Bool, true, false, not, ◌&&◌, ◌||◌, codes, if◌then◌else◌}
 use Rattle.definitions.specs.Characters.{same_text}
+use Rattle.definitions.specs.Kinds.{units}
 use Rattle.definitions.specs.Symbols.{is_symbol}
 use Rattle.definitions.specs.Operations as op
-use Rattle.definitions.specs.Operations.{Operation}
-use Rattle.definitions.specs.Operands.{Operand, BadOperand, units}
+use Rattle.definitions.specs.Operations.{Operation, is_data, is_reserving}
+use Rattle.definitions.specs.Operands.{Operand, BadOperand}
 use Rattle.definitions.specs.Sizes.{size_of}
 use Rattle.definitions.specs.Settled.{Settled}
 use Rattle.definitions.specs.declared.marks.DeckKind.{DeckKind}
 use Rattle.definitions.specs.declared.marks.DeckKind.TheVariants.{Periph}
 
--- how many words a block has at most
-abbrev pub most_words : DeckKind → ℕ
-most_words Periph = 4096
-most_words _ = 131072
-
 -- whether an operand is flagged V
 abbrev pub is_bad : Operand → Bool
 is_bad BadOperand = true
 is_bad _ = false
-
--- DATA, CON, VFD and DIS
-abbrev pub is_data : Operation → Bool
-is_data op.Data = true
-is_data op.Con = true
-is_data op.Vfd = true
-is_data op.Dis = true
-is_data _ = false
-
--- BSS, BSSZ, ORG and LOC
-abbrev pub is_reserving : Operation → Bool
-is_reserving op.Bss = true
-is_reserving op.Bssz = true
-is_reserving op.Org = true
-is_reserving op.Loc = true
-is_reserving _ = false
-
--- instructions, and unknown operations, which are placed as instructions are
-abbrev pub is_machine : Operation → Bool
-is_machine op.Instruction = true
-is_machine op.Unknown = true
-is_machine _ = false
-
--- which operations have a place of their own
-abbrev pub has_place : Operation → Bool
-has_place operation = is_machine operation || is_data operation || is_reserving operation
 
 -- what always stands at a word; faulty data count as an instruction of length 0
 abbrev pub is_at_word : Operation → Operand → Bool
@@ -90,9 +60,13 @@ pub record Position : Type 0 where
   pub end : ℕ
   pub asks : Bool
 
--- the position of a block behind these statements; it is 0 before the first one
+-- where a block begins
+abbrev pub no_position : Position
+no_position = record { end = 0; asks = false }
+
+-- the position of a block behind these statements
 abbrev pub position_in : List ℕ → List Settled → Position
-position_in block [] = record { end = 0; asks = false }
+position_in block [] = no_position
 position_in block (settled ∷ earlier) =
     if settled.is_placed && same_text settled.block block then record { end = settled.end; asks = settled.asks }
     else position_in block earlier

@@ -3,11 +3,27 @@
 use Rattle.std.specs.Prelude.{ℕ, List, [], ◌∷◌, Option, Some, None, Bool, if◌then◌else◌}
 use Rattle.definitions.specs.Characters.{same_text}
 use Rattle.definitions.specs.Statements.{Statement}
-use Rattle.definitions.specs.Fields.{Fields}
+use Rattle.definitions.specs.Fields.{Fields, fields_of}
 use Rattle.definitions.specs.Forms.{Form}
-use Rattle.definitions.specs.Operations.{Operation}
-use Rattle.definitions.specs.Operands.{Operand}
+use Rattle.definitions.specs.Operations.{Operation, operation_of}
+use Rattle.definitions.specs.Operands.{Operand, operand_of}
+use Rattle.definitions.specs.declared.marks.DeckKind.{DeckKind}
+use Rattle.definitions.specs.declared.marks.NumberBase.{NumberBase}
 use Rattle.definitions.specs.declared.marks.Letter.{Letter}
+
+-- what is read of a statement before any name is known
+pub record ReadStatement : Type 0 where
+  pub statement : Statement
+  pub fields : Fields
+  pub operation : Operation
+  pub operand : Operand
+
+-- a statement with its fields, its operation and its operand
+abbrev pub read_of : DeckKind → NumberBase → Statement → ReadStatement
+read_of kind base statement =
+    let fields = fields_of statement.cards in
+    let operation = operation_of kind fields.operation in
+    record { statement = statement; fields = fields; operation = operation; operand = operand_of kind base operation fields.operation fields.variable }
 
 -- what a statement does to the stack of blocks
 pub data BlockChange : Type 0 where
@@ -15,10 +31,15 @@ pub data BlockChange : Type 0 where
   Opens : List ℕ → BlockChange
   Closes : BlockChange
 
+-- a LOC in force: the value that it set, and its place
+pub record Counting : Type 0 where
+  pub form : Form
+  pub place : ℕ
+
 -- what a statement does to the location counter of its block: LOC sets it, ORG ends a setting
 pub data LocationSetting : Type 0 where
   Unchanged : LocationSetting
-  Counts : Form → LocationSetting
+  Counts : Counting → LocationSetting
   Ended : LocationSetting
 
 -- a symbol with its value
@@ -28,10 +49,7 @@ pub record Definition : Type 0 where
 
 -- a statement with all that it and those before it decide
 pub record Settled : Type 0 where
-  pub statement : Statement
-  pub fields : Fields
-  pub operation : Operation
-  pub operand : Operand
+  pub read : ReadStatement
   -- the block in use, and what becomes of the stack
   pub block : List ℕ
   pub change : BlockChange

@@ -3,7 +3,8 @@ use Rattle.std.specs.Prelude.{ℕ, ◌+◌, ◌-◌, ◌*◌, ◌/◌, List, [],
 use Rattle.definitions.specs.Coding.{words_needed}
 use Rattle.definitions.specs.PeripheralTable.{PeripheralForm, Wide, Long}
 use Rattle.definitions.specs.Matching.{Field, NoField, OfK, OfN}
-use Rattle.definitions.specs.Operands.{Operand, CentralOperand, PeripheralOperand, WordsOperand, BitsOperand, TextOperand, Datum, CountedItemWords, BitField, word_bits, units}
+use Rattle.definitions.specs.Operands.{Operand, CentralOperand, PeripheralOperand, WordsOperand, BitsOperand, TextOperand, Datum, CountedItemWords, BitField}
+use Rattle.definitions.specs.Kinds.{word_bits, units}
 use Rattle.definitions.specs.declared.marks.DeckKind.{DeckKind}
 
 -- how many words a piece of DATA or CON fills

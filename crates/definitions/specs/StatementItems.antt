@@ -10,7 +10,8 @@ use Rattle.definitions.specs.PeripheralTable.{PeripheralForm, Short, ShortJump, 
 use Rattle.definitions.specs.Matching.{Field, NoField, OfK, OfN}
 use Rattle.definitions.specs.Operations as op
 use Rattle.definitions.specs.Operations.{Operation}
-use Rattle.definitions.specs.Operands.{Operand, CentralOperand, PeripheralOperand, WordsOperand, BitsOperand, TextOperand, Datum, ZeroWord, NumberWord, CountedItemWords, ExpressionWord, BitField, word_bits, units}
+use Rattle.definitions.specs.Operands.{Operand, CentralOperand, PeripheralOperand, WordsOperand, BitsOperand, TextOperand, Datum, ZeroWord, NumberWord, CountedItemWords, ExpressionWord, BitField}
+use Rattle.definitions.specs.Kinds.{word_bits, units}
 use Rattle.definitions.specs.Sizes.{bits_of}
 use Rattle.definitions.specs.Literals.{signed_number, literal_form}
 use Rattle.definitions.specs.Lengths.{BlockRow, base_in}
@@ -204,4 +205,4 @@ zero_items context settled = known ((settled.end - settled.place) / units contex
 -- the fields of a statement; one that would pass its block has none
 abbrev pub items_of : Context → Settled → Operation → List Item
 items_of context settled op.Bssz = zero_items context settled
-items_of context settled operation = if nat_le settled.end settled.place then [] else operand_items context settled settled.operand
+items_of context settled operation = if nat_le settled.end settled.place then [] else operand_items context settled settled.read.operand

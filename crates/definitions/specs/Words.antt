@@ -3,9 +3,8 @@ use Rattle.std.specs.Prelude.{ℕ, zero, suc, ◌+◌, ◌-◌, ◌*◌, ◌/◌
 use Rattle.std.specs.List.{list_any}
 use Rattle.definitions.specs.Characters.{same_text}
 use Rattle.definitions.specs.Forms.{Form}
-use Rattle.definitions.specs.Operations as op
-use Rattle.definitions.specs.Operations.{Operation}
-use Rattle.definitions.specs.Operands.{units, unit_bits}
+use Rattle.definitions.specs.Operations.{is_instruction}
+use Rattle.definitions.specs.Kinds.{units, unit_bits}
 use Rattle.definitions.specs.Settled.{Settled}
 use Rattle.definitions.specs.StatementItems.{Item, Content, Known, Linked}
 use Rattle.definitions.specs.declared.marks.DeckKind.{DeckKind}
@@ -46,11 +45,6 @@ abbrev pub parcels_from : Bool → ℕ → List ℕ → List Parcel
 parcels_from instruction place [] = []
 parcels_from instruction place (bits ∷ others) = record { place = place; bits = bits; is_instruction = instruction } ∷ parcels_from instruction (place + 1) others
 
--- whether an operation is an instruction
-abbrev pub is_instruction : Operation → Bool
-is_instruction op.Instruction = true
-is_instruction operation = false
-
 -- a statement with its fields
 pub record Coded : Type 0 where
   pub settled : Settled
@@ -60,7 +54,7 @@ pub record Coded : Type 0 where
 abbrev pub parcels_of : DeckKind → Linking → Coded → List Parcel
 parcels_of kind linking coded = elim coded.fields [
   | [] ↦ []
-  | bits ∷ others ↦ parcels_from (is_instruction coded.settled.operation) coded.settled.place
+  | bits ∷ others ↦ parcels_from (is_instruction coded.settled.read.operation) coded.settled.place
       (cut (unit_bits kind) (coded.settled.end - coded.settled.place) (joined linking coded.fields))
 ]
 

@@ -1,5 +1,5 @@
 //! What holds of the definitions, each as the contract of a function that does nothing.
-ghost use Rattle.std.specs.Prelude.{◌≡◌, ◌↔◌, ◌+◌, ◌^◌, ◌<◌, ◌≤◌, ◌∷◌, ◌++◌, ℕ, List, Bool, Some, All, reverse};
+ghost use Rattle.std.specs.Prelude.{◌≡◌, ◌↔◌, ◌+◌, ◌^◌, ◌<◌, ◌≤◌, ◌∷◌, ◌++◌, ℕ, List, Bool, true, false, Some, All, reverse};
 ghost use Rattle.definitions.specs.Numerals.{octal_of, number_of, digits_of};
 ghost use Rattle.definitions.specs.Cards.{Card};
 ghost use Rattle.definitions.specs.Statements.{statements_of, cards_in, AreNumbered};
@@ -9,13 +9,15 @@ ghost use Rattle.definitions.specs.Pieces.{Piece};
 ghost use Rattle.definitions.specs.Expressions.{Expression, expression_of};
 ghost use Rattle.definitions.specs.Grammar.{Spells};
 ghost use Rattle.definitions.specs.Operations.{Operation};
-ghost use Rattle.definitions.specs.Operands.{Operand, word_bits};
+ghost use Rattle.definitions.specs.Operands.{Operand};
+ghost use Rattle.definitions.specs.Kinds.{word_bits};
 ghost use Rattle.definitions.specs.Places.{MayStand, least_place};
 ghost use Rattle.definitions.specs.Settled.{Settled};
 ghost use Rattle.definitions.specs.Literals.{literal_words};
+ghost use Rattle.definitions.specs.Blocks.{is_common};
 ghost use Rattle.definitions.specs.Lengths.{BlockRow, block_rows, total_length};
 ghost use Rattle.definitions.specs.Words.{Coded, Linking, StoredWord, stored_words};
-ghost use Rattle.definitions.specs.Objects.{Deck};
+ghost use Rattle.definitions.specs.DeckInput.{Deck};
 ghost use Rattle.definitions.specs.Build.{build_of, listing_of, image_of};
 ghost use Rattle.definitions.specs.declared.marks.DeckKind.{DeckKind};
 ghost use Rattle.definitions.specs.declared.marks.NumberBase.{NumberBase};
@@ -53,10 +55,13 @@ pub fn places_are_the_least()
         from ≤ place → MayStand kind operation operand location asks place → least_place kind operation operand location asks from ≤ place }
 {}
 
-/// Each block stands at the sum of the lengths of the blocks before it.
+/// Each local block stands at the sum of the lengths of the local blocks before it, and a common
+/// block, which the link places, at 0.
 pub fn bases_are_sums()
-    ensures { (kind : DeckKind) (settled : List Settled) (front rest : List BlockRow) (row : BlockRow) →
-        block_rows kind settled ≡ front ++ row ∷ rest → row.base ≡ total_length front }
+    ensures local { (kind : DeckKind) (settled : List Settled) (front rest : List BlockRow) (row : BlockRow) →
+        block_rows kind settled ≡ front ++ row ∷ rest → is_common row.name ≡ false → row.base ≡ total_length front }
+    ensures common { (kind : DeckKind) (settled : List Settled) (front rest : List BlockRow) (row : BlockRow) →
+        block_rows kind settled ≡ front ++ row ∷ rest → is_common row.name ≡ true → row.base ≡ 0 }
 {}
 
 /// Each stored word fits a word of its deck: 60 bits, in a peripheral deck 12; so does each literal.
