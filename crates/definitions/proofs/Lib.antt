@@ -10,8 +10,8 @@ pub mod PlaceLaws
 pub mod LiteralLaws
 pub mod LengthLaws
 pub mod StateSteps
--- pub mod ViewLaws
--- pub mod TailLaws
+pub mod ViewLaws
+pub mod TailLaws
 pub mod WordLaws
 -- Worked decks, computed.
 pub mod WorkedCards

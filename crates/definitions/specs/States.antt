@@ -1,6 +1,6 @@
 -- The state between statements: what those before a statement leave of blocks, number base and kind, and the words that they reach (ours).
 -- `src/state_laws.rt` has what joins it to the list that it is made of.
-use Rattle.std.specs.Prelude.{ℕ, ◌≡◌, List, [], ◌∷◌, ◌++◌, Option, Some, None, Bool, true, ◌&&◌, max, map, flat_map, drop, if◌then◌else◌}
+use Rattle.std.specs.Prelude.{ℕ, ◌≡◌, ⊤, List, [], ◌∷◌, ◌++◌, Option, Some, None, Bool, true, ◌&&◌, max, map, flat_map, drop, if◌then◌else◌}
 use Rattle.std.specs.List.{AllByRecursion}
 use Rattle.definitions.specs.Characters.{same_text}
 use Rattle.definitions.specs.Statements.{Statement}
@@ -10,7 +10,7 @@ use Rattle.definitions.specs.Operations as op
 use Rattle.definitions.specs.Operations.{Operation, is_neutral, is_labelled}
 use Rattle.definitions.specs.Operands.{Operand, NamesOperand, ValueOperand}
 use Rattle.definitions.specs.DeckKinds.{number_base_set, or_number_base}
-use Rattle.definitions.specs.Settled.{ReadStatement, Settled, Counting, LocationSetting, Unchanged, Counts, Ended, BlockChange, NoChange, Opens, Closes}
+use Rattle.definitions.specs.Settled.{ReadStatement, Settled, Counting, LocationSetting, Unchanged, Counts, Ended, BlockChange, NoChange, Opens, Closes, defined}
 use Rattle.definitions.specs.Blocks.{changes, open_names, block_in_use, blocks_used, is_named}
 use Rattle.definitions.specs.Places.{Position, position_in, no_position}
 use Rattle.definitions.specs.Counters.{counting_in}
@@ -171,14 +171,14 @@ lawful_names (None ∷ names) = lawful_names names
 lawful_names (Some name ∷ names) = name ∷ lawful_names names
 
 -- the names that an EXT defines, and the symbols that BSS, BSSZ, ORG, LOC and EQU read
-abbrev pub operand_symbols : Operation → Operand → List (List ℕ)
-operand_symbols op.Ext (NamesOperand names) = lawful_names names
-operand_symbols operation (ValueOperand e) = symbols_in e
-operand_symbols operation operand = []
+abbrev pub operand_symbols : Operand → Operation → List (List ℕ)
+operand_symbols (NamesOperand names) op.Ext = lawful_names names
+operand_symbols (ValueOperand e) operation = symbols_in e
+operand_symbols operand operation = []
 
 -- the symbols whose definition on an earlier statement matters to a statement
 abbrev pub early_symbols : ReadStatement → List (List ℕ)
-early_symbols read = own_symbols read.operation read.fields.location ++ operand_symbols read.operation read.operand
+early_symbols read = own_symbols read.operation read.fields.location ++ operand_symbols read.operand read.operation
 
 -- two views give these symbols the same values
 abbrev pub Agree : View → View → List (List ℕ) → Type 0
@@ -211,3 +211,14 @@ abbrev pub settled_tail : DeckKind → List Settled → List Statement → List 
 settled_tail kind earlier [] = []
 settled_tail kind earlier (statement ∷ tail) =
     let behind = settled_tail kind earlier tail in settle kind (behind ++ earlier) statement ∷ behind
+
+-- tails of the same cards
+abbrev pub HaveSameCards : List Statement → List Statement → Type 0
+HaveSameCards [] [] = ⊤
+HaveSameCards (first ∷ tail) (second ∷ other) = (first.cards ≡ second.cards) × HaveSameCards tail other
+HaveSameCards _ _ = ⊥
+
+-- the statements before two tails give the same values to what each statement of the tail defines or reads early
+abbrev pub AgreeOnTail : DeckKind → List Settled → List Settled → List Statement → Type 0
+AgreeOnTail kind earlier before tail =
+    AllByRecursion (λ (settled : Settled). Agree (λ name. defined name earlier) (λ name. defined name before) (early_symbols settled.read)) (settled_tail kind earlier tail)

@@ -1,0 +1,240 @@
+-- A statement rests on the early values of its own symbols and of those that its operand reads early, and on no others.
+use Rattle.std.proofs.Common.{◌≡◌, ℕ, Bool, true, false, ◌||◌, List, [], ◌∷◌, ◌++◌, Option, Some, None, refl, ap, ap₂, ◌∙◌, subst}
+use Rattle.std.specs.Prelude.{Result, Ok, Err, if◌then◌else◌, is_some, flat_map, map}
+use Rattle.std.proofs.lemmas.Grind.{flat_map-append}
+use Rattle.definitions.specs.Statements.{Statement}
+use Rattle.definitions.specs.Symbols.{is_symbol}
+use Rattle.definitions.specs.Expressions.{Element, ANumber, ACountedItem, ASymbol, ARegister, LocationCounter, OriginCounter, ALiteral, OperatorElement, Term, Expression}
+use Rattle.definitions.specs.Forms.{Form, element_form, combined_with, product, Running, plus_term, sum_from, closed, symbol_form, value_of}
+use Rattle.definitions.specs.Operations as op
+use Rattle.definitions.specs.Operations.{Operation, is_labelled}
+use Rattle.definitions.specs.Operands.{Operand, NamesOperand, ValueOperand}
+use Rattle.definitions.specs.Settled.{ReadStatement, read_of, Definition, defined_in}
+use Rattle.definitions.specs.Counters.{Counters, counters_at}
+use Rattle.definitions.specs.EarlyValues.{early_names, early_value, equated, outcome_of}
+use Rattle.definitions.specs.Settling.{View, is_known, external, externals, external_letters, letter_where, location_letters, first_definition, definitions_of, operand_letters, settled_letters, is_refused, settled_as, settled_with, settled_from, place_of}
+use Rattle.definitions.specs.States.{BlockState, seen_from, symbols_of_element, symbols_in, own_symbols, operand_symbols, lawful_names, defines_location, early_symbols, Agree}
+use Rattle.definitions.specs.declared.marks.DeckKind.{DeckKind}
+use Rattle.definitions.specs.declared.marks.DeckKind.TheVariants.{Rel, Abs, Periph}
+use Rattle.definitions.specs.declared.marks.Letter.{Letter}
+use Rattle.definitions.specs.declared.marks.Letter.TheVariants as letter
+
+-- views that agree on two lists of names together agree on each
+agree-front : (v w : View) (a b : List (List ℕ)) → Agree v w (a ++ b) → Agree v w a
+agree-front v w [] b h = tt
+agree-front v w (name ∷ a) b h = (h.0, agree-front v w a b h.1)
+
+agree-behind : (v w : View) (a b : List (List ℕ)) → Agree v w (a ++ b) → Agree v w b
+agree-behind v w [] b h = h
+agree-behind v w (name ∷ a) b h = agree-behind v w a b h.1
+
+-- the symbols of elements
+abbrev symbols_of : List Element → List (List ℕ)
+symbols_of elements = flat_map symbols_of_element elements
+
+-- the symbols of the elements behind operators
+abbrev symbols_of_pairs : List OperatorElement → List (List ℕ)
+symbols_of_pairs pairs = symbols_of (map (λ (pair : OperatorElement). pair.element) pairs)
+
+abbrev terms_elements : List Term → List Element
+terms_elements terms = flat_map (λ (term : Term). term.element ∷ map (λ (pair : OperatorElement). pair.element) term.factors) terms
+
+symbols_of-append : (a b : List Element) → symbols_of (a ++ b) ≡ symbols_of a ++ symbols_of b
+symbols_of-append a b = flat_map-append symbols_of_element a b
+
+element_form-agree : (v w : View) (counters : Counters) (element : Element) → Agree v w (symbols_of_element element) →
+    element_form (early_names v counters) element ≡ element_form (early_names w counters) element
+element_form-agree v w counters (ANumber number) h = refl
+element_form-agree v w counters (ACountedItem item) h = refl
+element_form-agree v w counters (ASymbol name) h = ap symbol_form h.0
+element_form-agree v w counters (ARegister register) h = refl
+element_form-agree v w counters LocationCounter h = refl
+element_form-agree v w counters OriginCounter h = refl
+element_form-agree v w counters (ALiteral literal) h = refl
+
+product-agree : (v w : View) (counters : Counters) (form : Result Form Letter) (pairs : List OperatorElement) → Agree v w (symbols_of_pairs pairs) →
+    product (early_names v counters) form pairs ≡ product (early_names w counters) form pairs
+product-agree v w counters form [] h = refl
+product-agree v w counters (Err fault) (pair ∷ pairs) h = product-agree v w counters (Err fault) pairs (agree-behind v w (symbols_of_element pair.element) (symbols_of_pairs pairs) h)
+product-agree v w counters (Ok form) (pair ∷ pairs) h =
+    product-agree v w counters (combined_with pair.operator form (element_form (early_names v counters) pair.element)) pairs (agree-behind v w (symbols_of_element pair.element) (symbols_of_pairs pairs) h)
+    ∙ ap (λ second. product (early_names w counters) (combined_with pair.operator form second) pairs) (element_form-agree v w counters pair.element (agree-front v w (symbols_of_element pair.element) (symbols_of_pairs pairs) h))
+
+term-agree : (v w : View) (counters : Counters) (term : Term) → Agree v w (symbols_of (term.element ∷ map (λ (pair : OperatorElement). pair.element) term.factors)) →
+    product (early_names v counters) (element_form (early_names v counters) term.element) term.factors ≡ product (early_names w counters) (element_form (early_names w counters) term.element) term.factors
+term-agree v w counters term h =
+    ap (λ form. product (early_names v counters) form term.factors) (element_form-agree v w counters term.element (agree-front v w (symbols_of_element term.element) (symbols_of_pairs term.factors) h))
+    ∙ product-agree v w counters (element_form (early_names w counters) term.element) term.factors (agree-behind v w (symbols_of_element term.element) (symbols_of_pairs term.factors) h)
+
+-- the elements of a term
+abbrev term_elements : Term → List Element
+term_elements term = term.element ∷ map (λ (pair : OperatorElement). pair.element) term.factors
+
+front_term : (v w : View) (term : Term) (terms : List Term) → Agree v w (symbols_of (terms_elements (term ∷ terms))) → Agree v w (symbols_of (term_elements term))
+front_term v w term terms h =
+    agree-front v w (symbols_of (term_elements term)) (symbols_of (terms_elements terms)) (subst (Agree v w) (symbols_of-append (term_elements term) (terms_elements terms)) h)
+
+behind_term : (v w : View) (term : Term) (terms : List Term) → Agree v w (symbols_of (terms_elements (term ∷ terms))) → Agree v w (symbols_of (terms_elements terms))
+behind_term v w term terms h =
+    agree-behind v w (symbols_of (term_elements term)) (symbols_of (terms_elements terms)) (subst (Agree v w) (symbols_of-append (term_elements term) (terms_elements terms)) h)
+
+sum_from-agree : (v w : View) (counters : Counters) (running : Result Running Letter) (terms : List Term) → Agree v w (symbols_of (terms_elements terms)) →
+    sum_from (early_names v counters) running terms ≡ sum_from (early_names w counters) running terms
+sum_from-agree v w counters running [] h = refl
+sum_from-agree v w counters (Err fault) (term ∷ terms) h =
+    sum_from-agree v w counters (Err fault) terms (behind_term v w term terms h)
+sum_from-agree v w counters (Ok running) (term ∷ terms) h =
+    sum_from-agree v w counters (plus_term term.operator running (product (early_names v counters) (element_form (early_names v counters) term.element) term.factors)) terms (behind_term v w term terms h)
+    ∙ ap (λ form. sum_from (early_names w counters) (plus_term term.operator running form) terms) (term-agree v w counters term (front_term v w term terms h))
+
+value_of-agree : (v w : View) (counters : Counters) (e : Expression) → Agree v w (symbols_in e) → value_of (early_names v counters) e ≡ value_of (early_names w counters) e
+value_of-agree v w counters e h = ap closed (sum_from-agree v w counters _ e.terms h)
+
+-- an EXT's names: whether each is known, the externals, and the letters
+is_known-agree : (v w : View) (name : List ℕ) (so_far : List Definition) → v name ≡ w name → is_known v name so_far ≡ is_known w name so_far
+is_known-agree v w name so_far e = ap (λ form. is_some (defined_in name so_far) || is_some form) e
+
+externals-agree : (v w : View) (names : List (Option (List ℕ))) (so_far : List Definition) → Agree v w (lawful_names names) → externals v names so_far ≡ externals w names so_far
+externals-agree v w [] so_far h = refl
+externals-agree v w (None ∷ names) so_far h = externals-agree v w names so_far h
+externals-agree v w (Some name ∷ names) so_far h =
+    externals-agree v w names (if is_known v name so_far then so_far else so_far ++ external name ∷ []) h.1
+    ∙ ap (λ known. externals w names (if known then so_far else so_far ++ external name ∷ [])) (is_known-agree v w name so_far h.0)
+
+external_letters-agree : (v w : View) (names : List (Option (List ℕ))) (so_far : List Definition) → Agree v w (lawful_names names) → external_letters v names so_far ≡ external_letters w names so_far
+external_letters-agree v w [] so_far h = refl
+external_letters-agree v w (None ∷ names) so_far h = ap (λ letters. letter.V ∷ letters) (external_letters-agree v w names so_far h)
+external_letters-agree v w (Some name ∷ names) so_far h =
+    ap (λ letters. letter_where (is_known v name so_far) letter.D ++ letters) (external_letters-agree v w names (if is_known v name so_far then so_far else so_far ++ external name ∷ []) h.1)
+    ∙ ap (λ known. letter_where known letter.D ++ external_letters w names (if known then so_far else so_far ++ external name ∷ [])) (is_known-agree v w name so_far h.0)
+
+-- what is said of the location symbol, whether the operation defines it and it is a symbol
+own-agree : (v w : View) (operation : Operation) (location : List ℕ) → Agree v w (own_symbols operation location) →
+    (defines : Bool) → defines_location operation ≡ defines → (symbol : Bool) → is_symbol location ≡ symbol → defines ≡ true → symbol ≡ true → v location ≡ w location
+own-agree v w operation location h true d true s e f = let k : Agree v w (location ∷ []) = rw (d, s) at h in k.0
+own-agree v w operation location h true d false s e f = cc
+own-agree v w operation location h false d symbol s e f = cc
+
+-- a letter of what may be defined before, where the field is a symbol
+D_letter-agree : (v w : View) (location : List ℕ) (other : List Letter) (symbol : Bool) → (symbol ≡ true → v location ≡ w location) →
+    (if symbol then letter_where (is_some (v location)) letter.D else other) ≡ (if symbol then letter_where (is_some (w location)) letter.D else other)
+D_letter-agree v w location other true h = ap (λ form. letter_where (is_some form) letter.D) (h refl)
+D_letter-agree v w location other false h = refl
+
+first_definition-agree : (v w : View) (location : List ℕ) (form : Form) (symbol : Bool) → is_symbol location ≡ symbol → (symbol ≡ true → v location ≡ w location) →
+    first_definition location form (v location) ≡ first_definition location form (w location)
+first_definition-agree v w location form true s h = ap (first_definition location form) (h refl)
+first_definition-agree v w location form false s h = rw s refl
+
+-- what is seen of the location symbol, for an operation that defines it
+abbrev own_front : View → View → Operation → Operand → List ℕ → Type 0
+own_front v w operation operand location = Agree v w (own_symbols operation location ++ operand_symbols operand operation)
+
+own_seen : (v w : View) (operation : Operation) (operand : Operand) (location : List ℕ) → own_front v w operation operand location →
+    defines_location operation ≡ true → (symbol : Bool) → is_symbol location ≡ symbol → symbol ≡ true → v location ≡ w location
+own_seen v w operation operand location h d symbol s e =
+    own-agree v w operation location (agree-front v w (own_symbols operation location) (operand_symbols operand operation) h) true d symbol s refl e
+
+-- what a statement defines
+definitions_of-agree : (v w : View) (kind : DeckKind) (operation : Operation) (operand : Operand) (location : List ℕ) (value counter : Form) → own_front v w operation operand location →
+    definitions_of kind operation operand location value counter v ≡ definitions_of kind operation operand location value counter w
+definitions_of-agree v w kind op.Equ operand location value counter h =
+    first_definition-agree v w location value (is_symbol location) refl (own_seen v w op.Equ operand location h refl (is_symbol location) refl)
+definitions_of-agree v w Rel op.Ext (NamesOperand names) location value counter h = externals-agree v w names [] (agree-behind v w (own_symbols op.Ext location) (lawful_names names) h)
+definitions_of-agree v w Rel op.Ext operand location value counter h = refl
+definitions_of-agree v w Abs op.Ext operand location value counter h = refl
+definitions_of-agree v w Periph op.Ext operand location value counter h = refl
+definitions_of-agree v w kind op.Bss operand location value counter h =
+    first_definition-agree v w location counter (is_symbol location) refl (own_seen v w op.Bss operand location h refl (is_symbol location) refl)
+definitions_of-agree v w kind op.Bssz operand location value counter h =
+    first_definition-agree v w location counter (is_symbol location) refl (own_seen v w op.Bssz operand location h refl (is_symbol location) refl)
+definitions_of-agree v w kind op.Data operand location value counter h =
+    first_definition-agree v w location counter (is_symbol location) refl (own_seen v w op.Data operand location h refl (is_symbol location) refl)
+definitions_of-agree v w kind op.Con operand location value counter h =
+    first_definition-agree v w location counter (is_symbol location) refl (own_seen v w op.Con operand location h refl (is_symbol location) refl)
+definitions_of-agree v w kind op.Vfd operand location value counter h =
+    first_definition-agree v w location counter (is_symbol location) refl (own_seen v w op.Vfd operand location h refl (is_symbol location) refl)
+definitions_of-agree v w kind op.Dis operand location value counter h =
+    first_definition-agree v w location counter (is_symbol location) refl (own_seen v w op.Dis operand location h refl (is_symbol location) refl)
+definitions_of-agree v w kind op.Instruction operand location value counter h =
+    first_definition-agree v w location counter (is_symbol location) refl (own_seen v w op.Instruction operand location h refl (is_symbol location) refl)
+definitions_of-agree v w kind op.Unknown operand location value counter h =
+    first_definition-agree v w location counter (is_symbol location) refl (own_seen v w op.Unknown operand location h refl (is_symbol location) refl)
+definitions_of-agree v w kind op.EmptyField operand location value counter h = refl
+definitions_of-agree v w kind op.Listed operand location value counter h = refl
+definitions_of-agree v w kind op.End operand location value counter h = refl
+definitions_of-agree v w kind (op.Kind made) operand location value counter h = refl
+definitions_of-agree v w kind op.Base operand location value counter h = refl
+definitions_of-agree v w kind op.Use operand location value counter h = refl
+definitions_of-agree v w kind op.Org operand location value counter h = refl
+definitions_of-agree v w kind op.Loc operand location value counter h = refl
+definitions_of-agree v w kind op.Entry operand location value counter h = refl
+
+-- the letters of a location field
+location_letters-agree : (v w : View) (kind : DeckKind) (operation : Operation) (operand : Operand) (location : List ℕ) → own_front v w operation operand location →
+    location_letters kind operation location (v location) ≡ location_letters kind operation location (w location)
+location_letters-agree v w kind op.Equ operand location h = D_letter-agree v w location _ (is_symbol location) (own_seen v w op.Equ operand location h refl (is_symbol location) refl)
+location_letters-agree v w kind op.Ext operand location h = refl
+location_letters-agree v w kind op.Bss operand location h = D_letter-agree v w location _ (is_symbol location) (own_seen v w op.Bss operand location h refl (is_symbol location) refl)
+location_letters-agree v w kind op.Bssz operand location h = D_letter-agree v w location _ (is_symbol location) (own_seen v w op.Bssz operand location h refl (is_symbol location) refl)
+location_letters-agree v w kind op.Data operand location h = D_letter-agree v w location _ (is_symbol location) (own_seen v w op.Data operand location h refl (is_symbol location) refl)
+location_letters-agree v w kind op.Con operand location h = D_letter-agree v w location _ (is_symbol location) (own_seen v w op.Con operand location h refl (is_symbol location) refl)
+location_letters-agree v w kind op.Vfd operand location h = D_letter-agree v w location _ (is_symbol location) (own_seen v w op.Vfd operand location h refl (is_symbol location) refl)
+location_letters-agree v w kind op.Dis operand location h = D_letter-agree v w location _ (is_symbol location) (own_seen v w op.Dis operand location h refl (is_symbol location) refl)
+location_letters-agree v w kind op.Instruction operand location h = D_letter-agree v w location _ (is_symbol location) (own_seen v w op.Instruction operand location h refl (is_symbol location) refl)
+location_letters-agree v w kind op.Unknown operand location h = D_letter-agree v w location _ (is_symbol location) (own_seen v w op.Unknown operand location h refl (is_symbol location) refl)
+location_letters-agree v w kind op.EmptyField operand location h = refl
+location_letters-agree v w kind op.Listed operand location h = refl
+location_letters-agree v w kind op.End operand location h = refl
+location_letters-agree v w kind (op.Kind made) operand location h = refl
+location_letters-agree v w kind op.Base operand location h = refl
+location_letters-agree v w kind op.Use operand location h = refl
+location_letters-agree v w kind op.Org operand location h = refl
+location_letters-agree v w kind op.Loc operand location h = refl
+location_letters-agree v w kind op.Entry operand location h = refl
+
+-- the letters of an operand
+operand_letters-agree : (v w : View) (kind : DeckKind) (operation : Operation) (operand : Operand) (location : List ℕ) → own_front v w operation operand location →
+    operand_letters kind operation operand v ≡ operand_letters kind operation operand w
+operand_letters-agree v w Rel op.Ext (NamesOperand names) location h = external_letters-agree v w names [] (agree-behind v w (own_symbols op.Ext location) (lawful_names names) h)
+operand_letters-agree v w Rel operation operand location h = refl
+operand_letters-agree v w Abs operation operand location h = refl
+operand_letters-agree v w Periph operation operand location h = refl
+
+-- the early value of an operand
+early_value-agree : (v w : View) (counters : Counters) (operation : Operation) (operand : Operand) (location : List ℕ) → own_front v w operation operand location →
+    early_value (early_names v counters) operand ≡ early_value (early_names w counters) operand
+early_value-agree v w counters operation (ValueOperand e) location h = ap Some (value_of-agree v w counters e (agree-behind v w (own_symbols operation location) (symbols_in e) h))
+early_value-agree v w counters operation operand location h = refl
+
+-- the letters of a statement
+settled_letters-agree : (v w : View) (kind : DeckKind) (operation : Operation) (operand : Operand) (location : List ℕ) (neutral : Bool) (blocks : List (List ℕ)) (outcome : List Letter) →
+    own_front v w operation operand location →
+    settled_letters kind operation operand location neutral blocks v outcome ≡ settled_letters kind operation operand location neutral blocks w outcome
+settled_letters-agree v w kind operation operand location neutral blocks outcome h =
+    ap₂ (λ own rest. own ++ (if is_refused kind operation operand location neutral blocks then letter.O ∷ [] else rest ++ outcome))
+    (location_letters-agree v w kind operation operand location h) (operand_letters-agree v w kind operation operand location h)
+
+-- a statement settled from what it sees with an early value
+settled_with-agree : (kind : DeckKind) (state : BlockState) (read : ReadStatement) (place : ℕ) (counters : Counters) (v w : View) → Agree v w (early_symbols read) →
+    settled_with kind (seen_from state v) read place counters (early_value (early_names v counters) read.operand)
+    ≡ settled_with kind (seen_from state w) read place counters (early_value (early_names w counters) read.operand)
+settled_with-agree kind state read place counters v w h =
+    let location = read.fields.location in
+    let block = (seen_from state v).block in
+    let blocks = (seen_from state v).blocks in
+    let second = early_value (early_names w counters) read.operand in
+    let outcome = outcome_of kind read.operation read.operand block place second in
+    ap (λ value. settled_with kind (seen_from state v) read place counters value) (early_value-agree v w counters read.operation read.operand location h)
+    ∙ ap₂ (λ definitions letters. settled_as kind block blocks read place counters outcome definitions letters)
+    (definitions_of-agree v w kind read.operation read.operand location (equated second) counters.location h)
+    (settled_letters-agree v w kind read.operation read.operand location state.neutral blocks outcome.letters h)
+
+-- a statement, settled from a state and two views that agree on what matters early to it
+pub settled_from-agree : (kind : DeckKind) (state : BlockState) (v w : View) (statement : Statement) → Agree v w (early_symbols (read_of kind state.number_base statement)) →
+    settled_from kind (seen_from state v) statement ≡ settled_from kind (seen_from state w) statement
+settled_from-agree kind state v w statement h =
+    let read = read_of kind state.number_base statement in
+    let seen = seen_from state v in
+    let place = place_of kind read.operation read.operand read.fields.location seen.position in
+    settled_with-agree kind state read place (counters_at kind seen.block place seen.counting) v w h
