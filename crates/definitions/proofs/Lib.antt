@@ -14,6 +14,13 @@ pub mod ViewLaws
 pub mod TailLaws
 pub mod WordLaws
 -- Worked decks, computed.
+pub mod WorkedText
+pub mod WorkedInputs
 pub mod WorkedCards
+pub mod WorkedTables
 pub mod WorkedCentral
 pub mod WorkedKinds
+pub mod WorkedPeripheral
+pub mod WorkedRules
+pub mod WorkedLinks
+pub mod WorkedCommons

@@ -1,11 +1,7 @@
 -- Worked decks, computed: expressions, counts, jumps, packed fields, and a fault.
-use Rattle.std.proofs.Common.{◌≡◌, ℕ, List, [], ◌∷◌, ◌++◌, refl, codes}
-use Rattle.std.specs.Prelude.{flat_map}
+use Rattle.std.proofs.Common.{◌≡◌, ℕ, List, [], ◌∷◌, refl, codes}
 use Rattle.definitions.specs.Answer.{answer_of}
-
--- lines, each with its line feed
-abbrev text : List (List ℕ) → List ℕ
-text lines = flat_map (λ line. line ++ 10 ∷ []) lines
+use Rattle.definitions.proofs.WorkedText.{text}
 
 -- expressions
 abbrev expressions : List ℕ

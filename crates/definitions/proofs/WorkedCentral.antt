@@ -1,11 +1,7 @@
 -- Worked decks, computed: central decks with their listing, map, image and status.
-use Rattle.std.proofs.Common.{◌≡◌, ℕ, List, [], ◌∷◌, ◌++◌, refl, codes}
-use Rattle.std.specs.Prelude.{flat_map}
+use Rattle.std.proofs.Common.{◌≡◌, ℕ, List, [], ◌∷◌, refl, codes}
 use Rattle.definitions.specs.Answer.{answer_of}
-
--- lines, each with its line feed
-abbrev text : List (List ℕ) → List ℕ
-text lines = flat_map (λ line. line ++ 10 ∷ []) lines
+use Rattle.definitions.proofs.WorkedText.{text}
 
 -- one central deck
 abbrev bare_deck : List ℕ

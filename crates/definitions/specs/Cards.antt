@@ -1,6 +1,6 @@
 -- Cards: 0 to 80 columns, each a character with a display code, without trailing blanks (COMPASS 60492600, statement format).
 use Rattle.std.specs.Prelude.{ℕ, ◌==◌, ◌+◌, List, [], ◌∷◌, ◌++◌, Option, Some, None, Bool, false, length, take, replicate, position, nat_lt, is_none, if◌then◌else◌}
-use Rattle.definitions.specs.Characters.{blank, display_code_of}
+use Rattle.definitions.specs.Characters.{blank, display_code_of, comma, star}
 
 -- the columns of a card
 abbrev pub Card : Type 0
@@ -38,11 +38,11 @@ begins_with c (d ∷ ds) = d == c
 
 -- a comma in column 1
 abbrev pub is_comma_card : Card → Bool
-is_comma_card card = begins_with 44 card
+is_comma_card card = begins_with comma card
 
 -- a star in column 1
 abbrev pub is_comment : Card → Bool
-is_comment card = begins_with 42 card
+is_comment card = begins_with star card
 
 -- as many columns as are read, the missing ones blank
 abbrev pub padded : ℕ → List ℕ → List ℕ

@@ -1,7 +1,7 @@
 -- How a value and an item stand in a field of so many bits (COMPASS 60492600, data generation; negative numbers by ones' complement).
 use Rattle.std.specs.Prelude.{ℕ, ◌+◌, ◌-◌, ◌*◌, ◌/◌, ◌^◌, ◌==◌, List, ◌++◌, Option, Some, None, Bool, nat_le, length, replicate, ℤ, pos, negsuc, unsigned_abs, if◌then◌else◌}
 use Rattle.definitions.specs.Characters.{blank}
-use Rattle.definitions.specs.CountedItems.{CountedItem, bits_needed}
+use Rattle.definitions.specs.CountedItems.{letter_A, letter_H, letter_R, CountedItem, bits_needed}
 use Rattle.definitions.specs.Forms.{characters_number}
 
 -- a value fits where its size is at most the greatest of the field
@@ -27,9 +27,9 @@ counted_item_bits width item =
     let count = width / 6 in
     let n = length item.characters in
     let codes_alone = characters_number item.characters in
-    if item.letter == 72 then characters_number (item.characters ++ blanks (count - n)) * 2 ^ (width - 6 * count)
-    else if item.letter == 65 then characters_number (blanks (count - n) ++ item.characters)
-    else if item.letter == 82 then codes_alone
+    if item.letter == letter_H then characters_number (item.characters ++ blanks (count - n)) * 2 ^ (width - 6 * count)
+    else if item.letter == letter_A then characters_number (blanks (count - n) ++ item.characters)
+    else if item.letter == letter_R then codes_alone
     else codes_alone * 2 ^ (width - 6 * n)
 
 -- an item that is all of a field, if it has room there

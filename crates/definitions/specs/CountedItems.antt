@@ -3,6 +3,22 @@ use Rattle.std.specs.Prelude.{ℕ, ◌+◌, ◌*◌, ◌==◌, List, [], ◌∷�
 use Rattle.definitions.specs.Characters.{is_digit, is_among}
 use Rattle.definitions.specs.Numerals.{number_of}
 
+-- A fills with blanks in front; L, the fifth letter of counted items, fills with zeros behind
+abbrev pub letter_A : ℕ
+letter_A = 65
+
+-- H fills with blanks behind
+abbrev pub letter_H : ℕ
+letter_H = 72
+
+-- R stands at the right behind zeros
+abbrev pub letter_R : ℕ
+letter_R = 82
+
+-- C wants zeros behind
+abbrev pub letter_C : ℕ
+letter_C = 67
+
 -- a counted item: its letter and its characters
 pub record CountedItem : Type 0 where
   pub letter : ℕ
@@ -29,4 +45,4 @@ counted_item_at text =
 
 -- how many bits an item needs: C asks for two zero characters behind it
 abbrev pub bits_needed : CountedItem → ℕ
-bits_needed item = 6 * length item.characters + (if item.letter == 67 then 12 else 0)
+bits_needed item = 6 * length item.characters + (if item.letter == letter_C then 12 else 0)

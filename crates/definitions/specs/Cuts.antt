@@ -3,7 +3,7 @@ use Rattle.std.specs.Prelude.{ℕ, zero, suc, ◌≡◌, ◌≢◌, ◌+◌, ◌
 use Rattle.std.specs.List.{AllByRecursion}
 use Rattle.definitions.specs.Characters.{blank}
 use Rattle.definitions.specs.Pieces.{Spot, AtStart, begun_at, spot_behind, left_of}
-use Rattle.definitions.specs.Fields.{Fields}
+use Rattle.definitions.specs.Fields.{Fields, columns_before_comments}
 
 -- nothing follows, or a blank
 abbrev pub EndsHere : List ℕ → Type 0
@@ -27,7 +27,7 @@ pub record AreBlanks (gap rest : List ℕ) : Type 0 where
 
 -- the end `rest` of a text begins before column 30
 abbrev pub HasBegun : List ℕ → List ℕ → Type 0
-HasBegun text rest = length text < length rest + 29
+HasBegun text rest = length text < length rest + columns_before_comments
 
 -- a location field begins in column 1, or in column 2 behind a blank
 abbrev pub IsLead : List ℕ → List ℕ → Type 0

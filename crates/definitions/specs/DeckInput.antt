@@ -1,7 +1,7 @@
 -- The cut of input into decks (ours): each card whose operation is IDENT begins one; the first fault in line order counts.
 use Rattle.std.specs.Prelude.{ℕ, ◌+◌, ◌==◌, List, [], ◌∷◌, Bool, not, ◌&&◌, ◌||◌, nat_le, codes, length, take_while, reverse, map, if◌then◌else◌}
 use Rattle.std.specs.List.{list_all, list_any}
-use Rattle.definitions.specs.Characters.{is_letter, is_digit, same_text, blank}
+use Rattle.definitions.specs.Characters.{is_letter, is_digit, same_text, blank, comma}
 use Rattle.definitions.specs.InputLines.{InputLine, Line, TooLong, Cut}
 use Rattle.definitions.specs.Cards.{Card, CardRead, IsCard, TooWide, BadCharacter, card_of}
 use Rattle.definitions.specs.Fields.{Fields, fields_of}
@@ -40,7 +40,7 @@ is_deck_name name = nat_le 1 (length name) && nat_le (length name) 7 && list_all
 
 -- the name on an IDENT card: the characters of its variable field up to the first comma
 abbrev pub name_on : Fields → List ℕ
-name_on fields = take_while (λ c. not (c == 44) && not (c == blank)) fields.variable
+name_on fields = take_while (λ c. not (c == comma) && not (c == blank)) fields.variable
 
 -- whether one of the decks has this name
 abbrev pub is_taken : List ℕ → List Deck → Bool

@@ -25,11 +25,15 @@ abbrev pub from_location : List ℕ → List ℕ
 from_location [] = []
 from_location (c ∷ cs) = if c == blank then cs else c ∷ cs
 
+-- a field begins in one of the columns before column 30
+abbrev pub columns_before_comments : ℕ
+columns_before_comments = 29
+
 -- what follows a word and its blanks, where it begins before column 30 of the text
 abbrev pub next_field : List ℕ → List ℕ → List ℕ
 next_field text from =
     let rest = without_blanks (drop (length (unbroken_front from)) from) in
-    if nat_lt (length text - length rest) 29 then rest else []
+    if nat_lt (length text - length rest) columns_before_comments then rest else []
 
 -- DIS takes the rest of the text
 abbrev pub variable_of : List ℕ → List ℕ → List ℕ

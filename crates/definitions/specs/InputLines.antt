@@ -1,6 +1,7 @@
 -- Lines of input (ours): at most 256 bytes before a line feed, without one carriage return directly before it.
 use Rattle.std.specs.Prelude.{ℕ, ◌==◌, ◌-◌, List, [], ◌∷◌, length, take, slice_index, nat_lt, if◌then◌else◌}
 use Rattle.std.specs.List.{slice_split}
+use Rattle.definitions.specs.Characters.{line_feed, carriage_return}
 
 -- a line as it comes in: its bytes, or more than 256 of them, or bytes that no line feed ends
 pub data InputLine : Type 0 where
@@ -10,7 +11,7 @@ pub data InputLine : Type 0 where
 
 -- the bytes without one carriage return at their end
 abbrev pub without_cr : List ℕ → List ℕ
-without_cr bytes = if slice_index bytes (length bytes - 1) == 13 then take (length bytes - 1) bytes else bytes
+without_cr bytes = if slice_index bytes (length bytes - 1) == carriage_return then take (length bytes - 1) bytes else bytes
 
 -- what stands in front of a line feed, as a line
 abbrev pub line_of : List ℕ → InputLine
@@ -29,4 +30,4 @@ lines_of_pieces (bytes ∷ next ∷ pieces) = line_of bytes ∷ lines_of_pieces 
 
 -- the lines of a stream
 abbrev pub lines_of : List ℕ → List InputLine
-lines_of bytes = lines_of_pieces (slice_split (λ b. b == 10) bytes)
+lines_of bytes = lines_of_pieces (slice_split (λ b. b == line_feed) bytes)

@@ -43,3 +43,7 @@ is_absolute_deck _ = true
 abbrev pub allows_literals : DeckKind → Bool
 allows_literals Periph = false
 allows_literals _ = true
+
+-- the bits of an address in an instruction; a field with a block or external has at least as many
+abbrev pub address_bits : ℕ
+address_bits = 18

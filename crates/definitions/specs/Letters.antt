@@ -12,22 +12,21 @@ use Rattle.definitions.specs.declared.marks.DeckKind.TheVariants.{Periph}
 use Rattle.definitions.specs.declared.marks.Letter.{Letter}
 use Rattle.definitions.specs.declared.marks.Letter.TheVariants as letter
 
--- the character that shows a letter
-abbrev pub letter_text : Letter → ℕ
-letter_text letter.A = 65
-letter_text letter.C = 67
-letter_text letter.D = 68
-letter_text letter.L = 76
-letter_text letter.O = 79
-letter_text letter.R = 82
-letter_text letter.U = 85
-letter_text letter.V = 86
-letter_text letter.Z = 90
+-- a letter as it is written
+abbrev pub letter_text : Letter → List ℕ
+letter_text letter.A = codes "A"
+letter_text letter.C = codes "C"
+letter_text letter.D = codes "D"
+letter_text letter.L = codes "L"
+letter_text letter.O = codes "O"
+letter_text letter.R = codes "R"
+letter_text letter.U = codes "U"
+letter_text letter.V = codes "V"
+letter_text letter.Z = codes "Z"
 
--- the characters of letters
+-- letters as they are written
 abbrev pub texts : List Letter → List ℕ
-texts [] = []
-texts (l ∷ ls) = letter_text l ∷ texts ls
+texts letters = flat_map letter_text letters
 
 -- the letters that are among these, in alphabetical order
 abbrev pub in_order : List Letter → List ℕ

@@ -1,5 +1,6 @@
 -- The listing of a deck (ours).
 use Rattle.std.specs.Prelude.{ℕ, ◌+◌, ◌/◌, ◌%◌, List, [], ◌∷◌, ◌++◌, Bool, codes, length, filter, flat_map, reverse, nat_lt, pos, ◌+ℤ◌, unwrap_or}
+use Rattle.definitions.specs.Characters.{line_feed}
 use Rattle.definitions.specs.Numerals.{octal_of, digits_of, decimal_of}
 use Rattle.definitions.specs.Cards.{Card}
 use Rattle.definitions.specs.Kinds.{kind_text}
@@ -15,7 +16,7 @@ use Rattle.definitions.specs.declared.marks.DeckKind.TheVariants.{Periph}
 
 -- a text and the line feed that ends it
 abbrev pub line : List ℕ → List ℕ
-line text = text ++ 10 ∷ []
+line text = text ++ line_feed ∷ []
 
 -- the bits of a form in a listing: the deck stands at 0, and so does each external
 abbrev pub unlinked : List BlockRow → Linking

@@ -1,7 +1,7 @@
 -- How an operation and its operand are matched with the rows of the central table.
-use Rattle.std.specs.Prelude.{ℕ, ◌+◌, ◌-◌, ◌*◌, ◌==◌, List, [], ◌∷◌, ◌++◌, Option, Some, None, Bool, true, false, ◌&&◌, nat_le, codes, length, if◌then◌else◌}
+use Rattle.std.specs.Prelude.{ℕ, ◌+◌, ◌-◌, ◌*◌, ◌==◌, List, [], ◌∷◌, ◌++◌, Option, Some, None, Bool, true, false, ◌&&◌, nat_le, codes, length, filter, map, if◌then◌else◌}
 use Rattle.std.specs.List.{slice_split}
-use Rattle.definitions.specs.Characters.{same_text, is_among}
+use Rattle.definitions.specs.Characters.{same_text, is_among, comma, zero_digit}
 use Rattle.definitions.specs.Pieces.{Mark, Comma, Plus, Minus, Star, Slash, Equals, Piece, IsMark, IsCountedItem, Plain}
 use Rattle.definitions.specs.Expressions.{Expression, Sign, PlusSign, Term, Operator, Subtract, Element, ARegister, OperatorElement, expression_of, is_plain}
 use Rattle.definitions.specs.CentralTable.{Row, SumRow, central_rows, ignoring_rows, sum_rows}
@@ -12,6 +12,18 @@ pub record RegisterDigits : Type 0 where
   pub i : ℕ
   pub j : ℕ
   pub k : ℕ
+
+-- i in a pattern or a code
+abbrev pub place_i : ℕ
+place_i = 105
+
+-- j in a pattern or a code
+abbrev pub place_j : ℕ
+place_j = 106
+
+-- k in a pattern or a code
+abbrev pub place_k : ℕ
+place_k = 107
 
 -- all three digits 0
 abbrev pub no_ijk : RegisterDigits
@@ -24,19 +36,19 @@ is_ijk c = is_among c (codes "ijk")
 -- the digits with the one for this place set
 abbrev pub with_ijk : ℕ → ℕ → RegisterDigits → RegisterDigits
 with_ijk c digit ijk =
-    if c == 105 then record { i = digit; j = ijk.j; k = ijk.k }
-    else if c == 106 then record { i = ijk.i; j = digit; k = ijk.k }
+    if c == place_i then record { i = digit; j = ijk.j; k = ijk.k }
+    else if c == place_j then record { i = ijk.i; j = digit; k = ijk.k }
     else record { i = ijk.i; j = ijk.j; k = digit }
 
 -- 0 to 7
 abbrev pub is_octal_digit : ℕ → Bool
-is_octal_digit c = nat_le 48 c && nat_le c 55
+is_octal_digit c = nat_le zero_digit c && nat_le c (zero_digit + 7)
 
 -- a text that is a pattern's but for octal digits at its ijk
 abbrev pub matched : List ℕ → List ℕ → RegisterDigits → Option RegisterDigits
 matched [] [] ijk = Some ijk
 matched (p ∷ ps) (c ∷ cs) ijk =
-    let next = matched ps cs (if is_ijk p then with_ijk p (c - 48) ijk else ijk) in
+    let next = matched ps cs (if is_ijk p then with_ijk p (c - zero_digit) ijk else ijk) in
     if (if is_ijk p then is_octal_digit c else (p == c)) then next else None
 matched _ _ ijk = None
 
@@ -104,7 +116,7 @@ subfields_matched base _ _ so_far = None
 -- a digit of a code: that of its place, or itself
 abbrev pub digit_in : RegisterDigits → ℕ → ℕ
 digit_in ijk c =
-    if c == 105 then ijk.i else if c == 106 then ijk.j else if c == 107 then ijk.k else c - 48
+    if c == place_i then ijk.i else if c == place_j then ijk.j else if c == place_k then ijk.k else c - zero_digit
 
 -- the digits of a code in front of K or n
 abbrev pub code_digits : RegisterDigits → List ℕ → List ℕ
@@ -122,41 +134,24 @@ instruction_of code found =
     let digits = code_digits found.ijk code in
     record { digits = octal_number 0 digits; count = length digits; field = found.field }
 
--- the operation is in no row, its operand is none of its rows', or the instruction
-pub data Central : Type 0 where
-  NoSuchOperation : Central
-  NoSuchOperand : Central
-  IsInstruction : Instruction → Central
-
 -- the digits of the operation, before any operand is matched
-abbrev pub with_registers : List ℕ → Option RegisterDigits → Option Match
-with_registers code None = None
-with_registers code (Some ijk) = Some (record { ijk = ijk; field = NoField })
+abbrev pub with_registers : Option RegisterDigits → Option Match
+with_registers None = None
+with_registers (Some ijk) = Some (record { ijk = ijk; field = NoField })
 
--- the instruction of a row that fits; where it does not, other rows count, and the operation is known at least
-abbrev pub or_operand : List ℕ → Option Match → Central → Central
-or_operand code None NoSuchOperation = NoSuchOperand
-or_operand code None rest = rest
-or_operand code (Some found) rest = IsInstruction (instruction_of code found)
+-- the instruction of a code, where an operand was matched
+abbrev pub matched_instruction : List ℕ → Option Match → Option Instruction
+matched_instruction code None = None
+matched_instruction code (Some found) = Some (instruction_of code found)
 
--- an operation and its subfields as a row has them, if it does
-abbrev pub row_match : NumberBase → Row → List ℕ → List (List Piece) → Option Match
-row_match base row operation subfields = subfields_matched base (slice_split (λ c. c == 44) row.operand) subfields (with_registers row.code (matched row.operation operation no_ijk))
+-- the instruction of a row whose operand is ignored
+abbrev pub ignoring_fit : Row → Option Instruction
+ignoring_fit row = Some (instruction_of row.code (record { ijk = no_ijk; field = NoField }))
 
--- the first of the rows of an operation that fits the operand
-abbrev pub among_rows : NumberBase → List ℕ → List (List Piece) → List Row → Central
-among_rows base operation subfields [] = NoSuchOperation
-among_rows base operation subfields (row ∷ rows) =
-    let rest = among_rows base operation subfields rows in
-    elim (is_operation row.operation operation) [
-      | true ↦ or_operand row.code (row_match base row operation subfields) rest
-      | false ↦ rest
-    ]
-
--- the instruction of the first row with this operation, whatever its operand; or what other rows give
-abbrev pub among_ignoring : List ℕ → List Row → Central → Central
-among_ignoring operation [] rest = rest
-among_ignoring operation (row ∷ rows) rest = if is_operation row.operation operation then IsInstruction (instruction_of row.code (record { ijk = no_ijk; field = NoField })) else among_ignoring operation rows rest
+-- the instruction of an operation and its subfields by a row, where they fit it
+abbrev pub row_fit : NumberBase → List ℕ → List (List Piece) → Row → Option Instruction
+row_fit base operation subfields row =
+    matched_instruction row.code (subfields_matched base (slice_split (λ c. c == comma) row.operand) subfields (with_registers (matched row.operation operation no_ijk)))
 
 -- a sum taken apart: the text of the terms that are one register, and the others; beside a register a sign counts as written
 pub record Sum : Type 0 where
@@ -175,7 +170,7 @@ is_none_yet text = length text == 0
 
 -- a term that is one register joins the registers, every other term the others
 abbrev pub onto_sum : Term → Element → List OperatorElement → Sum → Sum
-onto_sum term (ARegister r) [] sum = record { sign = PlusSign; registers = sum.registers ++ (sign_text (is_none_yet sum.registers) term.operator ++ r.letter ∷ (48 + r.digit) ∷ []); others = sum.others }
+onto_sum term (ARegister r) [] sum = record { sign = PlusSign; registers = sum.registers ++ (sign_text (is_none_yet sum.registers) term.operator ++ r.letter ∷ (zero_digit + r.digit) ∷ []); others = sum.others }
 onto_sum term element pairs sum = record { sign = sum.sign; registers = sum.registers; others = sum.others ++ term ∷ [] }
 
 -- a sum with further terms taken apart
@@ -198,29 +193,22 @@ abbrev pub is_plain_field : Field → Bool
 is_plain_field (OfK e) = is_plain true e
 is_plain_field _ = true
 
--- the instruction of a row whose registers fit, where it has a code with or without K as needed; else that of other rows
-abbrev pub or_sum : List ℕ → Sum → Option RegisterDigits → Central → Central
-or_sum code sum None rest = or_operand code None rest
-or_sum code sum (Some ijk) rest =
-    if is_plain_field (sum_field sum.sign sum.others) && nat_le 1 (length code)
-    then IsInstruction (instruction_of code (record { ijk = ijk; field = sum_field sum.sign sum.others }))
-    else or_operand code None rest
+-- the code of a row for a sum with these digits, where it has one with or without K as needed, and K has no register
+abbrev pub sum_instruction : List ℕ → Sum → Option RegisterDigits → Option Instruction
+sum_instruction code sum None = None
+sum_instruction code sum (Some ijk) =
+    let field = sum_field sum.sign sum.others in
+    if is_plain_field field && nat_le 1 (length code) then Some (instruction_of code (record { ijk = ijk; field = field })) else None
 
 -- the digits of the operation, and those of the registers of its sum
-abbrev pub registers_matched : SumRow → List ℕ → Sum → Option RegisterDigits → Option RegisterDigits
-registers_matched row operation sum None = None
-registers_matched row operation sum (Some ijk) = matched row.registers sum.registers ijk
+abbrev pub registers_matched : SumRow → Sum → Option RegisterDigits → Option RegisterDigits
+registers_matched row sum None = None
+registers_matched row sum (Some ijk) = matched row.registers sum.registers ijk
 
--- the instruction of a sum by the first row that fits; what is no sum fits none
-abbrev pub among_sums : List ℕ → Option Sum → List SumRow → Central
-among_sums operation sum [] = NoSuchOperation
-among_sums operation None (row ∷ rows) = if is_operation row.operation operation then NoSuchOperand else among_sums operation None rows
-among_sums operation (Some sum) (row ∷ rows) =
-    let rest = among_sums operation (Some sum) rows in
-    elim (is_operation row.operation operation) [
-      | true ↦ or_sum (sum_code row sum.others) sum (registers_matched row operation sum (matched row.operation operation no_ijk)) rest
-      | false ↦ rest
-    ]
+-- the instruction of an operation and a sum by a row, where they fit it; what is no sum fits none
+abbrev pub sum_fit : List ℕ → Option Sum → SumRow → Option Instruction
+sum_fit operation None row = None
+sum_fit operation (Some sum) row = sum_instruction (sum_code row sum.others) sum (registers_matched row sum (matched row.operation operation no_ijk))
 
 -- an expression taken apart, if there is one
 abbrev pub sum_read : Option Expression → Option Sum
@@ -232,13 +220,27 @@ abbrev pub single : NumberBase → List (List Piece) → Option Expression
 single base (pieces ∷ []) = expression_of base pieces
 single base _ = None
 
--- what is found first, or the other where the operation is in no row
-abbrev pub or_else : Central → Central → Central
-or_else NoSuchOperation other = other
-or_else central other = central
+-- the rows of an operation
+abbrev pub rows_for : List ℕ → List Row → List Row
+rows_for operation rows = filter (λ (row : Row). is_operation row.operation operation) rows
 
--- the instruction of an operation with its subfields
-abbrev pub central_of : NumberBase → List ℕ → List (List Piece) → Central
-central_of base operation subfields =
-    or_else (among_ignoring operation ignoring_rows NoSuchOperation)
-    (or_else (among_sums operation (sum_read (single base subfields)) sum_rows) (among_rows base operation subfields central_rows))
+-- the rows of an operation whose operand is a sum
+abbrev pub sum_rows_for : List ℕ → List SumRow → List SumRow
+sum_rows_for operation rows = filter (λ (row : SumRow). is_operation row.operation operation) rows
+
+-- what the rows of an operation make of its operand, row by row
+abbrev pub fits_of : NumberBase → List ℕ → List (List Piece) → List (Option Instruction)
+fits_of base operation subfields =
+    map ignoring_fit (rows_for operation ignoring_rows)
+    ++ (map (sum_fit operation (sum_read (single base subfields))) (sum_rows_for operation sum_rows)
+    ++ map (row_fit base operation subfields) (rows_for operation central_rows))
+
+-- the instruction of the first row that fits
+abbrev pub first_fit : List (Option Instruction) → Option Instruction
+first_fit [] = None
+first_fit (None ∷ fits) = first_fit fits
+first_fit (Some instruction ∷ fits) = Some instruction
+
+-- the instruction of an operation with its subfields, if a row of the operation fits them
+abbrev pub central_of : NumberBase → List ℕ → List (List Piece) → Option Instruction
+central_of base operation subfields = first_fit (fits_of base operation subfields)

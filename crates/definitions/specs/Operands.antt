@@ -7,7 +7,7 @@ use Rattle.definitions.specs.Kinds.{word_bits, allows_literals}
 use Rattle.definitions.specs.Symbols.{Number, Value, number_read, is_block_name, is_linked_name}
 use Rattle.definitions.specs.Expressions.{Sign, NoSign, PlusSign, MinusSign, Expression, expression_of, is_plain}
 use Rattle.definitions.specs.PeripheralTable.{PeripheralForm, Ignored, Long, PeripheralRow, peripheral_row}
-use Rattle.definitions.specs.Matching.{Instruction, Central, IsInstruction, central_of}
+use Rattle.definitions.specs.Matching.{Instruction, central_of}
 use Rattle.definitions.specs.Operations as op
 use Rattle.definitions.specs.Operations.{Operation}
 use Rattle.definitions.specs.declared.marks.DeckKind.{DeckKind}
@@ -184,9 +184,9 @@ abbrev pub base_operand : List ℕ → Operand
 base_operand text = if same_text text (codes "O") then Unread else if same_text text (codes "D") then Unread else BadOperand
 
 -- the instruction that was found, or V
-abbrev pub central_operand : Central → Operand
-central_operand (IsInstruction instruction) = CentralOperand instruction
-central_operand _ = BadOperand
+abbrev pub central_operand : Option Instruction → Operand
+central_operand None = BadOperand
+central_operand (Some instruction) = CentralOperand instruction
 
 -- m, or m and d
 abbrev pub one_or_two : PeripheralRow → List (Option Expression) → Operand

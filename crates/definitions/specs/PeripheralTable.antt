@@ -2,7 +2,7 @@
 use Rattle.std.specs.Prelude.{ℕ, ◌+◌, List, [], ◌∷◌, ◌++◌, codes, Option, Some, None, if◌then◌else◌}
 use Rattle.std.specs.List.{slice_split}
 use Rattle.std.specs.Prelude.{◌==◌}
-use Rattle.definitions.specs.Characters.{same_text}
+use Rattle.definitions.specs.Characters.{same_text, blank}
 
 -- what stands behind the two digits of the operation
 pub data PeripheralForm : Type 0 where
@@ -32,7 +32,7 @@ from_code code form (operation ∷ operations) = record { operation = operation;
 
 -- operations with a blank between them
 abbrev pub named : List ℕ → List (List ℕ)
-named text = slice_split (λ c. c == 32) text
+named text = slice_split (λ c. c == blank) text
 
 -- the peripheral instructions in the order of their codes
 abbrev pub peripheral_rows : List PeripheralRow

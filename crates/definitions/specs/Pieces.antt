@@ -2,7 +2,7 @@
 -- (COMPASS 60492600, subfields and data items).
 use Rattle.std.specs.Prelude.{ℕ, zero, suc, ◌-◌, ◌==◌, List, [], ◌∷◌, Option, Some, None, if◌then◌else◌}
 use Rattle.std.specs.List.{onto_first}
-use Rattle.definitions.specs.Characters.{blank}
+use Rattle.definitions.specs.Characters.{blank, comma, plus, minus, star, slash, equals}
 use Rattle.definitions.specs.CountedItems.{CountedItem, CountedSpan, counted_item_at}
 
 -- the five marks that separate, and the equals sign of a literal
@@ -35,8 +35,8 @@ pub data Begun : Type 0 where
 -- the five marks that separate
 abbrev pub mark_of : ℕ → Option Mark
 mark_of c =
-    if c == 44 then Some Comma else if c == 43 then Some Plus else if c == 45 then Some Minus
-    else if c == 42 then Some Star else if c == 47 then Some Slash else None
+    if c == comma then Some Comma else if c == plus then Some Plus else if c == minus then Some Minus
+    else if c == star then Some Star else if c == slash then Some Slash else None
 
 -- a mark, or else the character itself
 abbrev pub begun_by : ℕ → Option Mark → Begun
@@ -50,7 +50,7 @@ begun_by_counted_item c (Some counted) = ByCountedItem counted
 
 -- what begins with this character at this spot: a mark, an item, or neither
 abbrev pub begun_at : Spot → ℕ → List ℕ → Begun
-begun_at AtStart c rest = if c == 61 then ByMark Equals else begun_by_counted_item c (counted_item_at (c ∷ rest))
+begun_at AtStart c rest = if c == equals then ByMark Equals else begun_by_counted_item c (counted_item_at (c ∷ rest))
 begun_at AtEquals c rest = begun_by_counted_item c (counted_item_at (c ∷ rest))
 begun_at Inside c rest = begun_by c (mark_of c)
 

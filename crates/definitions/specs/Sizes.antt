@@ -4,7 +4,7 @@ use Rattle.definitions.specs.Coding.{words_needed}
 use Rattle.definitions.specs.PeripheralTable.{PeripheralForm, Wide, Long}
 use Rattle.definitions.specs.Matching.{Field, NoField, OfK, OfN}
 use Rattle.definitions.specs.Operands.{Operand, CentralOperand, PeripheralOperand, WordsOperand, BitsOperand, TextOperand, Datum, CountedItemWords, BitField}
-use Rattle.definitions.specs.Kinds.{word_bits, units}
+use Rattle.definitions.specs.Kinds.{word_bits, units, address_bits}
 use Rattle.definitions.specs.declared.marks.DeckKind.{DeckKind}
 
 -- how many words a piece of DATA or CON fills
@@ -25,7 +25,7 @@ bits_of (field ∷ fields) = field.width + bits_of fields
 -- 18 bits for K and 6 for n
 abbrev pub field_width : Field → ℕ
 field_width NoField = 0
-field_width (OfK e) = 18
+field_width (OfK e) = address_bits
 field_width (OfN e) = 6
 
 -- how many words a peripheral instruction has: two where a value needs the second

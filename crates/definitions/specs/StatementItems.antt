@@ -11,7 +11,7 @@ use Rattle.definitions.specs.Matching.{Field, NoField, OfK, OfN}
 use Rattle.definitions.specs.Operations as op
 use Rattle.definitions.specs.Operations.{Operation}
 use Rattle.definitions.specs.Operands.{Operand, CentralOperand, PeripheralOperand, WordsOperand, BitsOperand, TextOperand, Datum, ZeroWord, NumberWord, CountedItemWords, ExpressionWord, BitField}
-use Rattle.definitions.specs.Kinds.{word_bits, units}
+use Rattle.definitions.specs.Kinds.{word_bits, units, address_bits}
 use Rattle.definitions.specs.Sizes.{bits_of}
 use Rattle.definitions.specs.Literals.{signed_number, literal_form}
 use Rattle.definitions.specs.Lengths.{BlockRow, base_in}
@@ -73,7 +73,7 @@ number_in context form = form.number +ℤ part_value (λ name. pos (base_in name
 abbrev pub linked_item : ℕ → Form → Item
 linked_item width form =
     if is_absolute form then known_if width (coded_in width form.number)
-    else if nat_le 18 width then record { width = width; content = Linked form; letters = [] } else faulty width letter.R
+    else if nat_le address_bits width then record { width = width; content = Linked form; letters = [] } else faulty width letter.R
 
 -- the field of a value: in REL decks the pair may still have to make it, in others it is a number
 abbrev pub form_item : Context → DeckKind → ℕ → Form → Item
@@ -151,7 +151,7 @@ displacement_of context settled (Ok form) =
 -- the field of a central instruction: K in 18 bits, n as a count in 6, or none
 abbrev pub instruction_items : Context → Settled → Field → List Item
 instruction_items context settled NoField = []
-instruction_items context settled (OfK e) = expression_item context settled 18 e ∷ []
+instruction_items context settled (OfK e) = expression_item context settled address_bits e ∷ []
 instruction_items context settled (OfN e) = count_of (small_value context settled e (whole_counted_item e.sign e.terms)) ∷ []
 
 -- d behind m, or 0 where m stands term_alone
@@ -164,7 +164,7 @@ abbrev pub peripheral_items : Context → Settled → PeripheralForm → List Ex
 peripheral_items context settled Short (d ∷ others) = expression_item context settled 6 d ∷ []
 peripheral_items context settled ShortJump (d ∷ others) = displacement_of context settled (small_value context settled d (whole_counted_item d.sign d.terms)) ∷ []
 peripheral_items context settled Shift (d ∷ others) = shift_of context (small_value context settled d (whole_counted_item d.sign d.terms)) ∷ []
-peripheral_items context settled Wide (c ∷ others) = expression_item context settled 18 c ∷ []
+peripheral_items context settled Wide (c ∷ others) = expression_item context settled address_bits c ∷ []
 peripheral_items context settled Long (m ∷ others) = second_value context settled others ∷ expression_item context settled 12 m ∷ []
 peripheral_items context settled form values = known 6 0 ∷ []
 

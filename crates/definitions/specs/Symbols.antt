@@ -1,7 +1,7 @@
 -- Symbols, register names and numbers as runs of characters (COMPASS 60492600, names, registers, numeric constants).
-use Rattle.std.specs.Prelude.{ℕ, ◌-◌, ◌*◌, ◌^◌, ◌==◌, List, [], ◌∷◌, Option, Some, None, Bool, true, false, not, ◌&&◌, ◌||◌, nat_le, nat_lt, length, drop, codes, take_while, if◌then◌else◌}
+use Rattle.std.specs.Prelude.{ℕ, ◌+◌, ◌-◌, ◌*◌, ◌^◌, ◌==◌, List, [], ◌∷◌, Option, Some, None, Bool, true, false, not, ◌&&◌, ◌||◌, nat_le, nat_lt, length, drop, codes, take_while, if◌then◌else◌}
 use Rattle.std.specs.List.{list_all}
-use Rattle.definitions.specs.Characters.{is_digit, is_symbol_character, is_among, same_text}
+use Rattle.definitions.specs.Characters.{is_digit, is_symbol_character, is_among, same_text, zero_digit}
 use Rattle.definitions.specs.Numerals.{number_of}
 use Rattle.definitions.specs.declared.marks.NumberBase.{NumberBase}
 use Rattle.definitions.specs.declared.marks.NumberBase.TheVariants.{Decimal, Octal}
@@ -14,8 +14,8 @@ pub record Register : Type 0 where
 -- a register: A0 to A7, B0 to B7 or X0 to X7
 abbrev pub register_of : List ℕ → Option Register
 register_of (letter ∷ digit ∷ []) =
-    if is_among letter (codes "ABX") && nat_le 48 digit && nat_le digit 55
-    then Some (record { letter = letter; digit = digit - 48 }) else None
+    if is_among letter (codes "ABX") && nat_le zero_digit digit && nat_le digit (zero_digit + 7)
+    then Some (record { letter = letter; digit = digit - zero_digit }) else None
 register_of _ = None
 
 -- whether a text is the name of a register
@@ -52,16 +52,24 @@ pub data Number : Type 0 where
   Value : ℕ → Number
   TooGreat : Number
 
+-- the suffix of a decimal number
+abbrev pub decimal_suffix : ℕ
+decimal_suffix = 68
+
+-- what stands in front of a scale
+abbrev pub scale_letter : ℕ
+scale_letter = 83
+
 -- the number to this base; an 8 or 9 is no octal digit
 abbrev pub scaled : NumberBase → List ℕ → ℕ → Option ℕ
 scaled Decimal digits scale = Some (number_of 10 digits * 2 ^ scale)
-scaled Octal digits scale = if list_all (λ c. nat_lt c 56) digits then Some (number_of 8 digits * 2 ^ scale) else None
+scaled Octal digits scale = if list_all (λ c. nat_lt c (zero_digit + 8)) digits then Some (number_of 8 digits * 2 ^ scale) else None
 
 -- nothing, or S and one or two decimal digits
 abbrev pub scale_of : List ℕ → Option ℕ
 scale_of [] = Some 0
 scale_of (s ∷ digits) =
-    if (s == 83) && nat_le 1 (length digits) && nat_le (length digits) 2 && list_all is_digit digits then Some (number_of 10 digits) else None
+    if (s == scale_letter) && nat_le 1 (length digits) && nat_le (length digits) 2 && list_all is_digit digits then Some (number_of 10 digits) else None
 
 -- the number with its scale, if that is lawful
 abbrev pub scaled_by : NumberBase → List ℕ → Option ℕ → Option ℕ
@@ -73,7 +81,7 @@ abbrev pub behind_digits : NumberBase → List ℕ → List ℕ → Option ℕ
 behind_digits base digits [] = scaled_by base digits (Some 0)
 behind_digits base digits (c ∷ rest) =
     if is_among c (codes "BO") then scaled_by Octal digits (scale_of rest)
-    else if c == 68 then scaled_by Decimal digits (scale_of rest)
+    else if c == decimal_suffix then scaled_by Decimal digits (scale_of rest)
     else scaled_by base digits (scale_of (c ∷ rest))
 
 -- a number up to the greatest, or the mark of one above it
