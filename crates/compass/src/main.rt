@@ -2,17 +2,19 @@
 //! process, the line of a fault and the exit status.
 #![tactic(auto)]
 
-ghost use Rattle.std.specs.Prelude.{◌≡◌, ℕ, ◌<◌, pos};
+ghost use Rattle.std.specs.Prelude.{◌≡◌, ◌≢◌, ℕ, ◌<◌, pos};
 
-use clap::error::ErrorKind;
 use clap::{ArgMatches, Command, Error};
 use service_main::{AsmFault, Tally, asm_run, asm_status};
 use std::alloc::Global;
 use std::env;
-use std::io::{self, BufReader};
+use std::io::{self, BufReader, ErrorKind};
 use std::process::ExitCode;
 use std::rt::Env;
 use text_ports::Counted;
+
+/// The status of a fault of the command line.
+const COMMAND_LINE_STATUS: u8 = 2;
 
 /// The command line: its one command is `asm`, and `clap` writes its texts.
 fn read_words<'a>(alloc: Global, words: &'a [String]) -> Result<ArgMatches<'a>, Error> {
@@ -59,7 +61,7 @@ fn run<R: AllocGlobal + Input + Print + Eprint>(rt: &R, words: &[String]) -> Exi
 /// Tells what `clap` answers to words that ask for no run: help, version or a fault, with its
 /// status; want of memory is a fault as in a run.
 fn answer<R: Print + Eprint>(rt: &R, error: &Error) -> ExitCode {
-    if error.kind() == ErrorKind::OutOfMemory {
+    if error.kind() == clap::error::ErrorKind::OutOfMemory {
         return tell(rt, &Err(AsmFault::OutOfMemory));
     }
     let _ = error.print(rt);
@@ -71,17 +73,51 @@ fn answer<R: Print + Eprint>(rt: &R, error: &Error) -> ExitCode {
 fn status_of(exit_code: i32) -> u8
     ensures { (k : ℕ) → k < 256 → exit_code ≡ pos k → result ≡ k }
 {
-    u8::try_from(exit_code).unwrap_or(2)
+    u8::try_from(exit_code).unwrap_or(COMMAND_LINE_STATUS)
 }
 
-/// The words of the command line, or none where there is no memory for them.
-fn words_of<R: AllocGlobal + Env>(rt: &R) -> Option<Vec<String>> {
-    env::args(rt).ok()?.collect(rt.alloc()).ok()
+/// Why the words of the command line can't be read.
+#[derive(Clone, Copy)]
+enum WordsFault {
+    /// No memory was left for them.
+    OutOfMemory,
+    /// One of them is not UTF-8.
+    NotText,
+}
+
+/// What the words failed at: the memory alone where a growth was refused, and else the words.
+fn words_fault(kind: ErrorKind) -> WordsFault
+    ensures memory { kind ≡ ErrorKind.OutOfMemory → result ≡ WordsFault.OutOfMemory }
+    ensures words { kind ≢ ErrorKind.OutOfMemory → result ≡ WordsFault.NotText }
+{
+    if kind == ErrorKind::OutOfMemory {
+        WordsFault::OutOfMemory
+    } else {
+        WordsFault::NotText
+    }
+}
+
+/// The words of the command line.
+fn words_of<R: AllocGlobal + Env>(rt: &R) -> Result<Vec<String>, WordsFault> {
+    match env::args(rt) {
+        Ok(words) => words
+            .collect(rt.alloc())
+            .map_err(|_| WordsFault::OutOfMemory),
+        Err(error) => Err(words_fault(error.kind())),
+    }
+}
+
+/// Tells that the command line is no text: a fault of it as those that `clap` tells, with their
+/// status.
+fn refuse_words<R: Eprint>(rt: &R) -> ExitCode {
+    let _ = eprintln!(rt; "compass: an argument is not UTF-8");
+    ExitCode::from(COMMAND_LINE_STATUS)
 }
 
 fn main(rt: HostRuntime) -> ExitCode {
     match words_of(&rt) {
-        Some(words) => run(&rt, words.as_slice()),
-        None => tell(&rt, &Err(AsmFault::OutOfMemory)),
+        Ok(words) => run(&rt, words.as_slice()),
+        Err(WordsFault::OutOfMemory) => tell(&rt, &Err(AsmFault::OutOfMemory)),
+        Err(WordsFault::NotText) => refuse_words(&rt),
     }
 }
