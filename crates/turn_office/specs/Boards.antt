@@ -5,6 +5,7 @@ use Rattle.atomic_table.specs.declared.shared.Seat.{Seat}
 use Rattle.turn_office.specs.declared.views.Chair.{Chair}
 use Rattle.turn_office.specs.declared.views.View.{View}
 use Rattle.turn_office.specs.declared.rule.Opening.{Opening}
+use Rattle.turn_office.specs.Bells.{most_seats}
 use Rattle.turn_office.specs.Rule.{IsFloor, at_rest, chair, seen_of}
 use Rattle.turn_office.specs.Seats.{OfficeFacts, SeatFacts}
 
@@ -22,6 +23,15 @@ pub record IsOpen {T : Type 0} (seats : ℕ) (id : TableId) (key : Opening T) : 
 -- the number of a seat with what was seen under it
 abbrev pub chair_of : {C R : Type 0} → SeatFacts C R → Chair C R
 chair_of seat = chair seat.number seat.seen
+
+module _ {S V : Type 0} where
+  -- a place at the table of an office
+  abbrev pub IsPlaceOf : TableId → Seat S V → Type 0
+  IsPlaceOf id place = (place.table_id ≡ id) × IsFloor id
+
+  -- the same place, of the same table
+  abbrev pub IsSamePlace : Seat S V → Seat S V → Type 0
+  IsSamePlace old new = (new.table_id ≡ old.table_id) × (new.id ≡ old.id)
 
 module _ {T C R : Type 0} where
   -- a seat, by its place

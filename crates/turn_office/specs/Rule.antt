@@ -12,6 +12,8 @@ use Rattle.turn_office.specs.declared.views.Stage.{Stage}
 use Rattle.turn_office.specs.declared.views.Stage.TheVariants.{Idle, Waits, Serves}
 use Rattle.turn_office.specs.Histories.{Leads, IsLegal, IsOfSeats, Continues, Answers}
 use Rattle.turn_office.specs.Told.{Told}
+use Rattle.turn_office.specs.Bells.{most_seats}
+use Rattle.turn_office.specs.declared.bells.TheConstants.{WORDS}
 
 -- a number of the office, and the history that was seen under it
 abbrev pub chair : {C R : Type 0} → ℕ → List (Entry C R) → Chair C R
@@ -88,7 +90,7 @@ module _ {T C R : Type 0} (allowed : T → C → R → T → Type 0) (seats : �
     pub out : ℕ
     pub holder : ℕ → ℕ
     pub bells : List ℕ
-    pub few : seats ≤ 64
+    pub few : seats ≤ most_seats
     pub leads : Leads allowed first log object
     pub of_seats : IsOfSeats seats log
     pub words : s.words ≡ (length log % 2 ^ 64) ∷ ((length log + out) % 2 ^ 64) ∷ bells
@@ -171,4 +173,4 @@ module _ {T C R : Type 0} (allowed : T → C → R → T → Type 0) where
 
 -- the table of an office: the two counts and a bell for each ticket that can be out, and the slot
 abbrev pub IsFloor : TableId → Type 0
-IsFloor id = (id.words ≡ 66) × (id.slots ≡ 1)
+IsFloor id = (id.words ≡ WORDS) × (id.slots ≡ 1)

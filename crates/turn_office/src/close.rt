@@ -29,7 +29,8 @@ pub enum CloseFault<O: Sequential> {
 
 impl<O: Sequential> Office<O> {
     /// Closes the office, with all its seats, and hands back the object. It waits for nobody, and
-    /// takes no memory.
+    /// takes no memory. Where a seat of the office was dropped, no list is all of them ever again, and
+    /// the answer is `SeatsOut` from then on.
     pub fn close(self, seats: SeatList<O>) -> Result<O, CloseFault<O>>
         requires { AreOf self.id seats.items }
         ensures whole { MatchResult result (λ object. is_whole self.seats seats.items ≡ true) (λ fault. is_whole self.seats seats.items ≡ false) }

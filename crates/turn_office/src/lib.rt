@@ -23,16 +23,20 @@
 //! | 7, 8 | the exchange of the slot, out and home | `Seat::call` | nothing |
 //! | 9 | a `fetch_add` on a bell | `Seat::call` | nothing |
 //!
-//! The bells are 64 words more, one for each ticket that can be out. Who waits long makes the bell of
-//! its ticket odd and sleeps on it; the end of a turn looks at the bell of the next ticket, and where
-//! it is odd makes it even and wakes. Sleeping, waking and looking at a word without a seat change
-//! nothing that is known. `Office::close` takes the table apart: the last seat has then seen the whole
-//! history. All steps are sequentially consistent.
+//! The bells are words more, one for each ticket that can be out (`bells.rt`). Who waits long makes the
+//! bell of its ticket odd, looks once more and sleeps on it; the end of a turn looks at the bell of the
+//! next ticket, and where it is odd makes it even and wakes. Sleeping, waking and looking at a word
+//! without a seat change nothing that is known. `Office::close` takes the table apart: the last seat
+//! has then seen the whole history. All steps are sequentially consistent.
+//!
+//! A seat that is dropped takes its number with it: the other seats go on, but `Office::close` answers
+//! `SeatsOut` for ever, and the object does not come back.
 //!
 //! Not promised: that a call gets its turn, in what time, or in which order seats that never met
 //! make their calls.
 #![tactic(auto)]
 
+mod bells;
 mod close;
 mod history;
 mod office;

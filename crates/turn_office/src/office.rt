@@ -3,10 +3,10 @@ ghost use Rattle.std.specs.Prelude.{◌≡◌, ◌≤◌, [], ◌∷◌, length,
 ghost use Rattle.turn_office.specs.Rule.{undealt};
 ghost use Rattle.turn_office.specs.Seats.{AreOf, new_seats};
 
+use crate::bells::WORDS;
 use crate::rule::{Board, Deal, Opening, Place};
 use crate::seat::Seat;
 use crate::sequential::Sequential;
-use crate::turn::WORDS;
 use atomic_table::{Refused, Table};
 use std::alloc::{AllocFailed, Global};
 use std::marker::Model;
