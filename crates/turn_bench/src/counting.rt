@@ -1,9 +1,9 @@
-//! A counter behind an office and behind a lock.
+//! A counter behind an office and behind a lock, with a common start for all threads of a run.
 ghost use Rattle.std.specs.Prelude.{◌≡◌, ◌+◌, ◌*◌, ◌%◌, ◌^◌, ◌≤◌, IfOk};
 ghost use Rattle.turn_office.specs.Seats.{AreOf};
 
 use std::alloc::{AllocError, Global};
-use std::sync::{Mutex, Wait};
+use std::sync::{Barrier, Mutex, Wait};
 use std::thread::Threads;
 use std::time::{Clock, Duration, Instant};
 use std::{io, thread};
@@ -35,9 +35,42 @@ pub struct Counted {
     pub time: Duration,
 }
 
+/// The start of a run: nobody calls before all threads are there, and the time counts from when the
+/// last of them came. Where a thread cannot be made, the others wait for ever.
+#[derive(Drop)]
+struct Start {
+    gate: Barrier,
+    last_came: Mutex<Option<Instant>>,
+}
+
+impl Start {
+    fn new(threads: usize) -> Start {
+        Start {
+            gate: Barrier::new(threads),
+            last_came: Mutex::new(None),
+        }
+    }
+
+    /// Waits until all threads are there.
+    fn wait<R: Wait + Clock>(&self, rt: &R) {
+        *self.last_came.lock(rt) = Instant::now(rt).ok();
+        self.gate.wait(rt);
+    }
+
+    /// The time since the last thread came.
+    fn elapsed<R: Wait + Clock>(&self, rt: &R) -> io::Result<Duration> {
+        let came = *self.last_came.lock(rt);
+        match came {
+            Some(came) => came.elapsed(rt),
+            None => Err(io::Error::other("the clock can't be read")),
+        }
+    }
+}
+
 /// Calls so many times from one seat.
-fn count_from<R: Wait>(
+fn count_from<R: Wait + Clock>(
     rt: &R,
+    start: &Start,
     office: &Office<Counter>,
     mut seat: Seat<Counter>,
     calls: u64,
@@ -45,6 +78,7 @@ fn count_from<R: Wait>(
     requires { seat.office ≡ office.now.id }
     ensures { result.office ≡ office.now.id }
 {
+    start.wait(rt);
     for _ in 0..calls {
         seat.call(rt, office, ());
     }
@@ -52,8 +86,9 @@ fn count_from<R: Wait>(
 }
 
 /// Calls so many times from each seat, each in a thread of its own.
-fn count_from_all<R: Threads + Wait + Sync>(
+fn count_from_all<R: Threads + Wait + Sync + Clock>(
     rt: &R,
+    start: &Start,
     office: &Office<Counter>,
     seats: SeatList<Counter>,
     calls: u64,
@@ -61,7 +96,11 @@ fn count_from_all<R: Threads + Wait + Sync>(
     requires { AreOf office.now.id seats.items }
     ensures { IfOk result (λ list. AreOf office.now.id list.items) }
 {
-    thread::map_vec(rt, seats, &|seat| count_from(rt, office, seat, calls))
+    thread::map_vec(
+        rt,
+        seats,
+        &|seat| count_from(rt, start, office, seat, calls),
+    )
 }
 
 /// So many threads take turns at an office.
@@ -74,8 +113,8 @@ pub fn count_by_turns<R: Threads + Wait + Sync + Clock>(
     requires { (1 ≤ threads) × (threads ≤ 64) }
 {
     let (office, seats) = Office::open(alloc, Counter { count: 0 }, threads)?;
-    let start = Instant::now(rt)?;
-    let seats = count_from_all(rt, &office, seats, calls)?;
+    let start = Start::new(threads);
+    let seats = count_from_all(rt, &start, &office, seats, calls)?;
     let time = start.elapsed(rt)?;
     match office.close(seats) {
         Ok(Counter { count }) => Ok(Counted { count, time }),
@@ -91,12 +130,13 @@ pub fn count_by_lock<R: Threads + Wait + Sync + Clock>(
     calls: u64,
 ) -> io::Result<Counted> {
     let counter = Mutex::new(Counter { count: 0 });
-    let start = Instant::now(rt)?;
+    let start = Start::new(threads);
     thread::map_indices(
         rt,
         alloc,
         threads,
         &|_| {
+            start.wait(rt);
             for _ in 0..calls {
                 counter.lock(rt).step(());
             }
