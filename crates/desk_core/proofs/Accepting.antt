@@ -1,0 +1,28 @@
+-- Calls whose outcome is a change, where nothing speaks against it.
+use Rattle.std.proofs.Common.{◌≡◌, ℕ, ◌+◌, List, [], ◌∷◌, Some, refl}
+use Rattle.desk_core.specs.Language.{Deck}
+use Rattle.desk_core.specs.Edits.{Edit}
+use Rattle.desk_core.specs.Changes.{Added, Dropped, Edited}
+use Rattle.desk_core.specs.Desks.{Desk, deck_named}
+use Rattle.desk_core.specs.Calls.{Call, AddDeck, DropDeck, EditDeck, Batch}
+use Rattle.desk_core.specs.Changing.{accepted, against_add, added, add_deck, against_drop, dropped, drop_deck, edited, against_edit, edit_deck, against_batch, batch}
+use Rattle.desk_core.specs.Runs.{change_asked}
+use Rattle.desk_core.proofs.DecksSeen.{decks_of-added, decks_of-dropped, decks_of-edited}
+use Rattle.desk_core.proofs.Outcomes.{Comes, by_changing, unless_comes}
+
+pub add_comes : (deck : Deck) (desk : Desk) → Comes desk (AddDeck deck) (add_deck deck desk)
+add_comes deck desk = unless_comes desk (AddDeck deck) (against_add deck desk) (accepted (added deck desk))
+    (by_changing (record { change = Added deck; asked = refl; told = refl; version = refl; decks = decks_of-added (desk.version + 1) deck desk.decks; publication = refl }))
+
+pub drop_comes : (name : List ℕ) (seen : ℕ) (desk : Desk) → Comes desk (DropDeck name seen) (drop_deck name seen desk)
+drop_comes name seen desk = unless_comes desk (DropDeck name seen) (against_drop seen desk (deck_named name desk)) (accepted (dropped name desk))
+    (by_changing (record { change = Dropped name; asked = refl; told = refl; version = refl; decks = decks_of-dropped name desk.decks; publication = refl }))
+
+edited_comes : (name : List ℕ) (edits : List Edit) (desk : Desk) (call : Call) → change_asked call ≡ Some (Edited name edits) → Comes desk call (accepted (edited name edits desk))
+edited_comes name edits desk call asked = by_changing (record { change = Edited name edits; asked = asked; told = refl; version = refl; decks = decks_of-edited name (desk.version + 1) edits desk.decks; publication = refl })
+
+pub edit_comes : (name : List ℕ) (seen : ℕ) (edit : Edit) (desk : Desk) → Comes desk (EditDeck name seen edit) (edit_deck name seen edit desk)
+edit_comes name seen edit desk = unless_comes desk (EditDeck name seen edit) (against_edit seen edit desk (deck_named name desk)) _ (edited_comes name (edit ∷ []) desk (EditDeck name seen edit) refl)
+
+pub batch_comes : (name : List ℕ) (seen : ℕ) (edits : List Edit) (desk : Desk) → Comes desk (Batch name seen edits) (batch name seen edits desk)
+batch_comes name seen edits desk = unless_comes desk (Batch name seen edits) (against_batch seen edits desk (deck_named name desk)) _ (edited_comes name edits desk (Batch name seen edits) refl)

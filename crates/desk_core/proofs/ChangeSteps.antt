@@ -1,0 +1,140 @@
+-- What is told of a desk after a call that changes decks.
+use Rattle.std.proofs.Common.{◌≡◌, ℕ, ◌+◌, Bool, true, false, cond, not, ◌||◌, List, [], ◌∷◌, ◌++◌, is_some, inl, inr, Option, Some, None, option_map, refl, sym, ap, ◌∙◌, subst, arith, eq-eqb, ne_eqb}
+use Rattle.std.specs.Option.{option_or}
+use Rattle.std.proofs.lemmas.Bool.{cases_Bool}
+use Rattle.turn_office.specs.Histories.{entry}
+use Rattle.desk_core.specs.Language.{Deck, same_text}
+use Rattle.desk_core.specs.Causes.{when, first_cause}
+use Rattle.desk_core.specs.Edits.{Edit}
+use Rattle.desk_core.specs.Desks.{Desk, DeskDeck, deck_named, is_named}
+use Rattle.desk_core.specs.Calls.{Call, AddDeck, DropDeck, EditDeck, Batch, Reply, Changed, Refused, Refusal}
+use Rattle.desk_core.specs.Answers.{Answer, unless}
+use Rattle.desk_core.specs.Changing.{accepted, against_add, added_deck, added, add_deck, against_drop, dropped, drop_deck, edited_deck, edited, against_edit, edit_deck, against_batch, batch}
+use Rattle.desk_core.specs.Runs.{History}
+use Rattle.desk_core.specs.Jobs.{identity_of, Edits, effect_if}
+use Rattle.desk_core.proofs.Same.{equal_texts, same_text-itself}
+use Rattle.desk_core.proofs.JobsTold.{name_of, IsMeant, IsDeckTold, IsDeskTold, lease_told_still, deck_told_next}
+use Rattle.desk_core.proofs.TellingDecks.{found_told, none_found, all_next, all_added}
+use Rattle.desk_core.proofs.QuietSteps.{IsQuiet, quiet, told_quiet, told_dropped}
+use Rattle.desk_core.proofs.TouchedSteps.{Touches, told_touched}
+
+-- a cause that is not told is not present
+absent : (present : Bool) (refusal : Refusal) (later : List (Option Refusal)) → first_cause (when present refusal ∷ later) ≡ None → present ≡ false
+absent true refusal later e = cc
+absent false refusal later e = refl
+
+nothing_there : {A : Type 0} (o : Option A) → is_some o ≡ false → o ≡ None
+nothing_there None e = refl
+nothing_there (Some a) e = cc
+
+-- texts that differ differ the other way round
+differ_both : (a b : List ℕ) → same_text a b ≡ false → same_text b a ≡ false
+differ_both a b differ = elim (cases_Bool (same_text b a)) [
+  | inl same ↦ absurd (let e = equal_texts b a same in let itself = same_text-itself a in let told : same_text a a ≡ false = ap (λ (t : List ℕ). same_text a t) (sym e) ∙ differ in cc)
+  | inr other ↦ other
+]
+
+module _ (history : History) (by : ℕ) (desk : Desk) (told : IsDeskTold history desk) where
+  -- what is told after an answer
+  abbrev pub Next : Call → Answer → Type 0
+  Next call answer = IsDeskTold (entry by call answer.reply ∷ history) answer.desk
+
+  -- a reply that means nothing, with the desk as it is
+  pub next_quiet : (call : Call) (reply : Reply) → IsQuiet history desk.leases (entry by call reply) → IsDeskTold (entry by call reply ∷ history) desk
+  next_quiet call reply silent = told_quiet history (entry by call reply) desk desk silent told (omega arith) refl refl refl
+
+  -- refused or accepted
+  pub next_unless : (call : Call) (against : Option Refusal) (a : Answer) → ((refusal : Refusal) → IsQuiet history desk.leases (entry by call (Refused refusal))) → (against ≡ None → Next call a) → Next call (unless against desk a)
+  next_unless call None a silent next = next refl
+  next_unless call (Some refusal) a silent next = next_quiet call (Refused refusal) (silent refusal)
+
+  -- a deck that was there, after the addition of one of another name
+  added_other : (deck : Deck) (other : DeskDeck) → IsDeckTold history desk.version desk.leases other → is_named deck.name other ≡ false →
+      IsDeckTold (entry by (AddDeck deck) (Changed (desk.version + 1)) ∷ history) (desk.version + 1) desk.leases other
+  added_other deck other was differ =
+      let e = entry by (AddDeck deck) (Changed (desk.version + 1)) in
+      let v = desk.version in
+      let reached = was.reached in
+      let apart = ne_eqb (v + 1) other.identity (λ same. absurd (omega arith)) in
+      let meant : IsMeant (e ∷ history) other.name other.identity = record {
+        identity_is = ap (λ b. option_or (cond b (Some (v + 1)) None) (identity_of other.name history)) (differ_both deck.name other.name differ) ∙ was.meant.identity_is;
+        name_is = ap (λ b. option_or (cond b (Some deck.name) None) (name_of other.identity history)) apart ∙ was.meant.name_is;
+      } in
+      deck_told_next history e v (v + 1) desk.leases desk.leases other other was refl refl meant (omega arith) refl
+      (lease_told_still history e desk.leases desk.leases (Some other.identity) other.lease (λ n few. refl) (omega arith) was.leased)
+
+  -- the deck that is added
+  added_itself : (deck : Deck) → IsDeckTold (entry by (AddDeck deck) (Changed (desk.version + 1)) ∷ history) (desk.version + 1) desk.leases (added_deck (desk.version + 1) deck)
+  added_itself deck =
+      let v = desk.version in
+      record {
+        meant = record {
+          identity_is = ap (λ b. option_or (cond b (Some (v + 1)) None) (identity_of deck.name history)) (same_text-itself deck.name);
+          name_is = ap (λ b. option_or (cond b (Some deck.name) None) (name_of (v + 1) history)) (eq-eqb (v + 1) (v + 1) refl);
+        };
+        reached = omega arith;
+        since = told.unreached (v + 1) (omega arith);
+        leased = tt;
+      }
+
+  next_added : (deck : Deck) → against_add deck desk ≡ None → Next (AddDeck deck) (accepted (added deck desk))
+  next_added deck free =
+      let e = entry by (AddDeck deck) (Changed (desk.version + 1)) in
+      let v = desk.version in
+      let P = IsDeckTold (e ∷ history) (v + 1) desk.leases in
+      let unnamed = none_found (is_named deck.name) desk.decks (nothing_there (deck_named deck.name desk) (absent (is_some (deck_named deck.name desk)) _ _ free)) in
+      record {
+        decks = all_added P desk.decks (added_deck (v + 1) deck)
+            (all_next (IsDeckTold history v desk.leases) (λ other. is_named deck.name other ≡ false) P (added_other deck) desk.decks told.decks unnamed) (added_itself deck);
+        link = lease_told_still history e desk.leases desk.leases None desk.link (λ n few. refl) (omega arith) told.link;
+        unreached = λ identity beyond. told.unreached identity (omega arith);
+      }
+
+  pub add_next : (deck : Deck) → Next (AddDeck deck) (add_deck deck desk)
+  add_next deck = next_unless (AddDeck deck) (against_add deck desk) (accepted (added deck desk)) (λ r. quiet _ _ _ (λ n. refl) (λ i. refl) (λ n. refl) (λ d. refl)) (next_added deck)
+
+  pub drop_next : (name : List ℕ) (seen : ℕ) → Next (DropDeck name seen) (drop_deck name seen desk)
+  drop_next name seen = next_unless (DropDeck name seen) (against_drop seen desk (deck_named name desk)) (accepted (dropped name desk)) (λ r. quiet _ _ _ (λ n. refl) (λ i. refl) (λ n. refl) (λ d. refl))
+      (λ free. told_dropped history (entry by (DropDeck name seen) (Changed (desk.version + 1))) desk (dropped name desk) (λ deck. not (is_named name deck))
+      (quiet _ _ _ (λ n. refl) (λ i. refl) (λ n. refl) (λ d. refl)) told (omega arith) refl refl refl)
+
+  -- the edits wait where the record is on the desk or out
+  since_edited : (held : Bool) (waiting edits : List Edit) → option_map (λ (before : List Edit). before ++ edits) (cond held (Some waiting) None) ≡ cond held (Some (cond held (waiting ++ edits) waiting)) None
+  since_edited true waiting edits = refl
+  since_edited false waiting edits = refl
+
+  -- accepted edits of a deck that is there
+  next_edited : (call : Call) (name : List ℕ) (edits : List Edit) (deck : DeskDeck) → deck_named name desk ≡ Some deck →
+      ((identity : ℕ) → identity_of name history ≡ Some identity → Touches history desk.leases identity (Edits edits) (entry by call (Changed (desk.version + 1)))) →
+      Next call (accepted (edited name edits desk))
+  next_edited call name edits deck found touches =
+      let e = entry by call (Changed (desk.version + 1)) in
+      let here = found_told (IsDeckTold history desk.version desk.leases) (is_named name) desk.decks deck told.decks found in
+      let meant : IsMeant history name deck.identity = subst (λ n. IsMeant history n deck.identity) (sym (equal_texts name deck.name here.1)) here.0.meant in
+      let touch = touches deck.identity meant.identity_is in
+      told_touched history e desk (edited name edits desk) deck.identity name (Edits edits) (edited_deck (desk.version + 1) edits) touch
+      (record {
+        names = λ d. refl;
+        identities = λ d. refl;
+        since = λ d was same. since_edited (is_some d.kept || is_some d.lease) d.waiting edits;
+        leased = λ d was same. lease_told_still history e desk.leases desk.leases (Some d.identity) d.lease touch.leases_none (omega arith) was.leased;
+      }) meant here.0.reached told (omega arith) (omega arith) refl refl
+
+  -- nothing speaks against an edit only where the deck is there
+  next_edit : (name : List ℕ) (seen : ℕ) (edit : Edit) (found : Option DeskDeck) → deck_named name desk ≡ found → against_edit seen edit desk found ≡ None → Next (EditDeck name seen edit) (accepted (edited name (edit ∷ []) desk))
+  next_edit name seen edit None found free = cc
+  next_edit name seen edit (Some deck) found free = next_edited (EditDeck name seen edit) name (edit ∷ []) deck found
+      (λ identity is. record { adds_none = record { identities = λ n. refl; names = λ i. refl }; leases_none = λ n few. refl; effects = λ d. ap (λ (o : Option ℕ). effect_if d o (Edits (edit ∷ []))) is })
+
+  pub edit_next : (name : List ℕ) (seen : ℕ) (edit : Edit) → Next (EditDeck name seen edit) (edit_deck name seen edit desk)
+  edit_next name seen edit = next_unless (EditDeck name seen edit) (against_edit seen edit desk (deck_named name desk)) (accepted (edited name (edit ∷ []) desk)) (λ r. quiet _ _ _ (λ n. refl) (λ i. refl) (λ n. refl) (λ d. refl))
+      (next_edit name seen edit (deck_named name desk) refl)
+
+  next_batch : (name : List ℕ) (seen : ℕ) (edits : List Edit) (found : Option DeskDeck) → deck_named name desk ≡ found → against_batch seen edits desk found ≡ None → Next (Batch name seen edits) (accepted (edited name edits desk))
+  next_batch name seen edits None found free = cc
+  next_batch name seen edits (Some deck) found free = next_edited (Batch name seen edits) name edits deck found
+      (λ identity is. record { adds_none = record { identities = λ n. refl; names = λ i. refl }; leases_none = λ n few. refl; effects = λ d. ap (λ (o : Option ℕ). effect_if d o (Edits edits)) is })
+
+  pub batch_next : (name : List ℕ) (seen : ℕ) (edits : List Edit) → Next (Batch name seen edits) (batch name seen edits desk)
+  batch_next name seen edits = next_unless (Batch name seen edits) (against_batch seen edits desk (deck_named name desk)) (accepted (edited name edits desk)) (λ r. quiet _ _ _ (λ n. refl) (λ i. refl) (λ n. refl) (λ d. refl))
+      (next_batch name seen edits (deck_named name desk) refl)

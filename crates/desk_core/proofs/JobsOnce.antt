@@ -1,0 +1,57 @@
+-- Each deck job is what the history before it makes due.
+use Rattle.std.proofs.Common.{◌≡◌, inl, inr, ℕ, [], ◌∷◌, ◌++◌, reverse, refl, sym, ap, ◌∙◌, subst, append_assoc, append-nil}
+use Rattle.std.proofs.lemmas.List.{reverse-append}
+use Rattle.turn_office.specs.declared.history.Entry.{Entry}
+use Rattle.turn_office.specs.Histories.{Leads, entry}
+use Rattle.desk_core.specs.Desks.{Desk, deck_named, new_desk}
+use Rattle.desk_core.specs.Calls.{Call, AddDeck, DropDeck, EditDeck, Batch, Cards, Show, Status, Claim, DeliverDeck, DeliverLink, GiveUp, DeckWork, Reply, DeckJob, Refused, OutOfMemory}
+use Rattle.desk_core.specs.Reading.{cards_reply, show_reply}
+use Rattle.desk_core.specs.Steps.{answer, Steps}
+use Rattle.desk_core.specs.Runs.{History, Runs}
+use Rattle.desk_core.specs.Jobs.{IsDue}
+use Rattle.desk_core.proofs.JobsTold.{IsDeskTold, desk_told_first}
+use Rattle.desk_core.proofs.QuietSteps.{quiet, starved_quiet}
+use Rattle.desk_core.proofs.ChangeSteps.{Next, next_quiet, add_next, drop_next, edit_next, batch_next}
+use Rattle.desk_core.proofs.ClaimSteps.{claim_next, claim_due}
+use Rattle.desk_core.proofs.ResultSteps.{deliver_deck_next, deliver_link_next, give_up_next}
+
+module _ (history : History) (by : ℕ) (desk : Desk) (told : IsDeskTold history desk) where
+  -- what is told after each answer
+  answer_next : (call : Call) → Next history by desk told call (answer call desk)
+  answer_next (AddDeck deck) = add_next history by desk told deck
+  answer_next (DropDeck name seen) = drop_next history by desk told name seen
+  answer_next (EditDeck name seen edit) = edit_next history by desk told name seen edit
+  answer_next (Batch name seen edits) = batch_next history by desk told name seen edits
+  answer_next (Cards name) = next_quiet history by desk told (Cards name) (cards_reply (deck_named name desk)) (quiet _ _ _ (λ n. refl) (λ i. refl) (λ n. refl) (λ d. refl))
+  answer_next Show = next_quiet history by desk told Show (show_reply desk.publication) (quiet _ _ _ (λ n. refl) (λ i. refl) (λ n. refl) (λ d. refl))
+  answer_next Status = next_quiet history by desk told Status _ (quiet _ _ _ (λ n. refl) (λ i. refl) (λ n. refl) (λ d. refl))
+  answer_next Claim = claim_next history by desk told
+  answer_next (DeliverDeck done) = deliver_deck_next history by desk told done
+  answer_next (DeliverLink number publication) = deliver_link_next history by desk told number publication
+  answer_next (GiveUp number) = give_up_next history by desk told number
+
+  -- what is told after each step
+  pub step_next : (call : Call) (reply : Reply) (next : Desk) → Steps desk call reply next → IsDeskTold (entry by call reply ∷ history) next
+  step_next call reply next (inl gave) = rw (gave.0, gave.1) (answer_next call)
+  step_next call reply next (inr starved) = rw (starved.1, starved.2) (next_quiet history by desk told call (Refused OutOfMemory) (starved_quiet history desk.leases by call))
+
+  -- a job that a step hands out is due
+  pub step_due : (next : Desk) (job : DeckWork) → Steps desk Claim (DeckJob job) next → IsDue job history
+  step_due next job (inl gave) = claim_due history by desk told job (sym gave.0)
+  step_due next job (inr starved) = let e : DeckJob job ≡ Refused OutOfMemory = starved.1 in cc
+
+-- the newest entry of a longer history
+reverse_onto : (e : Entry Call Reply) (more before : History) → reverse more ++ e ∷ before ≡ reverse (e ∷ more) ++ before
+reverse_onto e more before = sym (ap (λ (h : History). h ++ before) (reverse-append (e ∷ []) more) ∙ append_assoc (reverse more) (e ∷ []) before)
+
+-- what is told of a desk is told of each later one
+told_through : (before : History) (desk last : Desk) (history : History) → Leads Steps desk history last → IsDeskTold before desk → IsDeskTold (reverse history ++ before) last
+told_through before desk last [] leads told = subst (λ d. IsDeskTold before d) leads told
+told_through before desk last (e ∷ more) leads told =
+    subst (λ (h : History). IsDeskTold h last) (reverse_onto e more before) (told_through (e ∷ before) leads.0 last more leads.2 (step_next before e.by desk told e.call e.reply leads.0 leads.1))
+
+-- each deck job of a run is due by the history before it
+pub jobs_are_due : (history : History) (desk next : Desk) (job : DeckWork) → Runs history desk → Steps desk Claim (DeckJob job) next → IsDue job (reverse history)
+jobs_are_due history desk next job runs step =
+    let told = told_through [] new_desk desk history runs desk_told_first in
+    step_due (reverse history) 0 desk (subst (λ (h : History). IsDeskTold h desk) (append-nil (reverse history)) told) next job step

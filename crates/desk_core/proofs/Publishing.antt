@@ -1,0 +1,49 @@
+-- The call whose outcome may be a publication, and the outcome of each step.
+use Rattle.std.proofs.Common.{inl, inr, ℕ, ◌==◌, not, refl, eqb-true}
+use Rattle.std.proofs.lemmas.Bool.{cond_both, not-false}
+use Rattle.desk_core.specs.Desks.{Desk, Publication, decks_of}
+use Rattle.desk_core.specs.Calls.{Call, AddDeck, DropDeck, EditDeck, Batch, Cards, Show, Status, Claim, DeliverDeck, DeliverLink, GiveUp, Reply, OutOfMemory}
+use Rattle.desk_core.specs.Delivering.{deliver_link, take_link, is_leased, is_lease_of, same_decks}
+use Rattle.desk_core.specs.Steps.{answer, Steps}
+use Rattle.desk_core.proofs.Same.{equal_lists}
+use Rattle.desk_core.proofs.Outcomes.{Outcome, Comes, by_publishing, refused_stays, either_comes}
+use Rattle.desk_core.proofs.Staying.{cards_stay, show_stays, status_stays, claim_stays, deliver_deck_stays, give_up_stays, unlinks}
+use Rattle.desk_core.proofs.Accepting.{add_comes, drop_comes, edit_comes, batch_comes}
+
+take_link_comes : (number : ℕ) (publication : Publication) (desk : Desk) → Comes desk (DeliverLink number publication) (take_link publication desk)
+take_link_comes number publication desk =
+    let call = DeliverLink number publication in
+    either_comes desk call (not (is_lease_of publication.version desk.link)) _ _ (unlinks desk call _ refl)
+    (cond_both (not (publication.version == desk.version)) _ _ (Comes desk call) (λ old. unlinks desk call _ refl)
+    (λ present. cond_both (not (same_decks publication.decks (decks_of desk))) _ _ (Comes desk call) (λ other. unlinks desk call _ refl)
+    (λ same. by_publishing (record {
+      stored = refl;
+      version = refl;
+      decks = refl;
+      publication = publication;
+      shown = refl;
+      version_of = eqb-true publication.version desk.version (not-false (publication.version == desk.version) present);
+      decks_are = equal_lists publication.decks (decks_of desk) (not-false (same_decks publication.decks (decks_of desk)) same);
+    }))))
+
+link_comes : (number : ℕ) (publication : Publication) (desk : Desk) → Comes desk (DeliverLink number publication) (deliver_link number publication desk)
+link_comes number publication desk = either_comes desk (DeliverLink number publication) (is_leased number desk.link) _ _ (take_link_comes number publication desk) (refused_stays desk (DeliverLink number publication) _)
+
+-- the outcome of each answer
+pub answer_comes : (call : Call) (desk : Desk) → Comes desk call (answer call desk)
+answer_comes (AddDeck deck) desk = add_comes deck desk
+answer_comes (DropDeck name seen) desk = drop_comes name seen desk
+answer_comes (EditDeck name seen edit) desk = edit_comes name seen edit desk
+answer_comes (Batch name seen edits) desk = batch_comes name seen edits desk
+answer_comes (Cards name) desk = cards_stay name desk
+answer_comes Show desk = show_stays desk
+answer_comes Status desk = status_stays desk
+answer_comes Claim desk = claim_stays desk
+answer_comes (DeliverDeck done) desk = deliver_deck_stays done desk
+answer_comes (DeliverLink number publication) desk = link_comes number publication desk
+answer_comes (GiveUp number) desk = give_up_stays number desk
+
+-- the outcome of each step
+pub step_comes : (desk : Desk) (call : Call) (reply : Reply) (next : Desk) → Steps desk call reply next → Outcome desk call reply next
+step_comes desk call reply next (inl given) = rw (given.0, given.1) (answer_comes call desk)
+step_comes desk call reply next (inr starved) = rw (starved.1, starved.2) (refused_stays desk call OutOfMemory)

@@ -1,0 +1,40 @@
+-- What the worked histories share: calls made one after the other from a desk, with memory found each time.
+use Rattle.std.proofs.Common.{ℕ, List, [], ◌∷◌, codes, refl, inl}
+use Rattle.turn_office.specs.Histories.{Leads, entry}
+use Rattle.desk_core.specs.Language.{Card, Deck}
+use Rattle.desk_core.specs.Desks.{Desk, new_desk}
+use Rattle.desk_core.specs.Calls.{Call, Reply}
+use Rattle.desk_core.specs.Steps.{answer, Steps}
+use Rattle.desk_core.specs.Runs.{History, Runs}
+
+-- the replies, in order
+abbrev pub replies_to : List Call → Desk → List Reply
+replies_to [] desk = []
+replies_to (call ∷ calls) desk = (answer call desk).reply ∷ replies_to calls (answer call desk).desk
+
+-- the desk after the calls
+abbrev pub desk_after : List Call → Desk → Desk
+desk_after [] desk = desk
+desk_after (call ∷ calls) desk = desk_after calls (answer call desk).desk
+
+-- the history of the calls
+abbrev pub history_of : List Call → Desk → History
+history_of [] desk = []
+history_of (call ∷ calls) desk = entry 0 call (answer call desk).reply ∷ history_of calls (answer call desk).desk
+
+-- that history is legal
+pub leads_through : (calls : List Call) (desk : Desk) → Leads Steps desk (history_of calls desk) (desk_after calls desk)
+leads_through [] desk = refl
+leads_through (call ∷ calls) desk = ((answer call desk).desk, inl (refl, refl), leads_through calls (answer call desk).desk)
+
+-- so each worked history is a run of a new desk
+pub runs_through : (calls : List Call) → Runs (history_of calls new_desk) (desk_after calls new_desk)
+runs_through calls = leads_through calls new_desk
+
+-- the deck M, whose only card begins with a star
+abbrev pub M : List ℕ
+M = codes "M"
+
+-- the deck M with these cards
+abbrev pub deck_m : List Card → Deck
+deck_m cards = record { name = M; cards = cards }

@@ -1,0 +1,60 @@
+-- Worked histories: edits and batches, those that apply and those that are refused, and each limit.
+use Rattle.std.proofs.Common.{◌≡◌, ℕ, false, List, [], ◌∷◌, ◌++◌, replicate, map, codes, None, refl}
+use Rattle.std.specs.List.{range_with_len}
+use Rattle.desk_core.specs.Edits as E
+use Rattle.desk_core.specs.Desks.{Desk, new_desk}
+use Rattle.desk_core.specs.Calls.{Call, AddDeck, DropDeck, EditDeck, Batch, Cards, Claim, Changed, CardsAre, Refused, NoSuchCard, DeckFull, NameTaken, NoDeck, OldVersion, TooManyDecks, VersionsSpent, BadEdit, BatchSize}
+use Rattle.desk_core.proofs.Worked.{replies_to, desk_after, M, deck_m}
+
+-- two people edit one deck: who has not seen the latest version is refused
+pub two_at_one_deck : replies_to (
+    AddDeck (deck_m []) ∷ EditDeck M 1 (E.Insert 1 (codes "*ONE")) ∷ EditDeck M 2 (E.Insert 2 (codes "*TWO")) ∷ EditDeck M 3 (E.Insert 1 (codes "*A"))
+    ∷ EditDeck M 3 (E.Insert 1 (codes "*B")) ∷ EditDeck M 4 (E.Insert 1 (codes "*B")) ∷ Cards M ∷ []) new_desk
+    ≡ Changed 1 ∷ Changed 2 ∷ Changed 3 ∷ Changed 4 ∷ Refused (OldVersion 4) ∷ Changed 5 ∷ CardsAre 5 (codes "*B" ∷ codes "*A" ∷ codes "*ONE" ∷ codes "*TWO" ∷ []) ∷ []
+two_at_one_deck = refl
+
+-- the deck M with two cards, at version 3
+abbrev at_three : Desk
+at_three = desk_after (AddDeck (deck_m []) ∷ EditDeck M 1 (E.Insert 1 (codes "*A")) ∷ EditDeck M 2 (E.Insert 2 (codes "*B")) ∷ []) new_desk
+
+-- a batch is one change, and each of its edits applies to what the ones before it leave; with one that does not apply nothing is changed
+pub batches : replies_to (
+    Batch M 3 (E.Insert 1 (codes "*X") ∷ E.Remove 3 ∷ E.Replace 2 (codes "*Y") ∷ []) ∷ Cards M ∷ Batch M 4 (E.Remove 1 ∷ E.Remove 2 ∷ []) ∷ Cards M
+    ∷ Batch M 3 (E.Remove 1 ∷ []) ∷ Batch M 4 [] ∷ Batch M 4 (replicate 101 (E.Remove 9)) ∷ Batch (codes "N") 4 [] ∷ []) at_three
+    ≡ Changed 4 ∷ CardsAre 4 (codes "*X" ∷ codes "*Y" ∷ []) ∷ Refused (BadEdit 2 E.NoSuchCard) ∷ CardsAre 4 (codes "*X" ∷ codes "*Y" ∷ [])
+    ∷ Refused (OldVersion 4) ∷ Refused BatchSize ∷ Refused BatchSize ∷ Refused NoDeck ∷ []
+batches = refl
+
+-- places count from 1, and a card may be inserted behind the last
+pub places : replies_to (
+    EditDeck M 3 (E.Insert 0 []) ∷ EditDeck M 3 (E.Insert 4 []) ∷ EditDeck M 3 (E.Replace 0 []) ∷ EditDeck M 3 (E.Replace 3 []) ∷ EditDeck M 3 (E.Remove 0) ∷ EditDeck M 3 (E.Remove 3)
+    ∷ EditDeck (codes "N") 3 (E.Remove 1) ∷ EditDeck M 3 (E.Insert 3 (codes "*C")) ∷ EditDeck M 4 (E.Remove 2) ∷ EditDeck M 5 (E.Replace 2 (codes "*D")) ∷ Cards M ∷ []) at_three
+    ≡ Refused NoSuchCard ∷ Refused NoSuchCard ∷ Refused NoSuchCard ∷ Refused NoSuchCard ∷ Refused NoSuchCard ∷ Refused NoSuchCard
+    ∷ Refused NoDeck ∷ Changed 4 ∷ Changed 5 ∷ Changed 6 ∷ CardsAre 6 (codes "*A" ∷ codes "*D" ∷ []) ∷ []
+places = refl
+
+-- a deck has at most 20,000 cards, when it is added and when it is edited; a full one can still be edited otherwise
+pub full_deck : replies_to (
+    AddDeck (deck_m (replicate 20001 [])) ∷ AddDeck (deck_m (replicate 20000 [])) ∷ EditDeck M 1 (E.Insert 20002 []) ∷ EditDeck M 1 (E.Insert 20001 [])
+    ∷ Batch M 1 (E.Remove 1 ∷ E.Insert 1 [] ∷ E.Insert 1 [] ∷ []) ∷ EditDeck M 1 (E.Remove 20000) ∷ []) new_desk
+    ≡ Refused DeckFull ∷ Changed 1 ∷ Refused NoSuchCard ∷ Refused DeckFull ∷ Refused (BadEdit 3 E.DeckFull) ∷ Changed 2 ∷ []
+full_deck = refl
+
+-- so many decks, with numbers for names
+abbrev decks_from : ℕ → ℕ → List Call
+decks_from first count = map (λ n. AddDeck (record { name = n ∷ []; cards = [] })) (range_with_len first count)
+
+-- a desk has at most 64 decks, each of another name
+pub full_desk : replies_to (AddDeck (record { name = 5 ∷ []; cards = replicate 20001 [] }) ∷ AddDeck (record { name = 64 ∷ []; cards = replicate 20001 [] }) ∷ DropDeck (9 ∷ []) 10 ∷ decks_from 9 1 ++ decks_from 64 1)
+    (desk_after (decks_from 0 64) new_desk)
+    ≡ Refused NameTaken ∷ Refused TooManyDecks ∷ Changed 65 ∷ Changed 66 ∷ Refused TooManyDecks ∷ []
+full_desk = refl
+
+-- a desk that has come to the last version, or given the last lease
+abbrev worn : ℕ → ℕ → Desk
+worn version leases = record { version = version; leases = leases; decks = (record { name = M; cards = []; identity = 1; version = 1; built = false; kept = None; waiting = []; lease = None }) ∷ []; link = None; publication = None }
+
+pub spent : replies_to (AddDeck (deck_m []) ∷ AddDeck (record { name = []; cards = [] }) ∷ DropDeck M 2 ∷ DropDeck M 1 ∷ EditDeck M 1 (E.Remove 1) ∷ EditDeck M 1 (E.Insert 1 []) ∷ Batch M 1 (E.Remove 1 ∷ []) ∷ Batch M 1 (E.Insert 1 [] ∷ []) ∷ Claim ∷ [])
+    (worn 4611686018427387904 4611686018427387904)
+    ≡ Refused NameTaken ∷ Refused VersionsSpent ∷ Refused (OldVersion 1) ∷ Refused VersionsSpent ∷ Refused NoSuchCard ∷ Refused VersionsSpent ∷ Refused (BadEdit 1 E.NoSuchCard) ∷ Refused VersionsSpent ∷ Refused VersionsSpent ∷ []
+spent = refl

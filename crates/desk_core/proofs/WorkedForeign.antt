@@ -1,0 +1,38 @@
+-- A worked history: results that are not of the deck, and publications that are not of the desk.
+use Rattle.std.proofs.Common.{◌≡◌, ℕ, List, [], ◌∷◌, codes, Some, None, refl}
+use Rattle.desk_core.specs.Language.{Card}
+use Rattle.desk_core.specs.Desks.{Publication, new_desk}
+use Rattle.desk_core.specs.Calls.{Call, AddDeck, Claim, DeliverDeck, DeliverLink, FromCards, Reply, Changed, DeckJob, LinkJob, Idle, Stored, Refused, UnknownJob, Foreign}
+use Rattle.desk_core.proofs.Worked.{replies_to, M, deck_m}
+
+abbrev A : List Card
+A = codes "*A" ∷ []
+
+abbrev B : List Card
+B = codes "*B" ∷ []
+
+-- a result for version 1 of M, under a lease: the cards that the record and the object are of
+abbrev result : ℕ → List Card → List Card → Call
+result lease kept object = DeliverDeck (record { lease = lease; deck = 1; version = 1; kept = Some (record { deck = deck_m kept }); object = deck_m object })
+
+-- a spent record, with a sound object
+abbrev spent_result : ℕ → Call
+spent_result lease = DeliverDeck (record { lease = lease; deck = 1; version = 1; kept = None; object = deck_m A })
+
+-- a publication of M
+abbrev of_m : ℕ → List Card → Publication
+of_m version cards = record { version = version; decks = deck_m cards ∷ [] }
+
+-- each job of M carries the cards, since each record before it was lost
+abbrev job : ℕ → Reply
+job lease = DeckJob (record { lease = lease; deck = 1; version = 1; name = M; start = FromCards A; edits = [] })
+
+abbrev link : ℕ → Reply
+link lease = LinkJob (record { lease = lease; version = 1; objects = deck_m A ∷ [] })
+
+pub foreign_results : replies_to (
+    AddDeck (deck_m A) ∷ Claim ∷ result 1 B B ∷ result 1 A A ∷ Claim ∷ result 2 A B ∷ Claim ∷ spent_result 3 ∷ Claim ∷ result 4 A A
+    ∷ Claim ∷ DeliverLink 5 (of_m 1 B) ∷ Claim ∷ DeliverLink 6 (of_m 0 A) ∷ Claim ∷ DeliverLink 7 (of_m 1 A) ∷ DeliverLink 7 (of_m 1 A) ∷ Claim ∷ []) new_desk
+    ≡ Changed 1 ∷ job 1 ∷ Refused Foreign ∷ Refused UnknownJob ∷ job 2 ∷ Refused Foreign ∷ job 3 ∷ Refused Foreign ∷ job 4 ∷ Stored
+    ∷ link 5 ∷ Refused Foreign ∷ link 6 ∷ Refused Foreign ∷ link 7 ∷ Stored ∷ Refused UnknownJob ∷ Idle 1 ∷ []
+foreign_results = refl

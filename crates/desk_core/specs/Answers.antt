@@ -1,0 +1,23 @@
+-- An answer of a desk: the reply, and the desk after it (ours).
+use Rattle.std.specs.Prelude.{ℕ, ◌+◌, nat_lt, Option, Some, None}
+use Rattle.desk_core.specs.Causes.{when}
+use Rattle.desk_core.specs.Desks.{Desk, greatest_number}
+use Rattle.desk_core.specs.Calls.{Reply, Refused, Refusal, VersionsSpent}
+
+-- the reply, and the desk after it
+pub record Answer : Type 0 where
+  pub reply : Reply
+  pub desk : Desk
+
+-- a reply, and the desk after it
+abbrev pub answers : Reply → Desk → Answer
+answers reply desk = record { reply = reply; desk = desk }
+
+-- a refusal with the desk as it is, where a cause is present; else what is accepted
+abbrev pub unless : Option Refusal → Desk → Answer → Answer
+unless None desk accepted = accepted
+unless (Some refusal) desk accepted = answers (Refused refusal) desk
+
+-- whether the number after this one is too great for a version or a lease
+abbrev pub is_last : ℕ → Option Refusal
+is_last number = when (nat_lt greatest_number (number + 1)) VersionsSpent

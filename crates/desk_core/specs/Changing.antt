@@ -1,0 +1,98 @@
+-- Calls that change decks: Add, DropDeck, an edit, a Batch (ours).
+use Rattle.std.specs.Prelude.{ℕ, ◌+◌, ◌==◌, Bool, false, not, ◌&&◌, ◌||◌, nat_le, nat_lt, List, [], ◌∷◌, ◌++◌, length, filter, is_some, Option, Some, None, option_map, if◌then◌else◌}
+use Rattle.desk_core.specs.Language.{Deck}
+use Rattle.desk_core.specs.Causes.{when, first_cause}
+use Rattle.desk_core.specs.Edits as E
+use Rattle.desk_core.specs.Desks.{Desk, DeskDeck, most_decks, is_named, deck_named, with_deck}
+use Rattle.desk_core.specs.Calls.{Changed, Refusal, NoSuchCard, DeckFull, NameTaken, NoDeck, OldVersion, TooManyDecks, BadEdit, BatchSize}
+use Rattle.desk_core.specs.Answers.{Answer, answers, unless, is_last}
+
+-- who changes a deck has to have seen its present version
+abbrev pub is_old : ℕ → DeskDeck → Option Refusal
+is_old seen deck = when (not (seen == deck.version)) (OldVersion deck.version)
+
+-- a change is answered with the new version
+abbrev pub accepted : Desk → Answer
+accepted desk = answers (Changed desk.version) desk
+
+-- what speaks against the addition of a deck
+abbrev pub against_add : Deck → Desk → Option Refusal
+against_add deck desk = first_cause (
+    when (is_some (deck_named deck.name desk)) NameTaken
+    ∷ when (nat_le most_decks (length desk.decks)) TooManyDecks
+    ∷ when (nat_lt E.most_cards (length deck.cards)) DeckFull
+    ∷ is_last desk.version
+    ∷ [])
+
+-- an added deck: it has no object, no record, no waiting edits and no lease
+abbrev pub added_deck : ℕ → Deck → DeskDeck
+added_deck version deck = record { name = deck.name; cards = deck.cards; identity = version; version = version; built = false; kept = None; waiting = []; lease = None }
+
+-- the desk with a deck more
+abbrev pub added : Deck → Desk → Desk
+added deck desk = record desk { version = desk.version + 1; decks = desk.decks ++ added_deck (desk.version + 1) deck ∷ [] }
+
+-- Add
+abbrev pub add_deck : Deck → Desk → Answer
+add_deck deck desk = unless (against_add deck desk) desk (accepted (added deck desk))
+
+-- what speaks against the drop of a deck
+abbrev pub against_drop : ℕ → Desk → Option DeskDeck → Option Refusal
+against_drop seen desk None = Some NoDeck
+against_drop seen desk (Some deck) = first_cause (is_old seen deck ∷ is_last desk.version ∷ [])
+
+-- the desk without the deck of a name, and so without its lease
+abbrev pub dropped : List ℕ → Desk → Desk
+dropped name desk = record desk { version = desk.version + 1; decks = filter (λ deck. not (is_named name deck)) desk.decks }
+
+-- DropDeck
+abbrev pub drop_deck : List ℕ → ℕ → Desk → Answer
+drop_deck name seen desk = unless (against_drop seen desk (deck_named name desk)) desk (accepted (dropped name desk))
+
+-- edits of a deck wait where it has a record or its lease is out
+abbrev pub waiting_after : List E.Edit → DeskDeck → List E.Edit
+waiting_after edits deck = if is_some deck.kept || is_some deck.lease then deck.waiting ++ edits else deck.waiting
+
+-- an edited deck: it has a new version, and no object of that
+abbrev pub edited_deck : ℕ → List E.Edit → DeskDeck → DeskDeck
+edited_deck version edits deck = record deck { cards = E.edited_by edits deck.cards; version = version; built = false; waiting = waiting_after edits deck }
+
+-- the desk with edits of the deck of a name
+abbrev pub edited : List ℕ → List E.Edit → Desk → Desk
+edited name edits desk = with_deck name (edited_deck (desk.version + 1) edits) (record desk { version = desk.version + 1 })
+
+-- the refusal that tells the fault of an edit
+abbrev pub refusal_of : E.EditFault → Refusal
+refusal_of E.NoSuchCard = NoSuchCard
+refusal_of E.DeckFull = DeckFull
+
+-- what speaks against an edit of a deck
+abbrev pub against_edit : ℕ → E.Edit → Desk → Option DeskDeck → Option Refusal
+against_edit seen edit desk None = Some NoDeck
+against_edit seen edit desk (Some deck) = first_cause (is_old seen deck ∷ option_map refusal_of (E.fault_of edit deck.cards) ∷ is_last desk.version ∷ [])
+
+-- an edit
+abbrev pub edit_deck : List ℕ → ℕ → E.Edit → Desk → Answer
+edit_deck name seen edit desk = unless (against_edit seen edit desk (deck_named name desk)) desk (accepted (edited name (edit ∷ []) desk))
+
+-- how many edits a batch may have
+abbrev pub most_edits : ℕ
+most_edits = 100
+
+-- whether a batch has so many edits as it may, one at least
+abbrev pub is_batch : List E.Edit → Bool
+is_batch edits = nat_le 1 (length edits) && nat_le (length edits) most_edits
+
+-- what speaks against a batch of edits of a deck
+abbrev pub against_batch : ℕ → List E.Edit → Desk → Option DeskDeck → Option Refusal
+against_batch seen edits desk None = Some NoDeck
+against_batch seen edits desk (Some deck) = first_cause (
+    is_old seen deck
+    ∷ when (not (is_batch edits)) BatchSize
+    ∷ option_map (λ (fault : ℕ × E.EditFault). BadEdit fault.0 fault.1) (E.first_fault edits deck.cards)
+    ∷ is_last desk.version
+    ∷ [])
+
+-- Batch: all its edits or none, as one change
+abbrev pub batch : List ℕ → ℕ → List E.Edit → Desk → Answer
+batch name seen edits desk = unless (against_batch seen edits desk (deck_named name desk)) desk (accepted (edited name edits desk))

@@ -1,0 +1,70 @@
+-- Which edits a deck job has to carry, told by the history before it (ours). Histories are read newest first here.
+use Rattle.std.specs.Prelude.{◌≡◌, ℕ, ◌==◌, List, [], ◌∷◌, ◌++◌, Option, Some, None, option_map, unwrap_or, if◌then◌else◌}
+use Rattle.std.specs.Option.{option_or}
+use Rattle.desk_core.specs.Language.{same_text}
+use Rattle.desk_core.specs.Edits.{Edit}
+use Rattle.desk_core.specs.Calls.{Call, AddDeck, EditDeck, Batch, Claim, DeliverDeck, GiveUp, Reply, Changed, DeckJob, LinkJob, Cleared, Refused, Foreign, DeckWork, Start, FromRecord, FromCards}
+use Rattle.desk_core.specs.Runs.{History}
+
+-- the identity that an entry gives to a deck of this name where it adds one: the version that it makes
+abbrev pub identity_in : List ℕ → Call → Reply → Option ℕ
+identity_in name (AddDeck deck) (Changed version) = if same_text name deck.name then Some version else None
+identity_in name _ _ = None
+
+-- the deck of a name, by its identity: the latest addition of that name
+abbrev pub identity_of : List ℕ → History → Option ℕ
+identity_of name [] = None
+identity_of name (entry ∷ earlier) = option_or (identity_in name entry.call entry.reply) (identity_of name earlier)
+
+-- what an entry gave the lease of this number for, if it gave it: a deck, or none for a link
+abbrev pub leased_in : ℕ → Call → Reply → Option (Option ℕ)
+leased_in number Claim (DeckJob job) = if job.lease == number then Some (Some job.deck) else None
+leased_in number Claim (LinkJob job) = if job.lease == number then Some None else None
+leased_in number _ _ = None
+
+-- the deck for which a lease was given, by its identity
+abbrev pub deck_of_lease : ℕ → History → Option ℕ
+deck_of_lease number [] = None
+deck_of_lease number (entry ∷ earlier) = unwrap_or (leased_in number entry.call entry.reply) (deck_of_lease number earlier)
+
+-- what an entry does to the record of a deck: a job hands it out, it is lost, edits are accepted that it lacks; or nothing
+pub data Effect : Type 0 where
+  HandsOut : Effect
+  Loses : Effect
+  Edits : List Edit → Effect
+  Leaves : Effect
+
+-- the effect on a deck, where it is the one that is meant
+abbrev pub effect_if : ℕ → Option ℕ → Effect → Effect
+effect_if deck None effect = Leaves
+effect_if deck (Some other) effect = if other == deck then effect else Leaves
+
+-- the effect of a call with its reply on a deck: a foreign result loses the record, and so does giving up
+abbrev pub effect_on : ℕ → History → Call → Reply → Effect
+effect_on deck earlier (EditDeck name seen edit) (Changed version) = effect_if deck (identity_of name earlier) (Edits (edit ∷ []))
+effect_on deck earlier (Batch name seen edits) (Changed version) = effect_if deck (identity_of name earlier) (Edits edits)
+effect_on deck earlier Claim (DeckJob job) = effect_if deck (Some job.deck) HandsOut
+effect_on deck earlier (DeliverDeck done) (Refused Foreign) = effect_if deck (deck_of_lease done.lease earlier) Loses
+effect_on deck earlier (GiveUp lease) Cleared = effect_if deck (deck_of_lease lease earlier) Loses
+effect_on deck earlier _ _ = Leaves
+
+-- what is known of a deck's record, after one effect more
+abbrev pub after_effect : Effect → Option (List Edit) → Option (List Edit)
+after_effect HandsOut since = Some []
+after_effect Loses since = None
+after_effect (Edits edits) since = option_map (λ (before : List Edit). before ++ edits) since
+after_effect Leaves since = since
+
+-- the edits of a deck that were accepted since its latest job, in order; none where it had no job yet, or its record was lost since
+abbrev pub since_job : ℕ → History → Option (List Edit)
+since_job deck [] = None
+since_job deck (entry ∷ earlier) = after_effect (effect_on deck earlier entry.call entry.reply) (since_job deck earlier)
+
+-- a job with the record has exactly the edits since the deck's latest job; one with cards has no edits, and is the deck's first or comes after a loss
+abbrev pub IsDueFrom : Start → List Edit → Option (List Edit) → Type 0
+IsDueFrom (FromRecord kept) edits since = since ≡ Some edits
+IsDueFrom (FromCards cards) edits since = (since ≡ None) × (edits ≡ [])
+
+-- a deck job is what the history before it makes due
+abbrev pub IsDue : DeckWork → History → Type 0
+IsDue job earlier = IsDueFrom job.start job.edits (since_job job.deck earlier)

@@ -1,0 +1,14 @@
+pub mod Language
+pub mod Causes
+pub mod Edits
+pub mod Changes
+pub mod Desks
+pub mod Calls
+pub mod Answers
+pub mod Changing
+pub mod Reading
+pub mod Claiming
+pub mod Delivering
+pub mod Steps
+pub mod Runs
+pub mod Jobs

@@ -1,0 +1,35 @@
+-- Calls that read a desk: Cards, Show, Status (ours).
+use Rattle.std.specs.Prelude.{ℕ, List, map, length, is_some, Option, Some, None, option_map, if◌then◌else◌}
+use Rattle.desk_core.specs.Desks.{Desk, DeskDeck, Publication, deck_named}
+use Rattle.desk_core.specs.Calls.{Reply, CardsAre, Shown, StatusIs, Refused, NoDeck, NoPublication, Row, State, Out, Behind, Ready}
+use Rattle.desk_core.specs.Answers.{Answer, answers}
+
+-- version and cards of a deck
+abbrev pub cards_reply : Option DeskDeck → Reply
+cards_reply None = Refused NoDeck
+cards_reply (Some deck) = CardsAre deck.version deck.cards
+
+-- Cards
+abbrev pub cards : List ℕ → Desk → Answer
+cards name desk = answers (cards_reply (deck_named name desk)) desk
+
+-- the publication
+abbrev pub show_reply : Option Publication → Reply
+show_reply None = Refused NoPublication
+show_reply (Some publication) = Shown publication
+
+-- Show
+abbrev pub show : Desk → Answer
+show desk = answers (show_reply desk.publication) desk
+
+-- the state of a deck
+abbrev pub state_of : DeskDeck → State
+state_of deck = if is_some deck.lease then Out else if deck.built then Ready else Behind
+
+-- a deck's row
+abbrev pub row_of : DeskDeck → Row
+row_of deck = record { name = deck.name; version = deck.version; cards = length deck.cards; state = state_of deck }
+
+-- Status
+abbrev pub status : Desk → Answer
+status desk = answers (StatusIs desk.version (option_map (λ (publication : Publication). publication.version) desk.publication) (map row_of desk.decks)) desk

@@ -1,0 +1,48 @@
+-- The step of a desk (ours): a function of the call and the desk, and one free choice.
+use Rattle.std.specs.Prelude.{◌≡◌, ◌⊎◌, Bool, true, false, not, ◌&&◌, IsTrue}
+use Rattle.desk_core.specs.Desks.{Desk}
+use Rattle.desk_core.specs.Calls.{Call, AddDeck, DropDeck, EditDeck, Batch, Cards, Show, Status, Claim, DeliverDeck, DeliverLink, GiveUp, Reply, Changed, CardsAre, Shown, StatusIs, DeckJob, LinkJob, Refused, OutOfMemory}
+use Rattle.desk_core.specs.Answers.{Answer}
+use Rattle.desk_core.specs.Changing.{add_deck, drop_deck, edit_deck, batch}
+use Rattle.desk_core.specs.Reading.{cards, show, status}
+use Rattle.desk_core.specs.Claiming.{claim}
+use Rattle.desk_core.specs.Delivering.{deliver_deck, deliver_link, give_up}
+
+-- the answer of a desk to a call, where memory is found
+abbrev pub answer : Call → Desk → Answer
+answer (AddDeck deck) desk = add_deck deck desk
+answer (DropDeck name seen) desk = drop_deck name seen desk
+answer (EditDeck name seen edit) desk = edit_deck name seen edit desk
+answer (Batch name seen edits) desk = batch name seen edits desk
+answer (Cards name) desk = cards name desk
+answer Show desk = show desk
+answer Status desk = status desk
+answer Claim desk = claim desk
+answer (DeliverDeck done) desk = deliver_deck done desk
+answer (DeliverLink number publication) desk = deliver_link number publication desk
+answer (GiveUp number) desk = give_up number desk
+
+-- a drop takes no memory
+abbrev pub is_drop : Call → Bool
+is_drop (DropDeck name seen) = true
+is_drop _ = false
+
+-- whether a reply tells of something that has to be stored or copied first
+abbrev pub is_made : Reply → Bool
+is_made (Changed version) = true
+is_made (CardsAre version cards) = true
+is_made (Shown publication) = true
+is_made (StatusIs version published rows) = true
+is_made (DeckJob job) = true
+is_made (LinkJob job) = true
+is_made _ = false
+
+-- whether a call with this reply takes memory
+abbrev pub takes_memory : Call → Reply → Bool
+takes_memory call reply = not (is_drop call) && is_made reply
+
+-- a step: the desk gives its answer; or, where that takes memory, it refuses for want of it and is as it was
+abbrev pub Steps : Desk → Call → Reply → Desk → Type 0
+Steps desk call reply next =
+    ((reply ≡ (answer call desk).reply) × (next ≡ (answer call desk).desk))
+    ⊎ (IsTrue (takes_memory call (answer call desk).reply) × (reply ≡ Refused OutOfMemory) × (next ≡ desk))

@@ -1,0 +1,34 @@
+//! What holds in every run of a desk, each law as the contract of a function that does nothing.
+ghost use Rattle.std.specs.Prelude.{◌≡◌, ℕ, Some, reverse};
+ghost use Rattle.turn_office.specs.Histories.{Leads};
+ghost use Rattle.desk_core.specs.Desks.{Desk, Publication};
+ghost use Rattle.desk_core.specs.Calls.{Call, Refusal, Show, Shown, Claim, Idle, DeckJob, DeckWork, Refused};
+ghost use Rattle.desk_core.specs.Steps.{Steps};
+ghost use Rattle.desk_core.specs.Runs.{History, Runs, IsBuildOf, IsUnchanged, IsOfItsChanges, IsPublishedAt, IsPublishedFrom};
+ghost use Rattle.desk_core.specs.Jobs.{IsDue};
+
+/// After every list of calls and replies that a new desk allows one after the other: what is shown
+/// is the build of the decks after as many accepted changes as its version says; a refused call
+/// changes no version, card or publication; a claim answers Idle with the desk's version, and that
+/// is published; version and cards are those of the accepted changes; and the published version
+/// never falls.
+pub fn every_run()
+    ensures shown { (history : History) (desk next : Desk) (publication : Publication) →
+        Runs history desk → Steps desk Show (Shown publication) next → IsBuildOf history desk publication }
+    ensures refused { (desk next : Desk) (call : Call) (refusal : Refusal) →
+        Steps desk call (Refused refusal) next → IsUnchanged desk next }
+    ensures idle { (desk next : Desk) (version : ℕ) →
+        Steps desk Claim (Idle version) next → (version ≡ desk.version) × IsPublishedAt version desk }
+    ensures changes { (history : History) (desk : Desk) → Runs history desk → IsOfItsChanges history desk }
+    ensures published { (history more : History) (desk last : Desk) (publication : Publication) →
+        Runs history desk → desk.publication ≡ Some publication → Leads Steps desk more last →
+        IsPublishedFrom publication.version last }
+{}
+
+/// In every run, a deck job that begins with the deck's record has exactly the edits of that deck
+/// that were accepted since its job before, in order; one that begins with cards has none, and is
+/// the deck's first or comes after a loss of the record.
+pub fn jobs_once()
+    ensures { (history : History) (desk next : Desk) (job : DeckWork) →
+        Runs history desk → Steps desk Claim (DeckJob job) next → IsDue job (reverse history) }
+{}
