@@ -1,1 +1,7 @@
+pub mod LineLaws
+pub mod InputLaws
+pub mod DeckLaws
+pub mod CutSteps
+pub mod FaultLaws
+pub mod ReadSteps
 pub mod RunSteps

@@ -1,3 +1,5 @@
+pub mod CardRoles
 pub mod Faults
+pub mod Inputs
 pub mod Parcels
 pub mod Runs

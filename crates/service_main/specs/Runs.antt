@@ -1,22 +1,10 @@
 -- What a run does to its ports, and its status (ours).
 use Rattle.std.specs.Prelude.{ℕ, ◌==◌, ◌&&◌, if◌then◌else◌, ◌<◌, List, Option, Result, Ok, Err, length, take, ⊤}
-use Rattle.std.specs.Io.KnownBytes.{Appends, Consumes, IsAtEnd, Keeps}
+use Rattle.std.specs.Io.KnownBytes.{Appends, IsAtEnd, Keeps}
 use Rattle.text_ports.specs.Faults.{count_up}
 use Rattle.service_main.specs.declared.asm_fault.AsmFault.{AsmFault}
 use Rattle.service_main.specs.declared.asm_fault.AsmFault.TheVariants.{OutOfMemory, DeckFull, NameTaken, TooManyDecks, ReadFault, BadLine, LastLineCut, WriteFault, BadName}
 use Rattle.service_main.specs.declared.running.Tally.{Tally}
-
--- the fault is none of the reader and none of the writer
-abbrev pub IsOfNoPort : AsmFault → Type 0
-IsOfNoPort OutOfMemory = ⊤
-IsOfNoPort DeckFull = ⊤
-IsOfNoPort NameTaken = ⊤
-IsOfNoPort TooManyDecks = ⊤
-IsOfNoPort ReadFault = ⊥
-IsOfNoPort (BadLine line fault) = ⊤
-IsOfNoPort LastLineCut = ⊤
-IsOfNoPort (WriteFault sent) = ⊥
-IsOfNoPort (BadName line) = ⊤
 
 -- the fault came before anything was written
 abbrev pub IsBeforeWriting : AsmFault → Type 0
@@ -30,10 +18,7 @@ IsBeforeWriting LastLineCut = ⊤
 IsBeforeWriting (WriteFault sent) = ⊥
 IsBeforeWriting (BadName line) = ⊤
 
--- the reader lost some bytes from its front, and nothing else
-abbrev pub ConsumesSome : Option (List ℕ) → Option (List ℕ) → Type 0
-ConsumesSome old new = (taken : List ℕ) × Consumes old new taken
-
+-- before a fault of the writer, all was read
 abbrev pub IsReadBeforeFault : AsmFault → Option (List ℕ) → Type 0
 IsReadBeforeFault OutOfMemory left = ⊤
 IsReadBeforeFault DeckFull left = ⊤

@@ -1,7 +1,10 @@
 //! The link map, and the whole output of a run.
+ghost use Rattle.std.specs.Prelude.{◌≡◌, ◌<◌, ◌≤◌, length, MatchResult};
+ghost use Rattle.service_main.specs.declared.asm_fault.AsmFault.TheVariants.{TooManyDecks};
 
+use crate::asm_fault::AsmFault;
 use crate::coder::{CodedDeck, code_deck};
-use crate::deck_input::Deck;
+use crate::deck::Deck;
 use crate::deck_listing::{put_image, put_length, put_listing};
 use crate::output_text::Text;
 use crate::running::Tally;
@@ -14,12 +17,23 @@ pub struct Assembly {
     pub tally: Tally,
 }
 
+/// The deck of a run, if there is one. A second one is too many until decks are linked.
+pub fn only_deck(decks: &[Deck]) -> Result<Option<&Deck>, AsmFault>
+    ensures { MatchResult result (λ _. length decks.now ≤ 1) (λ fault. (fault ≡ TooManyDecks) × (1 < length decks.now)) }
+{
+    match decks {
+        [] => Ok(None),
+        [deck] => Ok(Some(deck)),
+        _ => Err(AsmFault::TooManyDecks),
+    }
+}
+
 /// Assembles the deck, if there is one: its listing, the link map and the image.
-pub fn assemble(alloc: Global, deck: &Option<Deck>) -> Result<Assembly, AllocError> {
+pub fn assemble(alloc: Global, deck: Option<&Deck>) -> Result<Assembly, AllocError> {
     let mut text = Text::new(alloc);
     match deck {
         Some(deck) => {
-            let coded = code_deck(alloc, &deck.cards)?;
+            let coded = code_deck(alloc, deck.cards())?;
             put_listing(&mut text, deck, &coded)?;
             put_map(&mut text, deck, &coded)?;
             put_image(&mut text, deck, &coded)?;
@@ -48,7 +62,7 @@ pub fn assemble(alloc: Global, deck: &Option<Deck>) -> Result<Assembly, AllocErr
 /// The link map: a line for the deck, which stands from 000100 on.
 fn put_map(text: &mut Text, deck: &Deck, coded: &CodedDeck) -> Result<(), AllocError> {
     text.put(b"MAP\nDECK ")?;
-    text.put(deck.name.as_slice())?;
+    text.put(deck.name())?;
     text.put(b" REL 000100 ")?;
     put_length(text, coded)?;
     text.put(b"\nEND\n")

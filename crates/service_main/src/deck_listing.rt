@@ -2,7 +2,7 @@
 ghost use Rattle.std.specs.Prelude.{◌<◌};
 
 use crate::coder::{CodedDeck, CodedStatement, Item};
-use crate::deck_input::Deck;
+use crate::deck::Deck;
 use crate::letter_sets::{ALPHABET, Letters};
 use crate::output_text::Text;
 use crate::parcel_packer::{Code, Parcel, Word};
@@ -16,9 +16,9 @@ const BASE: u64 = 0o100;
 /// statements.
 pub fn put_listing(text: &mut Text, deck: &Deck, coded: &CodedDeck) -> Result<(), AllocError> {
     text.put(b"DECK ")?;
-    text.put(deck.name.as_slice())?;
+    text.put(deck.name())?;
     text.put(b" REL\n")?;
-    put_statements(text, &deck.cards, coded.statements())?;
+    put_statements(text, deck.cards(), coded.statements())?;
     text.put(b"BLOCK 0 00000000 ")?;
     put_length(text, coded)?;
     text.put(b"\nERRORS ")?;
@@ -29,7 +29,7 @@ pub fn put_listing(text: &mut Text, deck: &Deck, coded: &CodedDeck) -> Result<()
 /// The image: a line for the deck, and a line for each word with its address.
 pub fn put_image(text: &mut Text, deck: &Deck, coded: &CodedDeck) -> Result<(), AllocError> {
     text.put(b"DECK ")?;
-    text.put(deck.name.as_slice())?;
+    text.put(deck.name())?;
     text.put(b" REL 000100\n")?;
     for (k, word) in coded.words().as_slice().iter().enumerate() {
         put_word(text, BASE + k as u64, word)?;

@@ -5,6 +5,8 @@
 mod asm_fault;
 mod coder;
 mod cpu_opcodes;
+mod deck;
+mod deck_cut;
 mod deck_input;
 mod deck_linker;
 mod deck_listing;

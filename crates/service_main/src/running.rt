@@ -1,10 +1,11 @@
 //! One run of `compass asm`, and its status.
-ghost use Rattle.std.specs.Prelude.{◌≡◌, OnOk, IfErr};
-ghost use Rattle.service_main.specs.Runs.{ConsumesSome, IsReadBefore, AppendsWhole, IsOutputAfter, input_count_after, output_count_after, run_status};
+ghost use Rattle.std.specs.Prelude.{◌≡◌, OnOk, IfErr, IfSome};
+ghost use Rattle.service_main.specs.Inputs.{input_in, HasOneDeckAtMost, IsRefusedAs, ReadsToFault};
+ghost use Rattle.service_main.specs.Runs.{IsReadBefore, AppendsWhole, IsOutputAfter, input_count_after, output_count_after, run_status};
 
 use crate::asm_fault::AsmFault;
-use crate::deck_input::read_deck;
-use crate::deck_linker::assemble;
+use crate::deck_input::read_decks;
+use crate::deck_linker::{assemble, only_deck};
 use std::alloc::Global;
 use std::io::{Read, Write};
 use text_ports::{Counted, put_all};
@@ -23,12 +24,18 @@ pub fn asm_run<R: Read, W: Write>(
     input: &mut Counted<R>,
     output: &mut Counted<W>,
 ) -> Result<Tally, AsmFault>
-    ensures consumed { ConsumesSome (R.remaining input.old.0) (R.remaining input.new.0) }
+    // The lines that were read show no fault, but for the last one: what follows is not looked at.
+    ensures read { ReadsToFault (R.remaining input.old.0) (R.remaining input.new.0) }
+
+    // Where the bytes of the input are known, its first fault is told, by the definitions. Until
+    // decks are linked a second deck is one too many, where the input has no fault.
+    ensures one_deck { OnOk result (IfSome (R.remaining input.old.0) (λ bytes. HasOneDeckAtMost (input_in bytes))) }
+    ensures refused { IfErr result (λ fault. IfSome (R.remaining input.old.0) (λ bytes. IsRefusedAs (input_in bytes) fault)) }
 
     // Nothing is written before all is read.
     ensures all_read { IsReadBefore result (R.remaining input.new.0) }
 
-    // The whole output went out, and no port failed.
+    // Some text went out whole, and no port failed.
     ensures whole { OnOk result (AppendsWhole (W.contents output.old.0) (W.contents output.new.0)) }
     ensures input_count_ok { OnOk result (input.new.1 ≡ input.old.1) }
     ensures output_count_ok { OnOk result (output.new.1 ≡ output.old.1) }
@@ -38,8 +45,9 @@ pub fn asm_run<R: Read, W: Write>(
     ensures input_count { IfErr result (λ fault. input.new.1 ≡ input_count_after fault input.old.1) }
     ensures output_count { IfErr result (λ fault. output.new.1 ≡ output_count_after fault output.old.1) }
 {
-    let deck = read_deck(alloc, input)?;
-    let assembly = assemble(alloc, &deck)?;
+    let decks = read_decks(alloc, input)?;
+    let deck = only_deck(&decks)?;
+    let assembly = assemble(alloc, deck)?;
     match put_all(output, assembly.text.as_slice()) {
         Ok(()) => Ok(assembly.tally),
         Err(broken) => Err(AsmFault::WriteFault { sent: broken.sent }),

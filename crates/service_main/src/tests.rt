@@ -236,7 +236,7 @@ const FAULTS: [(&[u8], &str); 12] = [
     (b"          IDENT  T\n          IDENT  U\n", "TooManyDecks"),
     (
         b"          IDENT  T\n          END\n          IDENT  T\n",
-        "TooManyDecks",
+        "NameTaken",
     ),
     (b"          IDENT  T\n*12345a\n", "BadLine 2 BadCharacter 7"),
     (b"          IDENT  T\n\tBX6\n", "BadLine 2 BadCharacter 1"),
