@@ -1,5 +1,5 @@
 -- The steps of the cut into decks, which the code does in order and the definitions newest first.
-use Rattle.std.proofs.Common.{ℕ, suc, ◌≡◌, ◌-◌, ◌<◌, ◌≤◌, List, [], ◌∷◌, ◌++◌, Bool, true, false, if◌then◌else◌, nat_le, length, reverse, take, get_or, set, codes, not, refl, sym, ap, ◌∙◌, arith}
+use Rattle.std.proofs.Common.{ℕ, suc, ◌≡◌, ◌-◌, ◌<◌, ◌≤◌, List, [], ◌∷◌, ◌++◌, Bool, true, false, if◌then◌else◌, nat_le, length, take, get_or, set, codes, not, refl, sym, ap, ◌∙◌, arith}
 use Rattle.std.proofs.lemmas.Bool.{cond-true, cond-false, le-leb, lt-leb}
 use Rattle.std.proofs.lemmas.List.{set_split, set-get_or, drop_all, length-reverse}
 use Rattle.definitions.specs.Characters.{same_text}
@@ -66,11 +66,6 @@ continued-last number card decks count deck full all some e room =
     ap (continued number card) (ap newest_first (last-split decks count deck all some e) ∙ newest_first-push (take (count - 1) decks) deck)
     ∙ ap (continued_if_room card (in_card_order deck) (newest_first (take (count - 1) decks))) (ap (nat_le most_cards) (length-reverse deck.cards) ∙ room)
 
--- no room on the latest deck
-pub continued-full : (number : ℕ) (card : Card) (decks : List Deck) (count : ℕ) (deck : Deck) → count ≡ length decks → 0 < count → deck ≡ get_or decks (count - 1) deck → most_cards ≤ length deck.cards →
-    continued number card (newest_first decks) ≡ Faulty DeckFull
-continued-full number card decks count deck all some e many = continued-last number card decks count deck true all some e (le-leb most_cards (length deck.cards) many)
-
 -- a card more on the latest deck, which has room for it
 pub continued-more : (number : ℕ) (card : Card) (decks : List Deck) (count : ℕ) (deck next : Deck) → count ≡ length decks → 0 < count → deck ≡ get_or decks (count - 1) deck → length deck.cards < most_cards →
     next ≡ record { name = deck.name; cards = deck.cards ++ card ∷ [] } → continued number card (newest_first decks) ≡ Decks (newest_first (set decks (count - 1) next))
@@ -88,7 +83,7 @@ with_role number card decks Continues = continued number card decks
 
 with_role-tests : (number : ℕ) (card : Card) (decks : List Deck) (name : List ℕ) (ident named : Bool) →
     (if ident then (if not named then Faulty (BadName number) else begun_named name card decks) else continued number card decks)
-      ≡ with_role number card decks (if ident then (if named then Begins name else Misnamed) else Continues)
+    ≡ with_role number card decks (if ident then (if named then Begins name else Misnamed) else Continues)
 with_role-tests number card decks name true true = refl
 with_role-tests number card decks name true false = refl
 with_role-tests number card decks name false named = refl

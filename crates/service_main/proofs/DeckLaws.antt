@@ -1,6 +1,5 @@
 -- Decks in order, and as the definitions collect them: newest first.
 use Rattle.std.proofs.Common.{ℕ, ◌≡◌, ◌||◌, List, [], ◌∷◌, ◌++◌, Bool, length, map, reverse, refl, sym, ap, ap₂, ◌∙◌}
-use Rattle.std.specs.List.{list_any}
 use Rattle.std.proofs.lemmas.List.{reverse-append, reverse-reverse, length-reverse, length-map, map_push}
 use Rattle.std.proofs.lemmas.List.Sorted.{IsPermutation-reverse, list_any-IsPermutation}
 use Rattle.definitions.specs.Characters.{same_text}

@@ -1,5 +1,5 @@
 -- What the faults of a step tell of the input and of the ports.
-use Rattle.std.proofs.Common.{ℕ, ◌≡◌, List, Result, Ok, Err, Option, None, Some, refl, sym, subst, IfErr}
+use Rattle.std.proofs.Common.{ℕ, ◌≡◌, List, Result, Ok, Err, refl, sym, subst, IfErr}
 use Rattle.std.specs.Prelude.{IsErrAnd}
 use Rattle.definitions.specs.Objects.{Deck}
 use Rattle.definitions.specs.DeckInput.{Input, Decks}

@@ -1,5 +1,5 @@
 -- A fault of the input stays; lines without a fault are few.
-use Rattle.std.proofs.Common.{codes, ℕ, suc, ◌≡◌, ◌+◌, ◌*◌, ◌<◌, ◌≤◌, List, [], ◌∷◌, ◌++◌, length, reverse, not, nat_le, refl, sym, ap, subst, ◌∙◌, arith}
+use Rattle.std.proofs.Common.{codes, ℕ, suc, ◌≡◌, ◌+◌, ◌*◌, ◌≤◌, List, [], ◌∷◌, ◌++◌, length, reverse, not, nat_le, refl, ap, subst, ◌∙◌, arith}
 use Rattle.std.specs.Prelude.{⊤}
 use Rattle.std.specs.List.{AllByRecursion}
 use Rattle.std.proofs.lemmas.Bool.{cond_both, leb-false}
@@ -51,11 +51,11 @@ begun_named-within : (lines : ℕ) (name : List ℕ) (card : Card) (decks : List
 begun_named-within lines name card decks h =
     cond_both (is_taken name decks) (Faulty NameTaken) _ (IsWithin (suc lines)) (λ _. tt)
     (λ _.
-      cond_both (nat_le most_decks (length decks)) (Faulty TooManyDecks) (Decks (record { name = name; cards = card ∷ [] } ∷ decks)) (IsWithin (suc lines)) (λ _. tt)
-      (λ few.
-        let room = leb-false most_decks (length decks) few in
-        let counted = h.counted in
-        record { few = omega (arith, room); short = (omega arith, h.short); counted = omega (arith, counted) }))
+    cond_both (nat_le most_decks (length decks)) (Faulty TooManyDecks) (Decks (record { name = name; cards = card ∷ [] } ∷ decks)) (IsWithin (suc lines)) (λ _. tt)
+    (λ few.
+    let room = leb-false most_decks (length decks) few in
+    let counted = h.counted in
+    record { few = omega (arith, room); short = (omega arith, h.short); counted = omega (arith, counted) }))
 
 begun-within : (lines number : ℕ) (name : List ℕ) (card : Card) (decks : List Deck) → AreWithin lines decks → IsWithin (suc lines) (begun number name card decks)
 begun-within lines number name card decks h =
@@ -66,9 +66,9 @@ continued-within lines number card [] h = tt
 continued-within lines number card (deck ∷ decks) h =
     cond_both (nat_le most_cards (length deck.cards)) (Faulty DeckFull) (Decks (record { name = deck.name; cards = card ∷ deck.cards } ∷ decks)) (IsWithin (suc lines)) (λ _. tt)
     (λ few.
-      let room = leb-false most_cards (length deck.cards) few in
-      let counted = h.counted in
-      record { few = h.few; short = (omega (arith, room), h.short.1); counted = omega (arith, counted) })
+    let room = leb-false most_cards (length deck.cards) few in
+    let counted = h.counted in
+    record { few = h.few; short = (omega (arith, room), h.short.1); counted = omega (arith, counted) })
 
 with_card-within : (lines number : ℕ) (card : Card) (decks : List Deck) → AreWithin lines decks → IsWithin (suc lines) (with_card number card decks)
 with_card-within lines number card decks h =

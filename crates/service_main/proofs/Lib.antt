@@ -4,4 +4,3 @@ pub mod DeckLaws
 pub mod CutSteps
 pub mod FaultLaws
 pub mod ReadSteps
-pub mod RunSteps

@@ -1,7 +1,7 @@
 -- The steps of reading lines: the bytes that were taken are the lines so far, whatever follows.
 use Rattle.std.proofs.Common.{ℕ, ◌≡◌, ◌+◌, ◌<◌, ◌≤◌, List, [], ◌∷◌, ◌++◌, Option, None, Some, length, reverse, refl, sym, ap, subst, ◌∙◌, arith, append_assoc, IfSome}
 use Rattle.std.specs.Prelude.{MatchOption}
-use Rattle.std.specs.Io.KnownBytes.{Consumes, IsAtEnd}
+use Rattle.std.specs.Io.KnownBytes.{Consumes}
 use Rattle.std.proofs.KnownBytes.{Consumes-nil, Consumes-trans, Consumes-whole}
 use Rattle.std.proofs.lemmas.List.{append-nil, reverse-reverse}
 use Rattle.std.proofs.lemmas.Grind.{reverse_onto}
@@ -13,7 +13,6 @@ use Rattle.text_ports.specs.Lines.{line_feed, IsTakenAs, ReadsLine}
 use Rattle.text_ports.specs.declared.lines.LineIs.{LineIs}
 use Rattle.text_ports.specs.declared.lines.LineIs.TheVariants as is
 use Rattle.service_main.specs.declared.asm_fault.AsmFault.{AsmFault}
-use Rattle.service_main.specs.declared.asm_fault.AsmFault.TheVariants.{OutOfMemory}
 use Rattle.service_main.specs.Inputs.{input_in, newest_first, AreDecksOf, IsSound, input_fault, IsFaultOf, TellsFaultOf, ReadsToFault}
 use Rattle.service_main.proofs.LineLaws.{lines_of-line, lines_of-cut, lines_of-few, lines_of-long}
 use Rattle.service_main.proofs.InputLaws.{input_in-faulty, few_lines}
@@ -118,8 +117,8 @@ AreDecksOf-so_far old new next decks count line s q =
     Consumes-whole old next (s.read.taken ++ q.0) (λ bytes. AreDecksOf (input_in bytes) decks)
     (Consumes-trans old new next s.read.taken q.0 s.read.consumed q.1) q.3
     (subst (λ (i : Input). AreDecksOf i decks)
-      (sym (ap (λ (b : List ℕ). input_in (s.read.taken ++ b)) q.2.0 ∙ ap input_in (append-nil s.read.taken) ∙ input_in-so_far old new decks count s))
-      (sym (in_input_order-newest_first decks)))
+    (sym (ap (λ (b : List ℕ). input_in (s.read.taken ++ b)) q.2.0 ∙ ap input_in (append-nil s.read.taken) ∙ input_in-so_far old new decks count s))
+    (sym (in_input_order-newest_first decks)))
 
 -- a fault of lines that begin the input, whatever follows them
 faulty_front : (old next : Option (List ℕ)) (taken : List ℕ) (lines : List InputLine) (fault : InputFault) → Consumes old next taken →
@@ -136,9 +135,9 @@ too_long-so_far old new next decks count line s q =
     faulty_front old next (s.read.taken ++ q.0) (TooLong ∷ s.lines) (input.BadLineTooWide (count + 1))
     (Consumes-trans old new next s.read.taken q.0 s.read.consumed q.1)
     (λ rest.
-      let long : 256 < length q.0 = let n = q.2.0 in omega (arith, n) in
-      let more = lines_of-long q.0 rest q.2.1 long in
-      (more.0, lines-behind s.read.taken q.0 rest s.lines more.0 TooLong s.read.whole more.1))
+    let long : 256 < length q.0 = let n = q.2.0 in omega (arith, n) in
+    let more = lines_of-long q.0 rest q.2.1 long in
+    (more.0, lines-behind s.read.taken q.0 rest s.lines more.0 TooLong s.read.whole more.1))
     (input-line old new decks count s TooLong)
 
 -- a last line that may be cut
@@ -148,8 +147,8 @@ cut-so_far old new next decks count line s q =
     Consumes-whole old next (s.read.taken ++ q.0) (λ bytes. input_in bytes ≡ Faulty input.LastLineCut)
     (Consumes-trans old new next s.read.taken q.0 s.read.consumed q.1) q.3
     (input_in-faulty (s.read.taken ++ q.0) (Cut ∷ s.lines) [] input.LastLineCut
-      (s.read.whole q.0 ∙ ap (λ (l : List InputLine). reverse s.lines ++ l) (lines_of-cut q.0 q.2.2 q.2.0 q.2.1) ∙ reverse-onto Cut s.lines [])
-      (input-line old new decks count s Cut))
+    (s.read.whole q.0 ∙ ap (λ (l : List InputLine). reverse s.lines ++ l) (lines_of-cut q.0 q.2.2 q.2.0 q.2.1) ∙ reverse-onto Cut s.lines [])
+    (input-line old new decks count s Cut))
 
 tells-front : (old next : Option (List ℕ)) (taken : List ℕ) (lines : List InputLine) (told : Option InputFault) (P : Type 0) → Consumes old next taken →
     ((rest : List ℕ) → (later : List InputLine) × (lines_of (taken ++ rest) ≡ reverse lines ++ later)) → MatchOption told P (λ fault. input_of lines ≡ Faulty fault) →

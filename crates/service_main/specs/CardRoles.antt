@@ -1,5 +1,5 @@
 -- What a card is to the decks, in the words of the definitions.
-use Rattle.std.specs.Prelude.{ℕ, List, [], ◌∷◌, codes, not, if◌then◌else◌, length, nat_le}
+use Rattle.std.specs.Prelude.{ℕ, List, [], ◌∷◌, codes, if◌then◌else◌, length, nat_le}
 use Rattle.definitions.specs.Characters.{same_text}
 use Rattle.definitions.specs.Cards.{Card}
 use Rattle.definitions.specs.Fields.{fields_of}

@@ -48,7 +48,8 @@ impl Deck {
 
     /// Puts a card behind the others. Without memory the deck stays as it was.
     pub fn push(&mut self, card: Card) -> Result<(), AllocError>
-        ensures ok { OnOk result (self.new ≡ record { name = self.old.name; cards = self.old.cards ++ card ∷ [] }) }
+        ensures ok { OnOk result
+            (self.new ≡ record { name = self.old.name; cards = self.old.cards ++ card ∷ [] }) }
         ensures err { OnErr result (self.new ≡ self.old) }
     {
         self.cards.push(card)?;

@@ -38,8 +38,10 @@ pub fn add_line(
     number: u64,
     line: &[u8],
 ) -> Result<(), AsmFault>
-    ensures ok { OnOk result (with_line number (Line line.now) (Decks (newest_first decks.old.items)) ≡ Decks (newest_first decks.new.items)) }
-    ensures err { IfErr result (IsFaultOf (with_line number (Line line.now) (Decks (newest_first decks.old.items)))) }
+    ensures ok { OnOk result (with_line number (Line line.now) (Decks (newest_first decks.old.items))
+        ≡ Decks (newest_first decks.new.items)) }
+    ensures err { IfErr result
+        (IsFaultOf (with_line number (Line line.now) (Decks (newest_first decks.old.items)))) }
 {
     match Card::read(line) {
         Ok(card) => add_card(alloc, decks, number, card),
@@ -50,13 +52,9 @@ pub fn add_line(
     }
 }
 
-fn add_card(
-    alloc: Global,
-    decks: &mut Vec<Deck>,
-    number: u64,
-    card: Card,
-) -> Result<(), AsmFault>
-    ensures ok { OnOk result (with_card number card (newest_first decks.old.items) ≡ Decks (newest_first decks.new.items)) }
+fn add_card(alloc: Global, decks: &mut Vec<Deck>, number: u64, card: Card) -> Result<(), AsmFault>
+    ensures ok { OnOk result (with_card number card (newest_first decks.old.items)
+        ≡ Decks (newest_first decks.new.items)) }
     ensures err { IfErr result (IsFaultOf (with_card number card (newest_first decks.old.items))) }
 {
     match role_of(&card) {
@@ -112,7 +110,8 @@ fn begin_deck(
     name: DeckName,
     card: Card,
 ) -> Result<(), AsmFault>
-    ensures ok { OnOk result (begun_named name card (newest_first decks.old.items) ≡ Decks (newest_first decks.new.items)) }
+    ensures ok { OnOk result (begun_named name card (newest_first decks.old.items)
+        ≡ Decks (newest_first decks.new.items)) }
     ensures err { IfErr result (IsFaultOf (begun_named name card (newest_first decks.old.items))) }
 {
     if is_taken(name.as_slice(), decks) {
@@ -142,7 +141,8 @@ fn is_same(a: &[u8], b: &[u8]) -> bool
 
 /// Adds a card to the latest deck.
 fn continue_deck(decks: &mut Vec<Deck>, number: u64, card: Card) -> Result<(), AsmFault>
-    ensures ok { OnOk result (continued number card (newest_first decks.old.items) ≡ Decks (newest_first decks.new.items)) }
+    ensures ok { OnOk result (continued number card (newest_first decks.old.items)
+        ≡ Decks (newest_first decks.new.items)) }
     ensures err { IfErr result (IsFaultOf (continued number card (newest_first decks.old.items))) }
 {
     let Some(deck) = decks.last_mut() else {

@@ -19,12 +19,15 @@ const MOST_LINES: u64 = 1_280_001;
 /// Reads all lines as decks, in order and with their cards in order. The first fault ends it: what
 /// follows is not looked at.
 pub fn read_decks<R: Read>(alloc: Global, input: &mut Counted<R>) -> Result<Vec<Deck>, AsmFault>
+    // The lines that were read show no fault, but for the last one.
     ensures read { ReadsToFault (R.remaining input.old.0) (R.remaining input.new.0) }
     ensures all_read { OnOk result (IsAtEnd (R.remaining input.new.0)) }
 
-    // Where the bytes are known, the decks, or the fault, are those of the definitions.
-    ensures decks { IfOk result (λ decks. IfSome (R.remaining input.old.0) (λ bytes. AreDecksOf (input_in bytes) decks.items)) }
-    ensures fault { IfErr result (λ fault. IfSome (R.remaining input.old.0) (λ bytes. TellsFaultOf (input_in bytes) fault)) }
+    // Where the bytes are known, the decks, or the fault of the input, are those of the definitions.
+    ensures decks { IfOk result (λ decks.
+        IfSome (R.remaining input.old.0) (λ bytes. AreDecksOf (input_in bytes) decks.items)) }
+    ensures fault { IfErr result (λ fault.
+        IfSome (R.remaining input.old.0) (λ bytes. TellsFaultOf (input_in bytes) fault)) }
 
     ensures no_fault { OnOk result (input.new.1 ≡ input.old.1) }
     ensures count { IfErr result (λ fault. input.new.1 ≡ input_count_after fault input.old.1) }

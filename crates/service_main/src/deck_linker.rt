@@ -1,6 +1,5 @@
 //! The link map, and the whole output of a run.
 ghost use Rattle.std.specs.Prelude.{◌≡◌, ◌<◌, ◌≤◌, length, MatchResult};
-ghost use Rattle.service_main.specs.declared.asm_fault.AsmFault.TheVariants.{TooManyDecks};
 
 use crate::asm_fault::AsmFault;
 use crate::coder::{CodedDeck, code_deck};
@@ -19,7 +18,9 @@ pub struct Assembly {
 
 /// The deck of a run, if there is one. A second one is too many until decks are linked.
 pub fn only_deck(decks: &[Deck]) -> Result<Option<&Deck>, AsmFault>
-    ensures { MatchResult result (λ _. length decks.now ≤ 1) (λ fault. (fault ≡ TooManyDecks) × (1 < length decks.now)) }
+    ensures { MatchResult result
+        (λ _. length decks.now ≤ 1)
+        (λ fault. (fault ≡ AsmFault.TooManyDecks) × (1 < length decks.now)) }
 {
     match decks {
         [] => Ok(None),

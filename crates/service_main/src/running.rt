@@ -27,15 +27,17 @@ pub fn asm_run<R: Read, W: Write>(
     // The lines that were read show no fault, but for the last one: what follows is not looked at.
     ensures read { ReadsToFault (R.remaining input.old.0) (R.remaining input.new.0) }
 
-    // Where the bytes of the input are known, its first fault is told, by the definitions. Until
-    // decks are linked a second deck is one too many, where the input has no fault.
-    ensures one_deck { OnOk result (IfSome (R.remaining input.old.0) (λ bytes. HasOneDeckAtMost (input_in bytes))) }
-    ensures refused { IfErr result (λ fault. IfSome (R.remaining input.old.0) (λ bytes. IsRefusedAs (input_in bytes) fault)) }
+    // Where the bytes of the input are known, its first fault is told, as the definitions have it.
+    // Until decks are linked, an input of more decks than one that has no fault is TooManyDecks.
+    ensures one_deck { OnOk result
+        (IfSome (R.remaining input.old.0) (λ bytes. HasOneDeckAtMost (input_in bytes))) }
+    ensures refused { IfErr result (λ fault.
+        IfSome (R.remaining input.old.0) (λ bytes. IsRefusedAs (input_in bytes) fault)) }
 
     // Nothing is written before all is read.
     ensures all_read { IsReadBefore result (R.remaining input.new.0) }
 
-    // Some text went out whole, and no port failed.
+    // All of some text went out, and no port failed. Which text, no clause says.
     ensures whole { OnOk result (AppendsWhole (W.contents output.old.0) (W.contents output.new.0)) }
     ensures input_count_ok { OnOk result (input.new.1 ≡ input.old.1) }
     ensures output_count_ok { OnOk result (output.new.1 ≡ output.old.1) }

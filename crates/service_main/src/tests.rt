@@ -227,29 +227,19 @@ fn places_instructions(rt: HostRuntime) {
     }
 }
 
-/// Inputs, and the texts of their faults.
-const FAULTS: [(&[u8], &str); 12] = [
+/// An input for each fault of the input but `DeckFull`, and the text of the fault. Which fault an
+/// input has the contract says; here each is reached, and not want of memory.
+const FAULTS: [(&[u8], &str); 7] = [
     (b"*A\n", "BadName 1"),
-    (b"          IDENT  M+\n", "BadName 1"),
-    (b"          IDENT  ABCDEFGH\n", "BadName 1"),
     (b"          IDENT  T\n          IDENT  U+\n", "BadName 2"),
+    (b"          IDENT  T\n          IDENT  T\n", "NameTaken"),
     (b"          IDENT  T\n          IDENT  U\n", "TooManyDecks"),
-    (
-        b"          IDENT  T\n          END\n          IDENT  T\n",
-        "NameTaken",
-    ),
     (b"          IDENT  T\n*12345a\n", "BadLine 2 BadCharacter 7"),
-    (b"          IDENT  T\n\tBX6\n", "BadLine 2 BadCharacter 1"),
     (
         b"          IDENT  T\n12345678901234567890123456789012345678901234567890123456789012345678901234567890a\n",
         "BadLine 2 TooWide",
     ),
     (b"          IDENT  T\n*\n*B", "LastLineCut"),
-    (b"*\n*\na\n", "BadName 1"),
-    (
-        b"          IDENT  1AJ,REST\n*\na\n*B",
-        "BadLine 3 BadCharacter 1",
-    ),
 ];
 
 #[test]
@@ -259,13 +249,6 @@ fn tells_faults_of_the_input(rt: HostRuntime) -> Result<(), Fail> {
         fails(&rt, rt.alloc(), &ran, text)?;
         assert_eq!(rt; asm_status(&ran.outcome), 3, "{text}");
     }
-    let mut wide = Vec::from_slice(rt.alloc(), b"          IDENT  T\n")?;
-    for _ in 0..257 {
-        wide.push(b' ')?;
-    }
-    wide.push(b'\n')?;
-    let ran = run(rt.alloc(), &wide, PLENTY, PLENTY);
-    fails(&rt, rt.alloc(), &ran, "BadLine 2 TooWide")?;
     Ok(())
 }
 

@@ -1,4 +1,4 @@
-use Rattle.std.proofs.Common.{◌∙◌, length, refl, ap, arith}
+use Rattle.std.proofs.Common.{length, refl, ap, arith}
 use Rattle.service_main.proofs.CutSteps.{continued-more}
 use Rattle.service_main.proofs.deck_cut.continue_deck.Goals as goal
 

@@ -47,8 +47,8 @@ pub returns-in_err-add_line-in-Line-clause-fault : goal.returns-in_err-add_line-
 returns-in_err-add_line-in-Line-clause-fault g c =
     IfErr-passed c.from_residual.result c.in_err-add_line-in-Line.field-0.0 _ c.from_residual.ensures.1
     (refused-so_far _ _ _ _ _ _ _ c.loop-before.invariant.read c.in-Line.ensures.reads
-      (subst (λ (line : List ℕ). IsFaultOf (with_line (c.loop-before.before + 1) (Line line) (Decks (newest_first c.loop-before.decks.items))) c.in_err-add_line-in-Line.field-0.0)
-        c.as_slice.ensures.value c.in_err-add_line-in-Line.ensures.err))
+    (subst (λ (line : List ℕ). IsFaultOf (with_line (c.loop-before.before + 1) (Line line) (Decks (newest_first c.loop-before.decks.items))) c.in_err-add_line-in-Line.field-0.0)
+    c.as_slice.ensures.value c.in_err-add_line-in-Line.ensures.err))
 
 pub returns-in_err-add_line-in-Line-clause-count : goal.returns-in_err-add_line-in-Line-clause-count
 returns-in_err-add_line-in-Line-clause-count g c =
