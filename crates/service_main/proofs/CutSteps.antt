@@ -5,7 +5,7 @@ use Rattle.std.proofs.lemmas.List.{set_split, set-get_or, drop_all, length-rever
 use Rattle.definitions.specs.Characters.{same_text}
 use Rattle.definitions.specs.Cards.{Card}
 use Rattle.definitions.specs.Fields.{fields_of}
-use Rattle.definitions.specs.Objects.{Deck}
+use Rattle.definitions.specs.DeckInput.{Deck}
 use Rattle.definitions.specs.DeckInput.{Input, Decks, Faulty, BadName, NameTaken, TooManyDecks, DeckFull, most_decks, most_cards, is_deck_name, name_on, is_taken, in_card_order, continued, with_card}
 use Rattle.service_main.specs.Inputs.{newest_first}
 use Rattle.service_main.specs.declared.deck_cut.CardRole.{CardRole}

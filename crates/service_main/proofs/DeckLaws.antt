@@ -4,7 +4,7 @@ use Rattle.std.proofs.lemmas.List.{reverse-append, reverse-reverse, length-rever
 use Rattle.std.proofs.lemmas.List.Sorted.{IsPermutation-reverse, list_any-IsPermutation}
 use Rattle.definitions.specs.Characters.{same_text}
 use Rattle.definitions.specs.Cards.{Card}
-use Rattle.definitions.specs.Objects.{Deck}
+use Rattle.definitions.specs.DeckInput.{Deck}
 use Rattle.definitions.specs.DeckInput.{is_taken, in_card_order, in_input_order}
 use Rattle.service_main.specs.Inputs.{newest_first}
 

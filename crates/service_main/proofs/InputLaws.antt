@@ -7,7 +7,7 @@ use Rattle.std.proofs.lemmas.List.{reverse-append, reverse-reverse}
 use Rattle.definitions.specs.Characters.{same_text}
 use Rattle.definitions.specs.Cards.{Card, CardRead, IsCard, TooWide, BadCharacter, card_of}
 use Rattle.definitions.specs.Fields.{fields_of}
-use Rattle.definitions.specs.Objects.{Deck}
+use Rattle.definitions.specs.DeckInput.{Deck}
 use Rattle.definitions.specs.InputLines.{InputLine, Line, TooLong, Cut, lines_of}
 use Rattle.definitions.specs.DeckInput.{Input, Decks, Faulty, InputFault, BadName, NameTaken, TooManyDecks, DeckFull, most_decks, most_cards, is_deck_name, name_on, is_taken, begun, continued, with_card, with_read, with_line, input_of}
 use Rattle.service_main.specs.Inputs.{input_in}

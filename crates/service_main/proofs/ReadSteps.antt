@@ -5,7 +5,7 @@ use Rattle.std.specs.Io.KnownBytes.{Consumes}
 use Rattle.std.proofs.KnownBytes.{Consumes-nil, Consumes-trans, Consumes-whole}
 use Rattle.std.proofs.lemmas.List.{append-nil, reverse-reverse}
 use Rattle.std.proofs.lemmas.Grind.{reverse_onto}
-use Rattle.definitions.specs.Objects.{Deck}
+use Rattle.definitions.specs.DeckInput.{Deck}
 use Rattle.definitions.specs.InputLines.{InputLine, Line, TooLong, Cut, lines_of}
 use Rattle.definitions.specs.DeckInput.{Input, Decks, Faulty, InputFault, with_line, input_of}
 use Rattle.definitions.specs.DeckInput as input

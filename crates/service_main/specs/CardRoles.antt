@@ -3,7 +3,7 @@ use Rattle.std.specs.Prelude.{ℕ, List, [], ◌∷◌, codes, if◌then◌else�
 use Rattle.definitions.specs.Characters.{same_text}
 use Rattle.definitions.specs.Cards.{Card}
 use Rattle.definitions.specs.Fields.{fields_of}
-use Rattle.definitions.specs.Objects.{Deck}
+use Rattle.definitions.specs.DeckInput.{Deck}
 use Rattle.definitions.specs.DeckInput.{Input, Decks, Faulty, NameTaken, TooManyDecks, is_deck_name, name_on, is_taken, most_decks}
 use Rattle.service_main.specs.declared.deck_cut.CardRole.{CardRole}
 use Rattle.service_main.specs.declared.deck_cut.CardRole.TheVariants.{Begins, Misnamed, Continues}

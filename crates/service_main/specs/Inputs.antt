@@ -1,7 +1,7 @@
 -- What a run makes of its input, in the words of the definitions (ours).
 use Rattle.std.specs.Prelude.{ℕ, ◌≡◌, ◌<◌, ◌≤◌, ◌⊎◌, ⊤, List, ◌++◌, Option, Some, None, length, map, reverse, IfSome, MatchOption}
 use Rattle.std.specs.Io.KnownBytes.{Consumes}
-use Rattle.definitions.specs.Objects.{Deck}
+use Rattle.definitions.specs.DeckInput.{Deck}
 use Rattle.definitions.specs.InputLines.{lines_of}
 use Rattle.definitions.specs.DeckInput.{Input, Decks, Faulty, InputFault, input_of, in_card_order, in_input_order}
 use Rattle.definitions.specs.DeckInput as input

@@ -14,7 +14,7 @@ pub struct Deck {
 }
 
 impl Model for Deck {
-    ghost use Rattle.definitions.specs.Objects.{Deck};
+    ghost use Rattle.definitions.specs.DeckInput.{Deck};
 
     ghost Value = { Deck };
 

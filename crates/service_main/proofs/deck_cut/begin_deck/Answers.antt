@@ -1,6 +1,6 @@
 use Rattle.std.proofs.Common.{◌∙◌, List, [], ◌∷◌, ◌++◌, length, sym, ap, ap₂, arith}
 use Rattle.definitions.specs.DeckInput.{Decks, is_taken}
-use Rattle.definitions.specs.Objects.{Deck}
+use Rattle.definitions.specs.DeckInput.{Deck}
 use Rattle.service_main.specs.Inputs.{newest_first}
 use Rattle.service_main.proofs.CutSteps.{begun_deck-made, begun_named-taken, begun_named-many, begun_named-more}
 use Rattle.service_main.proofs.FaultLaws.{IsFaultOf-memory}
