@@ -8,7 +8,7 @@ mod lines;
 mod octal_text;
 mod writing;
 
-pub use characters::{char_of, display_of};
+pub use characters::{char_of, display_of, has_display_code};
 pub use counted::Counted;
 pub use lines::{LineBuf, LineIs, next_line};
 pub use octal_text::{OctalText, octal};

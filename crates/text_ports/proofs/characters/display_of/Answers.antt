@@ -1,6 +1,19 @@
-use Rattle.std.proofs.Common.{sym, ◌∙◌}
-use Rattle.text_ports.proofs.CharacterLaws.{character_of-display_code_of}
+use Rattle.std.proofs.Common.{◌≡◌, ◌-◌, ◌∙◌, sym, arith, Some, get_or, true}
+use Rattle.std.specs.Prelude.{is_some}
+use Rattle.definitions.specs.Characters.{display_code_of}
+use Rattle.text_ports.specs.declared.characters.TheConstants.{CODES}
+use Rattle.text_ports.proofs.CharacterLaws.{display_code_of-place, character_of-display_code_of}
 use Rattle.text_ports.proofs.characters.display_of.Goals as goal
 
-pub returns-in-Some-clause-back : goal.returns-in-Some-clause-back
-returns-in-Some-clause-back c = character_of-display_code_of c.args.byte c.in-Some.place (sym c.place_of.ensures ∙ c.in-Some.is)
+pub returns-then-has_display_code-clause-code : goal.returns-then-has_display_code-clause-code
+returns-then-has_display_code-clause-code c =
+    let has : is_some (display_code_of c.args.byte) ≡ true = sym c.if-has_display_code.ensures in
+    let is : c.from.result ≡ c.args.byte - 32 = omega arith in
+    display_code_of-place c.args.byte c.from.result c.ranges.byte.fits has is
+
+pub returns-then-has_display_code-clause-back : goal.returns-then-has_display_code-clause-back
+returns-then-has_display_code-clause-back c =
+    let has : is_some (display_code_of c.args.byte) ≡ true = sym c.if-has_display_code.ensures in
+    let is : c.from.result ≡ c.args.byte - 32 = omega arith in
+    character_of-display_code_of c.args.byte (get_or CODES c.from.result 0)
+    (sym (display_code_of-place c.args.byte c.from.result c.ranges.byte.fits has is))
