@@ -8,12 +8,16 @@ use Rattle.cards.specs.declared.field_parts.Parts.{Parts}
 abbrev pub FieldTexts : Type 0
 FieldTexts = Fields
 
+-- the fields with these texts
+abbrev pub fields_made : List ℕ → List ℕ → List ℕ → Fields
+fields_made location operation variable = record { location = location; operation = operation; variable = variable }
+
 abbrev pub part_of : List ℕ → Part → List ℕ
 part_of text part = take part.len (drop part.start text)
 
 -- the fields that these parts of a text are
 abbrev pub fields_at : List ℕ → Parts → Fields
-fields_at text parts = record { location = part_of text parts.location; operation = part_of text parts.operation; variable = part_of text parts.variable }
+fields_at text parts = fields_made (part_of text parts.location) (part_of text parts.operation) (part_of text parts.variable)
 
 -- the parts lie in a text of this length
 pub record AreWithin (len : ℕ) (parts : Parts) : Type 0 where

@@ -1,12 +1,12 @@
 //! One card.
-ghost use Rattle.std.specs.Prelude.{◌≡◌, ◌≤◌, length, take, position, is_none};
+ghost use Rattle.std.specs.Prelude.{◌≡◌, ◌≤◌, ◌||◌, length, take, position, is_none};
 ghost use Rattle.definitions.specs.Cards.{card_of, is_comma_card, is_comment, padded, trimmed};
 ghost use Rattle.definitions.specs.Characters.{display_code_of};
 ghost use Rattle.cards.specs.CardReads.{read_as};
 
 use std::fmt;
 use std::marker::Model;
-use text_ports::display_of;
+use text_ports::has_display_code;
 
 /// How many columns a card has.
 const COLUMNS: usize = 80;
@@ -112,6 +112,14 @@ impl Card {
     {
         self.columns[0] == b','
     }
+
+    /// Whether no field is read of a statement that begins with this card: a comment, or a comma
+    /// card that belongs to no other.
+    pub(crate) fn is_unread(&self) -> bool
+        ensures { result ≡ (is_comma_card self.now || is_comment self.now) }
+    {
+        self.is_comma_card() || self.is_comment()
+    }
 }
 
 /// How many columns a line has without its trailing blanks.
@@ -132,5 +140,5 @@ fn trimmed_len(line: &[u8]) -> usize
 fn first_bad(columns: &[u8]) -> Option<usize>
     ensures { result ≡ position (λ c. is_none (display_code_of c)) columns.now }
 {
-    columns.iter().position(|c| display_of(*c).is_none())
+    columns.iter().position(|c| !has_display_code(*c))
 }

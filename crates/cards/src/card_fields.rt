@@ -1,30 +1,24 @@
 //! The fields of a statement's cards.
 ghost use Rattle.std.specs.Prelude.{◌≡◌, ◌≤◌, length};
-ghost use Rattle.definitions.specs.Statements.{is_unread};
 ghost use Rattle.definitions.specs.Fields.{fields_of};
 
 use crate::card::Card;
-use crate::card_text::{CardText, statement_text};
 use crate::statement_fields::Fields;
+use crate::statement_room::StatementRoom;
 
-/// A comment, or a stray comma card: no field of it is read.
-fn is_unread(cards: &[Card]) -> bool
-    ensures { result ≡ is_unread cards.now }
-{
-    match cards.split_first() {
-        Some((first, _)) => first.is_comma_card() || first.is_comment(),
-        None => true,
-    }
-}
-
-/// The fields of one statement, whose cards these are: at most ten. One pass over its text.
-pub fn fields(cards: &[Card]) -> Fields
+/// The fields of one statement, whose cards these are: at most ten. One pass over its text, which
+/// lies on the card, or is put into the room where the statement goes over several cards.
+pub fn fields<'a>(cards: &'a [Card], room: &'a mut StatementRoom) -> Fields<'a>
     requires { length cards.now ≤ 10 }
     ensures { result ≡ fields_of cards.now }
 {
-    if is_unread(cards) {
-        Fields::of_text(CardText::new())
-    } else {
-        Fields::of_text(statement_text(cards))
+    let Some((first, others)) = cards.split_first() else {
+        return Fields::none();
+    };
+    if others.is_empty() || first.is_unread() {
+        return Fields::of_card(first);
     }
+    room.join(first, others);
+    let joined: &'a StatementRoom = room;
+    Fields::of_text(joined.as_slice())
 }

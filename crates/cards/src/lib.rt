@@ -4,12 +4,12 @@
 
 mod card;
 mod card_fields;
-mod card_text;
 mod counted_items;
 mod deck_name;
 mod field_parts;
 mod statement_fields;
 mod statement_list;
+mod statement_room;
 mod variable_fields;
 
 pub use card::{Card, CardFault};
@@ -17,6 +17,7 @@ pub use card_fields::fields;
 pub use deck_name::{BadName, DeckName};
 pub use statement_fields::Fields;
 pub use statement_list::{Span, StatementList, statements};
+pub use statement_room::StatementRoom;
 
 #[cfg(test)]
 mod tests_cards;

@@ -1,53 +1,78 @@
 //! The fields of a statement.
-ghost use Rattle.std.specs.Prelude.{◌≡◌, ◌≤◌, length};
-ghost use Rattle.definitions.specs.Fields.{fields_of_text, no_fields};
+ghost use Rattle.std.specs.Prelude.{◌≡◌, ◌∷◌, []};
+ghost use Rattle.definitions.specs.Fields.{fields_of, fields_of_text, no_fields};
 
-use crate::card_text::CardText;
-use crate::field_parts::{Parts, cut, part_text};
+use crate::card::Card;
+use crate::field_parts::{cut, part_text};
 use std::marker::Model;
 
-/// The fields of a statement, with their characters. Contracts see the three texts.
+/// The fields of a statement, as parts of its text. Contracts see the three texts.
 #[derive(Drop)]
-pub struct Fields {
-    text: CardText,
-    parts: Parts,
+pub struct Fields<'a> {
+    location: &'a [u8],
+    operation: &'a [u8],
+    variable: &'a [u8],
 }
 
-impl Model for Fields {
-    ghost use Rattle.std.specs.Prelude.{length};
-    ghost use Rattle.cards.specs.FieldParts.{FieldTexts, fields_at, AreWithin};
+impl<'a> Model for Fields<'a> {
+    ghost use Rattle.cards.specs.FieldParts.{FieldTexts, fields_made};
 
     ghost Value = { FieldTexts };
 
-    ghost view = { λ f. fields_at f.text f.parts };
-
-    ghost invariant = { λ f. AreWithin (length f.text) f.parts };
+    ghost view = { λ f. fields_made f.location.now f.operation.now f.variable.now };
 }
 
-impl Fields {
-    /// The fields of a statement's text.
-    pub(crate) fn of_text(text: CardText) -> Fields
-        ensures { result ≡ fields_of_text text }
+impl<'a> Fields<'a> {
+    /// The fields of a statement of one card, where they lie on the card.
+    pub fn of_card(card: &'a Card) -> Fields<'a>
+        ensures { result ≡ fields_of (card.now ∷ []) }
     {
-        let parts = cut(text.as_slice());
-        Fields { text, parts }
+        if card.is_unread() {
+            Fields::none()
+        } else {
+            Fields::of_text(card.read_columns())
+        }
     }
 
-    pub fn location(&self) -> &[u8]
+    /// The fields of a statement that is not read.
+    pub(crate) fn none() -> Fields<'a>
+        ensures { result ≡ no_fields }
+    {
+        Fields {
+            location: &[],
+            operation: &[],
+            variable: &[],
+        }
+    }
+
+    /// The fields of a statement's text.
+    pub(crate) fn of_text(text: &'a [u8]) -> Fields<'a>
+        ensures { result ≡ fields_of_text text.now }
+    {
+        let parts = cut(text);
+        Fields {
+            location: part_text(text, parts.location),
+            operation: part_text(text, parts.operation),
+            variable: part_text(text, parts.variable),
+        }
+    }
+
+    pub fn location(&self) -> &'a [u8]
         ensures { result.now ≡ self.now.location }
     {
-        part_text(self.text.as_slice(), self.parts.location)
+        self.location
     }
 
-    pub fn operation(&self) -> &[u8]
+    pub fn operation(&self) -> &'a [u8]
         ensures { result.now ≡ self.now.operation }
     {
-        part_text(self.text.as_slice(), self.parts.operation)
+        self.operation
     }
 
-    pub fn variable(&self) -> &[u8]
+    /// The variable field; that of DIS goes to the end of the text, blanks and all.
+    pub fn variable(&self) -> &'a [u8]
         ensures { result.now ≡ self.now.variable }
     {
-        part_text(self.text.as_slice(), self.parts.variable)
+        self.variable
     }
 }

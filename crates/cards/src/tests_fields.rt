@@ -10,7 +10,8 @@ fn fields_are(rt: &impl Abort, cards: &[Card], want: [&[u8]; 3]) {
     if cards.len() > 10 {
         return;
     }
-    let found = fields(cards);
+    let mut room = StatementRoom::new();
+    let found = fields(cards, &mut room);
     assert_eq!(rt; found.location(), want[0]);
     assert_eq!(rt; found.operation(), want[1]);
     assert_eq!(rt; found.variable(), want[2]);
@@ -54,8 +55,8 @@ fn columns_behind_72_are_not_read(rt: HostRuntime) {
     line.split_at_mut(72)
         .0
         .copy_from_slice(&full_card(&[b'1'; 55]));
-    let found = fields(&[card(&rt, &line)]);
-    assert_eq!(rt; found.variable(), [b'1'; 55].as_slice());
+    let full = card(&rt, &line);
+    assert_eq!(rt; Fields::of_card(&full).variable(), [b'1'; 55].as_slice());
 }
 
 #[test]
@@ -64,14 +65,16 @@ fn an_item_goes_on_in_column_2(rt: HostRuntime) {
     let mut field = [b','; 55];
     field.split_at_mut(52).1.copy_from_slice(b"3HA");
     let cards = [card(&rt, &full_card(&field)), card(&rt, b",B  D")];
-    let found = fields(&cards);
+    let mut room = StatementRoom::new();
+    let found = fields(&cards, &mut room);
     assert_eq!(rt; found.variable().len(), 57);
     assert!(rt; found.variable().ends_with(b",3HAB "));
 }
 
 #[test]
 fn dis_takes_the_rest_of_the_text(rt: HostRuntime) {
-    let found = fields(&[card(&rt, b"          DIS    1,A B")]);
+    let dis = card(&rt, b"          DIS    1,A B");
+    let found = Fields::of_card(&dis);
     assert_eq!(rt; found.operation(), b"DIS".as_slice());
     assert_eq!(rt; found.variable().len(), 72 - 17);
     assert!(rt; found.variable().starts_with(b"1,A B "));

@@ -6,7 +6,7 @@ use crate::cpu_opcodes::{Coding, Instruction, find};
 use crate::expr_forms::read_operand;
 use crate::letter_sets::{Letter, Letters};
 use crate::parcel_packer::{Code, Place, Upper, Words};
-use cards::{Card, Fields, fields, statements};
+use cards::{Card, Fields, StatementRoom, fields, statements};
 use std::alloc::{AllocError, Global};
 
 /// The code of a statement, and its place.
@@ -72,9 +72,10 @@ pub fn code_deck(alloc: Global, cards: &[Card]) -> Result<CodedDeck, AllocError>
         asks_upper: false,
         has_ended: false,
     };
+    let mut room = StatementRoom::new();
     for span in statements(alloc, cards)?.as_slice() {
         let statement = span.of(cards);
-        let coded = state.code(statement);
+        let coded = state.code(statement, &mut room);
         deck.push(span.count, coded)?;
     }
     Ok(deck)
@@ -112,7 +113,7 @@ impl CodedDeck {
 
 impl CoderState {
     /// Codes a statement. What follows an END is only listed; so is a comment.
-    fn code(&mut self, statement: &[Card]) -> Coded
+    fn code(&mut self, statement: &[Card], room: &mut StatementRoom) -> Coded
         requires { length statement.now ≤ 10 }
     {
         match statement.first() {
@@ -120,14 +121,14 @@ impl CoderState {
                 if head.is_comma_card() {
                     flagged(Letter::C)
                 } else {
-                    self.code_fields(&fields(statement))
+                    self.code_fields(&fields(statement, room))
                 }
             }
             _ => plain(),
         }
     }
 
-    fn code_fields(&mut self, fields: &Fields) -> Coded {
+    fn code_fields(&mut self, fields: &Fields<'_>) -> Coded {
         match read_operation(fields.operation()) {
             Operation::Listed => plain(),
             Operation::Blank if fields.location().is_empty() => plain(),
@@ -141,7 +142,7 @@ impl CoderState {
         }
     }
 
-    fn code_instruction(&mut self, instruction: Instruction, fields: &Fields) -> Coded {
+    fn code_instruction(&mut self, instruction: Instruction, fields: &Fields<'_>) -> Coded {
         let coding = match read_operand(fields.variable()) {
             Some(operand) => instruction.code(&operand),
             None => None,

@@ -1,22 +1,22 @@
-use Rattle.std.proofs.Common.{◌∙◌, [], ap, drop, length, length-append, arith}
+use Rattle.std.proofs.Common.{◌∙◌, [], ◌∷◌, ap, refl, drop, length, length-append, arith}
 use Rattle.std.proofs.lemmas.List.{get_or_read}
 use Rattle.cards.proofs.ColumnLaws.{comma_columns, length-padded, text_of-first, flat_map-next}
-use Rattle.cards.proofs.card_text.statement_text.Goals as goal
+use Rattle.cards.proofs.statement_room.StatementRoom.join.Goals as goal
 
 pub append-requires : goal.append-requires
-append-requires c = omega (arith, ap length c.new-text.ensures, ap length c.read_columns.ensures, length-padded 72 c.in-Some.first.now)
+append-requires c = omega (arith, ap length c.clear.ensures, ap length c.read_columns.ensures, length-padded 72 c.args.first.now)
 
 pub loop-card-init : goal.loop-card-init
 loop-card-init c = record {
-  split = text_of-first _ c.in-Some.others.now c.in-Some.first.now c.append.new.self c.new-text.result c.read_columns.result.now
-      c.in-Some.ensures.cases.0 c.new-text.ensures c.read_columns.ensures c.append.ensures;
+  split = text_of-first (c.args.first.now ∷ c.args.others.now) c.args.others.now c.args.first.now c.append.new.self c.clear.new.self c.read_columns.result.now
+      refl c.clear.ensures c.read_columns.ensures c.append.ensures;
   long = omega (
     arith,
     ap length c.append.ensures,
-    length-append c.new-text.result c.read_columns.result.now,
-    ap length c.new-text.ensures,
+    length-append c.clear.new.self c.read_columns.result.now,
+    ap length c.clear.ensures,
     ap length c.read_columns.ensures,
-    length-padded 72 c.in-Some.first.now,
+    length-padded 72 c.args.first.now,
   );
 }
 
@@ -27,17 +27,17 @@ append-requires-in-loop-card c =
       c.split_at.ensures.back_len,
       ap length c.read_columns-in-loop-card.ensures,
       length-padded 72 c.card-item.result,
-      c.in-Some.ensures.cases.1,
+      c.requires,
     )
 
 pub loop-card-preserved : goal.loop-card-preserved
 loop-card-preserved c = record {
-  split = flat_map-next c.loop-card.text c.append-in-loop-card.new.self c.split_at.result.1.now _ c.in-Some.others.now c.loop-card.card-index
+  split = flat_map-next c.loop-card.self c.append-in-loop-card.new.self c.split_at.result.1.now _ c.args.others.now c.loop-card.card-index
       c.loop-card-test.true c.append-in-loop-card.ensures
       (
       c.split_at.ensures.back
       ∙ ap (drop 1) c.read_columns-in-loop-card.ensures
-      ∙ ap comma_columns (get_or_read c.in-Some.others.now _ _ c.loop-card-test.true c.card-item.is [])
+      ∙ ap comma_columns (get_or_read c.args.others.now _ _ c.loop-card-test.true c.card-item.is [])
       )
       c.loop-card.invariant.split;
   long = omega (
@@ -46,6 +46,6 @@ loop-card-preserved c = record {
     ap length c.read_columns-in-loop-card.ensures,
     length-padded 72 c.card-item.result,
     ap length c.append-in-loop-card.ensures,
-    length-append c.loop-card.text c.split_at.result.1.now,
+    length-append c.loop-card.self c.split_at.result.1.now,
   );
 }
