@@ -2,3 +2,4 @@ pub mod LineSteps
 pub mod OctalSteps
 pub mod WritingSteps
 pub mod CharacterLaws
+pub mod LineLaws

@@ -1,71 +1,7 @@
 //! What no clause says: the characters and digits as a person reads them in the manual, that each
 //! call succeeds, and ports that fail at one call after another.
 use super::*;
-use std::io::{Error, ErrorKind, Read, Result, Write};
 use std::process::Abort;
-
-/// A port in memory whose call number `fails_at` fails, counted from 0.
-#[derive(Drop)]
-struct Flaky<'a> {
-    unread: &'a [u8],
-    written: [u8; 8],
-    count: usize,
-    calls: usize,
-    fails_at: usize,
-}
-
-impl<'a> Flaky<'a> {
-    fn new(unread: &'a [u8], fails_at: usize) -> Flaky<'a> {
-        Flaky {
-            unread,
-            written: [0; 8],
-            count: 0,
-            calls: 0,
-            fails_at,
-        }
-    }
-
-    fn call(&mut self) -> Result<()> {
-        let is_due = self.calls == self.fails_at;
-        self.calls = self.calls.saturating_add(1);
-        if is_due {
-            return Err(Error::from(ErrorKind::Interrupted));
-        }
-        Ok(())
-    }
-}
-
-impl Read for Flaky<'_> {
-    fn read(&mut self, buf: &mut [u8]) -> Result<usize> {
-        self.call()?;
-        let Some((first, rest)) = self.unread.split_first() else {
-            return Ok(0);
-        };
-        let Some(place) = buf.first_mut() else {
-            return Ok(0);
-        };
-        *place = *first;
-        self.unread = rest;
-        Ok(1)
-    }
-}
-
-/// Takes one byte a call, and 0 bytes once it is full.
-impl Write for Flaky<'_> {
-    fn write(&mut self, buf: &[u8]) -> Result<usize> {
-        self.call()?;
-        let (Some(byte), Some(place)) = (buf.first(), self.written.get_mut(self.count)) else {
-            return Ok(0);
-        };
-        *place = *byte;
-        self.count = self.count.saturating_add(1);
-        Ok(1)
-    }
-
-    fn flush(&mut self) -> Result<()> {
-        Ok(())
-    }
-}
 
 #[test]
 fn display_codes_are_those_of_the_manual(rt: HostRuntime) {
@@ -89,6 +25,7 @@ fn display_codes_are_those_of_the_manual(rt: HostRuntime) {
         }
     }
     for byte in [b'a', b'\t', b'~', b'{', 0, 255] {
+        assert_eq!(rt; has_display_code(byte), false, "of {byte}");
         assert_eq!(rt; display_of(byte), None, "of {byte}");
     }
 }
@@ -103,7 +40,12 @@ fn octal_digits(rt: HostRuntime) {
     );
 }
 
-fn line_is(rt: &impl Abort, input: &mut Counted<Flaky<'_>>, want: LineIs, text: &[u8]) {
+/// A reader that gives a byte a call.
+fn reader(bytes: &[u8], fails_at: u64) -> Counted<FaultyReader<'_>> {
+    Counted::new(FaultyReader::new(bytes, 1, fails_at))
+}
+
+fn line_is(rt: &impl Abort, input: &mut Counted<FaultyReader<'_>>, want: LineIs, text: &[u8]) {
     let mut line = LineBuf::new();
     assert_eq!(rt; next_line(input, &mut line), want);
     assert_eq!(rt; line.as_slice(), text);
@@ -111,7 +53,7 @@ fn line_is(rt: &impl Abort, input: &mut Counted<Flaky<'_>>, want: LineIs, text: 
 
 #[test]
 fn lines_of_a_stream(rt: HostRuntime) {
-    let mut input = Counted::new(Flaky::new(b"AB\r\n\r\r\n\nC", usize::MAX));
+    let mut input = reader(b"AB\r\n\r\r\n\nC", 0);
     line_is(&rt, &mut input, LineIs::Line, b"AB");
     line_is(&rt, &mut input, LineIs::Line, b"\r");
     line_is(&rt, &mut input, LineIs::Line, b"");
@@ -124,55 +66,50 @@ fn lines_of_a_stream(rt: HostRuntime) {
 fn a_line_has_at_most_256_bytes(rt: HostRuntime) {
     let mut bytes = [b'X'; 258];
     bytes[256] = b'\n';
-    let mut input = Counted::new(Flaky::new(&bytes, usize::MAX));
-    line_is(&rt, &mut input, LineIs::Line, &[b'X'; 256]);
+    line_is(&rt, &mut reader(&bytes, 0), LineIs::Line, &[b'X'; 256]);
     bytes[256] = b'\r';
     bytes[257] = b'\n';
-    let mut input = Counted::new(Flaky::new(&bytes, usize::MAX));
+    let mut input = reader(&bytes, 0);
     line_is(&rt, &mut input, LineIs::TooLong, b"");
     line_is(&rt, &mut input, LineIs::Line, b"");
 }
 
+/// What follows the fault is still there: no call is made again after one that was interrupted.
 #[test]
-fn each_read_fails_in_turn(rt: HostRuntime) {
-    for call in 0..3 {
-        let mut input = Counted::new(Flaky::new(b"A\n", call));
-        if call == 2 {
-            line_is(&rt, &mut input, LineIs::Line, b"A");
-        }
+fn each_read_is_interrupted_in_turn(rt: HostRuntime) {
+    let rows: [(u64, &[u8]); 2] = [(1, b"A"), (2, b"")];
+    for (call, rest) in rows {
+        let mut input = reader(b"A\n", call);
         line_is(&rt, &mut input, LineIs::Fault, b"");
         assert_eq!(rt; input.faults(), 1, "at call {call}");
-        // What follows the fault is still there.
-        let rest = if call == 0 {
-            b"A".as_slice()
-        } else {
-            b"".as_slice()
-        };
-        let want = if call == 2 { LineIs::End } else { LineIs::Line };
-        line_is(&rt, &mut input, want, rest);
+        line_is(&rt, &mut input, LineIs::Line, rest);
     }
+    let mut input = reader(b"A\n", 3);
+    line_is(&rt, &mut input, LineIs::Line, b"A");
+    line_is(&rt, &mut input, LineIs::Fault, b"");
+    line_is(&rt, &mut input, LineIs::End, b"");
 }
 
+/// No call is made again after one that was interrupted: nothing goes out behind the fault.
 #[test]
-fn each_write_fails_in_turn(rt: HostRuntime) {
-    for call in 0..4 {
-        let mut output = Counted::new(Flaky::new(b"", call));
-        let want = if call < 3 {
-            Err(Broken { sent: call })
-        } else {
-            Ok(())
-        };
-        assert_eq!(rt; put_all(&mut output, b"XYZ"), want);
-        assert_eq!(rt; output.faults(), u64::from(call < 3));
-        let port = output.into_inner();
-        assert_eq!(rt; port.written[..call.min(3)], b"XYZ"[..call.min(3)]);
-        assert_eq!(rt; port.count, call.min(3));
+fn each_write_is_interrupted_in_turn(rt: HostRuntime) {
+    let rows: [(u64, usize, &[u8]); 3] = [(1, 0, b""), (2, 2, b"XY"), (3, 4, b"XYZ1")];
+    for (call, sent, taken) in rows {
+        let mut output = Counted::new(FaultyWriter::new(rt.alloc(), 2, call));
+        assert_eq!(rt; put_all(&mut output, b"XYZ12"), Err(Broken { sent }));
+        assert_eq!(rt; output.faults(), 1);
+        assert_eq!(rt; output.into_inner().taken(), taken);
     }
+    let mut output = Counted::new(FaultyWriter::new(rt.alloc(), 2, 4));
+    assert_eq!(rt; put_all(&mut output, b"XYZ12"), Ok(()));
+    assert_eq!(rt; output.faults(), 0);
+    assert_eq!(rt; output.into_inner().taken(), b"XYZ12".as_slice());
 }
 
 #[test]
 fn a_write_of_nothing_is_a_fault(rt: HostRuntime) {
-    let mut output = Counted::new(Flaky::new(b"", usize::MAX));
+    let mut room = [0; 8];
+    let mut output = Counted::new(room.as_mut_slice());
     assert_eq!(rt; put_all(&mut output, b"123456789"), Err(Broken { sent: 8 }));
     assert_eq!(rt; output.faults(), 1);
 }

@@ -1,0 +1,2 @@
+pub mod LoadSteps
+pub mod SaveSteps

@@ -1,0 +1,160 @@
+-- The steps of loading a file: the lines so far show these cards, whatever follows.
+use Rattle.std.proofs.Common.{ℕ, ◌≡◌, ◌+◌, ◌<◌, ◌≤◌, List, [], ◌∷◌, ◌++◌, Option, Result, Ok, Err, IsOk, length, refl, sym, ap, subst, ◌∙◌, arith, append_assoc, append-nil, length-append}
+use Rattle.std.specs.Io.KnownBytes.{Consumes}
+use Rattle.std.proofs.KnownBytes.{Consumes-nil, Consumes-trans}
+use Rattle.definitions.specs.Cards.{Card}
+use Rattle.definitions.specs.InputLines.{InputLine, Line, TooLong, Cut, lines_of}
+use Rattle.text_ports.specs.Lines.{ReadsLine}
+use Rattle.text_ports.specs.declared.lines.LineIs.TheVariants as is
+use Rattle.text_ports.proofs.LineLaws.{lines_of-taken, lines_of-cut, lines_of-few, lines_of-long}
+use Rattle.cards.specs.declared.card.CardFault.TheVariants as card
+use Rattle.deck_files.specs.declared.load_fault.LoadFault.{LoadFault}
+use Rattle.deck_files.specs.declared.load_fault.LoadFault.TheVariants.{ReadFault, BadLine, LastLineCut, DeckFull, OutOfMemory}
+use Rattle.deck_files.specs.DeckFiles.{card_in, in_front, with_first, cards_behind, cards_of_file}
+use Rattle.deck_files.specs.Loads.{GaveFile, GaveFault, GaveCards, LoadsCards, LoadsFault, IsFaultOf, count_after_load}
+
+-- no cards in front
+in_front-nil : (read : Result (List Card) LoadFault) → in_front [] read ≡ read
+in_front-nil (Ok cards) = refl
+in_front-nil (Err fault) = refl
+
+-- cards in front of a card
+in_front-more : (cards : List Card) (columns : Card) (read : Result (List Card) LoadFault) → in_front cards (in_front (columns ∷ []) read) ≡ in_front (cards ++ columns ∷ []) read
+in_front-more cards columns (Ok others) = ap Ok (sym (append_assoc cards (columns ∷ []) others))
+in_front-more cards columns (Err fault) = refl
+
+-- the reader lost whole lines that show these cards, whatever follows
+pub record IsLoaded (old new : Option (List ℕ)) (cards : List Card) : Type 0 where
+  pub taken : List ℕ
+  pub consumed : Consumes old new taken
+  pub whole : (rest : List ℕ) → cards_of_file (taken ++ rest) ≡ in_front cards (cards_behind (length cards) (lines_of rest))
+
+-- nothing is read
+pub IsLoaded-none : (old : Option (List ℕ)) (cards : List Card) → cards ≡ [] → IsLoaded old old cards
+IsLoaded-none old cards none =
+    let P : List Card → Type 0 = λ (c : List Card). IsLoaded old old c in
+    subst P (sym none) (record {
+      taken = [];
+      consumed = Consumes-nil old;
+      whole = λ rest. sym (in_front-nil (cards_behind 0 (lines_of rest)));
+    })
+
+-- the file is the lines so far, and what begins with more bytes
+file-behind : (taken more rest : List ℕ) (cards : List Card) (line : InputLine) (later : List InputLine) →
+    ((rest : List ℕ) → cards_of_file (taken ++ rest) ≡ in_front cards (cards_behind (length cards) (lines_of rest))) → lines_of (more ++ rest) ≡ line ∷ later →
+    cards_of_file (taken ++ more ++ rest) ≡ in_front cards (with_first (card_in (length cards + 1) line) (cards_behind (length cards + 1) later))
+file-behind taken more rest cards line later whole e =
+    ap cards_of_file (append_assoc taken more rest) ∙ whole (more ++ rest) ∙ ap (λ (l : List InputLine). in_front cards (cards_behind (length cards) l)) e
+
+-- a line that shows a card
+pub IsLoaded-more : (old new next : Option (List ℕ)) (cards after : List Card) (columns : Card) (line text : List ℕ) → IsLoaded old new cards → ReadsLine new next is.Line line →
+    text ≡ line → card_in (length cards + 1) (Line text) ≡ Ok columns → after ≡ cards ++ columns ∷ [] → IsLoaded old next after
+IsLoaded-more old new next cards after columns line text loaded read same shows more =
+    let P : List Card → Type 0 = λ (c : List Card). IsLoaded old next c in
+    let count : length cards + 1 ≡ length (cards ++ columns ∷ []) = omega (arith, length-append cards (columns ∷ [])) in
+    subst P (sym more) (record {
+      taken = loaded.taken ++ read.0;
+      consumed = Consumes-trans old new next loaded.taken read.0 loaded.consumed read.1;
+      whole = λ rest.
+          file-behind loaded.taken read.0 rest cards (Line line) (lines_of rest) loaded.whole (lines_of-taken read.0 line rest read.2)
+          ∙ ap (λ (r : Result Card LoadFault). in_front cards (with_first r (cards_behind (length cards + 1) (lines_of rest))))
+          (ap (λ (t : List ℕ). card_in (length cards + 1) (Line t)) (sym same) ∙ shows)
+          ∙ in_front-more cards columns (cards_behind (length cards + 1) (lines_of rest))
+          ∙ ap (λ (n : ℕ). in_front (cards ++ columns ∷ []) (cards_behind n (lines_of rest))) count;
+    })
+
+-- the lines so far have these cards
+cards-so_far : (taken : List ℕ) (cards : List Card) → ((rest : List ℕ) → cards_of_file (taken ++ rest) ≡ in_front cards (cards_behind (length cards) (lines_of rest))) →
+    cards_of_file taken ≡ Ok cards
+cards-so_far taken cards whole = ap cards_of_file (sym (append-nil taken)) ∙ whole [] ∙ ap Ok (append-nil cards)
+
+-- the end of the file
+pub LoadsCards-end : (old new next : Option (List ℕ)) (cards : List Card) (line : List ℕ) → IsLoaded old new cards → ReadsLine new next is.End line → LoadsCards old next cards
+LoadsCards-end old new next cards line loaded read = (
+  loaded.taken ++ read.0,
+  Consumes-trans old new next loaded.taken read.0 loaded.consumed read.1,
+  read.3,
+  ap (λ (l : List ℕ). cards_of_file (loaded.taken ++ l)) read.2.0 ∙ whole-end,
+)
+  where
+    whole-end : cards_of_file (loaded.taken ++ []) ≡ Ok cards
+    whole-end = ap cards_of_file (append-nil loaded.taken) ∙ cards-so_far loaded.taken cards loaded.whole
+
+-- a last line that no line feed ends
+pub LoadsFault-cut : (old new next : Option (List ℕ)) (cards : List Card) (line : List ℕ) → IsLoaded old new cards → ReadsLine new next is.Cut line → LoadsFault LastLineCut old next
+LoadsFault-cut old new next cards line loaded read = (
+  loaded.taken ++ read.0,
+  Consumes-trans old new next loaded.taken read.0 loaded.consumed read.1,
+  read.3,
+  loaded.whole read.0 ∙ ap (λ (l : List InputLine). in_front cards (cards_behind (length cards) l)) (lines_of-cut read.0 read.2.2 read.2.0 read.2.1),
+)
+
+-- a line that is too long
+pub LoadsFault-long : (old new next : Option (List ℕ)) (cards : List Card) (line : List ℕ) (fault : LoadFault) → IsLoaded old new cards → ReadsLine new next is.TooLong line →
+    fault ≡ BadLine (length cards + 1) card.TooWide → LoadsFault fault old next
+LoadsFault-long old new next cards line fault loaded read is_wide =
+    let P : LoadFault → Type 0 = λ (f : LoadFault). LoadsFault f old next in
+    subst P (sym is_wide) (
+      loaded.taken ++ read.0,
+      Consumes-trans old new next loaded.taken read.0 loaded.consumed read.1,
+      λ rest.
+          let long = lines_of-long read.0 rest read.2.1 (omega (arith, read.2.0)) in
+          file-behind loaded.taken read.0 rest cards TooLong long.0 loaded.whole long.1,
+    )
+
+-- a fault of the reader
+pub LoadsFault-read : (old new next : Option (List ℕ)) (cards : List Card) (line : List ℕ) → IsLoaded old new cards → ReadsLine new next is.Fault line → LoadsFault ReadFault old next
+LoadsFault-read old new next cards line loaded read = record {
+  front = loaded.taken;
+  line = read.0;
+  consumed = Consumes-trans old new next loaded.taken read.0 loaded.consumed read.1;
+  cards = let P : Result (List Card) LoadFault → Type 0 = λ (r : Result (List Card) LoadFault). IsOk r in
+      subst P (sym (cards-so_far loaded.taken cards loaded.whole)) refl;
+  one = lines_of-few read.0 read.2.1;
+}
+
+-- the file has the fault of this line
+GaveFault-line : (old new next : Option (List ℕ)) (cards : List Card) (line : List ℕ) (fault : LoadFault) → IsLoaded old new cards → ReadsLine new next is.Line line →
+    card_in (length cards + 1) (Line line) ≡ Err fault → GaveFault old next fault
+GaveFault-line old new next cards line fault loaded read shows = (
+  loaded.taken ++ read.0,
+  Consumes-trans old new next loaded.taken read.0 loaded.consumed read.1,
+  λ rest.
+      file-behind loaded.taken read.0 rest cards (Line line) (lines_of rest) loaded.whole (lines_of-taken read.0 line rest read.2)
+      ∙ ap (λ (r : Result Card LoadFault). in_front cards (with_first r (cards_behind (length cards + 1) (lines_of rest)))) shows,
+)
+
+in_front-Ok : (cards : List Card) (first : Result Card LoadFault) → IsOk first → IsOk (in_front cards (with_first first (Ok [])))
+in_front-Ok cards (Ok columns) h = refl
+in_front-Ok cards (Err fault) h = cc
+
+-- a line that was read whole, and whose card was not added
+LoadsFault-whole : (old new next : Option (List ℕ)) (cards : List Card) (line : List ℕ) (fault : LoadFault) → IsLoaded old new cards → ReadsLine new next is.Line line →
+    IsFaultOf fault (card_in (length cards + 1) (Line line)) → LoadsFault fault old next
+LoadsFault-whole old new next cards line ReadFault loaded read h = absurd h
+LoadsFault-whole old new next cards line (BadLine number fault) loaded read h = GaveFault-line old new next cards line (BadLine number fault) loaded read h
+LoadsFault-whole old new next cards line LastLineCut loaded read h = absurd h
+LoadsFault-whole old new next cards line DeckFull loaded read h = GaveFault-line old new next cards line DeckFull loaded read h
+LoadsFault-whole old new next cards line OutOfMemory loaded read h = (
+  loaded.taken ++ read.0,
+  Consumes-trans old new next loaded.taken read.0 loaded.consumed read.1,
+  (
+      let P : Result (List Card) LoadFault → Type 0 = λ (r : Result (List Card) LoadFault). IsOk r in
+      let all = ap cards_of_file (sym (append-nil (loaded.taken ++ read.0))) ∙ file-behind loaded.taken read.0 [] cards (Line line) [] loaded.whole (lines_of-taken read.0 line [] read.2) in
+      subst P (sym all) (in_front-Ok cards (card_in (length cards + 1) (Line line)) h)
+      ),
+)
+
+pub LoadsFault-line : (old new next : Option (List ℕ)) (cards : List Card) (line text : List ℕ) (fault : LoadFault) → IsLoaded old new cards → ReadsLine new next is.Line line →
+    text ≡ line → IsFaultOf fault (card_in (length cards + 1) (Line text)) → LoadsFault fault old next
+LoadsFault-line old new next cards line text fault loaded read same h =
+    let P : List ℕ → Type 0 = λ (t : List ℕ). IsFaultOf fault (card_in (length cards + 1) (Line t)) in
+    LoadsFault-whole old new next cards line fault loaded read (subst P same h)
+
+-- such a fault is none of the reader
+pub count_after_load-line : (fault : LoadFault) (read : Result Card LoadFault) (faults : ℕ) → IsFaultOf fault read → count_after_load fault faults ≡ faults
+count_after_load-line ReadFault read faults h = absurd h
+count_after_load-line (BadLine number fault) read faults h = refl
+count_after_load-line LastLineCut read faults h = absurd h
+count_after_load-line DeckFull read faults h = refl
+count_after_load-line OutOfMemory read faults h = refl

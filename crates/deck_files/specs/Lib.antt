@@ -1,0 +1,3 @@
+pub mod DeckFiles
+pub mod Loads
+pub mod FaultTexts

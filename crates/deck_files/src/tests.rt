@@ -1,0 +1,138 @@
+//! What no clause says: files as a person reads them, and ports that fail at one call after another.
+use super::*;
+use cards::{Card, CardFault};
+use std::process::Abort;
+use text_ports::{Broken, Counted, FaultyReader, FaultyWriter};
+
+fn reader(file: &[u8], fails_at: u64) -> Counted<FaultyReader<'_>> {
+    Counted::new(FaultyReader::new(file, 1, fails_at))
+}
+
+fn cards_are(rt: &impl Abort, found: &[Card], want: &[&[u8]]) {
+    assert_eq!(rt; found.len(), want.len());
+    for (card, columns) in found.iter().zip(want) {
+        assert_eq!(rt; card.as_slice(), *columns);
+    }
+}
+
+#[test]
+fn files_and_their_cards(rt: HostRuntime) {
+    let rows: [(&[u8], &[&[u8]]); 4] = [
+        (b"", &[]),
+        (b"\n", &[b""]),
+        (b"*A\n\n", &[b"*A", b""]),
+        (b" SA1 B2  \r\n*\n", &[b" SA1 B2", b"*"]),
+    ];
+    for (file, want) in rows {
+        let found = load(rt.alloc(), &mut reader(file, 0)).expect(&rt, "cards");
+        cards_are(&rt, &found, want);
+    }
+}
+
+#[test]
+fn files_with_faults(rt: HostRuntime) {
+    let bad = |line, column| LoadFault::BadLine {
+        line,
+        fault: CardFault::BadCharacter { column },
+    };
+    let rows: [(&[u8], LoadFault); 4] = [
+        (b"*A\n*B", LoadFault::LastLineCut),
+        (b"a\n", bad(1, 1)),
+        (b"*A\n\n Xb\nc", bad(3, 3)),
+        (b"a", LoadFault::LastLineCut),
+    ];
+    for (file, want) in rows {
+        let mut input = reader(file, 0);
+        assert_eq!(rt; load(rt.alloc(), &mut input).err(), Some(want));
+        assert_eq!(rt; input.faults(), 0);
+    }
+}
+
+#[test]
+fn a_line_too_long_is_too_wide(rt: HostRuntime) {
+    let want = LoadFault::BadLine {
+        line: 1,
+        fault: CardFault::TooWide,
+    };
+    assert_eq!(rt;
+        load(rt.alloc(), &mut reader(&[b'X'; 300], 0)).err(),
+        Some(want)
+    );
+    let mut wide = [b'X'; 82];
+    wide[81] = b'\n';
+    assert_eq!(rt; load(rt.alloc(), &mut reader(&wide, 0)).err(), Some(want));
+}
+
+#[test]
+fn a_file_has_at_most_20000_cards(rt: HostRuntime) {
+    let mut file = vec![in rt.alloc(); b'\n'; 20_000].expect(&rt, "memory");
+    let found = load(rt.alloc(), &mut reader(&file, 0)).expect(&rt, "cards");
+    assert_eq!(rt; found.len(), 20_000);
+    file.push(b'\n').expect(&rt, "memory");
+    assert_eq!(rt;
+        load(rt.alloc(), &mut reader(&file, 0)).err(),
+        Some(LoadFault::DeckFull)
+    );
+}
+
+#[test]
+fn what_is_saved_is_loaded(rt: HostRuntime) {
+    let cards = [
+        Card::read(b"*A").expect(&rt, "a card"),
+        Card::read(b"").expect(&rt, "a card"),
+    ];
+    let mut output = Counted::new(FaultyWriter::new(rt.alloc(), 1, 0));
+    assert_eq!(rt; save(&mut output, &cards), Ok(()));
+    let port = output.into_inner();
+    assert_eq!(rt; port.taken(), b"*A\n\n".as_slice());
+    let found = load(rt.alloc(), &mut reader(port.taken(), 0)).expect(&rt, "cards");
+    cards_are(&rt, &found, &[b"*A", b""]);
+}
+
+#[test]
+fn each_read_fails_in_turn(rt: HostRuntime) {
+    // Four bytes, and the call that finds the end.
+    for call in 1..6 {
+        let mut input = reader(b"*A\n\n", call);
+        assert_eq!(rt;
+            load(rt.alloc(), &mut input).err(),
+            Some(LoadFault::ReadFault),
+            "at {call}"
+        );
+        assert_eq!(rt; input.faults(), 1);
+    }
+    assert!(rt; load(rt.alloc(), &mut reader(b"*A\n\n", 6)).is_ok());
+}
+
+#[test]
+fn each_write_fails_in_turn(rt: HostRuntime) {
+    let cards = [
+        Card::read(b"*A").expect(&rt, "a card"),
+        Card::read(b"").expect(&rt, "a card"),
+    ];
+    for sent in 0..4 {
+        let mut output = Counted::new(FaultyWriter::new(rt.alloc(), 1, sent as u64 + 1));
+        assert_eq!(rt; save(&mut output, &cards), Err(Broken { sent }));
+        assert_eq!(rt; output.faults(), 1);
+        assert_eq!(rt; output.into_inner().taken(), &b"*A\n\n"[..sent]);
+    }
+}
+
+#[test]
+fn texts_of_faults(rt: HostRuntime) {
+    let bad = LoadFault::BadLine {
+        line: 1,
+        fault: CardFault::BadCharacter { column: 1 },
+    };
+    let rows = [
+        (bad, "BadLine 1 BadCharacter 1"),
+        (LoadFault::LastLineCut, "LastLineCut"),
+        (LoadFault::DeckFull, "DeckFull"),
+        (LoadFault::ReadFault, "ReadFault"),
+        (LoadFault::OutOfMemory, "OutOfMemory"),
+    ];
+    for (fault, text) in rows {
+        let shown = fault.to_string(rt.alloc()).expect(&rt, "memory");
+        assert_eq!(rt; shown.as_str(), text);
+    }
+}
