@@ -7,7 +7,8 @@ use Rattle.definitions.specs.Characters.{blank, same_text}
 use Rattle.definitions.specs.Pieces.{Spot, AtStart, begun_at, spot_behind, left_of, field_at}
 use Rattle.definitions.specs.Fields.{Fields, unbroken_front, without_blanks, from_location, variable_of, fields_of_text}
 use Rattle.definitions.proofs.TextLaws.{same_text_tells}
-use Rattle.definitions.specs.Cuts.{IsUnbroken, AreBlanks, HasBegun, IsLead, IsExtent, IsVariable, HasVariable, HasOperation, IsCut}
+use Rattle.definitions.proofs.FrontLaws.{IsExtent, extent-is_longest, longest-only}
+use Rattle.definitions.specs.Cuts.{IsUnbroken, AreBlanks, HasBegun, IsLead, IsLongestFront, IsVariable, HasVariable, HasOperation, IsCut}
 
 -- what follows the word that begins a text
 abbrev behind_word : List ℕ → List ℕ
@@ -117,17 +118,6 @@ field_splits spot zero (c ∷ cs) =
           subst P (sym (field_at-other spot c cs h.1)) (s.0, ap (λ (t : List ℕ). c ∷ t) s.1, (h.1, subst Q s.1 s.2))
     ]
 
--- a text has no other field
-field_at-split : (spot : Spot) (left : ℕ) (field rest : List ℕ) → IsExtent spot left field rest → field_at spot left (field ++ rest) ≡ field
-field_at-split spot left [] [] h = refl
-field_at-split spot zero [] (c ∷ cs) h = field_at-blank spot c cs h
-field_at-split spot (suc left) [] (c ∷ cs) h = absurd h
-field_at-split spot (suc left) (c ∷ field) rest h = ap (λ (t : List ℕ). c ∷ t) (field_at-split spot left field rest h)
-field_at-split spot zero (c ∷ field) rest h =
-    field_at-other spot c (field ++ rest) h.0
-    ∙ ap (λ (t : List ℕ). c ∷ t)
-    (field_at-split (spot_behind (begun_at spot c (field ++ rest))) (left_of (begun_at spot c (field ++ rest))) field rest h.1)
-
 -- what the test of the column tells
 in_time_tells : (text rest : List ℕ) →
     (HasBegun text rest × (in_time text rest ≡ rest)) ⊎ ((¬ HasBegun text rest) × (in_time text rest ≡ []))
@@ -170,13 +160,17 @@ from_location-split [] (c ∷ cs) h = ap (λ (t : Bool). if t then cs else c ∷
 from_location-split (c ∷ []) first h = ap (λ (t : Bool). if t then first else c ∷ first) (eq-eqb c blank h)
 from_location-split (c ∷ d ∷ cs) first h = absurd h
 
+-- the field that is scanned is the longest front whose blanks stand in items
+field_at-longest : (text : List ℕ) → IsLongestFront text (field_at AtStart 0 text)
+field_at-longest text = let s = field_splits AtStart zero text in extent-is_longest text (field_at AtStart 0 text) s.0 s.1 s.2
+
 -- the variable field of an operation is a lawful one
 variable_lawful : (operation begun : List ℕ) → IsVariable operation begun (variable_of operation begun)
 variable_lawful operation begun =
     let P : Bool → Type 0 = λ t. IsVariable operation begun (if t then begun else field_at AtStart 0 begun) in
     elim (same_text_tells operation (codes "DIS")) [
       | inl h ↦ subst P (sym h.0) (inl (h.1, refl))
-      | inr h ↦ subst P (sym h.0) (inr (h.1, field_splits AtStart zero begun))
+      | inr h ↦ subst P (sym h.0) (inr (h.1, field_at-longest begun))
     ]
 
 -- an operation has no other variable field
@@ -190,8 +184,7 @@ variable_only operation begun variable (inr v) =
     elim (same_text_tells operation (codes "DIS")) [
       | inl h ↦ absurd (v.0 h.1)
       | inr h ↦
-          sym (field_at-split AtStart zero variable v.1.0 v.1.2)
-          ∙ ap (λ (t : List ℕ). field_at AtStart 0 t) (sym v.1.1)
+          longest-only begun variable (field_at AtStart 0 begun) v.1 (field_at-longest begun)
           ∙ sym (ap (λ (t : Bool). if t then begun else field_at AtStart 0 begun) h.0)
     ]
 

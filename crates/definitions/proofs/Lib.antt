@@ -2,6 +2,7 @@
 pub mod TextLaws
 pub mod NumeralLaws
 pub mod StatementLaws
+pub mod FrontLaws
 pub mod FieldLaws
 pub mod GrammarLaws
 pub mod TermLaws

@@ -1,8 +1,8 @@
 -- The cut of a text into fields as a relation (COMPASS 60492600, statement format): what `fields_of_text` computes.
-use Rattle.std.specs.Prelude.{ℕ, zero, suc, ◌≡◌, ◌≢◌, ◌+◌, ◌<◌, ◌⊎◌, List, [], ◌∷◌, ◌++◌, ⊤, length, codes}
+use Rattle.std.specs.Prelude.{ℕ, ◌≡◌, ◌≢◌, ◌+◌, ◌<◌, ◌⊎◌, List, [], ◌∷◌, ◌++◌, ⊤, length, codes}
 use Rattle.std.specs.List.{AllByRecursion}
 use Rattle.definitions.specs.Characters.{blank}
-use Rattle.definitions.specs.Pieces.{Spot, AtStart, begun_at, spot_behind, left_of}
+use Rattle.definitions.specs.Pieces.{Piece, Plain, pieces_of}
 use Rattle.definitions.specs.Fields.{Fields, columns_before_comments}
 
 -- nothing follows, or a blank
@@ -35,19 +35,25 @@ IsLead [] first = BeginsHere first
 IsLead (c ∷ []) first = c ≡ blank
 IsLead (c ∷ d ∷ cs) first = ⊥
 
--- the field holds no blank outside an item, and ends at such a blank or where the text ends
-abbrev pub IsExtent : Spot → ℕ → List ℕ → List ℕ → Type 0
-IsExtent spot left [] [] = ⊤
-IsExtent spot zero [] (c ∷ cs) = c ≡ blank
-IsExtent spot (suc left) [] (c ∷ cs) = ⊥
-IsExtent spot (suc left) (c ∷ field) rest = IsExtent spot left field rest
-IsExtent spot zero (c ∷ field) rest =
-    (c ≢ blank) × IsExtent (spot_behind (begun_at spot c (field ++ rest))) (left_of (begun_at spot c (field ++ rest))) field rest
+-- no blank stands in a piece, if the piece is no counted item
+abbrev pub HasNoBlank : Piece → Type 0
+HasNoBlank (Plain text) = AllByRecursion (λ c. c ≢ blank) text
+HasNoBlank _ = ⊤
+
+-- all blanks of a field stand in its counted items
+abbrev pub HasBlanksInItems : List ℕ → Type 0
+HasBlanksInItems field = AllByRecursion HasNoBlank (pieces_of field)
+
+-- the field is the longest front of a text in which no blank stands outside a counted item
+abbrev pub IsLongestFront : List ℕ → List ℕ → Type 0
+IsLongestFront text field =
+    (rest : List ℕ) × (text ≡ field ++ rest) × HasBlanksInItems field
+    × ((more less : List ℕ) → rest ≡ more ++ less → HasBlanksInItems (field ++ more) → more ≡ [])
 
 -- the variable field of what begins there: for DIS all of it
 abbrev pub IsVariable : List ℕ → List ℕ → List ℕ → Type 0
 IsVariable operation begun variable =
-    ((operation ≡ codes "DIS") × (variable ≡ begun)) ⊎ ((operation ≢ codes "DIS") × ((rest : List ℕ) × (begun ≡ variable ++ rest) × IsExtent AtStart zero variable rest))
+    ((operation ≡ codes "DIS") × (variable ≡ begun)) ⊎ ((operation ≢ codes "DIS") × IsLongestFront begun variable)
 
 -- behind the operation: blanks, and a variable field that begins in time, or none
 abbrev pub HasVariable : List ℕ → List ℕ → List ℕ → List ℕ → Type 0
