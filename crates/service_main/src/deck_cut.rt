@@ -2,7 +2,7 @@
 //! latest.
 ghost use Rattle.std.specs.Prelude.{◌≡◌, ◌==◌, ◌≤◌, not, ◌&&◌, codes, length, take_while, OnOk, IfErr};
 ghost use Rattle.std.specs.List.{prefix_len};
-ghost use Rattle.definitions.specs.Characters.{blank, same_text};
+ghost use Rattle.definitions.specs.Characters.{blank, comma, same_text};
 ghost use Rattle.definitions.specs.InputLines.{Line};
 ghost use Rattle.definitions.specs.DeckInput.{Decks, is_taken, continued, with_card, with_line};
 ghost use Rattle.service_main.specs.Inputs.{newest_first, IsFaultOf};
@@ -10,9 +10,8 @@ ghost use Rattle.service_main.specs.CardRoles.{role_of, begun_named};
 
 use crate::asm_fault::AsmFault;
 use crate::deck::Deck;
-use cards::{Card, DeckName, fields};
+use cards::{Card, DeckName, Fields};
 use std::alloc::Global;
-use std::slice;
 
 /// How many decks a run has at most.
 const MOST_DECKS: usize = 64;
@@ -68,7 +67,7 @@ fn add_card(alloc: Global, decks: &mut Vec<Deck>, number: u64, card: Card) -> Re
 fn role_of(card: &Card) -> CardRole
     ensures { result ≡ role_of card.now }
 {
-    let fields = fields(slice::from_ref(card));
+    let fields = Fields::of_card(card);
     if !is_ident(fields.operation()) {
         return CardRole::Continues;
     }
@@ -86,13 +85,13 @@ fn is_ident(operation: &[u8]) -> bool
 
 /// What stands before the first comma or blank.
 fn before_mark(text: &[u8]) -> &[u8]
-    ensures { result.now ≡ take_while (λ c. not (c == 44) && not (c == blank)) text.now }
+    ensures { result.now ≡ take_while (λ c. not (c == comma) && not (c == blank)) text.now }
 {
     text.split_at(before_mark_len(text)).0
 }
 
 fn before_mark_len(text: &[u8]) -> usize
-    ensures len { result ≡ prefix_len (λ c. not (c == 44) && not (c == blank)) text.now }
+    ensures len { result ≡ prefix_len (λ c. not (c == comma) && not (c == blank)) text.now }
     ensures within { result ≤ length text.now }
 {
     for (k, c) in text.iter().enumerate() {
