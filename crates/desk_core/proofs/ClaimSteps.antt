@@ -33,7 +33,7 @@ module _ (history : History) (by : ℕ) (desk : Desk) (told : IsDeskTold history
   next_handed_out deck was =
       let n = desk.leases + 1 in
       let e = entry by Claim (DeckJob (deck_work n deck)) in
-      told_touched history e desk (hand_out deck desk).desk deck.identity deck.name HandsOut (given n)
+      told_touched history e desk (hand_out deck desk).desk deck.identity deck.name (HandsOut (deck_work n deck).edits) (given n)
       (record { adds_none = record { identities = λ x. refl; names = λ i. refl }; leases_none = λ number few. next_is_new desk.leases (Some deck.identity) number few; effects = λ d. refl })
       (record {
         names = λ d. refl;

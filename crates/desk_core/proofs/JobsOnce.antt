@@ -41,7 +41,7 @@ module _ (history : History) (by : ℕ) (desk : Desk) (told : IsDeskTold history
   step_due next job (inr starved) = let e : DeckJob job ≡ Refused OutOfMemory = starved.1 in cc
 
 -- the newest entry of a longer history
-reverse_onto : (e : Entry Call Reply) (more before : History) → reverse more ++ e ∷ before ≡ reverse (e ∷ more) ++ before
+pub reverse_onto : (e : Entry Call Reply) (more before : History) → reverse more ++ e ∷ before ≡ reverse (e ∷ more) ++ before
 reverse_onto e more before = sym (ap (λ (h : History). h ++ before) (reverse-append (e ∷ []) more) ∙ append_assoc (reverse more) (e ∷ []) before)
 
 -- what is told of a desk is told of each later one

@@ -16,6 +16,8 @@ pub mod ChangeSteps
 pub mod ClaimSteps
 pub mod ResultSteps
 pub mod JobsOnce
+pub mod Parts
+pub mod EditsOnce
 pub mod Worked
 pub mod WorkedResults
 pub mod WorkedForeign

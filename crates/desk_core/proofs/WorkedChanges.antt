@@ -1,9 +1,10 @@
 -- Worked histories: edits and batches, those that apply and those that are refused, and each limit.
-use Rattle.std.proofs.Common.{◌≡◌, ℕ, false, List, [], ◌∷◌, ◌++◌, replicate, map, codes, None, refl}
+use Rattle.std.proofs.Common.{◌≡◌, ℕ, true, false, List, [], ◌∷◌, ◌++◌, replicate, map, codes, None, refl}
 use Rattle.std.specs.List.{range_with_len}
 use Rattle.desk_core.specs.Edits as E
 use Rattle.desk_core.specs.Desks.{Desk, new_desk}
-use Rattle.desk_core.specs.Calls.{Call, AddDeck, DropDeck, EditDeck, Batch, Cards, Claim, Changed, CardsAre, Refused, NoSuchCard, DeckFull, NameTaken, NoDeck, OldVersion, TooManyDecks, VersionsSpent, BadEdit, BatchSize}
+use Rattle.desk_core.specs.Calls.{Call, AddDeck, DropDeck, EditDeck, Batch, Cards, Show, Status, Claim, GiveUp, Reply, Changed, StatusIs, Idle, AllOut, Cleared, NoPublication, CardsAre, Refused, NoSuchCard, DeckFull, NameTaken, NoDeck, OldVersion, TooManyDecks, VersionsSpent, BadEdit, BatchSize}
+use Rattle.desk_core.specs.Steps.{takes_memory}
 use Rattle.desk_core.proofs.Worked.{replies_to, desk_after, M, deck_m}
 
 -- two people edit one deck: who has not seen the latest version is refused
@@ -58,3 +59,10 @@ pub spent : replies_to (AddDeck (deck_m []) ∷ AddDeck (record { name = []; car
     (worn 4611686018427387904 4611686018427387904)
     ≡ Refused NameTaken ∷ Refused VersionsSpent ∷ Refused (OldVersion 1) ∷ Refused VersionsSpent ∷ Refused NoSuchCard ∷ Refused VersionsSpent ∷ Refused (BadEdit 1 E.NoSuchCard) ∷ Refused VersionsSpent ∷ Refused VersionsSpent ∷ []
 spent = refl
+
+-- a drop takes no memory, nor does what stores or clears; other changes, what is read and jobs do
+pub memory_of_calls : map (λ (step : Call × Reply). takes_memory step.0 step.1) (
+    (DropDeck M 1, Changed 2) ∷ (GiveUp 1, Cleared) ∷ (Claim, AllOut) ∷ (Claim, Idle 0) ∷ (Show, Refused NoPublication)
+    ∷ (EditDeck M 1 (E.Remove 1), Changed 2) ∷ (Cards M, CardsAre 1 []) ∷ (Status, StatusIs 0 None []) ∷ [])
+    ≡ false ∷ false ∷ false ∷ false ∷ false ∷ true ∷ true ∷ true ∷ []
+memory_of_calls = refl

@@ -3,7 +3,7 @@ use Rattle.std.proofs.Common.{◌≡◌, ℕ, List, [], ◌∷◌, ◌++◌, cod
 use Rattle.desk_core.specs.Language.{Card, listing_of, image_of}
 use Rattle.desk_core.specs.Edits.{Edit, Replace}
 use Rattle.desk_core.specs.Desks.{Kept, new_desk}
-use Rattle.desk_core.specs.Calls.{Call, AddDeck, DropDeck, EditDeck, Show, Status, Claim, DeliverDeck, DeliverLink, GiveUp, Start, FromRecord, FromCards, Reply, Changed, Shown, StatusIs, DeckJob, LinkJob, Idle, AllOut, Stored, Cleared, Refused, NoPublication, UnknownJob, Stale, Out, Behind, Ready}
+use Rattle.desk_core.specs.Calls.{Call, AddDeck, DropDeck, EditDeck, Show, Status, Claim, DeliverDeck, DeliverLink, GiveUp, Start, FromRecord, FromCards, Reply, Changed, Shown, StatusIs, DeckJob, LinkJob, Idle, AllOut, Stored, Cleared, Refused, NoPublication, UnknownJob, Stale, Foreign, Out, Behind, Ready}
 use Rattle.desk_core.proofs.Worked.{replies_to, M, deck_m}
 
 -- a record of M with these cards
@@ -57,6 +57,13 @@ pub dropped_and_added_anew : replies_to (
     AddDeck (deck_m []) ∷ Claim ∷ DropDeck M 1 ∷ AddDeck (deck_m []) ∷ result 1 1 1 [] ∷ Claim ∷ GiveUp 2 ∷ GiveUp 2 ∷ []) new_desk
     ≡ Changed 1 ∷ job 1 1 1 (FromCards []) [] ∷ Changed 2 ∷ Changed 3 ∷ Refused UnknownJob ∷ job 2 3 3 (FromCards []) [] ∷ Cleared ∷ Refused UnknownJob ∷ []
 dropped_and_added_anew = refl
+
+-- a late result is not taken for the new deck, under its own lease or under the new deck's
+pub late_for_another_deck : replies_to (
+    AddDeck (deck_m []) ∷ Claim ∷ DropDeck M 1 ∷ AddDeck (deck_m []) ∷ Claim ∷ result 1 1 1 [] ∷ result 1 3 3 [] ∷ result 2 1 1 [] ∷ Claim ∷ result 3 3 3 [] ∷ []) new_desk
+    ≡ Changed 1 ∷ job 1 1 1 (FromCards []) [] ∷ Changed 2 ∷ Changed 3 ∷ job 2 3 3 (FromCards []) [] ∷ Refused UnknownJob ∷ Refused UnknownJob ∷ Refused Foreign
+    ∷ job 3 3 3 (FromCards []) [] ∷ Stored ∷ []
+late_for_another_deck = refl
 
 -- a new desk has to be linked before anything is shown
 pub new_desk_is_linked : replies_to (Show ∷ Claim ∷ Claim ∷ DeliverLink 1 (record { version = 0; decks = [] }) ∷ Show ∷ Claim ∷ []) new_desk

@@ -1,5 +1,5 @@
 -- Which edits a deck job has to carry, told by the history before it (ours). Histories are read newest first here.
-use Rattle.std.specs.Prelude.{◌≡◌, ℕ, ◌==◌, List, [], ◌∷◌, ◌++◌, Option, Some, None, option_map, unwrap_or, if◌then◌else◌}
+use Rattle.std.specs.Prelude.{◌≡◌, ◌⊎◌, ⊤, ℕ, ◌==◌, List, [], ◌∷◌, ◌++◌, Option, Some, None, option_map, unwrap_or, if◌then◌else◌}
 use Rattle.std.specs.Option.{option_or}
 use Rattle.desk_core.specs.Language.{same_text}
 use Rattle.desk_core.specs.Edits.{Edit}
@@ -27,9 +27,9 @@ abbrev pub deck_of_lease : ℕ → History → Option ℕ
 deck_of_lease number [] = None
 deck_of_lease number (entry ∷ earlier) = unwrap_or (leased_in number entry.call entry.reply) (deck_of_lease number earlier)
 
--- what an entry does to the record of a deck: a job hands it out, it is lost, edits are accepted that it lacks; or nothing
+-- what an entry does to the record of a deck: a job hands it out with these edits, or the cards with none; it is lost; edits are accepted that it lacks; or nothing
 pub data Effect : Type 0 where
-  HandsOut : Effect
+  HandsOut : List Edit → Effect
   Loses : Effect
   Edits : List Edit → Effect
   Leaves : Effect
@@ -43,14 +43,14 @@ effect_if deck (Some other) effect = if other == deck then effect else Leaves
 abbrev pub effect_on : ℕ → History → Call → Reply → Effect
 effect_on deck earlier (EditDeck name seen edit) (Changed version) = effect_if deck (identity_of name earlier) (Edits (edit ∷ []))
 effect_on deck earlier (Batch name seen edits) (Changed version) = effect_if deck (identity_of name earlier) (Edits edits)
-effect_on deck earlier Claim (DeckJob job) = effect_if deck (Some job.deck) HandsOut
+effect_on deck earlier Claim (DeckJob job) = effect_if deck (Some job.deck) (HandsOut job.edits)
 effect_on deck earlier (DeliverDeck done) (Refused Foreign) = effect_if deck (deck_of_lease done.lease earlier) Loses
 effect_on deck earlier (GiveUp lease) Cleared = effect_if deck (deck_of_lease lease earlier) Loses
 effect_on deck earlier _ _ = Leaves
 
 -- what is known of a deck's record, after one effect more
 abbrev pub after_effect : Effect → Option (List Edit) → Option (List Edit)
-after_effect HandsOut since = Some []
+after_effect (HandsOut edits) since = Some []
 after_effect Loses since = None
 after_effect (Edits edits) since = option_map (λ (before : List Edit). before ++ edits) since
 after_effect Leaves since = since
@@ -68,3 +68,30 @@ IsDueFrom (FromCards cards) edits since = (since ≡ None) × (edits ≡ [])
 -- a deck job is what the history before it makes due
 abbrev pub IsDue : DeckWork → History → Type 0
 IsDue job earlier = IsDueFrom job.start job.edits (since_job job.deck earlier)
+
+-- the edits that an effect accepts
+abbrev pub accepted_by : Effect → List Edit
+accepted_by (Edits edits) = edits
+accepted_by _ = []
+
+-- the edits that an effect hands out
+abbrev pub handed_by : Effect → List Edit
+handed_by (HandsOut edits) = edits
+handed_by _ = []
+
+-- all edits of a deck that were accepted, in order
+abbrev pub accepted_edits : ℕ → History → List Edit
+accepted_edits deck [] = []
+accepted_edits deck (entry ∷ earlier) = accepted_edits deck earlier ++ accepted_by (effect_on deck earlier entry.call entry.reply)
+
+-- all edits that a deck's jobs carried, one job after the other
+abbrev pub handed_edits : ℕ → History → List Edit
+handed_edits deck [] = []
+handed_edits deck (entry ∷ earlier) = handed_edits deck earlier ++ handed_by (effect_on deck earlier entry.call entry.reply)
+
+-- a part of a list: its elements in their order, some of them left out
+abbrev pub IsPartOf : {A : Type 0} → List A → List A → Type 0
+IsPartOf [] [] = ⊤
+IsPartOf [] (x ∷ part) = ⊥
+IsPartOf (y ∷ whole) [] = ⊤
+IsPartOf (y ∷ whole) (x ∷ part) = ((y ≡ x) × IsPartOf whole part) ⊎ IsPartOf whole (x ∷ part)

@@ -5,7 +5,7 @@ ghost use Rattle.desk_core.specs.Desks.{Desk, Publication};
 ghost use Rattle.desk_core.specs.Calls.{Call, Refusal, Show, Shown, Claim, Idle, DeckJob, DeckWork, Refused};
 ghost use Rattle.desk_core.specs.Steps.{Steps};
 ghost use Rattle.desk_core.specs.Runs.{History, Runs, IsBuildOf, IsUnchanged, IsOfItsChanges, IsPublishedAt, IsPublishedFrom};
-ghost use Rattle.desk_core.specs.Jobs.{IsDue};
+ghost use Rattle.desk_core.specs.Jobs.{IsDue, IsPartOf, accepted_edits, handed_edits};
 
 /// After every list of calls and replies that a new desk allows one after the other: what is shown
 /// is the build of the decks after as many accepted changes as its version says; a refused call
@@ -27,8 +27,11 @@ pub fn every_run()
 
 /// In every run, a deck job that begins with the deck's record has exactly the edits of that deck
 /// that were accepted since its job before, in order; one that begins with cards has none, and is
-/// the deck's first or comes after a loss of the record.
+/// the deck's first or comes after a loss of the record. So what the jobs of a deck carry, one after
+/// the other, is a part of its accepted edits: each stands in at most one job.
 pub fn jobs_once()
-    ensures { (history : History) (desk next : Desk) (job : DeckWork) →
+    ensures due { (history : History) (desk next : Desk) (job : DeckWork) →
         Runs history desk → Steps desk Claim (DeckJob job) next → IsDue job (reverse history) }
+    ensures once { (history : History) (desk : Desk) (deck : ℕ) →
+        Runs history desk → IsPartOf (accepted_edits deck (reverse history)) (handed_edits deck (reverse history)) }
 {}
