@@ -21,4 +21,5 @@ pub mod EditsOnce
 pub mod Worked
 pub mod WorkedResults
 pub mod WorkedForeign
+pub mod WorkedLinks
 pub mod WorkedChanges

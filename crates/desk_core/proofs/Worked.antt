@@ -1,9 +1,10 @@
 -- What the worked histories share: calls made one after the other from a desk, with memory found each time.
-use Rattle.std.proofs.Common.{ℕ, List, [], ◌∷◌, codes, refl, inl}
+use Rattle.std.proofs.Common.{Some, ℕ, List, [], ◌∷◌, codes, refl, inl}
 use Rattle.turn_office.specs.Histories.{Leads, entry}
 use Rattle.desk_core.specs.Language.{Card, Deck}
-use Rattle.desk_core.specs.Desks.{Desk, new_desk}
-use Rattle.desk_core.specs.Calls.{Call, Reply}
+use Rattle.desk_core.specs.Edits.{Edit, Replace}
+use Rattle.desk_core.specs.Desks.{Desk, Kept, new_desk}
+use Rattle.desk_core.specs.Calls.{Call, EditDeck, DeliverDeck, Start, Reply, DeckJob}
 use Rattle.desk_core.specs.Steps.{answer, Steps}
 use Rattle.desk_core.specs.Runs.{History, Runs}
 
@@ -38,3 +39,32 @@ M = codes "M"
 -- the deck M with these cards
 abbrev pub deck_m : List Card → Deck
 deck_m cards = record { name = M; cards = cards }
+
+-- a record of M with these cards
+abbrev pub kept : List Card → Kept
+kept cards = record { deck = deck_m cards }
+
+-- a result for M: lease, identity, version, and the cards that record and object are of
+abbrev pub result : ℕ → ℕ → ℕ → List Card → Call
+result lease deck version cards = DeliverDeck (record { lease = lease; deck = deck; version = version; kept = Some (kept cards); object = deck_m cards })
+
+-- the job of M
+abbrev pub job : ℕ → ℕ → ℕ → Start → List Edit → Reply
+job lease deck version start edits = DeckJob (record { lease = lease; deck = deck; version = version; name = M; start = start; edits = edits })
+
+-- four decks of one card
+abbrev pub A : List Card
+A = codes "*A" ∷ []
+
+abbrev pub B : List Card
+B = codes "*B" ∷ []
+
+abbrev pub C : List Card
+C = codes "*C" ∷ []
+
+abbrev pub D : List Card
+D = codes "*D" ∷ []
+
+-- the first card of M is replaced, by one who has seen this version
+abbrev pub replace : ℕ → List ℕ → Call
+replace seen card = EditDeck M seen (Replace 1 card)

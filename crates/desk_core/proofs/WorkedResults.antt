@@ -1,38 +1,12 @@
 -- Worked histories: results that come late, records that go back, a deck dropped and added anew, a desk without decks.
-use Rattle.std.proofs.Common.{◌≡◌, ℕ, List, [], ◌∷◌, ◌++◌, codes, Some, None, refl}
-use Rattle.desk_core.specs.Language.{Card, listing_of, image_of}
-use Rattle.desk_core.specs.Edits.{Edit, Replace}
-use Rattle.desk_core.specs.Desks.{Kept, new_desk}
-use Rattle.desk_core.specs.Calls.{Call, AddDeck, DropDeck, EditDeck, Show, Status, Claim, DeliverDeck, DeliverLink, GiveUp, Start, FromRecord, FromCards, Reply, Changed, Shown, StatusIs, DeckJob, LinkJob, Idle, AllOut, Stored, Cleared, Refused, NoPublication, UnknownJob, Stale, Foreign, Out, Behind, Ready}
-use Rattle.desk_core.proofs.Worked.{replies_to, M, deck_m}
-
--- a record of M with these cards
-abbrev kept : List Card → Kept
-kept cards = record { deck = deck_m cards }
-
--- a result for M: lease, identity, version, and the cards that record and object are of
-abbrev result : ℕ → ℕ → ℕ → List Card → Call
-result lease deck version cards = DeliverDeck (record { lease = lease; deck = deck; version = version; kept = Some (kept cards); object = deck_m cards })
-
--- the job of M
-abbrev job : ℕ → ℕ → ℕ → Start → List Edit → Reply
-job lease deck version start edits = DeckJob (record { lease = lease; deck = deck; version = version; name = M; start = start; edits = edits })
-
-abbrev A : List Card
-A = codes "*A" ∷ []
-
-abbrev B : List Card
-B = codes "*B" ∷ []
-
-abbrev C : List Card
-C = codes "*C" ∷ []
-
-abbrev D : List Card
-D = codes "*D" ∷ []
-
--- the first card of M is replaced, by one who has seen this version
-abbrev replace : ℕ → List ℕ → Call
-replace seen card = EditDeck M seen (Replace 1 card)
+use Rattle.std.proofs.Common.{◌≡◌, ℕ, List, [], ◌∷◌, ◌++◌, reverse, take, codes, Some, None, refl}
+use Rattle.desk_core.specs.Language.{listing_of, image_of}
+use Rattle.desk_core.specs.Edits.{Replace}
+use Rattle.desk_core.specs.Desks.{new_desk}
+use Rattle.desk_core.specs.Calls.{Call, AddDeck, DropDeck, Show, Status, Claim, DeliverLink, GiveUp, FromRecord, FromCards, Changed, Shown, StatusIs, LinkJob, Idle, AllOut, Stored, Cleared, Refused, NoPublication, UnknownJob, Stale, Foreign, Out, Behind, Ready}
+use Rattle.desk_core.specs.Runs.{History, decks_at}
+use Rattle.desk_core.specs.Jobs.{since_job, accepted_edits, handed_edits}
+use Rattle.desk_core.proofs.Worked.{replies_to, history_of, M, deck_m, kept, result, job, A, B, C, D, replace}
 
 -- a stale result gives its record back, and the next job carries it with the one edit
 pub late_result : replies_to (
@@ -42,15 +16,43 @@ pub late_result : replies_to (
     ∷ LinkJob (record { lease = 3; version = 2; objects = deck_m B ∷ [] }) ∷ Stored ∷ Idle 2 ∷ Shown (record { version = 2; decks = deck_m B ∷ [] }) ∷ []
 late_result = refl
 
--- of several jobs only the first carries cards, until the record is given up
-pub one_job_with_cards : replies_to (
+-- three edits while results are stale or stored, one more, and a job that is given up
+abbrev edits_and_results : List Call
+edits_and_results =
     AddDeck (deck_m A) ∷ Claim ∷ replace 1 (codes "*B") ∷ replace 2 (codes "*C") ∷ result 1 1 1 A ∷ Claim ∷ replace 3 (codes "*D") ∷ result 2 1 3 C
-    ∷ Claim ∷ result 3 1 4 D ∷ replace 4 (codes "*A") ∷ Claim ∷ GiveUp 4 ∷ Claim ∷ []) new_desk
+    ∷ Claim ∷ result 3 1 4 D ∷ replace 4 (codes "*A") ∷ Claim ∷ GiveUp 4 ∷ []
+
+-- of several jobs only the first carries cards, until the record is given up
+pub one_job_with_cards : replies_to (edits_and_results ++ Claim ∷ []) new_desk
     ≡ Changed 1 ∷ job 1 1 1 (FromCards A) [] ∷ Changed 2 ∷ Changed 3 ∷ Refused (Stale 3)
     ∷ job 2 1 3 (FromRecord (kept A)) (Replace 1 (codes "*B") ∷ Replace 1 (codes "*C") ∷ []) ∷ Changed 4 ∷ Refused (Stale 4)
     ∷ job 3 1 4 (FromRecord (kept C)) (Replace 1 (codes "*D") ∷ []) ∷ Stored ∷ Changed 5
     ∷ job 4 1 5 (FromRecord (kept D)) (Replace 1 (codes "*A") ∷ []) ∷ Cleared ∷ job 5 1 5 (FromCards A) [] ∷ []
 one_job_with_cards = refl
+
+-- the first so many of these calls, with their replies, newest first
+abbrev told_by : ℕ → History
+told_by count = reverse (history_of (take count edits_and_results) new_desk)
+
+-- what the history tells: before any job, with two edits since the first, after the loss, and all that was accepted and handed out
+pub edits_since : since_job 1 (told_by 1) ≡ None
+edits_since = refl
+
+pub two_edits_since : since_job 1 (told_by 5) ≡ Some (Replace 1 (codes "*B") ∷ Replace 1 (codes "*C") ∷ [])
+two_edits_since = refl
+
+pub none_since_loss : since_job 1 (told_by 13) ≡ None
+none_since_loss = refl
+
+pub all_accepted : accepted_edits 1 (told_by 13) ≡ Replace 1 (codes "*B") ∷ Replace 1 (codes "*C") ∷ Replace 1 (codes "*D") ∷ Replace 1 (codes "*A") ∷ []
+all_accepted = refl
+
+pub all_handed_out : handed_edits 1 (told_by 13) ≡ accepted_edits 1 (told_by 13)
+all_handed_out = refl
+
+-- the decks after the first two accepted changes
+pub decks_at_two : decks_at 2 (history_of edits_and_results new_desk) ≡ deck_m B ∷ []
+decks_at_two = refl
 
 -- a deck dropped and added anew has another identity, and the lease of the old one has ended
 pub dropped_and_added_anew : replies_to (
