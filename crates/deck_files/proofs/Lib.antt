@@ -1,2 +1,3 @@
 pub mod LoadSteps
 pub mod SaveSteps
+pub mod FileSteps

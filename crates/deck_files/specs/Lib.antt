@@ -1,3 +1,4 @@
 pub mod DeckFiles
 pub mod Loads
 pub mod FaultTexts
+pub mod Files

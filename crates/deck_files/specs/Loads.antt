@@ -1,5 +1,5 @@
 -- What loading a file takes from its reader (ours).
-use Rattle.std.specs.Prelude.{ℕ, ◌≡◌, ◌≤◌, List, ◌++◌, Option, Result, Ok, Err, IsOk, length}
+use Rattle.std.specs.Prelude.{ℕ, ◌≡◌, ◌≤◌, ⊤, List, ◌++◌, Option, Result, Ok, Err, IsOk, length}
 use Rattle.std.specs.Io.KnownBytes.{Consumes, IsAtEnd}
 use Rattle.definitions.specs.Cards.{Card}
 use Rattle.definitions.specs.InputLines.{lines_of}
@@ -52,3 +52,11 @@ count_after_load (BadLine line fault) faults = faults
 count_after_load LastLineCut faults = faults
 count_after_load DeckFull faults = faults
 count_after_load OutOfMemory faults = faults
+
+-- a file whose bytes are known is refused with this fault
+abbrev pub FaultsSo : LoadFault → List ℕ → Type 0
+FaultsSo ReadFault file = ⊤
+FaultsSo (BadLine line fault) file = cards_of_file file ≡ Err (BadLine line fault)
+FaultsSo LastLineCut file = cards_of_file file ≡ Err LastLineCut
+FaultsSo DeckFull file = cards_of_file file ≡ Err DeckFull
+FaultsSo OutOfMemory file = ⊤

@@ -1,14 +1,18 @@
-//! Files of cards: a line for each card of a deck, loaded from any reader and saved to any writer.
-//! Nothing here knows what a card means, or where files lie.
+//! Files of cards: a line for each card of a deck, loaded from any reader and saved to any writer,
+//! and shelves of such files. Nothing here knows what a card means.
 #![tactic(auto)]
 
 mod card_line;
+mod deck_shelf;
 mod load_fault;
 mod loading;
+mod memory_shelf;
 mod saving;
 
+pub use deck_shelf::{Shelf, ShelfLoadFault, ShelfSaveFault};
 pub use load_fault::LoadFault;
 pub use loading::load;
+pub use memory_shelf::MemoryShelf;
 pub use saving::save;
 
 #[cfg(test)]

@@ -1,6 +1,6 @@
 //! What no clause says: files as a person reads them, and ports that fail at one call after another.
 use super::*;
-use cards::{Card, CardFault};
+use cards::{Card, CardFault, DeckName};
 use std::process::Abort;
 use text_ports::{Broken, Counted, FaultyReader, FaultyWriter};
 
@@ -135,4 +135,29 @@ fn texts_of_faults(rt: HostRuntime) {
         let shown = fault.to_string(rt.alloc()).expect(&rt, "memory");
         assert_eq!(rt; shown.as_str(), text);
     }
+}
+
+fn saves_and_loads<S: Shelf>(rt: &impl Abort, shelf: &mut S, name: &DeckName, cards: &[Card]) {
+    if cards.len() <= 20_000 {
+        assert_eq!(rt; shelf.save(name, cards), Ok(()));
+        assert_eq!(rt; shelf.load(name).expect(rt, "cards").len(), cards.len());
+    }
+}
+
+#[test]
+fn a_shelf_in_memory(rt: HostRuntime) {
+    let name = DeckName::read(b"M").expect(&rt, "a name");
+    let other = DeckName::read(b"N").expect(&rt, "a name");
+    let cards = [Card::read(b"*A").expect(&rt, "a card")];
+    let mut shelf = MemoryShelf::new(rt.alloc());
+    assert_eq!(rt; shelf.load(&name).err(), Some(ShelfLoadFault::CannotOpen));
+    saves_and_loads(&rt, &mut shelf, &name, &cards);
+    assert_eq!(rt; shelf.file(&name), Some(b"*A\n".as_slice()));
+    assert_eq!(rt; shelf.load(&other).err(), Some(ShelfLoadFault::CannotOpen));
+    let cut = b"*A".to_vec(rt.alloc()).expect(&rt, "memory");
+    shelf.put(&other, cut).expect(&rt, "memory");
+    assert_eq!(rt;
+        shelf.load(&other).err(),
+        Some(ShelfLoadFault::BadFile(LoadFault::LastLineCut))
+    );
 }
