@@ -25,3 +25,4 @@ pub mod WorkedPeripheral
 pub mod WorkedRules
 pub mod WorkedLinks
 pub mod WorkedCommons
+pub mod WorkedExamples
