@@ -1,3 +1,6 @@
 pub mod Names
 pub mod Notes
 pub mod NameSlots
+pub mod IndexChanges
+pub mod Pieces
+pub mod Changes

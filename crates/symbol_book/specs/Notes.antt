@@ -1,7 +1,7 @@
 -- What statements say of names: which they define, with what value, and which they read, early or late
 -- (COMPASS 60492600, symbols; the notes are ours). A note is a list of marks, one a statement;
 -- a piece is a list of notes, and a book a list of pieces.
-use Rattle.std.specs.Prelude.{ℕ, ◌+◌, ◌==◌, Bool, true, false, ◌&&◌, List, [], ◌∷◌, ◌++◌, Option, Some, None, map, take, is_some, if◌then◌else◌}
+use Rattle.std.specs.Prelude.{ℕ, ◌+◌, ◌==◌, Bool, true, false, not, ◌&&◌, List, [], ◌∷◌, ◌++◌, Option, Some, None, map, take, is_some, if◌then◌else◌}
 use Rattle.std.specs.List.{list_any}
 use Rattle.std.specs.Option.{option_map}
 use Rattle.symbol_book.specs.declared.note.Role.{Role}
@@ -92,4 +92,4 @@ module _ {F : Type 0} where
   differs same None None = false
   differs same (Some a) None = true
   differs same None (Some b) = true
-  differs same (Some a) (Some b) = if same a b then false else true
+  differs same (Some a) (Some b) = not (same a b)

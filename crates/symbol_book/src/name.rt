@@ -1,7 +1,7 @@
 //! Names of symbols, blocks and externals.
-ghost use Rattle.std.specs.Prelude.{◌≡◌, ◌==◌, ◌<◌, ◌≤◌, ℕ, List, length, true, not};
+ghost use Rattle.std.specs.Prelude.{◌≡◌, ◌==◌, ◌<◌, ◌≤◌, ℕ, List, length, true, not, slice_index};
 ghost use Rattle.std.specs.List.{list_all};
-ghost use Rattle.std.specs.Int.{w64, to_be_bytes};
+ghost use Rattle.std.specs.Int.{w64, from_be_bytes, to_be_bytes};
 ghost use Rattle.symbol_book.specs.Names.{is_name, name_of, padded};
 
 /// How many characters a name has at most.
@@ -35,6 +35,11 @@ impl Name {
         self.code.to_be_bytes()
     }
 }
+
+/// Two texts of bytes that have one number as names are one text.
+pub fn names_differ()
+    ensures { (a b : List ℕ) → ((i : ℕ) → slice_index a i < 256) → ((i : ℕ) → slice_index b i < 256) → is_name a ≡ true → is_name b ≡ true → from_be_bytes w64 (padded a) ≡ from_be_bytes w64 (padded b) → a ≡ b }
+{}
 
 fn is_name_text(text: &[u8]) -> bool
     ensures { result ≡ is_name text.now }

@@ -3,11 +3,10 @@ ghost use Rattle.std.specs.Prelude.{◌≡◌, [], ◌∷◌, ◌++◌, is_ok, i
 ghost use Rattle.symbol_book.specs.declared.note.Role.TheVariants.{Defines, ReadsEarly, ReadsLate};
 ghost use Rattle.symbol_book.specs.Notes.{is_of, marked, marks, noted, notes};
 
-use std::alloc::{AllocError, Global};
-use std::marker::Model;
-
 use crate::concern::Concern;
 use crate::name::Name;
+use std::alloc::{AllocError, Global};
+use std::marker::Model;
 
 /// What a statement does with a name.
 #[derive(Clone, Copy)]
@@ -47,7 +46,9 @@ impl<F: Copy> Note<F> {
     pub fn new(alloc: Global) -> Self
         ensures { result ≡ [] }
     {
-        Note { marks: Vec::new(alloc) }
+        Note {
+            marks: Vec::new(alloc),
+        }
     }
 
     /// The statement defines a name as a value. Without memory the note is as before.

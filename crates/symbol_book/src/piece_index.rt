@@ -1,13 +1,13 @@
 //! What the notes of a piece put into an index of names.
-ghost use Rattle.std.specs.Prelude.{◌≡◌, ℕ, ◌==◌, true, ◌||◌, ◌&&◌, not, OnOk, if◌then◌else◌};
-ghost use Rattle.symbol_book.specs.NameSlots.{has_slot, IsReadyFor, StaysReady, HasRoom, SlotsStay, RoomStays};
+ghost use Rattle.std.specs.Prelude.{OnOk};
+ghost use Rattle.symbol_book.specs.IndexChanges.{Given, Taken};
+ghost use Rattle.symbol_book.specs.NameSlots.{IsReadyFor, StaysReady, HasRoom, SlotsStay, RoomStays};
 ghost use Rattle.symbol_book.specs.Notes.{concerns, notes};
-
-use std::alloc::{AllocError, Global};
 
 use crate::concern::Concern;
 use crate::name_index::{NameIndex, forget, give, make_room, take_away};
 use crate::note::Note;
+use std::alloc::{AllocError, Global};
 
 /// Asks for memory for one more slot of each name that a note has to do with.
 fn make_room_for_note<F: Copy>(
@@ -48,7 +48,7 @@ pub(crate) fn make_room_for<F: Copy>(
 /// Gives each name that a note has to do with a slot, for which there is memory.
 fn give_note<F: Copy>(index: &mut NameIndex, concern: Concern, note: &Note<F>, slot: usize)
     requires { IsReadyFor (λ n. notes concern n note.now) slot index.old }
-    ensures given { (n s : ℕ) → has_slot index.new n s ≡ ((s == slot && notes concern n note.now) || has_slot index.old n s) }
+    ensures given { Given (λ n. notes concern n note.now) slot index.old index.new }
     ensures ready { StaysReady slot index.old index.new }
 {
     for mark in note.marks() {
@@ -59,9 +59,14 @@ fn give_note<F: Copy>(index: &mut NameIndex, concern: Concern, note: &Note<F>, s
 }
 
 /// Gives each name that a piece has to do with a slot, for which there is memory.
-fn give_piece<F: Copy>(index: &mut NameIndex, concern: Concern, piece: &[Note<F>], slot: usize)
+pub(crate) fn give_piece<F: Copy>(
+    index: &mut NameIndex,
+    concern: Concern,
+    piece: &[Note<F>],
+    slot: usize,
+)
     requires { IsReadyFor (λ n. concerns concern n piece.now) slot index.old }
-    ensures given { (n s : ℕ) → has_slot index.new n s ≡ ((s == slot && concerns concern n piece.now) || has_slot index.old n s) }
+    ensures given { Given (λ n. concerns concern n piece.now) slot index.old index.new }
     ensures ready { StaysReady slot index.old index.new }
 {
     for note in piece {
@@ -71,7 +76,7 @@ fn give_piece<F: Copy>(index: &mut NameIndex, concern: Concern, piece: &[Note<F>
 
 /// Takes a slot from each name that a note has to do with.
 fn take_note<F: Copy>(index: &mut NameIndex, concern: Concern, note: &Note<F>, slot: usize)
-    ensures taken { (n s : ℕ) → has_slot index.new n s ≡ (not (s == slot && notes concern n note.now) && has_slot index.old n s) }
+    ensures taken { Taken (λ n. notes concern n note.now) slot index.old index.new }
     ensures more { RoomStays index.old index.new }
 {
     for mark in note.marks() {
@@ -82,8 +87,13 @@ fn take_note<F: Copy>(index: &mut NameIndex, concern: Concern, note: &Note<F>, s
 }
 
 /// Takes a slot from each name that a piece has to do with.
-fn take_piece<F: Copy>(index: &mut NameIndex, concern: Concern, piece: &[Note<F>], slot: usize)
-    ensures taken { (n s : ℕ) → has_slot index.new n s ≡ (not (s == slot && concerns concern n piece.now) && has_slot index.old n s) }
+pub(crate) fn take_piece<F: Copy>(
+    index: &mut NameIndex,
+    concern: Concern,
+    piece: &[Note<F>],
+    slot: usize,
+)
+    ensures taken { Taken (λ n. concerns concern n piece.now) slot index.old index.new }
     ensures more { RoomStays index.old index.new }
 {
     for note in piece {
@@ -107,21 +117,4 @@ pub(crate) fn forget_piece<F: Copy>(index: &mut NameIndex, piece: &[Note<F>])
     for note in piece {
         forget_note(index, note);
     }
-}
-
-/// Puts the names of a new piece into the index, in place of those of the old one with the same slot.
-pub(crate) fn exchange<F: Copy>(
-    index: &mut NameIndex,
-    concern: Concern,
-    old: &[Note<F>],
-    new: &[Note<F>],
-    slot: usize,
-)
-    requires had { (n : ℕ) → has_slot index.old n slot ≡ concerns concern n old.now }
-    requires room { HasRoom (λ n. concerns concern n new.now) index.old }
-    ensures { (n s : ℕ) → has_slot index.new n s ≡ (if s == slot then concerns concern n new.now else has_slot index.old n s) }
-{
-    take_piece(index, concern, old, slot);
-    give_piece(index, concern, new, slot);
-    forget_piece(index, old);
 }
