@@ -1,1 +1,10 @@
 mod PlaceMatch
+mod PackingLaws
+mod FieldSteps
+mod RiseLaws
+mod GatherLaws
+mod MergeLaws
+mod FillLaws
+mod RunSteps
+mod PutLaws
+mod WordLaws

@@ -1,1 +1,4 @@
 pub mod Placing
+pub mod Packing
+pub mod Spans
+pub mod Filling

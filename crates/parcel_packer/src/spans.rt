@@ -1,0 +1,18 @@
+//! How a run is kept: whole parcels as spans, and the bits of the parcel behind them.
+
+/// Parcels of equal bits one behind the other, counted in parcels of the block.
+#[derive(Clone, Copy, Debug, Drop)]
+pub(crate) struct Span {
+    pub(crate) place: u32,
+    pub(crate) count: u32,
+    pub(crate) bits: u16,
+    pub(crate) is_instruction: bool,
+}
+
+/// The first bits of a parcel that is not yet whole, as one number.
+#[derive(Clone, Copy, Debug)]
+pub(crate) struct OpenParcel {
+    pub(crate) place: u32,
+    pub(crate) filled: u32,
+    pub(crate) bits: u32,
+}
