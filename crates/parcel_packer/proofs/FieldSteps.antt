@@ -56,11 +56,11 @@ pub part_within : (size : ℕ) (spans : List Span) (next : OpenParcel) (part : F
     IsPut size spans next part spans (record { place = next.place; filled = next.filled + part.width; bits = bits })
 part_within size spans next part bits fits room e below = record {
   run = same_bits_in spans next.place (next.filled + part.width) bits (next.bits * 2 ^ part.width + part.bits) e
-    ∙ sym (put_bits-within size part.is_instruction part.width part.bits (run_of spans next) fits room);
+      ∙ sym (put_bits-within size part.is_instruction part.width part.bits (run_of spans next) fits room);
   is_open = record { has_room = room; bits_fit = below };
   more = [];
   kept = sym (append-nil spans);
-  end = omega arith
+  end = omega arith;
 }
 
 closed_run : (old new : List Span) (span : Span) (place bits : ℕ) (instruction : Bool) → new ≡ old ++ span ∷ [] → span_parcels span ≡ parcel_at instruction place bits ∷ [] →
@@ -75,11 +75,11 @@ pub part_closing : (size : ℕ) (old new : List Span) (next : OpenParcel) (part 
 part_closing size old new next part bits fits some full e pushed = record {
   run = closed_run old new (record { place = next.place; count = 1; bits = bits; is_instruction = part.is_instruction }) next.place (next.bits * 2 ^ part.width + part.bits) part.is_instruction pushed
       (ap (λ b. parcel_at part.is_instruction next.place b ∷ []) e)
-    ∙ sym (put_bits-closing size part.is_instruction part.width part.bits (run_of old next) fits some full);
+      ∙ sym (put_bits-closing size part.is_instruction part.width part.bits (run_of old next) fits some full);
   is_open = record { has_room = omega arith; bits_fit = omega arith };
   more = (record { place = next.place; count = 1; bits = bits; is_instruction = part.is_instruction }) ∷ [];
   kept = pushed;
-  end = let product : size * (next.place + 1) ≡ size * next.place + size = omega arith in omega (arith, product)
+  end = let product : size * (next.place + 1) ≡ size * next.place + size = omega arith in omega (arith, product);
 }
 
 -- a field is put by putting its first bits and then the rest
@@ -90,7 +90,7 @@ put_both size old middle new next after end field first rest parts front back = 
   is_open = back.is_open;
   more = front.more ++ back.more;
   kept = back.kept ∙ ap (λ s. s ++ back.more) front.kept ∙ append_assoc old front.more back.more;
-  end = omega (arith, parts.width, front.end, back.end)
+  end = omega (arith, parts.width, front.end, back.end);
 }
   where
     one_field : put_bits size rest.is_instruction rest.width rest.bits (put_bits size first.is_instruction first.width first.bits (run_of old next))

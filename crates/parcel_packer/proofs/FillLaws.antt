@@ -4,7 +4,7 @@ use Rattle.std.specs.Prelude.{if◌then◌else◌}
 use Rattle.std.proofs.lemmas.Bool.{cases_order}
 use Rattle.std.proofs.lemmas.Bool.Decides.{eqb_tells, leb_tells}
 use Rattle.std.proofs.lemmas.List.{reverse-append}
-use Rattle.definitions.specs.Operands.{units}
+use Rattle.definitions.specs.Kinds.{units}
 use Rattle.definitions.specs.Words.{Parcel, StoredWord, in_word, latest_in_word, word_of_parcels, with_number, words_in_run, words_in, stored}
 use Rattle.definitions.specs.declared.marks.DeckKind.{DeckKind}
 use Rattle.parcel_packer.specs.Spans.{RiseWithin}
@@ -178,9 +178,9 @@ unique [] (y ∷ ys) low high top h k same = absurd (no_value y.value None (sym 
 unique (x ∷ xs) [] low high top h k same = absurd (no_value x.value None (sym (found-here x.offset x xs refl) ∙ same x.offset) refl)
 unique (x ∷ xs) (y ∷ ys) low high top h k same = elim (cases_order x.offset y.offset) [
   | inl e ↦
-    let first = same_word x y e (sym (found-here x.offset x xs refl) ∙ same x.offset ∙ found-here x.offset y ys (sym e)) in
-    let behind = rise-lower (x.offset + 1) (y.offset + 1) (offsets ys) top k.1 (omega arith) in
-    join x y xs ys first (unique xs ys (x.offset + 1) high top h.1 behind (tails e behind))
+      let first = same_word x y e (sym (found-here x.offset x xs refl) ∙ same x.offset ∙ found-here x.offset y ys (sym e)) in
+      let behind = rise-lower (x.offset + 1) (y.offset + 1) (offsets ys) top k.1 (omega arith) in
+      join x y xs ys first (unique xs ys (x.offset + 1) high top h.1 behind (tails e behind))
   | inr r ↦ elim r [
     | inl before ↦ absurd (no_value x.value (found x.offset (y ∷ ys)) (sym (found-here x.offset x xs refl) ∙ same x.offset) (found-under x.offset y.offset (y ∷ ys) top (omega arith, k.1) before))
     | inr past ↦ absurd (no_value y.value (found y.offset (x ∷ xs)) (sym (found-here y.offset y ys refl) ∙ sym (same y.offset)) (found-under y.offset x.offset (x ∷ xs) high (omega arith, h.1) past))
@@ -189,11 +189,12 @@ unique (x ∷ xs) (y ∷ ys) low high top h k same = elim (cases_order x.offset 
   where
     join : (a b : BlockWord) (as' bs : List BlockWord) → a ≡ b → as' ≡ bs → (a ∷ as') ≡ b ∷ bs
     join a b as' bs e t = cc
+
     tails : x.offset ≡ y.offset → RiseWithin (x.offset + 1) (offsets ys) top → (word : ℕ) → found word xs ≡ found word ys
     tails e behind word = elim (eqb_tells x.offset word) [
       | inl here ↦
-        let at = here.1 in
-        found-under word (x.offset + 1) xs high h.1 (omega arith) ∙ sym (found-under word (x.offset + 1) ys top behind (omega arith))
+          let at = here.1 in
+          found-under word (x.offset + 1) xs high h.1 (omega arith) ∙ sym (found-under word (x.offset + 1) ys top behind (omega arith))
       | inr other ↦ sym (found-other word x xs other.1) ∙ same word ∙ found-other word y ys (λ d. other.1 (e ∙ d))
     ]
 
@@ -205,7 +206,7 @@ filled_stored kind latest earlier newer older words h k both =
     let runs = latest ∷ reverse earlier in
     let rises = words-rise kind runs in
     let has : (word : ℕ) → found word words ≡ found word (made kind runs (words_in kind runs)) =
-      λ word. both.has word ∙ pair word ∙ ap (λ v. or_else (value_in kind latest word) v) (sym (value_at-reverse kind earlier word)) ∙ sym (made-has kind runs word) in
+    λ word. both.has word ∙ pair word ∙ ap (λ v. or_else (value_in kind latest word) v) (sym (value_at-reverse kind earlier word)) ∙ sym (made-has kind runs word) in
     ap as_stored (unique words (made kind runs (words_in kind runs)) 0 (2 ^ 32) rises.0 both.rise (rw (made-offsets kind runs (words_in kind runs)) rises.1) has) ∙ made-stored kind runs (words_in kind runs)
   where
     pair : (word : ℕ) → or_else (found word newer) (found word older) ≡ or_else (value_in kind latest word) (latest_value kind earlier word)

@@ -6,7 +6,7 @@ use Rattle.std.proofs.lemmas.Bool.{cases_order}
 use Rattle.std.proofs.lemmas.Bool.Decides.{eqb_tells}
 use Rattle.std.proofs.lemmas.List.Elements.{filter-append}
 use Rattle.std.proofs.lemmas.List.Folds.{list_any-append}
-use Rattle.definitions.specs.Operands.{units}
+use Rattle.definitions.specs.Kinds.{units}
 use Rattle.definitions.specs.Words.{Parcel, bits_at, in_word, filling_of, pass, word_of_parcels}
 use Rattle.definitions.specs.declared.marks.DeckKind.{DeckKind}
 use Rattle.definitions.specs.declared.marks.DeckKind.TheVariants.{Rel, Abs, Periph}
@@ -54,7 +54,7 @@ pub parcel_added : (kind : DeckKind) (old new : OpenWord) (parcels : List Parcel
 parcel_added kind old new parcels place at_place bits instruction low at here others any none h = record {
   bits = λ filling k below. bits_at-push kind filling k parcels (parcel_at instruction at_place bits) ∙ cell filling k below;
   instruction = any-push parcels (parcel_at instruction at_place bits) ∙ ap (λ b. b || instruction) h.instruction ∙ sym any;
-  empty = none ∙ sym (some_there parcels (parcel_at instruction at_place bits))
+  empty = none ∙ sym (some_there parcels (parcel_at instruction at_place bits));
 }
   where
     cell : (filling k : ℕ) → k < 4 → bits_at kind (if nat_eq (at_place % units kind) k then bits else filling) k parcels ≡ unwrap_or (get_or new.parcels k None) filling
@@ -69,7 +69,7 @@ pub nothing_there : (kind : DeckKind) (new : OpenWord) → ((k : ℕ) → get_or
 nothing_there kind new cells any none = record {
   bits = λ filling k below. ap (λ c. unwrap_or c filling) (sym (cells k));
   instruction = sym any;
-  empty = none
+  empty = none;
 }
 
 pub filling_is : (kind : DeckKind) (next : OpenWord) (parcels : List Parcel) (filling : ℕ) → IsOpenWord kind next parcels →
@@ -107,7 +107,7 @@ gathered_more kind parcels words old new parcel at same added h = record {
   holds = let Holds : List Parcel → Type 0 = λ ps. IsOpenWord kind new ps in
       subst Holds (sym (ap (λ w. in_word kind w (parcels ++ parcel ∷ [])) same ∙ in_word-here kind old.word parcels parcel (sym at))) (added (in_word kind old.word parcels) h.holds);
   behind = λ offset above. let over : old.word < offset = rw same at above in
-      in_word-other kind offset parcels parcel (λ e. absurd (omega arith)) ∙ h.behind offset over
+      in_word-other kind offset parcels parcel (λ e. absurd (omega arith)) ∙ h.behind offset over;
 }
 
 -- the word that was made is found at its offset alone
@@ -136,6 +136,7 @@ ended_has kind parcels old new next offset h e =
   where
     held : List Parcel
     held = in_word kind next.word parcels
+
     by_order : ((offset ≡ next.word) ⊎ ((offset < next.word) ⊎ (next.word < offset))) → or_else (found offset old) (found offset (word_made kind next.word held)) ≡ value_in kind parcels offset
     by_order (inr (inl below)) = or_else-none _ _ (made-other kind next.word offset held (λ same. absurd (omega arith))) ∙ h.has offset below
     by_order (inl same) = none-or_else _ _ (found-above offset 0 old next.word h.rise (omega arith)) ∙ rw same (made-here kind next.word held)
@@ -151,14 +152,14 @@ gathered_on kind parcels old new next later h e before small none = record {
   rise = ended_rise kind parcels old new next later.word h e before;
   has = λ offset below. ended_has kind parcels old new next offset h e;
   holds = rw (h.behind later.word before) none;
-  behind = λ offset above. h.behind offset (omega arith)
+  behind = λ offset above. h.behind offset (omega arith);
 }
 
 pub gathered_all : (kind : DeckKind) (parcels : List Parcel) (old new : List BlockWord) (next : OpenWord) → IsGathered kind parcels old next →
     new ≡ old ++ word_made kind next.word (in_word kind next.word parcels) → IsFilled (value_in kind parcels) new
 gathered_all kind parcels old new next h e = record {
   rise = ended_rise kind parcels old new next (2 ^ 32) h e h.small;
-  has = λ offset. ended_has kind parcels old new next offset h e
+  has = λ offset. ended_has kind parcels old new next offset h e;
 }
 
 -- before any parcel nothing is gathered

@@ -47,7 +47,7 @@ take_newer newer older taken word newer_left other older_left first h =
     record {
       newer_rise = rise_past taken word newer_left front (left_rise taken word newer_left h.newer_rise);
       older_rise = rise_past taken word (other ∷ older_left) front (above_lesser word other older_left first (left_rise taken other older_left h.older_rise));
-      has = λ offset. regroup offset ∙ h.has offset
+      has = λ offset. regroup offset ∙ h.has offset;
     }
   where
     regroup : (offset : ℕ) → or_else (found offset (taken ++ word ∷ [])) (or_else (found offset newer_left) (found offset (other ∷ older_left)))
@@ -56,8 +56,8 @@ take_newer newer older taken word newer_left other older_left first h =
         ap (λ a. or_else a (or_else (found offset newer_left) (found offset (other ∷ older_left)))) (found-append offset taken (word ∷ []))
         ∙ or_assoc (found offset taken) (found offset (word ∷ [])) (or_else (found offset newer_left) (found offset (other ∷ older_left)))
         ∙ ap (λ a. or_else (found offset taken) a)
-          (sym (or_assoc (found offset (word ∷ [])) (found offset newer_left) (found offset (other ∷ older_left)))
-            ∙ ap (λ a. or_else a (found offset (other ∷ older_left))) (sym (one_or offset word newer_left)))
+        (sym (or_assoc (found offset (word ∷ [])) (found offset newer_left) (found offset (other ∷ older_left)))
+        ∙ ap (λ a. or_else a (found offset (other ∷ older_left))) (sym (one_or offset word newer_left)))
 
 -- both lists have the word, and it is the newer list's
 pub take_both : (newer older taken : List BlockWord) (word : BlockWord) (newer_left : List BlockWord) (other : BlockWord) (older_left : List BlockWord) → word.offset ≡ other.offset →
@@ -68,7 +68,7 @@ take_both newer older taken word newer_left other older_left same h =
     record {
       newer_rise = rise_past taken word newer_left front (left_rise taken word newer_left h.newer_rise);
       older_rise = rise_past taken word older_left front (rise-lower (word.offset + 1) (other.offset + 1) (offsets older_left) (2 ^ 32) older_behind (omega arith));
-      has = λ offset. regroup offset ∙ h.has offset
+      has = λ offset. regroup offset ∙ h.has offset;
     }
   where
     hidden : (offset : ℕ) → or_else (found offset (word ∷ [])) (or_else (found offset newer_left) (found offset older_left))
@@ -77,6 +77,7 @@ take_both newer older taken word newer_left other older_left same h =
       | inl e ↦ rw (found-here offset word [] e.1, found-here offset word newer_left e.1) refl
       | inr e ↦ rw (found-other offset word [] e.1, found-other offset word newer_left e.1, found-other offset other older_left (λ k. e.1 (same ∙ k))) refl
     ]
+
     regroup : (offset : ℕ) → or_else (found offset (taken ++ word ∷ [])) (or_else (found offset newer_left) (found offset older_left))
         ≡ or_else (found offset taken) (or_else (found offset (word ∷ newer_left)) (found offset (other ∷ older_left)))
     regroup offset =
@@ -92,20 +93,22 @@ take_older newer older taken word newer_left other older_left first h =
     record {
       newer_rise = rise_past taken other (word ∷ newer_left) front (above_lesser other word newer_left first (left_rise taken word newer_left h.newer_rise));
       older_rise = rise_past taken other older_left front (left_rise taken other older_left h.older_rise);
-      has = λ offset. regroup offset ∙ h.has offset
+      has = λ offset. regroup offset ∙ h.has offset;
     }
   where
     newer_behind : RiseWithin (word.offset + 1) (offsets newer_left) (2 ^ 32)
     newer_behind = left_rise taken word newer_left h.newer_rise
+
     swapped : (offset : ℕ) → or_else (found offset (other ∷ [])) (or_else (found offset (word ∷ newer_left)) (found offset older_left))
         ≡ or_else (found offset (word ∷ newer_left)) (found offset (other ∷ older_left))
     swapped offset = elim (eqb_tells other.offset offset) [
       | inl e ↦
-        let here = e.1 in
-        let absent = found-under offset word.offset (word ∷ newer_left) (2 ^ 32) (omega arith, newer_behind) (omega arith) in
-        rw (found-here offset other [] here, found-here offset other older_left here) (sym (none-or_else (found offset (word ∷ newer_left)) (Some other.value) absent))
+          let here = e.1 in
+          let absent = found-under offset word.offset (word ∷ newer_left) (2 ^ 32) (omega arith, newer_behind) (omega arith) in
+          rw (found-here offset other [] here, found-here offset other older_left here) (sym (none-or_else (found offset (word ∷ newer_left)) (Some other.value) absent))
       | inr e ↦ rw (found-other offset other [] e.1, found-other offset other older_left e.1) refl
     ]
+
     regroup : (offset : ℕ) → or_else (found offset (taken ++ other ∷ [])) (or_else (found offset (word ∷ newer_left)) (found offset older_left))
         ≡ or_else (found offset taken) (or_else (found offset (word ∷ newer_left)) (found offset (other ∷ older_left)))
     regroup offset =
@@ -119,7 +122,7 @@ all_taken : (newer older taken newer_left older_left : List BlockWord) → (newe
 all_taken newer older taken newer_left older_left ends h = record {
   rise = rises newer_left older_left ends h.newer_rise h.older_rise;
   has = λ offset. found-append offset (taken ++ newer_left) older_left ∙ ap (λ a. or_else a (found offset older_left)) (found-append offset taken newer_left)
-    ∙ or_assoc (found offset taken) (found offset newer_left) (found offset older_left) ∙ h.has offset
+      ∙ or_assoc (found offset taken) (found offset newer_left) (found offset older_left) ∙ h.has offset;
 }
   where
     rises : (ms ns : List BlockWord) → (ms ≡ []) ⊎ (ns ≡ []) → RiseWithin 0 (offsets (taken ++ ms)) (2 ^ 32) → RiseWithin 0 (offsets (taken ++ ns)) (2 ^ 32) → RiseWithin 0 (offsets ((taken ++ ms) ++ ns)) (2 ^ 32)
@@ -141,7 +144,7 @@ pub filled_both : (kind : DeckKind) (early late : List (List Parcel)) (older new
     IsFilled (λ offset. or_else (found offset newer) (found offset older)) words → IsFilled (latest_value kind (early ++ late)) words
 filled_both kind early late older newer words h k both = record {
   rise = both.rise;
-  has = λ offset. both.has offset ∙ pair offset ∙ sym (latest-append kind early late offset)
+  has = λ offset. both.has offset ∙ pair offset ∙ sym (latest-append kind early late offset);
 }
   where
     pair : (offset : ℕ) → or_else (found offset newer) (found offset older) ≡ or_else (latest_value kind late offset) (latest_value kind early offset)

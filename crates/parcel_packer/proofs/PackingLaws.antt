@@ -70,7 +70,7 @@ put_bits-within size instruction zero n run h k = same_run run.parcels run.place
 put_bits-within size instruction (suc w) n run h k =
     let rest = put_bits-within size instruction w (n / 2) run (half_below n w h) (omega arith) in
     rw rest (put_bit-more size instruction (n % 2) (record { parcels = run.parcels; place = run.place; filled = run.filled + w; bits = run.bits * 2 ^ w + n / 2 }) (omega arith)
-      ∙ same_run run.parcels run.place run.place (run.filled + w + 1) (run.filled + suc w) (2 * (run.bits * 2 ^ w + n / 2) + n % 2) (run.bits * 2 ^ suc w + n) refl (omega arith) (shifted_more run.bits w n))
+    ∙ same_run run.parcels run.place run.place (run.filled + w + 1) (run.filled + suc w) (2 * (run.bits * 2 ^ w + n / 2) + n % 2) (run.bits * 2 ^ suc w + n) refl (omega arith) (shifted_more run.bits w n))
 
 -- bits that make the parcel whole
 pub put_bits-closing : (size : ℕ) (instruction : Bool) (w n : ℕ) (run : OpenRun) → n < 2 ^ w → 0 < w → run.filled + w ≡ size →
@@ -79,14 +79,14 @@ put_bits-closing size instruction zero n run h positive k = absurd (omega arith)
 put_bits-closing size instruction (suc w) n run h positive k =
     let rest = put_bits-within size instruction w (n / 2) run (half_below n w h) (omega arith) in
     rw rest (put_bit-last size instruction (n % 2) (record { parcels = run.parcels; place = run.place; filled = run.filled + w; bits = run.bits * 2 ^ w + n / 2 }) (omega arith)
-      ∙ ap (λ b. record { parcels = run.parcels ++ parcel_at instruction run.place b ∷ []; place = run.place + 1; filled = 0; bits = 0 }) (shifted_more run.bits w n))
+    ∙ ap (λ b. record { parcels = run.parcels ++ parcel_at instruction run.place b ∷ []; place = run.place + 1; filled = 0; bits = 0 }) (shifted_more run.bits w n))
 
 pub parcels_from-append : (instruction : Bool) (place : ℕ) (xs ys : List ℕ) →
     parcels_from instruction place (xs ++ ys) ≡ parcels_from instruction place xs ++ parcels_from instruction (place + length xs) ys
 parcels_from-append instruction place [] ys = ap (λ p. parcels_from instruction p ys) (omega arith)
 parcels_from-append instruction place (x ∷ xs) ys =
     ap (λ ps. parcel_at instruction place x ∷ ps) (parcels_from-append instruction (place + 1) xs ys
-      ∙ ap (λ p. parcels_from instruction (place + 1) xs ++ parcels_from instruction p ys) (omega arith))
+    ∙ ap (λ p. parcels_from instruction (place + 1) xs ++ parcels_from instruction p ys) (omega arith))
 
 cut-length : (width count number : ℕ) → length (cut width count number) ≡ count
 cut-length width zero number = refl
@@ -103,7 +103,7 @@ last_parcel : (instruction : Bool) (place count last low : ℕ) (parcels : List 
     (parcels ++ parcels_from instruction place numbers) ++ parcel_at instruction (place + count) last ∷ [] ≡ parcels ++ parcels_from instruction place (numbers ++ low ∷ [])
 last_parcel instruction place count last low parcels numbers e h =
     rw (← e, h) (append_assoc parcels (parcels_from instruction place numbers) (parcel_at instruction (place + length numbers) low ∷ [])
-      ∙ ap (λ ps. parcels ++ ps) (sym (parcels_from-append instruction place numbers (low ∷ []))))
+    ∙ ap (λ ps. parcels ++ ps) (sym (parcels_from-append instruction place numbers (low ∷ []))))
 
 -- bits that fill whole parcels are their number cut
 pub put_bits-whole : (size : ℕ) (instruction : Bool) (count number place : ℕ) (parcels : List Parcel) → 0 < size → number < 2 ^ (size * count) →

@@ -6,10 +6,11 @@ use Rattle.std.proofs.lemmas.Bool.Decides.{eqb_tells}
 use Rattle.std.proofs.lemmas.Nat.{pow_pos, le-div, shr_le, shr_split}
 use Rattle.std.proofs.lemmas.List.{replicate_more, reverse-append}
 use Rattle.definitions.specs.Characters.{same_text}
-use Rattle.definitions.specs.Operands.{units, unit_bits, word_bits}
-use Rattle.definitions.specs.Places.{most_words}
+use Rattle.definitions.specs.Kinds.{units, unit_bits, word_bits}
+use Rattle.definitions.specs.Kinds.{most_words}
 use Rattle.definitions.specs.StatementItems.{Item}
-use Rattle.definitions.specs.Words.{Parcel, Coded, Linking, cut, parcels_from, width_of, joined, content_bits, parcels_of, onto_runs, runs_of, is_instruction}
+use Rattle.definitions.specs.Words.{Parcel, Coded, Linking, cut, parcels_from, width_of, joined, content_bits, parcels_of, onto_runs, runs_of}
+use Rattle.definitions.specs.Operations.{is_instruction}
 use Rattle.definitions.specs.declared.marks.DeckKind.{DeckKind}
 use Rattle.definitions.specs.declared.marks.DeckKind.TheVariants.{Rel, Abs, Periph}
 use Rattle.parcel_packer.specs.Packing.{OpenRun, Packed, AreFieldsFitting, end_bit, most_bits, moved, MayBegin, put_bit, put_bits, put_items, parcel_at, runs_in}
@@ -58,10 +59,10 @@ unit_some Periph = omega arith
 
 -- the parcels of a statement with fields, or without
 statement_parcels : (kind : DeckKind) (linking : Linking) (coded : Coded) (fields : List Item) → coded.fields ≡ fields → width_of fields ≡ unit_bits kind * (coded.settled.end - coded.settled.place) →
-    parcels_from (is_instruction coded.settled.operation) coded.settled.place (cut (unit_bits kind) (coded.settled.end - coded.settled.place) (joined linking coded.fields)) ≡ parcels_of kind linking coded
+    parcels_from (is_instruction coded.settled.read.operation) coded.settled.place (cut (unit_bits kind) (coded.settled.end - coded.settled.place) (joined linking coded.fields)) ≡ parcels_of kind linking coded
 statement_parcels kind linking coded [] e width = rw e (none (coded.settled.end - coded.settled.place) width)
   where
-    none : (count : ℕ) → 0 ≡ unit_bits kind * count → parcels_from (is_instruction coded.settled.operation) coded.settled.place (cut (unit_bits kind) count 0) ≡ []
+    none : (count : ℕ) → 0 ≡ unit_bits kind * count → parcels_from (is_instruction coded.settled.read.operation) coded.settled.place (cut (unit_bits kind) count 0) ≡ []
     none zero h = refl
     none (suc count) h = let some = unit_some kind in let product : unit_bits kind * suc count ≡ unit_bits kind * count + unit_bits kind = omega arith in absurd (omega (arith, product))
 statement_parcels kind linking coded (first ∷ fields) e width = rw e refl
@@ -80,13 +81,13 @@ moved_fresh size at_bit place run f b p = elim (eqb_tells run.filled 0) [
 -- a statement whose fields are put from its place to its end has the parcels of the definitions
 pub statement_put : (kind : DeckKind) (linking : Linking) (coded : Coded) (run : OpenRun) → run.filled ≡ 0 → run.bits ≡ 0 →
     width_of coded.fields ≡ unit_bits kind * (coded.settled.end - coded.settled.place) → AreFieldsFitting linking coded.fields →
-    put_items (unit_bits kind) (is_instruction coded.settled.operation) linking coded.fields (moved (unit_bits kind) (unit_bits kind * coded.settled.place) run)
+    put_items (unit_bits kind) (is_instruction coded.settled.read.operation) linking coded.fields (moved (unit_bits kind) (unit_bits kind * coded.settled.place) run)
     ≡ record { parcels = run.parcels ++ parcels_of kind linking coded; place = coded.settled.place + (coded.settled.end - coded.settled.place); filled = 0; bits = 0 }
 statement_put kind linking coded run f b width fits =
     let size = unit_bits kind in
     let place = coded.settled.place in
     let count = coded.settled.end - coded.settled.place in
-    let instruction = is_instruction coded.settled.operation in
+    let instruction = is_instruction coded.settled.read.operation in
     ap (λ r. put_items size instruction linking coded.fields r) (moved_fresh size (size * place) place run f b (unit_place kind place))
     ∙ items_whole size instruction linking coded.fields count (record { parcels = run.parcels; place = place; filled = 0; bits = 0 }) (unit_some kind) refl refl width fits
     ∙ ap (λ ps. record { parcels = run.parcels ++ ps; place = place + count; filled = 0; bits = 0 }) (statement_parcels kind linking coded coded.fields refl width)
@@ -146,24 +147,24 @@ whole_parcels size n some h = omega arith
 pub moved_open : (size : ℕ) (spans : List Span) (old new : OpenParcel) (at_bit : ℕ) → 0 < size → run_of spans new ≡ moved size at_bit (run_of spans old) → MayBegin size (run_of spans old) at_bit → IsMoved size old new at_bit
 moved_open size spans old new at_bit some e may = elim (eqb_tells old.filled 0) [
   | inl test ↦
-    let first = test.1 in
-    let parts = same_open spans new (record { parcels = parcels_in spans; place = at_bit / size; filled = 0; bits = old.bits }) (rw test.0 at e) in
-    let whole = whole_parcels size at_bit some (may.1 first) in
-    let p = parts.0 in
-    let f = parts.1 in
-    let behind = may.0 in
-    let turned : old.place * size ≤ at_bit = omega arith in
-    let reached = le-div old.place at_bit size some turned in
-    let product : size * new.place ≡ size * (at_bit / size) = ap (λ n. size * n) p in
-    record { at = omega arith; on = omega arith; filled = omega arith; bits = parts.2 }
+      let first = test.1 in
+      let parts = same_open spans new (record { parcels = parcels_in spans; place = at_bit / size; filled = 0; bits = old.bits }) (rw test.0 at e) in
+      let whole = whole_parcels size at_bit some (may.1 first) in
+      let p = parts.0 in
+      let f = parts.1 in
+      let behind = may.0 in
+      let turned : old.place * size ≤ at_bit = omega arith in
+      let reached = le-div old.place at_bit size some turned in
+      let product : size * new.place ≡ size * (at_bit / size) = ap (λ n. size * n) p in
+      record { at = omega arith; on = omega arith; filled = omega arith; bits = parts.2 }
   | inr test ↦
-    let parts = same_open spans new (run_of spans old) (rw test.0 at e) in
-    let p = parts.0 in
-    let f = parts.1 in
-    let positive : 0 < old.filled = not_zero old.filled test.1 in
-    let here = may.2 positive in
-    let product : size * new.place ≡ size * old.place = ap (λ n. size * n) p in
-    record { at = omega arith; on = omega arith; filled = f; bits = parts.2 }
+      let parts = same_open spans new (run_of spans old) (rw test.0 at e) in
+      let p = parts.0 in
+      let f = parts.1 in
+      let positive : 0 < old.filled = not_zero old.filled test.1 in
+      let here = may.2 positive in
+      let product : size * new.place ≡ size * old.place = ap (λ n. size * n) p in
+      record { at = omega arith; on = omega arith; filled = f; bits = parts.2 }
 ]
   where
     not_zero : (n : ℕ) → n ≢ 0 → 0 < n
@@ -204,7 +205,7 @@ put_kept kind size old new before next after at_bit field earlier e kept m put w
       is_open = subst Opens e put.is_open;
       rise = subst Rises (sym put.run) (put_bits-rise size field.is_instruction field.width field.bits (run_of old next) (rise-wider 0 (places (parcels_in old)) before.place next.place kept.rise m.on));
       within = end_within kind after.place after.filled (rw e at reached);
-      runs_rise = kept.runs_rise
+      runs_rise = kept.runs_rise;
     }
 
 -- zero words
@@ -248,10 +249,10 @@ zeros_put kind word count old new next f h pushed =
     let whole = put_bits-whole (unit_bits kind) false zeros 0 place (parcels_in old) (unit_some kind) (pow_pos (unit_bits kind * zeros)) in
     let number = cut-zero (unit_bits kind) zeros in
     sym (ap (λ r. put_bits (unit_bits kind) false (word_bits kind * count) 0 r) fresh
-      ∙ ap (λ w. put_bits (unit_bits kind) false w 0 (record { parcels = parcels_in old; place = place; filled = 0; bits = 0 })) (word_parcels kind count)
-      ∙ whole
-      ∙ ap (λ ns. record { parcels = parcels_in old ++ parcels_from false place ns; place = place + zeros; filled = 0; bits = 0 }) number
-      ∙ ap (λ ps. record { parcels = ps; place = place + zeros; filled = 0; bits = 0 }) (sym (ap parcels_in pushed ∙ parcels_in-push old span)))
+    ∙ ap (λ w. put_bits (unit_bits kind) false w 0 (record { parcels = parcels_in old; place = place; filled = 0; bits = 0 })) (word_parcels kind count)
+    ∙ whole
+    ∙ ap (λ ns. record { parcels = parcels_in old ++ parcels_from false place ns; place = place + zeros; filled = 0; bits = 0 }) number
+    ∙ ap (λ ps. record { parcels = ps; place = place + zeros; filled = 0; bits = 0 }) (sym (ap parcels_in pushed ∙ parcels_in-push old span)))
 
 most_units : (kind : DeckKind) (n : ℕ) → n ≤ most_words kind → units kind * n ≤ 524288
 most_units Rel n h = omega arith
@@ -273,7 +274,7 @@ zeros_kept kind word count old new next earlier h begins within pushed =
       rise = subst Rises (sym (ap parcels_in pushed ∙ parcels_in-push old span))
           (rise_both (parcels_in old) (span_parcels span) place (place + zeros) (rise-wider 0 (places (parcels_in old)) next.place place h.rise begins) (zeros-rise place zeros));
       within = omega arith;
-      runs_rise = h.runs_rise
+      runs_rise = h.runs_rise;
     }
   where
     rise_both : (xs ys : List Parcel) (middle high : ℕ) → RiseWithin 0 (places xs) middle → RiseWithin middle (places ys) high → RiseWithin 0 (places (xs ++ ys)) high
@@ -302,6 +303,7 @@ moved_stays kind run = elim (eqb_tells run.filled 0) [
   where
     here : run.filled ≡ 0 → (unit_bits kind * run.place + run.filled) / unit_bits kind ≡ run.place
     here f = ap (λ n. n / unit_bits kind) (omega arith) ∙ unit_place kind run.place
+
     same : (parcels : List Parcel) (p q f g b : ℕ) → p ≡ q → f ≡ g →
         (let r : OpenRun = record { parcels = parcels; place = p; filled = f; bits = b } in r) ≡ record { parcels = parcels; place = q; filled = g; bits = b }
     same parcels p q f g b e h = rw (e, h) refl

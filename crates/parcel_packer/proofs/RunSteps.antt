@@ -1,7 +1,7 @@
 -- The steps of gathering a run, span by span.
 use Rattle.std.proofs.Common.{◌≡◌, ℕ, zero, suc, ◌+◌, ◌-◌, ◌/◌, ◌<◌, ◌≤◌, Bool, List, [], ◌∷◌, ◌++◌, length, take, drop, get_or, replicate, refl, sym, ap, ◌∙◌, subst, arith, append_assoc}
 use Rattle.std.proofs.lemmas.List.{drop_more, take_more, replicate_more, length-replicate}
-use Rattle.definitions.specs.Operands.{units}
+use Rattle.definitions.specs.Kinds.{units}
 use Rattle.definitions.specs.Words.{Parcel, parcels_from}
 use Rattle.definitions.specs.declared.marks.DeckKind.{DeckKind}
 use Rattle.parcel_packer.specs.Packing.{parcel_at}
@@ -17,9 +17,9 @@ pub span_more : (parcels : List Parcel) (instruction : Bool) (place count bits :
 span_more parcels instruction place count bits =
     append_assoc parcels (parcels_from instruction place (replicate count bits)) (parcel_at instruction (place + count) bits ∷ [])
     ∙ ap (λ ps. parcels ++ ps)
-      (ap (λ n. parcels_from instruction place (replicate count bits) ++ parcel_at instruction (place + n) bits ∷ []) (sym (length-replicate count bits))
-        ∙ sym (parcels_from-append instruction place (replicate count bits) (bits ∷ []))
-        ∙ ap (λ ns. parcels_from instruction place ns) (replicate_more count bits))
+    (ap (λ n. parcels_from instruction place (replicate count bits) ++ parcel_at instruction (place + n) bits ∷ []) (sym (length-replicate count bits))
+    ∙ sym (parcels_from-append instruction place (replicate count bits) (bits ∷ []))
+    ∙ ap (λ ns. parcels_from instruction place ns) (replicate_more count bits))
 
 -- one span more of a run
 pub run_more : (run : List Span) (index : ℕ) (d : Span) → index < length run → parcels_in (take index run) ++ span_parcels (get_or run index d) ≡ parcels_in (take (index + 1) run)

@@ -1,8 +1,8 @@
 -- The block as contracts see it, before and after a put.
 use Rattle.std.proofs.Common.{◌≡◌, ℕ, ◌+◌, ◌*◌, ◌<◌, ◌≤◌, List, [], ◌∷◌, ◌++◌, reverse, refl, sym, ap, subst, ◌∙◌, arith}
 use Rattle.std.specs.Prelude.{Vec, false}
-use Rattle.definitions.specs.Operands.{units, unit_bits, word_bits}
-use Rattle.definitions.specs.Places.{most_words}
+use Rattle.definitions.specs.Kinds.{units, unit_bits, word_bits}
+use Rattle.definitions.specs.Kinds.{most_words}
 use Rattle.definitions.specs.Words.{Parcel, stored, words_in}
 use Rattle.definitions.specs.declared.marks.DeckKind.{DeckKind}
 use Rattle.parcel_packer.specs.Packing.{MayBegin, OpenRun, Packed, empty_run, most_bits, moved, put_bits, runs_in}
@@ -38,8 +38,8 @@ begun_view packed kind spans next old new run view pushed e =
     let After : Packed → Type 0 = λ p. block kind empty_run (reverse (parcels_in_runs new)) ≡ block p.kind empty_run (p.run.parcels ∷ p.earlier) in
     subst After view
     (ap (λ rs. block kind empty_run rs)
-      (ap (λ rs. reverse (parcels_in_runs rs)) pushed ∙ ap reverse (parcels_in_runs-append old (run ∷ [])) ∙ reverse-push (parcels_in_runs old) (parcels_in run.items)
-        ∙ ap (λ ss. parcels_in ss ∷ reverse (parcels_in_runs old)) e))
+    (ap (λ rs. reverse (parcels_in_runs rs)) pushed ∙ ap reverse (parcels_in_runs-append old (run ∷ [])) ∙ reverse-push (parcels_in_runs old) (parcels_in run.items)
+    ∙ ap (λ ss. parcels_in ss ∷ reverse (parcels_in_runs old)) e))
 
 pub begun_kept : {Z : Type 0} (kind : DeckKind) (spans : List Span) (next : OpenParcel) (old new : List (Vec Span Z)) (run : Vec Span Z) → IsKept kind spans next (parcels_in_runs old) →
     new ≡ old ++ run ∷ [] → run.items ≡ spans → DoRunsRise (parcels_in_runs new)
@@ -82,9 +82,9 @@ pub zeros_view : (packed : Packed) (kind : DeckKind) (size word count : ℕ) (ol
     ≡ block packed.kind (put_bits (unit_bits packed.kind) false (word_bits packed.kind * count) 0 (moved (unit_bits packed.kind) (word_bits packed.kind * word) packed.run)) packed.earlier
 zeros_view packed kind size word count old new next earlier seen view e kept whole pushed =
     let After : ℕ → Type 0 = λ n. new ≡ old ++ (let s : Span = record { place = n * word; count = n * count; bits = 0; is_instruction = false } in s) ∷ [] →
-      block kind (run_of new (record { place = n * word + n * count; filled = 0; bits = 0 })) seen
-      ≡ block kind (put_bits (unit_bits kind) false (word_bits kind * count) 0 (moved (unit_bits kind) (word_bits kind * word) (run_of old next))) seen in
+    block kind (run_of new (record { place = n * word + n * count; filled = 0; bits = 0 })) seen
+    ≡ block kind (put_bits (unit_bits kind) false (word_bits kind * count) 0 (moved (unit_bits kind) (word_bits kind * word) (run_of old next))) seen in
     let Seen : Packed → Type 0 = λ p. block kind (run_of new (record { place = size * word + size * count; filled = 0; bits = 0 })) seen
-      ≡ block p.kind (put_bits (unit_bits p.kind) false (word_bits p.kind * count) 0 (moved (unit_bits p.kind) (word_bits p.kind * word) p.run)) p.earlier in
+    ≡ block p.kind (put_bits (unit_bits p.kind) false (word_bits p.kind * count) 0 (moved (unit_bits p.kind) (word_bits p.kind * word) p.run)) p.earlier in
     let filled = kept_filled packed kind old next seen view whole in
     subst Seen view (subst After (sym e) (λ q. ap (λ r. block kind r seen) (zeros_put kind word count old new next filled kept.is_open q)) pushed)

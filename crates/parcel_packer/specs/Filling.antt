@@ -1,7 +1,7 @@
 -- What a list of words says of each word of a block, and what it is to say (ours).
 use Rattle.std.specs.Prelude.{ℕ, ◌≡◌, ◌+◌, ◌*◌, ◌/◌, ◌%◌, ◌^◌, ◌<◌, ◌≤◌, ◌==◌, List, [], ◌∷◌, ◌++◌, Option, None, Some, Bool, true, false, unwrap_or, slice_index_or, if◌then◌else◌}
 use Rattle.std.specs.List.{list_any}
-use Rattle.definitions.specs.Operands.{units}
+use Rattle.definitions.specs.Kinds.{units}
 use Rattle.definitions.specs.Words.{Parcel, StoredWord, bits_at, in_word, word_of_parcels}
 use Rattle.definitions.specs.declared.marks.DeckKind.{DeckKind}
 use Rattle.parcel_packer.specs.Spans.{RiseWithin}

@@ -1,8 +1,8 @@
 -- What is put into a block, run by run: fields one behind the other, bit by bit, cut into parcels
 -- (COMPASS 60492600, ORG and data generation). A peripheral word is one parcel of 12 bits.
 use Rattle.std.specs.Prelude.{ℕ, zero, suc, ◌≡◌, ◌+◌, ◌*◌, ◌/◌, ◌%◌, ◌^◌, ◌<◌, ◌≤◌, ◌==◌, List, [], ◌∷◌, ◌++◌, Bool, true, false, if◌then◌else◌}
-use Rattle.definitions.specs.Operands.{units, unit_bits}
-use Rattle.definitions.specs.Places.{most_words}
+use Rattle.definitions.specs.Kinds.{units, unit_bits}
+use Rattle.definitions.specs.Kinds.{most_words}
 use Rattle.definitions.specs.StatementItems.{Item}
 use Rattle.definitions.specs.Words.{Linking, Parcel, content_bits}
 use Rattle.definitions.specs.declared.marks.DeckKind.{DeckKind}

@@ -1,6 +1,6 @@
 //! Putting a field into a run: bits join the open parcel, and a parcel that is whole joins the spans.
 ghost use Rattle.std.specs.Prelude.{◌≡◌, ◌+◌, ◌*◌, ◌^◌, ◌<◌, ◌≤◌, ◌++◌, ◌∷◌, [], List, IfOk, OnErr};
-ghost use Rattle.definitions.specs.Operands.{unit_bits};
+ghost use Rattle.definitions.specs.Kinds.{unit_bits};
 ghost use Rattle.parcel_packer.specs.Packing.{moved};
 ghost use Rattle.parcel_packer.specs.Spans.{IsOpen, IsField, IsPut, IsSplit, run_of};
 ghost use Rattle.parcel_packer.specs.declared.spans.Span.{Span};
@@ -30,8 +30,16 @@ impl Field {
         let rest = self.bits - (first << left);
         let is_instruction = self.is_instruction;
         (
-            Field { width, bits: first, is_instruction },
-            Field { width: left, bits: rest, is_instruction },
+            Field {
+                width,
+                bits: first,
+                is_instruction,
+            },
+            Field {
+                width: left,
+                bits: rest,
+                is_instruction,
+            },
         )
     }
 }
@@ -49,7 +57,12 @@ fn joined_bits(next: OpenParcel, part: Field) -> u32
 }
 
 /// Puts a part that stays within the open parcel, or makes it whole.
-fn put_part(spans: &mut Vec<Span>, next: OpenParcel, size: u32, part: Field) -> Result<OpenParcel, AllocError>
+fn put_part(
+    spans: &mut Vec<Span>,
+    next: OpenParcel,
+    size: u32,
+    part: Field,
+) -> Result<OpenParcel, AllocError>
     requires size { size ≤ 15 }
     requires open { IsOpen size next }
     requires part { IsField part }
@@ -62,7 +75,11 @@ fn put_part(spans: &mut Vec<Span>, next: OpenParcel, size: u32, part: Field) -> 
     let bits = joined_bits(next, part);
     let filled = next.filled + part.width;
     if filled < size {
-        return Ok(OpenParcel { place: next.place, filled, bits });
+        return Ok(OpenParcel {
+            place: next.place,
+            filled,
+            bits,
+        });
     }
     spans.push(Span {
         place: next.place,
@@ -70,11 +87,20 @@ fn put_part(spans: &mut Vec<Span>, next: OpenParcel, size: u32, part: Field) -> 
         bits: bits as u16,
         is_instruction: part.is_instruction,
     })?;
-    Ok(OpenParcel { place: next.place + 1, filled: 0, bits: 0 })
+    Ok(OpenParcel {
+        place: next.place + 1,
+        filled: 0,
+        bits: 0,
+    })
 }
 
 /// Puts a field into a run; where no memory is found, the spans are as before.
-pub(crate) fn put_field(spans: &mut Vec<Span>, next: OpenParcel, size: u32, field: Field) -> Result<OpenParcel, AllocError>
+pub(crate) fn put_field(
+    spans: &mut Vec<Span>,
+    next: OpenParcel,
+    size: u32,
+    field: Field,
+) -> Result<OpenParcel, AllocError>
     requires size { size ≤ 15 }
     requires open { IsOpen size next }
     requires field { IsField field }

@@ -9,7 +9,11 @@ use definitions::DeckKind;
 use std::alloc::{AllocError, Global};
 
 /// The words of two lists by increasing offset; where both have a word, it is the newer list's.
-pub(crate) fn merged(alloc: Global, newer: &[BlockWord], older: &[BlockWord]) -> Result<Vec<BlockWord>, AllocError>
+pub(crate) fn merged(
+    alloc: Global,
+    newer: &[BlockWord],
+    older: &[BlockWord],
+) -> Result<Vec<BlockWord>, AllocError>
     requires newer { RiseWithin 0 (offsets newer.now) (2 ^ 32) }
     requires older { RiseWithin 0 (offsets older.now) (2 ^ 32) }
     ensures { IfOk result (λ words. IsFilled (λ offset. or_else (found offset newer.now) (found offset older.now)) words.items) }
@@ -38,7 +42,11 @@ pub(crate) fn merged(alloc: Global, newer: &[BlockWord], older: &[BlockWord]) ->
 }
 
 /// The words of runs, the latest of which is the last: halves are filled and then merged.
-pub(crate) fn runs_words(alloc: Global, kind: DeckKind, runs: &[Vec<Span>]) -> Result<Vec<BlockWord>, AllocError>
+pub(crate) fn runs_words(
+    alloc: Global,
+    kind: DeckKind,
+    runs: &[Vec<Span>],
+) -> Result<Vec<BlockWord>, AllocError>
     requires { DoRunsRise (parcels_in_runs runs.now) }
     ensures { IfOk result (λ words. IsFilled (latest_value kind (parcels_in_runs runs.now)) words.items) }
 {

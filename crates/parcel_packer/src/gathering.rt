@@ -1,6 +1,6 @@
 //! The words of one run: its parcels gathered word by word.
 ghost use Rattle.std.specs.Prelude.{◌≡◌, ℕ, ◌+◌, ◌-◌, ◌*◌, ◌/◌, ◌%◌, ◌^◌, ◌<◌, ◌≤◌, ◌||◌, List, [], ◌∷◌, ◌++◌, IfOk, OnOk, unwrap_or, slice_index_or, length};
-ghost use Rattle.definitions.specs.Operands.{units, unit_bits};
+ghost use Rattle.definitions.specs.Kinds.{units, unit_bits};
 ghost use Rattle.definitions.specs.Words.{Parcel, filling_of, word_of_parcels};
 ghost use Rattle.definitions.specs.declared.marks.DeckKind.{DeckKind};
 ghost use Rattle.parcel_packer.specs.Packing.{parcel_at};
@@ -84,13 +84,7 @@ impl OpenWord {
     {
         match kind {
             DeckKind::Periph => 0,
-            DeckKind::Rel | DeckKind::Abs => {
-                if self.has_instruction {
-                    PASS
-                } else {
-                    0
-                }
-            }
+            DeckKind::Rel | DeckKind::Abs => { if self.has_instruction { PASS } else { 0 } }
         }
     }
 
@@ -164,7 +158,13 @@ impl Gathered {
         Ok(())
     }
 
-    fn add(&mut self, kind: DeckKind, place: u32, bits: u16, is_instruction: bool) -> Result<(), AllocError>
+    fn add(
+        &mut self,
+        kind: DeckKind,
+        place: u32,
+        bits: u16,
+        is_instruction: bool,
+    ) -> Result<(), AllocError>
         requires { self.old.next.word ≤ place / units kind }
         ensures gathered { OnOk result ((parcels : List Parcel) → IsGathered kind parcels self.old.words.items self.old.next →
             IsGathered kind (parcels ++ parcel_at is_instruction place bits ∷ []) self.new.words.items self.new.next) }
@@ -172,7 +172,8 @@ impl Gathered {
     {
         let units = units_of(kind);
         self.go_to(kind, place / units)?;
-        self.next.add((place % units) as usize, bits, is_instruction);
+        self.next
+            .add((place % units) as usize, bits, is_instruction);
         Ok(())
     }
 
@@ -199,7 +200,11 @@ impl Gathered {
 }
 
 /// The words of a run.
-pub(crate) fn run_words(alloc: Global, kind: DeckKind, run: &[Span]) -> Result<Vec<BlockWord>, AllocError>
+pub(crate) fn run_words(
+    alloc: Global,
+    kind: DeckKind,
+    run: &[Span],
+) -> Result<Vec<BlockWord>, AllocError>
     requires { RiseWithin 0 (places (parcels_in run.now)) 524288 }
     ensures { IfOk result (λ words. IsFilled (value_in kind (parcels_in run.now)) words.items) }
 {

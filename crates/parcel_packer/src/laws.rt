@@ -2,9 +2,11 @@
 //! function that does nothing.
 ghost use Rattle.std.specs.Prelude.{◌≡◌, ℕ, ◌+◌, ◌-◌, ◌*◌, ◌^◌, ◌<◌, List, [], ◌∷◌, ◌++◌, Bool, true, false, ◌||◌};
 ghost use Rattle.definitions.specs.Characters.{same_text};
-ghost use Rattle.definitions.specs.Words.{Coded, Linking, is_instruction, parcels_of, runs_of, width_of};
+ghost use Rattle.definitions.specs.Words.{Coded, Linking, parcels_of, runs_of, width_of};
+ghost use Rattle.definitions.specs.Operations.{is_instruction};
 ghost use Rattle.definitions.specs.Operations.{Operation};
-ghost use Rattle.definitions.specs.Operands.{Operand, unit_bits, units};
+ghost use Rattle.definitions.specs.Operands.{Operand};
+ghost use Rattle.definitions.specs.Kinds.{unit_bits, units};
 ghost use Rattle.definitions.specs.Places.{least_place, is_at_word, is_upper, is_long};
 ghost use Rattle.definitions.specs.declared.marks.DeckKind.{DeckKind};
 ghost use Rattle.definitions.specs.declared.marks.DeckKind.TheVariants.{Periph};
@@ -43,7 +45,7 @@ pub fn ends_add()
 pub fn statements_fill_parcels()
     ensures { (kind : DeckKind) (linking : Linking) (coded : Coded) (run : OpenRun) → run.filled ≡ 0 → run.bits ≡ 0 →
         width_of coded.fields ≡ unit_bits kind * (coded.settled.end - coded.settled.place) → AreFieldsFitting linking coded.fields →
-        put_items (unit_bits kind) (is_instruction coded.settled.operation) linking coded.fields (moved (unit_bits kind) (unit_bits kind * coded.settled.place) run)
+        put_items (unit_bits kind) (is_instruction coded.settled.read.operation) linking coded.fields (moved (unit_bits kind) (unit_bits kind * coded.settled.place) run)
         ≡ record { parcels = run.parcels ++ parcels_of kind linking coded; place = coded.settled.place + (coded.settled.end - coded.settled.place); filled = 0; bits = 0 } }
 {}
 

@@ -1,7 +1,7 @@
 //! What the words of one block hold: fields put run by run, and the words that they fill.
 ghost use Rattle.std.specs.Prelude.{◌≡◌, ◌+◌, ◌*◌, ◌^◌, ◌<◌, ◌≤◌, ◌∷◌, [], IfOk, OnOk, OnErr, false};
-ghost use Rattle.definitions.specs.Operands.{units, unit_bits, word_bits};
-ghost use Rattle.definitions.specs.Places.{most_words};
+ghost use Rattle.definitions.specs.Kinds.{units, unit_bits, word_bits};
+ghost use Rattle.definitions.specs.Kinds.{most_words};
 ghost use Rattle.definitions.specs.Words.{stored, words_in};
 ghost use Rattle.parcel_packer.specs.Packing.{MayBegin, empty_run, end_bit, most_bits, moved, put_bits, runs_in};
 ghost use Rattle.parcel_packer.specs.Spans.{IsField};
@@ -94,9 +94,11 @@ impl Words {
         requires some { 0 < field.width }
         requires begins { MayBegin (unit_bits self.old.kind) self.old.run at }
         requires within { at + field.width ≤ most_bits self.old.kind }
-        ensures put { OnOk result (self.new ≡ record { kind = self.old.kind;
-            run = put_bits (unit_bits self.old.kind) field.is_instruction field.width field.bits (moved (unit_bits self.old.kind) at self.old.run);
-            earlier = self.old.earlier }) }
+        ensures put { OnOk result (self.new ≡ record {
+          kind = self.old.kind;
+          run = put_bits (unit_bits self.old.kind) field.is_instruction field.width field.bits (moved (unit_bits self.old.kind) at self.old.run);
+          earlier = self.old.earlier;
+        }) }
         ensures unchanged { OnErr result (self.new ≡ self.old) }
     {
         let size = parcel_bits(self.kind);
@@ -111,9 +113,11 @@ impl Words {
         requires whole { self.old.run.filled ≡ 0 }
         requires begins { self.old.run.place ≤ units self.old.kind * word }
         requires within { word + count ≤ most_words self.old.kind }
-        ensures put { OnOk result (self.new ≡ record { kind = self.old.kind;
-            run = put_bits (unit_bits self.old.kind) false (word_bits self.old.kind * count) 0 (moved (unit_bits self.old.kind) (word_bits self.old.kind * word) self.old.run);
-            earlier = self.old.earlier }) }
+        ensures put { OnOk result (self.new ≡ record {
+          kind = self.old.kind;
+          run = put_bits (unit_bits self.old.kind) false (word_bits self.old.kind * count) 0 (moved (unit_bits self.old.kind) (word_bits self.old.kind * word) self.old.run);
+          earlier = self.old.earlier;
+        }) }
         ensures unchanged { OnErr result (self.new ≡ self.old) }
     {
         let units = units_of(self.kind);

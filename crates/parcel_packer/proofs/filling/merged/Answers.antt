@@ -23,7 +23,7 @@ loop-newer_place-preserved-then-next-other c =
       newer_within = omega arith;
       older_within = omega arith;
       merging = subst Holds (sym c.in_ok-push.ensures.items)
-          (step_newer _ _ _ _ _ _ _ _ _ (drop_more newer i none_read inside) (drop_more older j none_read within) first c.loop-newer_place.invariant.merging)
+          (step_newer _ _ _ _ _ _ _ _ _ (drop_more newer i none_read inside) (drop_more older j none_read within) first c.loop-newer_place.invariant.merging);
     }
 
 pub loop-newer_place-preserved-then-next-other-2 : goal.loop-newer_place-preserved-then-next-other-2
@@ -40,7 +40,7 @@ loop-newer_place-preserved-then-next-other-2 c =
       newer_within = omega arith;
       older_within = omega arith;
       merging = subst Holds (sym c.in_ok-push-2.ensures.items)
-          (step_both _ _ _ _ _ _ _ _ _ (drop_more newer i none_read inside) (drop_more older j none_read within) same c.loop-newer_place.invariant.merging)
+          (step_both _ _ _ _ _ _ _ _ _ (drop_more newer i none_read inside) (drop_more older j none_read within) same c.loop-newer_place.invariant.merging);
     }
 
 pub loop-newer_place-preserved : goal.loop-newer_place-preserved
@@ -57,7 +57,7 @@ loop-newer_place-preserved c =
       newer_within = omega arith;
       older_within = omega arith;
       merging = subst Holds (sym c.in_ok-push-3.ensures.items)
-          (step_older _ _ _ _ _ _ _ _ _ (drop_more newer i none_read inside) (drop_more older j none_read within) first c.loop-newer_place.invariant.merging)
+          (step_older _ _ _ _ _ _ _ _ _ (drop_more newer i none_read inside) (drop_more older j none_read within) first c.loop-newer_place.invariant.merging);
     }
 
 pub returns : goal.returns

@@ -28,5 +28,5 @@ loop-span-preserved c =
     let Holds : List Parcel → Type 0 = λ ps. IsGathered c.args.kind ps after.words.items after.next in
     record {
       gathered = subst Holds (run_more run index _ inside) (c.in_ok-add_span.ensures.gathered (parcels_in (take index run)) c.loop-span.invariant.gathered);
-      order = next_stands c.args.kind c.loop-span.gathered.next.word after.next.word run index _ inside c.loop-span.invariant.order c.in_ok-add_span.ensures.word c.in_ok-add_span.ensures.same
+      order = next_stands c.args.kind c.loop-span.gathered.next.word after.next.word run index _ inside c.loop-span.invariant.order c.in_ok-add_span.ensures.word c.in_ok-add_span.ensures.same;
     }

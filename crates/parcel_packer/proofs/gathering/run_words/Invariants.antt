@@ -1,5 +1,5 @@
 use Rattle.std.proofs.Common.{◌≡◌, ℕ, ◌/◌, ◌≤◌, take, drop}
-use Rattle.definitions.specs.Operands.{units}
+use Rattle.definitions.specs.Kinds.{units}
 use Rattle.parcel_packer.specs.Spans.{RiseWithin, places, parcels_in}
 use Rattle.parcel_packer.specs.Filling.{IsGathered}
 use Rattle.parcel_packer.proofs.gathering.run_words.Given as goal

@@ -1,5 +1,5 @@
 use Rattle.std.proofs.Common.{arith, ◌≡◌, ◌+◌, ◌-◌, ◌/◌, List, ◌++◌, ap, ◌∙◌, subst, replicate}
-use Rattle.definitions.specs.Operands.{units}
+use Rattle.definitions.specs.Kinds.{units}
 use Rattle.definitions.specs.Words.{Parcel, parcels_from}
 use Rattle.parcel_packer.specs.Filling.{IsGathered}
 use Rattle.parcel_packer.proofs.RunSteps.{span_more}
@@ -16,5 +16,5 @@ loop-index-preserved c =
       gathered = λ parcels h. subst Holds (span_more parcels span.is_instruction span.place index span.bits)
           (c.in_ok-add.ensures.gathered (parcels ++ parcels_from span.is_instruction span.place (replicate index span.bits)) (c.loop-index.invariant.gathered parcels h));
       word = λ some. c.in_ok-add.ensures.word ∙ ap (λ n. n / units c.args.kind) one_on;
-      same = λ none. absurd (omega arith)
+      same = λ none. absurd (omega arith);
     }

@@ -1,5 +1,5 @@
 use Rattle.std.proofs.Common.{◌≡◌, ℕ, ◌+◌, ◌-◌, ◌/◌, ◌<◌, List, ◌++◌, replicate}
-use Rattle.definitions.specs.Operands.{units}
+use Rattle.definitions.specs.Kinds.{units}
 use Rattle.definitions.specs.Words.{Parcel, parcels_from}
 use Rattle.parcel_packer.specs.Filling.{IsGathered}
 use Rattle.parcel_packer.proofs.gathering.Gathered.add_span.Given as goal

@@ -23,6 +23,6 @@ returns-in-Ok-clause-begun c =
     let same : c.replace-run.result.items ≡ c.self.inside.run.items = cc in
     let none : c.replace-run.new.dest.items ≡ [] = cc in
     let Begun : List Span → Type 0 =
-      λ spans. block kind (run_of spans (record { place = 0; filled = 0; bits = 0 })) (reverse (parcels_in_runs c.push.new.self.items)) ≡ block packed.kind empty_run (packed.run.parcels ∷ packed.earlier) in
+    λ spans. block kind (run_of spans (record { place = 0; filled = 0; bits = 0 })) (reverse (parcels_in_runs c.push.new.self.items)) ≡ block packed.kind empty_run (packed.run.parcels ∷ packed.earlier) in
     subst Begun (sym none)
     (begun_view packed kind c.self.inside.run.items c.self.inside.next c.self.inside.earlier.items c.push.new.self.items c.replace-run.result c.self.view_is c.in-Ok.ensures.items same)

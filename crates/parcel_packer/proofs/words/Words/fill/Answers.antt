@@ -17,7 +17,7 @@ returns c =
     let inside = c.self.inside in
     if_ok c.merged.result _ _
     (λ words both.
-      fill_view c.args.self.now inside.kind inside.run.items c.as_slice-2.result.now inside.next inside.earlier.items c.as_slice.result.now
-      c.in_ok-newer.newer.items c.as_slice-3.result.now c.in_ok-older.older.items c.as_slice-4.result.now words.items
-      c.self.view_is c.as_slice-2.ensures.value c.as_slice.ensures.value c.as_slice-3.ensures.value c.as_slice-4.ensures.value c.in_ok-newer.ensures c.in_ok-older.ensures both)
+    fill_view c.args.self.now inside.kind inside.run.items c.as_slice-2.result.now inside.next inside.earlier.items c.as_slice.result.now
+    c.in_ok-newer.newer.items c.as_slice-3.result.now c.in_ok-older.older.items c.as_slice-4.result.now words.items
+    c.self.view_is c.as_slice-2.ensures.value c.as_slice.ensures.value c.as_slice-3.ensures.value c.as_slice-4.ensures.value c.in_ok-newer.ensures c.in_ok-older.ensures both)
     c.merged.ensures
