@@ -30,7 +30,8 @@ enum CardRole {
     Continues,
 }
 
-/// Adds the card that a line shows to the decks. After a fault the decks are of no use.
+/// Adds the card that a line shows to the decks; `number` is the line's, from 1. After a fault no
+/// clause says what became of the decks.
 pub fn add_line(
     alloc: Global,
     decks: &mut Vec<Deck>,

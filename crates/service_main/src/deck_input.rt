@@ -19,7 +19,7 @@ const MOST_LINES: u64 = 1_280_001;
 /// Reads all lines as decks, in order and with their cards in order. The first fault ends it: what
 /// follows is not looked at.
 pub fn read_decks<R: Read>(alloc: Global, input: &mut Counted<R>) -> Result<Vec<Deck>, AsmFault>
-    // The lines that were read show no fault, but for the last one.
+    // What was read are lines that show no fault, and then one line at most.
     ensures read { ReadsToFault (R.remaining input.old.0) (R.remaining input.new.0) }
     ensures all_read { OnOk result (IsAtEnd (R.remaining input.new.0)) }
 

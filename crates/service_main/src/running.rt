@@ -24,7 +24,8 @@ pub fn asm_run<R: Read, W: Write>(
     input: &mut Counted<R>,
     output: &mut Counted<W>,
 ) -> Result<Tally, AsmFault>
-    // The lines that were read show no fault, but for the last one: what follows is not looked at.
+    // What was read are lines that show no fault, and then one line at most: what follows the first
+    // fault is not looked at.
     ensures read { ReadsToFault (R.remaining input.old.0) (R.remaining input.new.0) }
 
     // Where the bytes of the input are known, its first fault is told, as the definitions have it.
