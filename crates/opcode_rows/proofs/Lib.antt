@@ -1,0 +1,2 @@
+pub mod SortedLaws
+pub mod TableLaws

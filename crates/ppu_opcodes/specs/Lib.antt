@@ -1,0 +1,2 @@
+pub mod PeripheralCodes
+pub mod PeripheralTables
