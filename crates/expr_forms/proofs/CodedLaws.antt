@@ -12,7 +12,7 @@ use Rattle.definitions.specs.Characters.{display_code_of}
 use Rattle.definitions.specs.CountedItems.{CountedItem, bits_needed}
 use Rattle.definitions.specs.Forms.{characters_number}
 use Rattle.definitions.specs.Coding.{counted_item_bits, counted_item_in, words_needed}
-use Rattle.definitions.specs.Operands.{word_bits}
+use Rattle.definitions.specs.Kinds.{word_bits}
 use Rattle.definitions.specs.declared.marks.DeckKind.{DeckKind}
 use Rattle.definitions.specs.declared.marks.DeckKind.TheVariants.{Rel, Abs, Periph}
 use Rattle.definitions.specs.Words.{cut}

@@ -6,7 +6,7 @@ ghost use Rattle.definitions.specs.CountedItems.{bits_needed};
 ghost use Rattle.definitions.specs.Expressions.{OfCountedItem};
 ghost use Rattle.definitions.specs.Forms.{absolute, characters_number, counted_item_form};
 ghost use Rattle.definitions.specs.Coding.{coded_in, counted_item_bits, counted_item_in, words_needed};
-ghost use Rattle.definitions.specs.Operands.{word_bits};
+ghost use Rattle.definitions.specs.Kinds.{word_bits};
 ghost use Rattle.definitions.specs.Literals.{literal_word};
 ghost use Rattle.definitions.specs.Words.{cut};
 ghost use Rattle.expr_forms.specs.CodedItems.{in_places};

@@ -2,7 +2,7 @@
 ghost use Rattle.std.specs.Prelude.{◌≡◌, ◌≤◌, length};
 ghost use Rattle.definitions.specs.CountedItems.{bits_needed};
 ghost use Rattle.definitions.specs.Coding.{words_needed};
-ghost use Rattle.definitions.specs.Operands.{word_bits};
+ghost use Rattle.definitions.specs.Kinds.{word_bits};
 ghost use Rattle.expr_forms.specs.CodedItems.{letter_character, item_of};
 
 use crate::item_letter::ItemLetter;

@@ -8,7 +8,7 @@ use Rattle.definitions.specs.Characters.{same_text}
 use Rattle.definitions.specs.Expressions.{Expression}
 use Rattle.definitions.specs.Operands.{PeripheralOperand, just_one, one_or_two}
 use Rattle.definitions.specs.PeripheralTable.{PeripheralRow, peripheral_rows, peripheral_row, row_among}
-use Rattle.definitions.proofs.GrammarLaws.{same_text-true}
+use Rattle.definitions.proofs.TextLaws.{same_text-true}
 use Rattle.opcode_rows.specs.declared.row.Row.{Row}
 use Rattle.opcode_rows.specs.SortedNames.{name_number, has_number}
 use Rattle.opcode_rows.proofs.TableLaws.{same_filters, filter-map, eqb-name_number}

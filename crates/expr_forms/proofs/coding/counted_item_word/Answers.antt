@@ -1,5 +1,5 @@
 use Rattle.std.proofs.Common.{◌≡◌, ℕ, ◌+◌, ◌*◌, ◌/◌, ◌≤◌, ◌<◌, ◌∙◌, sym, ap, length, mul-le-mul, arith}
-use Rattle.definitions.specs.Operands.{word_bits}
+use Rattle.definitions.specs.Kinds.{word_bits}
 use Rattle.expr_forms.proofs.CodedLaws.{word_bits-few, words_needed-room, counted_item_word}
 use Rattle.expr_forms.proofs.coding.counted_item_word.Goals as goal
 
