@@ -4,10 +4,10 @@ use Rattle.std.specs.List.{list_any}
 use Rattle.std.proofs.lemmas.Bool.{cond_both, and_parts}
 use Rattle.turn_office.specs.Histories.{entry}
 use Rattle.desk_core.specs.Edits.{Edit}
-use Rattle.desk_core.specs.Desks.{Desk, DeskDeck, Lease, Kept}
+use Rattle.desk_core.specs.Desks.{Desk, DeskDeck, Lease, Kept, is_leased_at}
 use Rattle.desk_core.specs.Calls.{Claim, DeckJob, DeckWork, Refusal}
-use Rattle.desk_core.specs.Answers.{Answer, unless, is_last}
-use Rattle.desk_core.specs.Claiming.{claim, claim_deck, claim_link, hand_out, hand_out_link, deck_work, given, start_of, edits_for, is_behind, is_free, is_published, is_linked}
+use Rattle.desk_core.specs.Answers.{Answer, unless, against_next}
+use Rattle.desk_core.specs.Claiming.{claim, claim_deck, claim_link, hand_out, hand_out_link, deck_work, given, start_of, edits_for, is_behind, is_free, is_published}
 use Rattle.desk_core.specs.Runs.{History}
 use Rattle.desk_core.specs.Jobs.{deck_of_lease, HandsOut, since_job, IsDue, IsDueFrom}
 use Rattle.desk_core.proofs.JobsTold.{IsDeckTold, IsDeskTold}
@@ -44,7 +44,7 @@ module _ (history : History) (by : ℕ) (desk : Desk) (told : IsDeskTold history
 
   next_claim_deck : (found : Option DeskDeck) → find is_free desk.decks ≡ found → Next history by desk told Claim (claim_deck desk found)
   next_claim_deck None free = next_quiet history by desk told Claim _ (quiet _ _ _ (λ n. refl) (λ i. refl) (λ n. refl) (λ d. refl))
-  next_claim_deck (Some deck) free = next_unless history by desk told Claim (is_last desk.leases) (hand_out deck desk) (λ r. quiet _ _ _ (λ n. refl) (λ i. refl) (λ n. refl) (λ d. refl))
+  next_claim_deck (Some deck) free = next_unless history by desk told Claim (against_next desk.leases) (hand_out deck desk) (λ r. quiet _ _ _ (λ n. refl) (λ i. refl) (λ n. refl) (λ d. refl))
       (λ left. next_handed_out deck (found_told (IsDeckTold history desk.version desk.leases) is_free desk.decks deck told.decks free).0)
 
   next_link : Next history by desk told Claim (hand_out_link desk)
@@ -58,8 +58,8 @@ module _ (history : History) (by : ℕ) (desk : Desk) (told : IsDeskTold history
   next_claim_link =
       let P = Next history by desk told Claim in
       cond_both (is_published desk.version desk.publication) _ _ P (λ shown. next_quiet history by desk told Claim _ (quiet _ _ _ (λ n. refl) (λ i. refl) (λ n. refl) (λ d. refl)))
-      (λ behind. cond_both (is_linked desk.version desk.link) _ _ P (λ out. next_quiet history by desk told Claim _ (quiet _ _ _ (λ n. refl) (λ i. refl) (λ n. refl) (λ d. refl)))
-      (λ free. next_unless history by desk told Claim (is_last desk.leases) (hand_out_link desk) (λ r. quiet _ _ _ (λ n. refl) (λ i. refl) (λ n. refl) (λ d. refl)) (λ left. next_link)))
+      (λ behind. cond_both (is_leased_at desk.version desk.link) _ _ P (λ out. next_quiet history by desk told Claim _ (quiet _ _ _ (λ n. refl) (λ i. refl) (λ n. refl) (λ d. refl)))
+      (λ free. next_unless history by desk told Claim (against_next desk.leases) (hand_out_link desk) (λ r. quiet _ _ _ (λ n. refl) (λ i. refl) (λ n. refl) (λ d. refl)) (λ left. next_link)))
 
   pub claim_next : Next history by desk told Claim (claim desk)
   claim_next = cond_both (list_any is_behind desk.decks) _ _ (Next history by desk told Claim) (λ behind. next_claim_deck (find is_free desk.decks) refl) (λ built. next_claim_link)
@@ -87,7 +87,7 @@ module _ (history : History) (by : ℕ) (desk : Desk) (told : IsDeskTold history
 
   due_claim_deck : (found : Option DeskDeck) → find is_free desk.decks ≡ found → IsDueIn (claim_deck desk found)
   due_claim_deck None free = λ job e. cc
-  due_claim_deck (Some deck) free = due_unless (is_last desk.leases) (hand_out deck desk) (λ job e.
+  due_claim_deck (Some deck) free = due_unless (against_next desk.leases) (hand_out deck desk) (λ job e.
       let here = found_told (IsDeckTold history desk.version desk.leases) is_free desk.decks deck told.decks free in
       let parts = and_parts (is_behind deck) (is_none deck.lease) here.1 in
       let due = due_handed_out deck here.0 (no_lease deck.lease parts.1) in
@@ -97,8 +97,8 @@ module _ (history : History) (by : ℕ) (desk : Desk) (told : IsDeskTold history
   due_claim_link : IsDueIn (claim_link desk)
   due_claim_link =
       cond_both (is_published desk.version desk.publication) _ _ IsDueIn (λ shown job e. cc)
-      (λ behind. cond_both (is_linked desk.version desk.link) _ _ IsDueIn (λ out job e. cc)
-      (λ free. due_unless (is_last desk.leases) (hand_out_link desk) (λ job e. cc)))
+      (λ behind. cond_both (is_leased_at desk.version desk.link) _ _ IsDueIn (λ out job e. cc)
+      (λ free. due_unless (against_next desk.leases) (hand_out_link desk) (λ job e. cc)))
 
   -- each deck job is what the history before it makes due
   pub claim_due : IsDueIn (claim desk)

@@ -2,10 +2,10 @@
 use Rattle.std.proofs.Common.{◌≡◌, inl, inr, ℕ, true, find, Option, Some, None, refl, sym, eqb-true}
 use Rattle.std.specs.List.{list_any}
 use Rattle.std.proofs.lemmas.Bool.{cond_both}
-use Rattle.desk_core.specs.Desks.{Desk, DeskDeck, Publication}
+use Rattle.desk_core.specs.Desks.{Desk, DeskDeck, Publication, is_leased_at}
 use Rattle.desk_core.specs.Calls.{Claim, Reply, Idle, Refused, Refusal, OutOfMemory}
-use Rattle.desk_core.specs.Answers.{Answer, unless, is_last}
-use Rattle.desk_core.specs.Claiming.{claim, claim_deck, claim_link, hand_out, hand_out_link, is_behind, is_free, is_published, is_linked}
+use Rattle.desk_core.specs.Answers.{Answer, unless, against_next}
+use Rattle.desk_core.specs.Claiming.{claim, claim_deck, claim_link, hand_out, hand_out_link, is_behind, is_free, is_published}
 use Rattle.desk_core.specs.Steps.{Steps}
 use Rattle.desk_core.specs.Runs.{IsPublishedAt}
 
@@ -19,7 +19,7 @@ unless_tells desk (Some refusal) accepted tells = λ version e. cc
 
 claim_deck_tells : (desk : Desk) (found : Option DeskDeck) → Tells desk (claim_deck desk found).reply
 claim_deck_tells desk None = λ version e. cc
-claim_deck_tells desk (Some deck) = unless_tells desk (is_last desk.leases) (hand_out deck desk) (λ version e. cc)
+claim_deck_tells desk (Some deck) = unless_tells desk (against_next desk.leases) (hand_out deck desk) (λ version e. cc)
 
 -- a publication of this version is there
 published_at : (desk : Desk) (publication : Option Publication) → desk.publication ≡ publication → is_published desk.version publication ≡ true → IsPublishedAt desk.version desk
@@ -37,8 +37,8 @@ TellsIn desk answer = Tells desk answer.reply
 claim_link_tells : (desk : Desk) → TellsIn desk (claim_link desk)
 claim_link_tells desk =
     cond_both (is_published desk.version desk.publication) _ _ (TellsIn desk) (λ test. idle_tells desk test)
-    (λ behind. cond_both (is_linked desk.version desk.link) _ _ (TellsIn desk) (λ out version e. cc)
-    (λ free. unless_tells desk (is_last desk.leases) (hand_out_link desk) (λ version e. cc)))
+    (λ behind. cond_both (is_leased_at desk.version desk.link) _ _ (TellsIn desk) (λ out version e. cc)
+    (λ free. unless_tells desk (against_next desk.leases) (hand_out_link desk) (λ version e. cc)))
 
 claim_tells : (desk : Desk) → TellsIn desk (claim desk)
 claim_tells desk = cond_both (list_any is_behind desk.decks) _ _ (TellsIn desk) (λ behind. claim_deck_tells desk (find is_free desk.decks)) (λ built. claim_link_tells desk)

@@ -1,9 +1,9 @@
 -- The call whose outcome may be a publication, and the outcome of each step.
 use Rattle.std.proofs.Common.{inl, inr, ℕ, ◌==◌, not, refl, eqb-true}
 use Rattle.std.proofs.lemmas.Bool.{cond_both, not-false}
-use Rattle.desk_core.specs.Desks.{Desk, Publication, decks_of}
+use Rattle.desk_core.specs.Desks.{Desk, Publication, decks_of, is_leased, is_leased_at}
 use Rattle.desk_core.specs.Calls.{Call, AddDeck, DropDeck, EditDeck, Batch, Cards, Show, Status, Claim, DeliverDeck, DeliverLink, GiveUp, Reply, OutOfMemory}
-use Rattle.desk_core.specs.Delivering.{deliver_link, take_link, is_leased, is_lease_of, same_decks}
+use Rattle.desk_core.specs.Delivering.{deliver_link, take_link, same_decks}
 use Rattle.desk_core.specs.Steps.{answer, Steps}
 use Rattle.desk_core.proofs.Same.{equal_lists}
 use Rattle.desk_core.proofs.Outcomes.{Outcome, Comes, by_publishing, refused_stays, either_comes}
@@ -13,7 +13,7 @@ use Rattle.desk_core.proofs.Accepting.{add_comes, drop_comes, edit_comes, batch_
 take_link_comes : (number : ℕ) (publication : Publication) (desk : Desk) → Comes desk (DeliverLink number publication) (take_link publication desk)
 take_link_comes number publication desk =
     let call = DeliverLink number publication in
-    either_comes desk call (not (is_lease_of publication.version desk.link)) _ _ (unlinks desk call _ refl)
+    either_comes desk call (not (is_leased_at publication.version desk.link)) _ _ (unlinks desk call _ refl)
     (cond_both (not (publication.version == desk.version)) _ _ (Comes desk call) (λ old. unlinks desk call _ refl)
     (λ present. cond_both (not (same_decks publication.decks (decks_of desk))) _ _ (Comes desk call) (λ other. unlinks desk call _ refl)
     (λ same. by_publishing (record {

@@ -4,10 +4,10 @@ use Rattle.std.proofs.lemmas.Bool.{cond_both, or_parts}
 use Rattle.turn_office.specs.declared.history.Entry.{Entry}
 use Rattle.turn_office.specs.Histories.{entry}
 use Rattle.desk_core.specs.Edits.{Edit}
-use Rattle.desk_core.specs.Desks.{Desk, DeskDeck, Lease, Kept, Publication, decks_of, with_deck}
+use Rattle.desk_core.specs.Desks.{Desk, DeskDeck, Lease, Kept, Publication, decks_of, with_deck, is_leased, is_leased_at}
 use Rattle.desk_core.specs.Calls.{Call, DeliverDeck, DeliverLink, GiveUp, Done, Reply, Stored, Cleared, Refused, Stale, Foreign}
 use Rattle.desk_core.specs.Answers.{answers}
-use Rattle.desk_core.specs.Delivering.{deliver_deck, deliver_to, take_result, deck_leased, lost, given_back, stored, is_for, is_sound, is_leased, is_lease_of, same_decks, deliver_link, give_up, give_up_of, unlinked}
+use Rattle.desk_core.specs.Delivering.{deliver_deck, deliver_to, take_result, deck_leased, lost, given_back, stored, is_for, is_sound, same_decks, deliver_link, give_up, give_up_of, unlinked}
 use Rattle.desk_core.specs.Runs.{History}
 use Rattle.desk_core.specs.Jobs.{deck_of_lease, Loses, Leaves, effect_if, since_job}
 use Rattle.desk_core.proofs.JobsTold.{since_of, IsLeaseTold, IsDeckTold, IsDeskTold}
@@ -101,7 +101,7 @@ module _ (history : History) (by : ℕ) (desk : Desk) (told : IsDeskTold history
       let call = DeliverLink number publication in
       let P = Next history by desk told call in
       cond_both (is_leased number desk.link) _ _ P
-      (λ out. cond_both (not (is_lease_of publication.version desk.link)) _ _ P (λ other. next_unlinked call _ _ (quiet _ _ _ (λ n. refl) (λ i. refl) (λ n. refl) (λ d. refl)) refl refl refl refl)
+      (λ out. cond_both (not (is_leased_at publication.version desk.link)) _ _ P (λ other. next_unlinked call _ _ (quiet _ _ _ (λ n. refl) (λ i. refl) (λ n. refl) (λ d. refl)) refl refl refl refl)
       (λ ours. cond_both (not (publication.version == desk.version)) _ _ P (λ old. next_unlinked call _ _ (quiet _ _ _ (λ n. refl) (λ i. refl) (λ n. refl) (λ d. refl)) refl refl refl refl)
       (λ present. cond_both (not (same_decks publication.decks (decks_of desk))) _ _ P (λ other. next_unlinked call _ _ (quiet _ _ _ (λ n. refl) (λ i. refl) (λ n. refl) (λ d. refl)) refl refl refl refl)
       (λ same. next_unlinked call _ _ (quiet _ _ _ (λ n. refl) (λ i. refl) (λ n. refl) (λ d. refl)) refl refl refl refl))))

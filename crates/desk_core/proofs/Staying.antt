@@ -1,12 +1,12 @@
 -- Calls that leave all that is seen as it is: those that read, claim, bring a deck's result or give up.
 use Rattle.std.proofs.Common.{◌≡◌, ℕ, ◌==◌, false, not, ◌||◌, is_none, List, find, Option, Some, None, refl}
 use Rattle.std.specs.List.{list_any}
-use Rattle.desk_core.specs.Desks.{Desk, DeskDeck, Publication, deck_of, deck_named, with_deck}
+use Rattle.desk_core.specs.Desks.{Desk, DeskDeck, Publication, deck_of, deck_named, with_deck, is_leased, is_leased_at}
 use Rattle.desk_core.specs.Calls.{Call, Cards, Show, Status, Claim, DeliverDeck, GiveUp, Done, Reply}
-use Rattle.desk_core.specs.Answers.{answers, is_last}
+use Rattle.desk_core.specs.Answers.{answers, against_next}
 use Rattle.desk_core.specs.Reading.{cards, cards_reply, show, show_reply, status}
-use Rattle.desk_core.specs.Claiming.{claim, claim_deck, claim_link, hand_out, hand_out_link, given, is_behind, is_free, is_published, is_linked}
-use Rattle.desk_core.specs.Delivering.{deliver_deck, deliver_to, take_result, deck_leased, lost, given_back, stored, is_for, is_sound, is_leased, give_up, give_up_of, unlinked}
+use Rattle.desk_core.specs.Claiming.{claim, claim_deck, claim_link, hand_out, hand_out_link, given, is_behind, is_free, is_published}
+use Rattle.desk_core.specs.Delivering.{deliver_deck, deliver_to, take_result, deck_leased, lost, given_back, stored, is_for, is_sound, give_up, give_up_of, unlinked}
 use Rattle.desk_core.specs.Runs.{accepts}
 use Rattle.desk_core.proofs.DecksSeen.{decks_of-kept}
 use Rattle.desk_core.proofs.Outcomes.{Comes, by_staying, unchanged_itself, refused_stays, either_comes, unless_comes}
@@ -50,13 +50,13 @@ hand_out_link_stays desk = by_staying (record { silent = refl; unchanged = recor
 
 claim_deck_stays : (desk : Desk) (found : Option DeskDeck) → Comes desk Claim (claim_deck desk found)
 claim_deck_stays desk None = tells desk Claim _ refl
-claim_deck_stays desk (Some deck) = unless_comes desk Claim (is_last desk.leases) (hand_out deck desk) (hand_out_stays deck desk)
+claim_deck_stays desk (Some deck) = unless_comes desk Claim (against_next desk.leases) (hand_out deck desk) (hand_out_stays deck desk)
 
 claim_link_stays : (desk : Desk) → Comes desk Claim (claim_link desk)
 claim_link_stays desk =
     either_comes desk Claim (is_published desk.version desk.publication) _ _ (tells desk Claim _ refl)
-    (either_comes desk Claim (is_linked desk.version desk.link) _ _ (tells desk Claim _ refl)
-    (unless_comes desk Claim (is_last desk.leases) (hand_out_link desk) (hand_out_link_stays desk)))
+    (either_comes desk Claim (is_leased_at desk.version desk.link) _ _ (tells desk Claim _ refl)
+    (unless_comes desk Claim (against_next desk.leases) (hand_out_link desk) (hand_out_link_stays desk)))
 
 pub claim_stays : (desk : Desk) → Comes desk Claim (claim desk)
 claim_stays desk = either_comes desk Claim (list_any is_behind desk.decks) _ _ (claim_deck_stays desk (find is_free desk.decks)) (claim_link_stays desk)

@@ -32,11 +32,11 @@ leads_through (call ∷ calls) desk = ((answer call desk).desk, inl (refl, refl)
 pub runs_through : (calls : List Call) → Runs (history_of calls new_desk) (desk_after calls new_desk)
 runs_through calls = leads_through calls new_desk
 
--- the deck M, whose only card begins with a star
+-- the name of the only deck
 abbrev pub M : List ℕ
 M = codes "M"
 
--- the deck M with these cards
+-- the deck of that name, with these cards
 abbrev pub deck_m : List Card → Deck
 deck_m cards = record { name = M; cards = cards }
 

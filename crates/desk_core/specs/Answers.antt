@@ -18,6 +18,6 @@ abbrev pub unless : Option Refusal → Desk → Answer → Answer
 unless None desk accepted = accepted
 unless (Some refusal) desk accepted = answers (Refused refusal) desk
 
--- whether the number after this one is too great for a version or a lease
-abbrev pub is_last : ℕ → Option Refusal
-is_last number = when (nat_lt greatest_number (number + 1)) VersionsSpent
+-- what speaks against one version more, or one lease more: the number after this one is too great
+abbrev pub against_next : ℕ → Option Refusal
+against_next number = when (nat_lt greatest_number (number + 1)) VersionsSpent

@@ -5,11 +5,11 @@ use Rattle.desk_core.specs.Causes.{when, first_cause}
 use Rattle.desk_core.specs.Edits as E
 use Rattle.desk_core.specs.Desks.{Desk, DeskDeck, most_decks, is_named, deck_named, with_deck}
 use Rattle.desk_core.specs.Calls.{Changed, Refusal, NoSuchCard, DeckFull, NameTaken, NoDeck, OldVersion, TooManyDecks, BadEdit, BatchSize}
-use Rattle.desk_core.specs.Answers.{Answer, answers, unless, is_last}
+use Rattle.desk_core.specs.Answers.{Answer, answers, unless, against_next}
 
--- who changes a deck has to have seen its present version
-abbrev pub is_old : ℕ → DeskDeck → Option Refusal
-is_old seen deck = when (not (seen == deck.version)) (OldVersion deck.version)
+-- what speaks against a change by who has seen this version: it is not the deck's present one
+abbrev pub against_seen : ℕ → DeskDeck → Option Refusal
+against_seen seen deck = when (not (seen == deck.version)) (OldVersion deck.version)
 
 -- a change is answered with the new version
 abbrev pub accepted : Desk → Answer
@@ -21,7 +21,7 @@ against_add deck desk = first_cause (
     when (is_some (deck_named deck.name desk)) NameTaken
     ∷ when (nat_le most_decks (length desk.decks)) TooManyDecks
     ∷ when (nat_lt E.most_cards (length deck.cards)) DeckFull
-    ∷ is_last desk.version
+    ∷ against_next desk.version
     ∷ [])
 
 -- an added deck: it has no object, no record, no waiting edits and no lease
@@ -39,7 +39,7 @@ add_deck deck desk = unless (against_add deck desk) desk (accepted (added deck d
 -- what speaks against the drop of a deck
 abbrev pub against_drop : ℕ → Desk → Option DeskDeck → Option Refusal
 against_drop seen desk None = Some NoDeck
-against_drop seen desk (Some deck) = first_cause (is_old seen deck ∷ is_last desk.version ∷ [])
+against_drop seen desk (Some deck) = first_cause (against_seen seen deck ∷ against_next desk.version ∷ [])
 
 -- the desk without the deck of a name, and so without its lease
 abbrev pub dropped : List ℕ → Desk → Desk
@@ -69,7 +69,7 @@ refusal_of E.DeckFull = DeckFull
 -- what speaks against an edit of a deck
 abbrev pub against_edit : ℕ → E.Edit → Desk → Option DeskDeck → Option Refusal
 against_edit seen edit desk None = Some NoDeck
-against_edit seen edit desk (Some deck) = first_cause (is_old seen deck ∷ option_map refusal_of (E.fault_of edit deck.cards) ∷ is_last desk.version ∷ [])
+against_edit seen edit desk (Some deck) = first_cause (against_seen seen deck ∷ option_map refusal_of (E.fault_of edit deck.cards) ∷ against_next desk.version ∷ [])
 
 -- an edit
 abbrev pub edit_deck : List ℕ → ℕ → E.Edit → Desk → Answer
@@ -87,10 +87,10 @@ is_batch edits = nat_le 1 (length edits) && nat_le (length edits) most_edits
 abbrev pub against_batch : ℕ → List E.Edit → Desk → Option DeskDeck → Option Refusal
 against_batch seen edits desk None = Some NoDeck
 against_batch seen edits desk (Some deck) = first_cause (
-    is_old seen deck
+    against_seen seen deck
     ∷ when (not (is_batch edits)) BatchSize
     ∷ option_map (λ (fault : ℕ × E.EditFault). BadEdit fault.0 fault.1) (E.first_fault edits deck.cards)
-    ∷ is_last desk.version
+    ∷ against_next desk.version
     ∷ [])
 
 -- Batch: all its edits or none, as one change

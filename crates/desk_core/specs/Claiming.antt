@@ -2,9 +2,9 @@
 use Rattle.std.specs.Prelude.{ℕ, ◌+◌, ◌==◌, Bool, false, not, ◌&&◌, List, [], find, is_none, Option, Some, None, if◌then◌else◌}
 use Rattle.std.specs.List.{list_any}
 use Rattle.desk_core.specs.Edits.{Edit}
-use Rattle.desk_core.specs.Desks.{Desk, DeskDeck, Lease, Kept, Publication, decks_of, with_deck}
+use Rattle.desk_core.specs.Desks.{Desk, DeskDeck, Kept, Publication, is_leased_at, decks_of, with_deck}
 use Rattle.desk_core.specs.Calls.{Start, FromRecord, FromCards, DeckWork, DeckJob, LinkJob, Idle, AllOut}
-use Rattle.desk_core.specs.Answers.{Answer, answers, unless, is_last}
+use Rattle.desk_core.specs.Answers.{Answer, answers, unless, against_next}
 
 -- a deck without an object of its version is behind
 abbrev pub is_behind : DeskDeck → Bool
@@ -39,7 +39,7 @@ hand_out deck desk = answers (DeckJob (deck_work (desk.leases + 1) deck)) (with_
 -- where decks are behind: the first that is free, if there is one
 abbrev pub claim_deck : Desk → Option DeskDeck → Answer
 claim_deck desk None = answers AllOut desk
-claim_deck desk (Some deck) = unless (is_last desk.leases) desk (hand_out deck desk)
+claim_deck desk (Some deck) = unless (against_next desk.leases) desk (hand_out deck desk)
 
 -- the desk hands out the link of its version, which ends an older link's lease
 abbrev pub hand_out_link : Desk → Answer
@@ -52,17 +52,12 @@ abbrev pub is_published : ℕ → Option Publication → Bool
 is_published version None = false
 is_published version (Some publication) = publication.version == version
 
--- whether a link of this version is out
-abbrev pub is_linked : ℕ → Option Lease → Bool
-is_linked version None = false
-is_linked version (Some lease) = lease.version == version
-
--- where no deck is behind: the link of the present version, if it is neither published nor out
+-- where no deck is behind: the link of the present version, if that is neither published nor out
 abbrev pub claim_link : Desk → Answer
 claim_link desk =
     if is_published desk.version desk.publication then answers (Idle desk.version) desk
-    else if is_linked desk.version desk.link then answers AllOut desk
-    else unless (is_last desk.leases) desk (hand_out_link desk)
+    else if is_leased_at desk.version desk.link then answers AllOut desk
+    else unless (against_next desk.leases) desk (hand_out_link desk)
 
 -- Claim
 abbrev pub claim : Desk → Answer

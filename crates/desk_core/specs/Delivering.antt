@@ -1,7 +1,7 @@
 -- Calls that end a lease: DeliverDeck, DeliverLink, GiveUp (ours).
 use Rattle.std.specs.Prelude.{ℕ, ◌==◌, Bool, true, false, not, ◌&&◌, ◌||◌, List, [], ◌∷◌, find, is_none, Option, Some, None, if◌then◌else◌}
 use Rattle.desk_core.specs.Language.{Card, Deck, same_text}
-use Rattle.desk_core.specs.Desks.{Desk, DeskDeck, Lease, Kept, Publication, deck_of, decks_of, with_deck}
+use Rattle.desk_core.specs.Desks.{Desk, DeskDeck, Kept, Publication, is_leased, is_leased_at, deck_of, decks_of, with_deck}
 use Rattle.desk_core.specs.Calls.{Done, Stored, Cleared, Refused, UnknownJob, Stale, Foreign}
 use Rattle.desk_core.specs.Answers.{Answer, answers}
 
@@ -21,16 +21,6 @@ same_decks [] [] = true
 same_decks (a ∷ as') (b ∷ bs) = same_deck a b && same_decks as' bs
 same_decks _ _ = false
 
--- whether a lease is out under this number
-abbrev pub is_leased : ℕ → Option Lease → Bool
-is_leased number None = false
-is_leased number (Some lease) = lease.number == number
-
--- whether a lease was given at this version
-abbrev pub is_lease_of : ℕ → Option Lease → Bool
-is_lease_of version None = false
-is_lease_of version (Some lease) = lease.version == version
-
 -- the deck whose lease this is
 abbrev pub deck_leased : ℕ → Desk → Option DeskDeck
 deck_leased number desk = find (λ (deck : DeskDeck). is_leased number deck.lease) desk.decks
@@ -49,7 +39,7 @@ stored kept deck = record deck { kept = kept; built = true; lease = None }
 
 -- whether a result names the deck and the version of the lease
 abbrev pub is_for : Done → DeskDeck → Bool
-is_for done deck = (done.deck == deck.identity) && is_lease_of done.version deck.lease
+is_for done deck = (done.deck == deck.identity) && is_leased_at done.version deck.lease
 
 -- whether a record is of this deck
 abbrev pub is_record_of : Deck → Option Kept → Bool
@@ -84,7 +74,7 @@ unlinked desk = record desk { link = None }
 -- what becomes of a publication whose lease was out
 abbrev pub take_link : Publication → Desk → Answer
 take_link publication desk =
-    if not (is_lease_of publication.version desk.link) then answers (Refused Foreign) (unlinked desk)
+    if not (is_leased_at publication.version desk.link) then answers (Refused Foreign) (unlinked desk)
     else if not (publication.version == desk.version) then answers (Refused (Stale desk.version)) (unlinked desk)
     else if not (same_decks publication.decks (decks_of desk)) then answers (Refused Foreign) (unlinked desk)
     else answers Stored (record (unlinked desk) { publication = Some publication })

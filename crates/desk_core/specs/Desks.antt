@@ -1,5 +1,5 @@
 -- What contracts see of a desk (ours).
-use Rattle.std.specs.Prelude.{ℕ, Bool, List, [], map, find, Option, None, if◌then◌else◌}
+use Rattle.std.specs.Prelude.{ℕ, ◌==◌, Bool, false, List, [], map, find, Option, Some, None, if◌then◌else◌}
 use Rattle.desk_core.specs.Language.{Card, Deck, same_text}
 use Rattle.desk_core.specs.Edits.{Edit}
 
@@ -36,6 +36,16 @@ pub record Desk : Type 0 where
   pub decks : List DeskDeck
   pub link : Option Lease
   pub publication : Option Publication
+
+-- whether a lease is out under this number
+abbrev pub is_leased : ℕ → Option Lease → Bool
+is_leased number None = false
+is_leased number (Some lease) = lease.number == number
+
+-- whether a lease is out that was given at this version
+abbrev pub is_leased_at : ℕ → Option Lease → Bool
+is_leased_at version None = false
+is_leased_at version (Some lease) = lease.version == version
 
 -- a new desk
 abbrev pub new_desk : Desk
