@@ -1,17 +1,11 @@
--- Files in memory: the map of names is the list of names and files, and what a file's load tells is told of its bytes.
-use Rattle.std.proofs.Common.{ℕ, ◌≡◌, List, [], ◌∷◌, ◌++◌, Bool, true, false, cond, ◌&&◌, Option, Some, None, Result, Ok, Err, eqb, refl, sym, ap, ◌∙◌, append-nil, map}
-use Rattle.std.specs.Io.KnownBytes.{Consumes, IsAtEnd}
+-- Files in memory: the map of names shows as the list of names and files.
+use Rattle.std.proofs.Common.{ℕ, ◌≡◌, List, [], ◌∷◌, Bool, true, false, cond, ◌&&◌, Option, Some, eqb, refl, ap, ◌∙◌, map}
 use Rattle.std.specs.Option.{option_map}
 use Rattle.std.specs.Map.{lookup}
 use Rattle.indexmap.specs.IndexMap.{insert_entry}
 use lib.Pointwise.{pointwise}
 use Rattle.definitions.specs.Characters.{same_text}
-use Rattle.definitions.specs.Cards.{Card}
-use Rattle.deck_files.specs.declared.load_fault.LoadFault.{LoadFault}
-use Rattle.deck_files.specs.declared.load_fault.LoadFault.TheVariants.{ReadFault, BadLine, LastLineCut, DeckFull, OutOfMemory}
-use Rattle.deck_files.specs.DeckFiles.{cards_of_file}
 use Rattle.deck_files.specs.Files.{Files, file_named, with_file}
-use Rattle.deck_files.specs.Loads.{LoadsCards, LoadsFault, FaultsSo}
 
 -- two texts are compared character by character
 pub same_text-pointwise : (a b : List ℕ) → pointwise eqb a b ≡ same_text a b
@@ -19,29 +13,6 @@ same_text-pointwise [] [] = refl
 same_text-pointwise [] (d ∷ b) = refl
 same_text-pointwise (c ∷ a) [] = refl
 same_text-pointwise (c ∷ a) (d ∷ b) = ap (λ (t : Bool). eqb c d && t) (same_text-pointwise a b)
-
--- a file that was read to its end was read whole
-read_whole : (file front : List ℕ) (new : Option (List ℕ)) → Consumes (Some file) new front → IsAtEnd new → front ≡ file
-read_whole file front None consumed ended = absurd consumed
-read_whole file front (Some rest) consumed ended = sym (append-nil front) ∙ ap (λ (l : List ℕ). front ++ l) (sym ended) ∙ sym consumed
-
--- the beginning of a file, and what follows it
-read_part : (file front : List ℕ) (new : Option (List ℕ)) (fault : LoadFault) → Consumes (Some file) new front →
-    ((rest : List ℕ) → cards_of_file (front ++ rest) ≡ Err fault) → cards_of_file file ≡ Err fault
-read_part file front None fault consumed whole = absurd consumed
-read_part file front (Some rest) fault consumed whole = ap cards_of_file consumed ∙ whole rest
-
--- the cards of a file in memory
-pub LoadsCards-known : (file : List ℕ) (new : Option (List ℕ)) (cards : List Card) → LoadsCards (Some file) new cards → cards_of_file file ≡ Ok cards
-LoadsCards-known file new cards loaded = ap cards_of_file (sym (read_whole file loaded.0 new loaded.1 loaded.2)) ∙ loaded.3
-
--- the fault of a file in memory
-pub LoadsFault-known : (file : List ℕ) (new : Option (List ℕ)) (fault : LoadFault) → LoadsFault fault (Some file) new → FaultsSo fault file
-LoadsFault-known file new ReadFault refused = tt
-LoadsFault-known file new (BadLine line fault) refused = read_part file refused.0 new (BadLine line fault) refused.1 refused.2
-LoadsFault-known file new LastLineCut refused = ap cards_of_file (sym (read_whole file refused.0 new refused.1 refused.2)) ∙ refused.3
-LoadsFault-known file new DeckFull refused = read_part file refused.0 new DeckFull refused.1 refused.2
-LoadsFault-known file new OutOfMemory refused = tt
 
 -- the names with their files, out of the entries of a map
 abbrev pub files_shown : {K X : Type 0} → (K → List ℕ) → (X → List ℕ) → List (K × X) → Files

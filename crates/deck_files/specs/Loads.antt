@@ -4,7 +4,6 @@ use Rattle.std.specs.Io.KnownBytes.{Consumes, IsAtEnd}
 use Rattle.definitions.specs.Cards.{Card}
 use Rattle.definitions.specs.InputLines.{lines_of}
 use Rattle.text_ports.specs.Faults.{count_up}
-use Rattle.cards.specs.declared.card.CardFault.{CardFault}
 use Rattle.deck_files.specs.declared.load_fault.LoadFault.{LoadFault}
 use Rattle.deck_files.specs.declared.load_fault.LoadFault.TheVariants.{ReadFault, BadLine, LastLineCut, DeckFull, OutOfMemory}
 use Rattle.deck_files.specs.DeckFiles.{cards_of_file}

@@ -1,4 +1,4 @@
-use Rattle.std.proofs.Common.{◌≡◌, ◌∙◌, [], ap, get_or}
+use Rattle.std.proofs.Common.{◌∙◌, [], ap}
 use Rattle.std.proofs.lemmas.List.{get_or_read}
 use Rattle.deck_files.specs.DeckFiles.{line_of_card}
 use Rattle.deck_files.proofs.SaveSteps.{Appends-part}

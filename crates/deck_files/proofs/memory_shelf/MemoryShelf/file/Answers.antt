@@ -1,7 +1,7 @@
 use Rattle.std.proofs.Common.{ℕ, List, Some, ◌∙◌, ap}
 use Rattle.std.specs.Prelude.{vec_items}
 use Rattle.std.specs.Option.{option_map}
-use Rattle.deck_files.specs.Files.{Files, file_named}
+use Rattle.deck_files.specs.Files.{file_named}
 use Rattle.deck_files.proofs.FileSteps.{files_shown, lookup-shown}
 use Rattle.deck_files.proofs.memory_shelf.MemoryShelf.file.Goals as goal
 

@@ -1,6 +1,6 @@
 use Rattle.std.proofs.Common.{ℕ, List, ◌∙◌, ap}
 use Rattle.std.specs.Prelude.{vec_items}
-use Rattle.deck_files.specs.Files.{Files, with_file}
+use Rattle.deck_files.specs.Files.{with_file}
 use Rattle.deck_files.proofs.FileSteps.{files_shown, insert-shown}
 use Rattle.deck_files.proofs.memory_shelf.MemoryShelf.put.Goals as goal
 
