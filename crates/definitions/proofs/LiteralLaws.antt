@@ -120,5 +120,6 @@ literal_words-by_recursion : (settled : List Settled) → AreWords (literal_word
 literal_words-by_recursion [] = tt
 literal_words-by_recursion (latest ∷ earlier) = with_literals-below (operand_literals latest.read.operand) (literal_words earlier) (literal_words-by_recursion earlier)
 
+-- each literal fits a word
 pub literal_words-below : (settled : List Settled) → All (λ word. word < 2 ^ 60) (literal_words settled)
 literal_words-below settled = All-from_recursion _ (literal_words settled) (literal_words-by_recursion settled)

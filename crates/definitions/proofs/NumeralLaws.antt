@@ -14,6 +14,7 @@ number_of-push digits digit =
 below_power : (count value : ℕ) → value < 8 ^ suc count → value / 8 < 8 ^ count
 below_power count value below = let more : value < 8 * 8 ^ count = rw pow-succ' at below in omega arith
 
+-- octal text reads back
 pub number_of-octal_of : (count value : ℕ) → value < 8 ^ count → number_of 8 (octal_of count value) ≡ value
 number_of-octal_of zero value below = omega arith
 number_of-octal_of (suc count) value below =

@@ -28,10 +28,12 @@ past_behind true from true = omega arith
 past_behind true from false = omega arith
 past_behind false from at_last = omega arith
 
+-- a place in parcels is not before the end it is reckoned from
 pub place-behind : (word long : Bool) (from : ℕ) → from ≤ place_in_parcels word long from
 place-behind true long from = word_behind from
 place-behind false long from = past_behind long from (nat_eq (from % 4) 3)
 
+-- what stands at a word has parcel 0
 pub place-at_word : (word long : Bool) (from : ℕ) → word ≡ true → place_in_parcels word long from % 4 ≡ 0
 place-at_word true long from e = word_whole from
 place-at_word false long from e = cc
@@ -42,6 +44,7 @@ past_whole from = elim (eqb_tells (from % 4) 3) [
   | inr h ↦ λ e. let same : from % 4 ≡ 3 = rw h.0 at e in h.1 same
 ]
 
+-- a long instruction does not begin in the last parcel
 pub place-whole : (word long : Bool) (from : ℕ) → long ≡ true → place_in_parcels word long from % 4 ≢ 3
 place-whole true long from e = let whole = word_whole from in λ last. absurd (omega arith)
 place-whole false true from e = past_whole from
@@ -53,6 +56,7 @@ past_least from place behind whole = elim (eqb_tells (from % 4) 3) [
   | inr h ↦ rw h.0 behind
 ]
 
+-- no lawful place in parcels is before it
 pub place-least : (word long : Bool) (from place : ℕ) → from ≤ place → (word ≡ true → place % 4 ≡ 0) → (long ≡ true → place % 4 ≢ 3) → place_in_parcels word long from ≤ place
 place-least true long from place behind whole parcels = word_least from place behind (whole refl)
 place-least false true from place behind whole parcels = past_least from place behind (parcels refl)
@@ -79,6 +83,7 @@ whole_in_words : (word : Bool) (from : ℕ) → (if word then (from + 1 - 1) / 1
 whole_in_words true from = omega arith
 whole_in_words false from = refl
 
+-- the least place is not before the end it is reckoned from
 pub least_place-behind : (kind : DeckKind) (operation : Operation) (operand : Operand) (location : List ℕ) (asks : Bool) (from : ℕ) → from ≤ least_place kind operation operand location asks from
 least_place-behind Rel operation operand location asks from = place-behind (stands_at_word Rel operation operand location asks) (is_long Rel operation operand) from
 least_place-behind Abs operation operand location asks from = place-behind (stands_at_word Abs operation operand location asks) (is_long Abs operation operand) from
@@ -92,6 +97,7 @@ central_lawful kind operation operand location asks place four word long = recor
   long_whole = long;
 }
 
+-- the least place is lawful
 pub least_place-lawful : (kind : DeckKind) (operation : Operation) (operand : Operand) (location : List ℕ) (asks : Bool) (from : ℕ) → MayStand kind operation operand location asks (least_place kind operation operand location asks from)
 least_place-lawful Rel operation operand location asks from =
     let word = stands_at_word Rel operation operand location asks in let long = is_long Rel operation operand in
@@ -113,6 +119,7 @@ word_of_lawful kind operation operand location asks place four may h = elim (or_
   | inr b ↦ rw four at (may.upper_at_word b)
 ]
 
+-- no lawful place is before the least one
 pub least_place-least : (kind : DeckKind) (operation : Operation) (operand : Operand) (location : List ℕ) (asks : Bool) (from place : ℕ) → from ≤ place →
     MayStand kind operation operand location asks place → least_place kind operation operand location asks from ≤ place
 least_place-least Rel operation operand location asks from place behind may =

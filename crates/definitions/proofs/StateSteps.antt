@@ -169,6 +169,7 @@ abbrev pub AreInUse : List Settled → Type 0
 AreInUse [] = Unit {0}
 AreInUse (settled ∷ earlier) = (settled.block ≡ block_in_use (open_names (changes earlier))) × AreInUse earlier
 
+-- the statements of a deck stand in the blocks in use
 pub settled_all-in_use : (kind : DeckKind) (statements : List Statement) → AreInUse (settled_all kind statements)
 settled_all-in_use kind [] = tt
 settled_all-in_use kind (statement ∷ statements) = (refl, settled_all-in_use kind statements)

@@ -53,10 +53,12 @@ onto_runs-below limit true parcels runs h k = (tt, k)
 onto_runs-below limit false parcels [] h k = (h, tt)
 onto_runs-below limit false parcels (run ∷ runs) h k = (append_below limit run parcels k.0 h, k.1)
 
+-- what holds of both cases of a choice holds of the choice
 pub picked : {A : Type 0} (P : A → Type 0) (b : Bool) (x y : A) → P x → P y → P (elim b [ true ↦ x | false ↦ y ])
 picked P true x y h k = h
 picked P false x y h k = k
 
+-- and of the choice as `if`
 pub picked_cond : {A : Type 0} (P : A → Type 0) (b : Bool) (x y : A) → P x → P y → P (if b then x else y)
 picked_cond P true x y h k = h
 picked_cond P false x y h k = k

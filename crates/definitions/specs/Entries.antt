@@ -1,5 +1,5 @@
 -- Entries and externals: the names that a deck gives to others, and those that it takes (COMPASS 60492600, ENTRY, EXT; the order is ours).
-use Rattle.std.specs.Prelude.{ℕ, List, [], ◌∷◌, ◌++◌, Option, Some, None, flat_map}
+use Rattle.std.specs.Prelude.{ℕ, List, [], ◌∷◌, ◌++◌, Option, Some, None, filter_map}
 use Rattle.definitions.specs.Forms.{Form, Added, Subtracted, Block, External}
 use Rattle.definitions.specs.Operations as op
 use Rattle.definitions.specs.Operations.{Operation}
@@ -42,12 +42,12 @@ entries_of Periph settled = []
 entries_of kind settled = entries_among settled settled
 
 -- the external that a definition names, if it names one
-abbrev pub external_name : Definition → List (List ℕ)
-external_name definition = elim definition.form.part [ None ↦ [] | Some part ↦ elim part [ Subtracted base ↦ [] | Added base ↦ elim base [ Block name ↦ [] | External name ↦ name ∷ [] ] ] ]
+abbrev pub external_name : Definition → Option (List ℕ)
+external_name definition = elim definition.form.part [ None ↦ None | Some part ↦ elim part [ Subtracted base ↦ None | Added base ↦ elim base [ Block name ↦ None | External name ↦ Some name ] ] ]
 
 -- the externals that a statement defines; only EXT defines any
 abbrev pub externals_by : Operation → List Definition → List (List ℕ)
-externals_by op.Ext definitions = flat_map external_name definitions
+externals_by op.Ext definitions = filter_map external_name definitions
 externals_by operation definitions = []
 
 -- the externals of a deck in order of definition

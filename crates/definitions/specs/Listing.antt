@@ -1,5 +1,5 @@
 -- The listing of a deck (ours).
-use Rattle.std.specs.Prelude.{ℕ, ◌+◌, ◌/◌, ◌%◌, List, [], ◌∷◌, ◌++◌, Bool, codes, length, filter, flat_map, reverse, nat_lt, pos, ◌+ℤ◌, unwrap_or}
+use Rattle.std.specs.Prelude.{ℕ, ◌+◌, ◌/◌, ◌%◌, List, [], ◌∷◌, ◌++◌, Bool, codes, length, filter, flat_map, reverse, nat_lt, pos, ◌+ℤ◌, unwrap_or, Option, Some, None}
 use Rattle.definitions.specs.Characters.{line_feed}
 use Rattle.definitions.specs.Numerals.{octal_of, digits_of, decimal_of}
 use Rattle.definitions.specs.Cards.{Card}
@@ -71,10 +71,15 @@ abbrev pub item_lines : DeckKind → Linking → Coded → List ℕ
 item_lines Periph linking coded = peripheral_item_lines linking coded.settled.read.operation coded.settled.place coded.fields
 item_lines kind linking coded = central_lines linking coded.settled.read.operation coded.settled.place coded.fields
 
+-- the lines of a statement's items, where it has any: behind END it has none
+abbrev pub shown_lines : DeckKind → Linking → Option Coded → List ℕ
+shown_lines kind linking None = []
+shown_lines kind linking (Some coded) = item_lines kind linking coded
+
 -- a statement in the listing: its cards, its letters, its items
 abbrev pub statement_lines : Object → Shown → List ℕ
 statement_lines object shown =
-    card_lines shown.statement.before shown.statement.cards ++ (letters_line shown.letters ++ flat_map (item_lines object.kind (unlinked object.rows)) shown.coded)
+    card_lines shown.statement.before shown.statement.cards ++ (letters_line shown.letters ++ shown_lines object.kind (unlinked object.rows) shown.coded)
 
 -- the BLOCK line: name, base and length
 abbrev pub block_line : BlockRow → List ℕ

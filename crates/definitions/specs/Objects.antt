@@ -1,5 +1,5 @@
 -- The object of a deck: its statements with their fields and letters, its blocks, entries and externals.
-use Rattle.std.specs.Prelude.{ℕ, List, [], ◌∷◌, map, reverse, ◌++◌}
+use Rattle.std.specs.Prelude.{ℕ, List, [], map, reverse, ◌++◌, Option, Some, None}
 use Rattle.definitions.specs.DeckInput.{Deck}
 use Rattle.definitions.specs.Statements.{Statement, statements_of}
 use Rattle.definitions.specs.DeckKinds.{kind_of_statements, up_to_end, behind_end}
@@ -17,7 +17,8 @@ use Rattle.definitions.specs.declared.marks.DeckKind.{DeckKind}
 pub record Shown : Type 0 where
   pub statement : Statement
   pub letters : List ℕ
-  pub coded : List Coded
+  -- none behind END
+  pub coded : Option Coded
 
 -- an object; its statements are newest first
 pub record Object : Type 0 where
@@ -36,11 +37,11 @@ coded_of context settled = record { settled = settled; fields = items_of context
 
 -- a statement up to END in the listing, with its letters and its items
 abbrev pub shown_of : Context → Settled → Shown
-shown_of context settled = record { statement = settled.read.statement; letters = in_order (letters_of context settled); coded = coded_of context settled ∷ [] }
+shown_of context settled = record { statement = settled.read.statement; letters = in_order (letters_of context settled); coded = Some (coded_of context settled) }
 
 -- what follows END is only listed
 abbrev pub only_listed : Statement → Shown
-only_listed statement = record { statement = statement; letters = []; coded = [] }
+only_listed statement = record { statement = statement; letters = []; coded = None }
 
 -- the object of a deck whose context is known, with the statements behind its END
 abbrev pub object_in : List ℕ → Context → List Statement → Object
