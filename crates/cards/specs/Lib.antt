@@ -1,7 +1,7 @@
-pub mod Befores
 pub mod CardReads
 pub mod Columns
 pub mod Spans
-pub mod FieldParts
+pub mod Befores
 pub mod ItemLengths
+pub mod FieldParts
 pub mod Readings

@@ -2,14 +2,19 @@
 //! Nothing here knows an operation but DIS, or a symbol.
 #![tactic(auto)]
 
+// Cards, and the names of decks.
 mod card;
-mod card_fields;
-mod counted_items;
 mod deck_name;
-mod field_parts;
-mod statement_fields;
+
+// Which cards are one statement, and its text.
 mod statement_list;
 mod statement_room;
+
+// The three fields of a statement.
+mod card_fields;
+mod counted_items;
+mod field_parts;
+mod statement_fields;
 mod variable_fields;
 
 pub use card::{Card, CardFault};

@@ -2,12 +2,15 @@
 //! and shelves of such files. Nothing here knows what a card means.
 #![tactic(auto)]
 
+// One file.
 mod card_line;
-mod deck_shelf;
 mod load_fault;
 mod loading;
-mod memory_shelf;
 mod saving;
+
+// Shelves of files.
+mod deck_shelf;
+mod memory_shelf;
 
 pub use deck_shelf::{Shelf, ShelfLoadFault, ShelfSaveFault};
 pub use load_fault::LoadFault;

@@ -1,8 +1,11 @@
 //! What a program and its definitions name alike: letters, kinds of decks, number bases.
 #![tactic(auto)]
 
-mod laws;
+// What code and definitions name alike.
 mod marks;
+
+// The laws.
+mod laws;
 mod state_laws;
 
 pub use laws::{

@@ -2,18 +2,25 @@
 //! image.
 #![tactic(auto)]
 
-mod asm_fault;
-mod coder;
-mod cpu_opcodes;
+// From bytes to decks.
 mod deck;
 mod deck_cut;
 mod deck_input;
-mod deck_linker;
-mod deck_listing;
+
+// From cards to words, in the first, plain form.
+mod coder;
+mod cpu_opcodes;
 mod expr_forms;
 mod letter_sets;
-mod output_text;
 mod parcel_packer;
+
+// The texts.
+mod deck_linker;
+mod deck_listing;
+mod output_text;
+
+// A run.
+mod asm_fault;
 mod running;
 
 pub use asm_fault::AsmFault;

@@ -3,14 +3,19 @@
 //! memory.
 #![tactic(auto)]
 
-mod call_count;
+// Characters and numbers.
 mod characters;
+mod octal_text;
+
+// Ports, and what goes in and out.
 mod counted;
+mod lines;
+mod writing;
+
+// Ports over memory that fail on purpose.
+mod call_count;
 mod faulty_reader;
 mod faulty_writer;
-mod lines;
-mod octal_text;
-mod writing;
 
 pub use characters::{char_of, display_of, has_display_code};
 pub use counted::Counted;
