@@ -1,1 +1,11 @@
+pub mod ScaleLaws
+pub mod PieceLaws
+pub mod ElementLaws
+pub mod LinkLaws
+pub mod ParseLaws
+pub mod NameLaws
+pub mod ItemLaws
+pub mod RangeLaws
+pub mod RunningLaws
+pub mod ValueLaws
 pub mod CodedLaws

@@ -1,1 +1,12 @@
+pub mod Numbers
+pub mod Registers
+pub mod PiecesFound
+pub mod Elements
+pub mod Links
+pub mod Parsed
+pub mod NamesInline
+pub mod FormsAs
+pub mod Ranges
+pub mod Running
+pub mod Walks
 pub mod CodedItems

@@ -1,0 +1,100 @@
+-- The pairs of a text by the pieces that begin it.
+use Rattle.std.proofs.Common.{◌≡◌, ◌≢◌, ℕ, List, [], ◌∷◌, ◌++◌, Bool, true, false, if◌then◌else◌, ◌==◌, Option, Some, None, refl, sym, ◌∙◌, ap, ap₂, subst, arith, suc, length, codes, ◌&&◌, eq-eqb, ne_eqb}
+use Rattle.std.specs.Prelude.{slice_index}
+use Rattle.std.proofs.Math.Bool.{and-false}
+use Rattle.definitions.specs.Characters.{same_text}
+use Rattle.definitions.specs.CountedItems.{CountedSpan, counted_item_at}
+use Rattle.definitions.specs.Pieces.{Mark, Plus, Minus, Star, Equals, Spot, AtStart, AtEquals, Inside, Begun, ByMark, Piece, IsMark, IsCountedItem, Plain, mark_of, begun_by, begun_by_counted_item, spot_behind, left_of, onto_pieces, pieces_at, pieces_of}
+use Rattle.definitions.specs.Symbols.{number_read}
+use Rattle.definitions.specs.Expressions.{Sign, PlusSign, MinusSign, Element, LocationCounter, OriginCounter, Operator, OperatorElement, AnOperator, ElementOf, counter_of, literal_of, onto_pairs, pairs_of}
+use Rattle.definitions.specs.declared.marks.NumberBase.{NumberBase}
+use Rattle.definitions.proofs.GrammarLaws.{EndsElement, pairs_of-star}
+use Rattle.expr_forms.specs.Elements.{ends_element, signed_literal}
+use Rattle.expr_forms.specs.PiecesFound.{piece_as, spot_behind_piece}
+use Rattle.expr_forms.specs.declared.pieces.Piece as codes
+
+-- pieces that begin with this one
+abbrev pub with_piece : codes.Piece → List ℕ → List Piece
+with_piece piece rest = piece_as piece ∷ pieces_at (spot_behind_piece (piece_as piece)) 0 rest
+
+-- a piece that is known
+pub found_is : (pieces : List Piece) (found piece : codes.Piece) (rest : List ℕ) → pieces ≡ with_piece found rest → found ≡ piece → pieces ≡ with_piece piece rest
+found_is pieces found piece rest e same = e ∙ ap (λ (p : codes.Piece). with_piece p rest) same
+
+-- where nothing but a mark begins a text, it makes no difference whether an item may begin there
+same_inside : (c : ℕ) (cs : List ℕ) (o : Option CountedSpan) →
+    EndsElement (onto_pieces (begun_by_counted_item c o) (pieces_at (spot_behind (begun_by_counted_item c o)) (left_of (begun_by_counted_item c o)) cs)) →
+    onto_pieces (begun_by_counted_item c o) (pieces_at (spot_behind (begun_by_counted_item c o)) (left_of (begun_by_counted_item c o)) cs) ≡ pieces_at Inside 0 (c ∷ cs)
+same_inside c cs None ends = refl
+same_inside c cs (Some counted) ends = absurd ends
+
+inside_at : (c : ℕ) (cs : List ℕ) (equals : Bool) →
+    EndsElement (let begun = (if equals then ByMark Equals else begun_by_counted_item c (counted_item_at (c ∷ cs))) in onto_pieces begun (pieces_at (spot_behind begun) (left_of begun) cs)) →
+    (let begun = (if equals then ByMark Equals else begun_by_counted_item c (counted_item_at (c ∷ cs))) in onto_pieces begun (pieces_at (spot_behind begun) (left_of begun) cs)) ≡ pieces_at Inside 0 (c ∷ cs)
+inside_at c cs true ends = absurd ends
+inside_at c cs false ends = same_inside c cs (counted_item_at (c ∷ cs)) ends
+
+pub inside-start : (text : List ℕ) → EndsElement (pieces_of text) → pieces_of text ≡ pieces_at Inside 0 text
+inside-start [] ends = refl
+inside-start (c ∷ cs) ends = inside_at c cs (c == 61) ends
+
+-- a star with nothing but an operator behind it
+pub star-alone : (base : NumberBase) (o : Operator) (text : List ℕ) (pieces : List Piece) → pieces_of text ≡ pieces → EndsElement pieces →
+    pairs_of base (ElementOf o) (IsMark Star ∷ pieces_of text) ≡ onto_pairs o (Some LocationCounter) (pairs_of base AnOperator (pieces_at Inside 0 text))
+star-alone base o text pieces e ends =
+    let here : EndsElement (pieces_of text) = subst EndsElement (sym e) ends in
+    pairs_of-star base o (pieces_of text) here ∙ ap (λ (p : List Piece). onto_pairs o (Some LocationCounter) (pairs_of base AnOperator p)) (inside-start text here)
+
+-- each mark but an equals sign ends an element
+pub mark-ends : (mark : Mark) (pieces : List Piece) → ends_element mark ≡ true → EndsElement (IsMark mark ∷ pieces)
+mark-ends Equals pieces e = cc
+mark-ends mark pieces e = tt
+
+-- a star in front of an equals sign is no element
+pub star-equals : (base : NumberBase) (o : Operator) (mark : Mark) (pieces : List Piece) → ends_element mark ≡ false →
+    pairs_of base (ElementOf o) (IsMark Star ∷ IsMark mark ∷ pieces) ≡ None
+star-equals base o Equals pieces e = refl
+star-equals base o mark pieces e = cc
+
+-- a run of one character
+pub one_of : (run : List ℕ) → length run ≡ 1 → run ≡ slice_index run 0 ∷ []
+one_of [] e = absurd (omega arith)
+one_of (c ∷ []) e = refl
+one_of (c ∷ d ∷ cs) e = let e' : suc (suc (length cs)) ≡ 1 = e in absurd (omega arith)
+
+-- O behind a star
+pub counter-O : (run : List ℕ) (c : ℕ) → run ≡ c ∷ [] → c ≡ 79 → counter_of run ≡ Some OriginCounter
+counter-O run c e is = ap counter_of e ∙ ap (λ (t : Bool). if t && true then Some OriginCounter else if same_text (c ∷ []) (codes "L") then Some LocationCounter else None) (eq-eqb c 79 is)
+
+-- L behind a star
+pub counter-L : (run : List ℕ) (c : ℕ) → run ≡ c ∷ [] → c ≡ 76 → counter_of run ≡ Some LocationCounter
+counter-L run c e is = ap counter_of (e ∙ ap (λ (d : ℕ). d ∷ []) is)
+
+-- another character
+pub counter-other : (run : List ℕ) (c : ℕ) → run ≡ c ∷ [] → c ≢ 79 → c ≢ 76 → counter_of run ≡ None
+counter-other run c e other last =
+    ap counter_of e
+    ∙ ap₂ (λ (t u : Bool). if t && true then Some OriginCounter else if u && true then Some LocationCounter else None) (ne_eqb c 79 other) (ne_eqb c 76 last)
+
+-- no run of another length is a counter
+pub counter-length : (run : List ℕ) → length run ≢ 1 → counter_of run ≡ None
+counter-length [] other = refl
+counter-length (c ∷ []) other = absurd (other refl)
+counter-length (c ∷ d ∷ cs) other =
+    ap₂ (λ (t u : Bool). if t then Some OriginCounter else if u then Some LocationCounter else None) (and-false (c == 79)) (and-false (c == 76))
+
+-- a literal with a plus
+pub literal-plus : (base : NumberBase) (o : Operator) (pieces : List Piece) →
+    pairs_of base (ElementOf o) (IsMark Equals ∷ IsMark Plus ∷ pieces) ≡ signed_literal base o PlusSign pieces
+literal-plus base o [] = refl
+literal-plus base o (Plain text ∷ pieces) = refl
+literal-plus base o (IsMark mark ∷ pieces) = refl
+literal-plus base o (IsCountedItem item ∷ pieces) = refl
+
+-- a literal with a minus
+pub literal-minus : (base : NumberBase) (o : Operator) (pieces : List Piece) →
+    pairs_of base (ElementOf o) (IsMark Equals ∷ IsMark Minus ∷ pieces) ≡ signed_literal base o MinusSign pieces
+literal-minus base o [] = refl
+literal-minus base o (Plain text ∷ pieces) = refl
+literal-minus base o (IsMark mark ∷ pieces) = refl
+literal-minus base o (IsCountedItem item ∷ pieces) = refl

@@ -1,0 +1,173 @@
+-- An expression by its sign, its first element and what is behind it.
+use Rattle.std.proofs.Common.{◌≡◌, ◌≢◌, ℕ, ◌+◌, ◌*◌, ◌≤◌, inl, inr, List, [], ◌∷◌, ◌++◌, length, Bool, true, false, ◌==◌, if◌then◌else◌, Option, Some, None, refl, sym, ◌∙◌, ap, subst, arith, length-append, zero, suc, ne_eqb}
+use Rattle.std.specs.Prelude.{is_some, unwrap_or}
+use Rattle.std.proofs.lemmas.Bool.Decides.{eqb_tells}
+use Rattle.definitions.specs.CountedItems.{CountedSpan, counted_item_at}
+use Rattle.definitions.specs.Pieces.{Mark, Comma, Plus, Minus, Star, Slash, Equals, Spot, AtStart, Inside, Begun, ByMark, ByCountedItem, ByOther, Piece, IsMark, IsCountedItem, Plain, mark_of, begun_by, begun_by_counted_item, begun_at, spot_behind, left_of, onto_plain, onto_pieces, pieces_at, pieces_of}
+use Rattle.definitions.specs.Expressions.{Sign, NoSign, PlusSign, MinusSign, Literal, OfNumber, OfCountedItem, Element, ANumber, ACountedItem, ASymbol, ARegister, LocationCounter, OriginCounter, ALiteral, Operator, Add, Subtract, OperatorElement, Expression, AnOperator, ElementOf, onto_pairs, pairs_of, Grouped, grouped, with_sign, expression_of}
+use Rattle.definitions.specs.Grammar.{sign_pieces, IsElement, operator_of}
+use Rattle.definitions.specs.declared.marks.NumberBase.{NumberBase}
+use Rattle.definitions.proofs.GrammarLaws.{link_of, AreLinks, pairs_of-read}
+use Rattle.definitions.proofs.TermLaws.{links_in, term_of, grouped_as, IsGrouping, grouped-groups, onto_grouped-term}
+use Rattle.definitions.proofs.ExpressionLaws.{operator_of-joins}
+use Rattle.expr_forms.specs.Links.{pairs_behind, links_behind, links_left, IsLawful}
+use Rattle.expr_forms.specs.declared.links.Link.{Link}
+use Rattle.expr_forms.specs.Parsed.{expression_behind}
+
+-- a plus in front
+pub signed-plus : (base : NumberBase) (text body : List ℕ) (c : ℕ) → text ≡ c ∷ body → c ≡ 43 →
+    expression_of base (pieces_of text) ≡ with_sign PlusSign (pairs_of base (ElementOf Add) (pieces_of body))
+signed-plus base text body c t e = ap (λ (s : List ℕ). expression_of base (pieces_of s)) (t ∙ ap (λ (d : ℕ). d ∷ body) e)
+
+-- a minus in front
+pub signed-minus : (base : NumberBase) (text body : List ℕ) (c : ℕ) → text ≡ c ∷ body → c ≡ 45 →
+    expression_of base (pieces_of text) ≡ with_sign MinusSign (pairs_of base (ElementOf Subtract) (pieces_of body))
+signed-minus base text body c t e = ap (λ (s : List ℕ). expression_of base (pieces_of s)) (t ∙ ap (λ (d : ℕ). d ∷ body) e)
+
+-- pieces that are read without a sign
+abbrev Unsigned : NumberBase → List Piece → Type 0
+Unsigned base pieces = expression_of base pieces ≡ with_sign NoSign (pairs_of base (ElementOf Add) pieces)
+
+unsigned-run : (base : NumberBase) (c : ℕ) (pieces : List Piece) → Unsigned base (onto_plain c pieces)
+unsigned-run base c [] = refl
+unsigned-run base c (Plain text ∷ pieces) = refl
+unsigned-run base c (IsMark mark ∷ pieces) = refl
+unsigned-run base c (IsCountedItem item ∷ pieces) = refl
+
+-- the pieces that begin with what began
+abbrev pieces_begun : Begun → List ℕ → List Piece
+pieces_begun begun cs = onto_pieces begun (pieces_at (spot_behind begun) (left_of begun) cs)
+
+abbrev mark_by : Bool → Bool → Bool → Bool → Bool → Option Mark
+mark_by comma plus minus star slash =
+    if comma then Some Comma else if plus then Some Plus else if minus then Some Minus
+    else if star then Some Star else if slash then Some Slash else None
+
+unsigned-mark : (base : NumberBase) (c : ℕ) (cs : List ℕ) (comma star slash : Bool) → Unsigned base (pieces_begun (begun_by c (mark_by comma false false star slash)) cs)
+unsigned-mark base c cs true star slash = refl
+unsigned-mark base c cs false true slash = refl
+unsigned-mark base c cs false false true = refl
+unsigned-mark base c cs false false false = unsigned-run base c (pieces_at Inside 0 cs)
+
+unsigned-plain : (base : NumberBase) (c : ℕ) (cs : List ℕ) (plus minus : Bool) → (c == 43) ≡ plus → (c == 45) ≡ minus → plus ≡ false → minus ≡ false →
+    Unsigned base (pieces_begun (begun_by c (mark_of c)) cs)
+unsigned-plain base c cs plus minus p m np nm =
+    let e : mark_of c ≡ mark_by (c == 44) false false (c == 42) (c == 47) = ap (λ (t : Bool). mark_by (c == 44) t (c == 45) (c == 42) (c == 47)) (p ∙ np) ∙ ap (λ (t : Bool). mark_by (c == 44) false t (c == 42) (c == 47)) (m ∙ nm) in
+    let P : Option Mark → Type 0 = λ o. Unsigned base (pieces_begun (begun_by c o) cs) in
+    subst P (sym e) (unsigned-mark base c cs (c == 44) (c == 42) (c == 47))
+
+unsigned-item : (base : NumberBase) (c : ℕ) (cs : List ℕ) (o : Option CountedSpan) → (c == 43) ≡ false → (c == 45) ≡ false →
+    Unsigned base (pieces_begun (begun_by_counted_item c o) cs)
+unsigned-item base c cs None p m = unsigned-plain base c cs false false p m refl refl
+unsigned-item base c cs (Some counted) p m = refl
+
+unsigned-equals : (base : NumberBase) (c : ℕ) (cs : List ℕ) (equals : Bool) → (c == 43) ≡ false → (c == 45) ≡ false →
+    Unsigned base (pieces_begun (if equals then ByMark Equals else begun_by_counted_item c (counted_item_at (c ∷ cs))) cs)
+unsigned-equals base c cs true p m = refl
+unsigned-equals base c cs false p m = unsigned-item base c cs (counted_item_at (c ∷ cs)) p m
+
+-- no sign in front
+pub signed-other : (base : NumberBase) (text body : List ℕ) (c : ℕ) → text ≡ c ∷ body → c ≢ 43 → c ≢ 45 →
+    expression_of base (pieces_of text) ≡ with_sign NoSign (pairs_of base (ElementOf Add) (pieces_of text))
+signed-other base text body c t p m =
+    let P : List ℕ → Type 0 = λ s. Unsigned base (pieces_of s) in
+    subst P (sym t) (unsigned-equals base c body (c == 61) (ne_eqb c 43 p) (ne_eqb c 45 m))
+
+-- nothing at all
+pub signed-nothing : (base : NumberBase) (text : List ℕ) → text ≡ [] →
+    expression_of base (pieces_of text) ≡ with_sign NoSign (pairs_of base (ElementOf Add) (pieces_of text))
+signed-nothing base text t = let P : List ℕ → Type 0 = λ s. Unsigned base (pieces_of s) in subst P (sym t) refl
+
+-- lawful links behind an element make an expression
+pub parsed : (base : NumberBase) (sign : Sign) (element : Element) (rest : List ℕ) (x : Option (List OperatorElement)) → is_some x ≡ true →
+    with_sign sign (onto_pairs (operator_of sign) (Some element) x)
+    ≡ Some (record { sign = sign; terms = (grouped (link_of (operator_of sign) element ∷ unwrap_or x [])).terms })
+parsed base sign element rest None e = cc
+parsed base sign element rest (Some pairs) e = refl
+
+-- what is behind an element and is not lawful makes none
+pub refused : (sign : Sign) (element : Element) (x : Option (List OperatorElement)) → is_some x ≡ false →
+    with_sign sign (onto_pairs (operator_of sign) (Some element) x) ≡ None
+refused sign element None e = refl
+refused sign element (Some pairs) e = cc
+
+-- a link more changes nothing of whether the others are lawful
+pub is_some-onto_pairs : (o : Operator) (element : Element) (x : Option (List OperatorElement)) → is_some (onto_pairs o (Some element) x) ≡ is_some x
+is_some-onto_pairs o element None = refl
+is_some-onto_pairs o element (Some pairs) = refl
+
+-- a link in front of lawful ones
+pub unwrap-onto_pairs : (o : Operator) (element : Element) (x y : Option (List OperatorElement)) → x ≡ onto_pairs o (Some element) y → is_some x ≡ true →
+    unwrap_or x [] ≡ link_of o element ∷ unwrap_or y []
+unwrap-onto_pairs o element x None e lawful = let none : is_some x ≡ false = ap is_some e in cc
+unwrap-onto_pairs o element x (Some pairs) e lawful = ap (λ (z : Option (List OperatorElement)). unwrap_or z []) e
+
+-- behind a first link that is taken, the next one comes from the text
+pub links_left-next : (base : NumberBase) (first : Option Link) (rest behind : List ℕ) (o : Operator) (element : Element) → first ≡ None →
+    pairs_behind base rest ≡ onto_pairs o (Some element) (pairs_behind base behind) → IsLawful base rest →
+    links_left base first rest ≡ link_of o element ∷ links_left base first behind
+links_left-next base None rest behind o element taken e lawful = unwrap-onto_pairs o element (pairs_behind base rest) (pairs_behind base behind) e lawful
+links_left-next base (Some link) rest behind o element taken e lawful = cc
+
+-- what is behind a lawful link is lawful
+pub lawful-onto_pairs : (o : Operator) (element : Element) (x y : Option (List OperatorElement)) → x ≡ onto_pairs o (Some element) y → is_some x ≡ true → is_some y ≡ true
+lawful-onto_pairs o element x y e lawful = sym (is_some-onto_pairs o element y) ∙ (sym (ap is_some e) ∙ lawful)
+
+-- an expression's links are its first one and those behind
+pub links_in-behind : (sign : Sign) (element : Element) (more : List OperatorElement) →
+    links_in (grouped (link_of (operator_of sign) element ∷ more)).terms ≡ link_of (operator_of sign) element ∷ more
+links_in-behind sign element more =
+    let o : Operator = operator_of sign in
+    let first = onto_grouped-term element o (grouped more) (operator_of-joins sign) in
+    let made : IsGrouping (grouped more) more = grouped-groups more in
+    ap (λ (g : Grouped). links_in g.terms) first ∙ ap (λ (l : List OperatorElement). link_of o element ∷ l) (sym made.2)
+
+-- an element has at least one piece
+IsElement-some : (base : NumberBase) (element : Element) (pieces : List Piece) → IsElement base element pieces → 1 ≤ length pieces
+IsElement-some base (ANumber number) pieces (text, run, spelt) = omega (arith, ap length spelt)
+IsElement-some base (ACountedItem item) pieces spelt = omega (arith, ap length spelt)
+IsElement-some base (ASymbol name) pieces (text, run, spelt) = omega (arith, ap length spelt)
+IsElement-some base (ARegister register) pieces (text, r, spelt) = omega (arith, ap length spelt)
+IsElement-some base LocationCounter pieces (inl spelt) = omega (arith, ap length spelt)
+IsElement-some base LocationCounter pieces (inr spelt) = omega (arith, ap length spelt)
+IsElement-some base OriginCounter pieces spelt = omega (arith, ap length spelt)
+IsElement-some base (ALiteral (OfNumber sign number)) pieces (text, n, spelt) = omega (arith, ap length spelt)
+IsElement-some base (ALiteral (OfCountedItem item)) pieces spelt = omega (arith, ap length spelt)
+
+-- each link takes two pieces at least
+AreLinks-few : (base : NumberBase) (pairs : List OperatorElement) (pieces : List Piece) → AreLinks base pairs pieces → 2 * length pairs ≤ length pieces
+AreLinks-few base [] pieces none = omega arith
+AreLinks-few base (pair ∷ pairs) pieces (front, rest, spelt, is, are) =
+    let some : 1 ≤ length front = IsElement-some base pair.element front is in
+    let others : 2 * length pairs ≤ length rest = AreLinks-few base pairs rest are in
+    omega (arith, ap length spelt, length-append front rest)
+
+-- a run that goes on is no piece more
+length-onto_plain : (c : ℕ) (pieces : List Piece) → length (onto_plain c pieces) ≤ length pieces + 1
+length-onto_plain c [] = omega arith
+length-onto_plain c (Plain text ∷ pieces) = omega arith
+length-onto_plain c (IsMark mark ∷ pieces) = omega arith
+length-onto_plain c (IsCountedItem item ∷ pieces) = omega arith
+
+length-onto_pieces : (begun : Begun) (pieces : List Piece) → length (onto_pieces begun pieces) ≤ length pieces + 1
+length-onto_pieces (ByMark mark) pieces = omega arith
+length-onto_pieces (ByCountedItem counted) pieces = omega arith
+length-onto_pieces (ByOther c) pieces = length-onto_plain c pieces
+
+-- each piece has a character at least
+pub length-pieces_at : (spot : Spot) (left : ℕ) (text : List ℕ) → length (pieces_at spot left text) ≤ length text
+length-pieces_at spot left [] = omega arith
+length-pieces_at spot (suc left) (c ∷ cs) = omega (arith, length-pieces_at spot left cs)
+length-pieces_at spot zero (c ∷ cs) =
+    let begun : Begun = begun_at spot c cs in
+    omega (arith, length-onto_pieces begun (pieces_at (spot_behind begun) (left_of begun) cs), length-pieces_at (spot_behind begun) (left_of begun) cs)
+
+few_by : (base : NumberBase) (rest : List ℕ) (x : Option (List OperatorElement)) → pairs_behind base rest ≡ x → 2 * length (unwrap_or x []) ≤ length rest
+few_by base rest None e = omega arith
+few_by base rest (Some pairs) e =
+    let are : 2 * length pairs ≤ length (pieces_at Inside 0 rest) = AreLinks-few base pairs (pieces_at Inside 0 rest) (pairs_of-read base AnOperator (pieces_at Inside 0 rest) pairs e) in
+    omega (arith, length-pieces_at Inside 0 rest)
+
+-- links take two characters each at least
+pub links_behind-few : (base : NumberBase) (rest : List ℕ) → 2 * length (links_behind base rest) ≤ length rest
+links_behind-few base rest = few_by base rest (pairs_behind base rest) refl

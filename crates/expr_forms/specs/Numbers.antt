@@ -1,0 +1,17 @@
+-- Numbers of the code, in the words of the definitions.
+use Rattle.std.specs.Prelude.{ℕ}
+use Rattle.definitions.specs.Symbols.{Number, Value, TooGreat}
+use Rattle.definitions.specs.declared.marks.NumberBase.{NumberBase}
+use Rattle.definitions.specs.declared.marks.NumberBase.TheVariants.{Decimal, Octal}
+use Rattle.expr_forms.specs.declared.numbers.Number as code
+use Rattle.expr_forms.specs.declared.numbers.Number.TheVariants as number
+
+-- the number
+abbrev pub number_as : code.Number → Number
+number_as (number.Value size) = Value size.value
+number_as number.TooGreat = TooGreat
+
+-- ten or eight
+abbrev pub radix : NumberBase → ℕ
+radix Decimal = 10
+radix Octal = 8

@@ -1,0 +1,44 @@
+-- The pieces that were found in a text, in the words of the definitions.
+use Rattle.std.specs.Prelude.{ℕ, List, [], ◌∷◌, Option, Some, None}
+use Rattle.definitions.specs.CountedItems.{CountedItem, CountedSpan}
+use Rattle.definitions.specs.Pieces.{Mark, Comma, Plus, Minus, Star, Slash, Equals, Piece, IsMark, IsCountedItem, Plain, Spot, Inside, ByMark, spot_behind, pieces_at}
+use Rattle.expr_forms.specs.declared.pieces.Mark as marks
+use Rattle.expr_forms.specs.declared.pieces.Mark.TheVariants as mark
+use Rattle.expr_forms.specs.declared.pieces.ItemText as items
+use Rattle.expr_forms.specs.declared.pieces.ItemSpan as spans
+use Rattle.expr_forms.specs.declared.pieces.Piece as pieces
+use Rattle.expr_forms.specs.declared.pieces.Piece.TheVariants as piece
+use Rattle.expr_forms.specs.declared.pieces.PieceFound as found
+
+-- the mark
+abbrev pub mark_as : marks.Mark → Mark
+mark_as mark.Comma = Comma
+mark_as mark.Plus = Plus
+mark_as mark.Minus = Minus
+mark_as mark.Star = Star
+mark_as mark.Slash = Slash
+mark_as mark.Equals = Equals
+
+-- the item
+abbrev pub item_as : items.ItemText → CountedItem
+item_as item = record { letter = item.letter; characters = item.characters.now }
+
+-- the item and how many characters it takes
+abbrev pub span_as : spans.ItemSpan → CountedSpan
+span_as span = record { item = item_as span.item; taken = span.taken }
+
+-- the piece
+abbrev pub piece_as : pieces.Piece → Piece
+piece_as (piece.Mark mark) = IsMark (mark_as mark)
+piece_as (piece.Item item) = IsCountedItem (item_as item)
+piece_as (piece.Run text) = Plain text.now
+
+-- where in a field one stands behind a piece
+abbrev pub spot_behind_piece : Piece → Spot
+spot_behind_piece (IsMark mark) = spot_behind (ByMark mark)
+spot_behind_piece piece = Inside
+
+-- a piece and the pieces behind it; no piece where none was found
+abbrev pub pieces_found : Option found.PieceFound → List Piece
+pieces_found None = []
+pieces_found (Some found) = piece_as found.piece ∷ pieces_at (spot_behind_piece (piece_as found.piece)) 0 found.rest.now

@@ -1,0 +1,46 @@
+//! The classes of characters that expressions tell apart.
+ghost use Rattle.std.specs.Prelude.{◌≡◌, ◌≤◌, length, codes};
+ghost use Rattle.std.specs.List.{prefix_len};
+ghost use Rattle.definitions.specs.Characters.{is_digit, is_letter, is_among, is_symbol_character};
+
+/// 0 to 9.
+pub(crate) fn is_digit(c: u8) -> bool
+    ensures { result ≡ is_digit c }
+{
+    b'0' <= c && c <= b'9'
+}
+
+fn is_letter(c: u8) -> bool
+    ensures { result ≡ is_letter c }
+{
+    b'A' <= c && c <= b'Z'
+}
+
+/// The marks that a symbol may have, beside letters and digits.
+fn is_symbol_mark(c: u8) -> bool
+    ensures { result ≡ is_among c (codes ".$=#[]%\"_!&'?<>@\\") }
+{
+    matches!(
+        c,
+        b'.' | b'$' | b'=' | b'#' | b'[' | b']' | b'%' | b'"' | b'_' | b'!' | b'&' | b'\'' | b'?' | b'<' | b'>' | b'@' | b'\\'
+    )
+}
+
+pub(crate) fn is_symbol_character(c: u8) -> bool
+    ensures { result ≡ is_symbol_character c }
+{
+    is_letter(c) || is_digit(c) || is_symbol_mark(c)
+}
+
+/// How many digits begin a text.
+pub(crate) fn digit_count(text: &[u8]) -> usize
+    ensures count { result ≡ prefix_len is_digit text.now }
+    ensures within { result ≤ length text.now }
+{
+    for (i, c) in text.iter().enumerate() {
+        if !is_digit(*c) {
+            return i;
+        }
+    }
+    text.len()
+}

@@ -1,0 +1,156 @@
+//! One expression: a subfield's text that was read once, and its elements from left to right
+//! (COMPASS 60492600, address expressions).
+ghost use Rattle.std.specs.Prelude.{◌≡◌, ◌≤◌, ◌<◌, ◌∷◌, [], length, is_some, MatchOption, MatchResult, Some, None};
+ghost use Rattle.definitions.specs.Pieces.{Inside, pieces_at, pieces_of};
+ghost use Rattle.definitions.specs.Expressions.{ElementOf, AnOperator, pairs_of, grouped, with_sign, expression_of};
+ghost use Rattle.definitions.specs.Grammar.{operator_of};
+ghost use Rattle.definitions.specs.declared.marks.NumberBase.{NumberBase};
+ghost use Rattle.definitions.proofs.GrammarLaws.{link_of};
+ghost use Rattle.expr_forms.specs.Elements.{sign_as, element_as};
+ghost use Rattle.expr_forms.specs.Links.{link_as};
+ghost use Rattle.expr_forms.specs.Parsed.{links_of, BeginsTerm};
+
+use crate::elements::{Element, Sign, next_element};
+use crate::links::{Link, LinkFound, Links, Operator, next_link};
+use definitions::{Letter, NumberBase};
+use std::marker::Model;
+
+/// An expression without registers or with them, not longer than a statement. It keeps its text,
+/// which is known to be lawful. Contracts see the definitions' expression.
+#[derive(Drop)]
+pub struct Expr<'a> {
+    base: NumberBase,
+    sign: Sign,
+    first: Element<'a>,
+    rest: &'a [u8],
+}
+
+impl<'a> Model for Expr<'a> {
+    ghost use Rattle.std.specs.Prelude.{◌≤◌, length};
+    ghost use Rattle.definitions.specs.Expressions.{Expression};
+
+    ghost Value = { Expression };
+
+    ghost use Rattle.expr_forms.specs.Elements.{sign_as, element_as};
+    ghost use Rattle.expr_forms.specs.Parsed.{expression_behind, AreLawful};
+
+    ghost view = {
+        λ e. expression_behind e.base (sign_as e.sign) (element_as e.first) e.rest.now
+    };
+
+    ghost invariant = { λ e. AreLawful e.base e.rest.now };
+}
+
+/// The sign that begins a text, and what follows it.
+#[derive(Clone, Copy)]
+struct Signed<'a> {
+    sign: Sign,
+    body: &'a [u8],
+}
+
+fn sign_in_front(text: &[u8]) -> Signed<'_>
+    ensures expression { (base : NumberBase) →
+        expression_of base (pieces_of text.now)
+        ≡ with_sign (sign_as result.sign) (pairs_of base (ElementOf (operator_of (sign_as result.sign))) (pieces_of result.body.now)) }
+    ensures within { length result.body.now ≤ length text.now }
+{
+    match text.split_first() {
+        None => Signed {
+            sign: Sign::Absent,
+            body: text,
+        },
+        Some((c, body)) => {
+            if *c == b'+' {
+                return Signed {
+                    sign: Sign::Plus,
+                    body,
+                };
+            }
+            if *c == b'-' {
+                return Signed {
+                    sign: Sign::Minus,
+                    body,
+                };
+            }
+            Signed {
+                sign: Sign::Absent,
+                body: text,
+            }
+        }
+    }
+}
+
+/// Whether a text behind an element is links and nothing else.
+fn are_links(base: NumberBase, text: &[u8]) -> bool
+    ensures { result ≡ is_some (pairs_of base AnOperator (pieces_at Inside 0 text.now)) }
+{
+    let mut rest = text;
+    'links: loop {
+        match next_link(base, rest) {
+            LinkFound::End => return true,
+            LinkFound::Unlawful => return false,
+            LinkFound::Link(_, behind) => rest = behind,
+        }
+    }
+}
+
+/// The first element of an expression, behind the operator that its sign is.
+fn first_link(sign: Sign, element: Element<'_>) -> Link<'_>
+    ensures { link_as result ≡ link_of (operator_of (sign_as sign)) (element_as element.entry) }
+{
+    match sign {
+        Sign::Absent => Link {
+            operator: Operator::Add,
+            element,
+        },
+        Sign::Plus => Link {
+            operator: Operator::Add,
+            element,
+        },
+        Sign::Minus => Link {
+            operator: Operator::Subtract,
+            element,
+        },
+    }
+}
+
+impl<'a> Expr<'a> {
+    /// The expression that a text of at most 711 characters spells in this number base: V where it
+    /// spells none.
+    pub fn parse(text: &'a [u8], base: NumberBase) -> Result<Expr<'a>, Letter>
+        requires { length text.now ≤ 711 }
+        ensures {
+            MatchResult result
+                (λ e. expression_of base (pieces_of text.now) ≡ Some e)
+                (λ letter. (letter ≡ Letter.V) × (expression_of base (pieces_of text.now) ≡ None))
+        }
+    {
+        let signed = sign_in_front(text);
+        match next_element(base, signed.body) {
+            None => Err(Letter::V),
+            Some(found) => {
+                if are_links(base, found.rest) {
+                    Ok(Expr {
+                        base,
+                        sign: signed.sign,
+                        first: found.element,
+                        rest: found.rest,
+                    })
+                } else {
+                    Err(Letter::V)
+                }
+            }
+        }
+    }
+
+    /// Its elements from left to right, each with the operator before it; that of the first is plus
+    /// or minus, by the sign.
+    pub fn links(&self) -> Links<'a>
+        ensures links { result ≡ links_of self.now }
+        ensures grouped { (grouped result).terms ≡ self.now.terms }
+        ensures few { length result ≤ 356 }
+        ensures begins { BeginsTerm result }
+    {
+        Links::new(self.base, first_link(self.sign, self.first), self.rest)
+    }
+}
