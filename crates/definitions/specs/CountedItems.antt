@@ -1,4 +1,4 @@
--- CountedSpan items (COMPASS 60492600, data items): a count, one of H A L R C, and that many characters.
+-- Counted items (COMPASS 60492600, data items): a count, one of H A L R C, and that many characters.
 use Rattle.std.specs.Prelude.{ℕ, ◌+◌, ◌*◌, ◌==◌, List, [], ◌∷◌, Option, Some, None, ◌&&◌, nat_le, length, take, drop, codes, take_while, if◌then◌else◌}
 use Rattle.definitions.specs.Characters.{is_digit, is_among}
 use Rattle.definitions.specs.Numerals.{number_of}

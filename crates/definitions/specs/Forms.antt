@@ -8,7 +8,7 @@ use Rattle.definitions.specs.Expressions.{Literal, Element, ANumber, ACountedIte
 use Rattle.definitions.specs.declared.marks.Letter.{Letter}
 use Rattle.definitions.specs.declared.marks.Letter.TheVariants as letter
 
--- what is known at the pair alone: where a block stands, what an external is; the literals block is `=`
+-- what is known at the link alone: where a block stands, what an external is; the literals block is `=`
 pub data Relocation : Type 0 where
   Block : List ℕ → Relocation
   External : List ℕ → Relocation

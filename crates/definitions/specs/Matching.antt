@@ -7,7 +7,7 @@ use Rattle.definitions.specs.Expressions.{Expression, Sign, PlusSign, Term, Oper
 use Rattle.definitions.specs.CentralTable.{Row, SumRow, central_rows, ignoring_rows, sum_rows}
 use Rattle.definitions.specs.declared.marks.NumberBase.{NumberBase}
 
--- the digits of the ijk i, j and k
+-- the digits of i, j and k
 pub record RegisterDigits : Type 0 where
   pub i : ℕ
   pub j : ℕ
@@ -44,7 +44,7 @@ with_ijk c digit ijk =
 abbrev pub is_octal_digit : ℕ → Bool
 is_octal_digit c = nat_le zero_digit c && nat_le c (zero_digit + 7)
 
--- a text that is a pattern's but for octal digits at its ijk
+-- a text that is a pattern's but for octal digits at its i, j and k
 abbrev pub matched : List ℕ → List ℕ → RegisterDigits → Option RegisterDigits
 matched [] [] ijk = Some ijk
 matched (p ∷ ps) (c ∷ cs) ijk =

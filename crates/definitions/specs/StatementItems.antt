@@ -21,7 +21,7 @@ use Rattle.definitions.specs.declared.marks.DeckKind.TheVariants.{Rel}
 use Rattle.definitions.specs.declared.marks.Letter.{Letter}
 use Rattle.definitions.specs.declared.marks.Letter.TheVariants as letter
 
--- bits that are known, or a form that the pair makes a number of
+-- bits that are known, or a form that the link makes a number of
 pub data Content : Type 0 where
   Known : ℕ → Content
   Linked : Form → Content
@@ -75,7 +75,7 @@ linked_item width form =
     if is_absolute form then known_if width (coded_in width form.number)
     else if nat_le address_bits width then record { width = width; content = Linked form; letters = [] } else faulty width letter.R
 
--- the field of a value: in REL decks the pair may still have to make it, in others it is a number
+-- the field of a value: in REL decks the link may still have to make it, in others it is a number
 abbrev pub form_item : Context → DeckKind → ℕ → Form → Item
 form_item context Rel width form = linked_item width form
 form_item context kind width form = known_if width (coded_in width (number_in context form))
@@ -85,7 +85,7 @@ abbrev pub value_item : Context → ℕ → Result Form Letter → Item
 value_item context width (Err fault) = faulty width fault
 value_item context width (Ok form) = form_item context context.kind width form
 
--- an expression that is one item term_alone
+-- an expression that is one item alone
 abbrev pub whole_term : Element → Option CountedItem
 whole_term (ACountedItem item) = Some item
 whole_term _ = None
@@ -154,7 +154,7 @@ instruction_items context settled NoField = []
 instruction_items context settled (OfK e) = expression_item context settled address_bits e ∷ []
 instruction_items context settled (OfN e) = count_of (small_value context settled e (whole_counted_item e.sign e.terms)) ∷ []
 
--- d behind m, or 0 where m stands term_alone
+-- d behind m, or 0 where m stands alone
 abbrev pub second_value : Context → Settled → List Expression → Item
 second_value context settled [] = known 6 0
 second_value context settled (d ∷ others) = expression_item context settled 6 d
