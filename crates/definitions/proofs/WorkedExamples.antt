@@ -2,6 +2,20 @@
 use Rattle.std.proofs.Common.{◌≡◌, ℕ, List, [], ◌∷◌, refl, codes}
 use Rattle.definitions.specs.Answer.{answer_of}
 use Rattle.definitions.proofs.WorkedText.{text}
+use Rattle.std.specs.Prelude.{map, Option, Some, None}
+use Rattle.definitions.specs.Statements.{Statement, statements_of}
+use Rattle.definitions.specs.Fields.{fields_of}
+use Rattle.definitions.specs.Pieces.{Plus, Equals, IsMark, Plain, pieces_of, subfields_of}
+use Rattle.definitions.specs.Operations.{Instruction, operation_of}
+use Rattle.definitions.specs.DeckKinds.{kind_of_statements}
+use Rattle.definitions.specs.Matching as M
+use Rattle.definitions.specs.Matching.{central_of}
+use Rattle.definitions.specs.Settled.{Settled}
+use Rattle.definitions.specs.Settling.{settled_all}
+use Rattle.definitions.specs.Literals.{literal_words}
+use Rattle.definitions.specs.Lengths.{block_rows}
+use Rattle.definitions.specs.declared.marks.DeckKind.TheVariants.{Abs}
+use Rattle.definitions.specs.declared.marks.NumberBase.TheVariants.{Decimal}
 
 -- the first deck of the README
 abbrev first : List ℕ
@@ -523,3 +537,47 @@ trace-output = refl
 
 pub trace-status : (answer_of trace).status ≡ 0
 trace-status = refl
+
+-- the steps of the trace in docs/ARCHITECTURE.md, for the card with SA1
+abbrev traced_card : List ℕ
+traced_card = codes "          SA1    X+=5"
+
+-- the statements of the deck, newest first
+abbrev traced_statements : List Statement
+traced_statements = statements_of (codes "          END" ∷ traced_card ∷ codes "X         DATA   7" ∷ codes "          ABS" ∷ codes "          IDENT  T" ∷ [])
+
+-- the same, settled
+abbrev traced_settled : List Settled
+traced_settled = settled_all Abs traced_statements
+
+pub trace-fields : fields_of (traced_card ∷ []) ≡ record { location = []; operation = codes "SA1"; variable = codes "X+=5" }
+trace-fields = refl
+
+pub trace-kind : kind_of_statements traced_statements ≡ Abs
+trace-kind = refl
+
+pub trace-operation : operation_of Abs (codes "SA1") ≡ Instruction
+trace-operation = refl
+
+pub trace-pieces : pieces_of (codes "X+=5") ≡ Plain (codes "X") ∷ IsMark Plus ∷ IsMark Equals ∷ Plain (codes "5") ∷ []
+trace-pieces = refl
+
+-- the digits in front of K, and how many they are
+abbrev digits_found : Option M.Instruction → ℕ × ℕ
+digits_found None = (0, 0)
+digits_found (Some instruction) = (instruction.digits, instruction.count)
+
+pub trace-instruction : digits_found (central_of Decimal (codes "SA1") (subfields_of (pieces_of (codes "X+=5")))) ≡ (0o5110, 4)
+trace-instruction = refl
+
+pub trace-places : map (λ (settled : Settled). settled.place) traced_settled ≡ 6 ∷ 4 ∷ 0 ∷ 0 ∷ 0 ∷ []
+trace-places = refl
+
+pub trace-ends : map (λ (settled : Settled). settled.end) traced_settled ≡ 6 ∷ 6 ∷ 4 ∷ 0 ∷ 0 ∷ []
+trace-ends = refl
+
+pub trace-literals : literal_words traced_settled ≡ 5 ∷ []
+trace-literals = refl
+
+pub trace-rows : block_rows Abs traced_settled ≡ record { name = codes "0"; base = 0; words = 2 } ∷ record { name = codes "="; base = 2; words = 1 } ∷ []
+trace-rows = refl
