@@ -1,0 +1,4 @@
+pub mod OperationLaws
+pub mod CentralLaws
+pub mod DigitLaws
+pub mod RegisterPieceLaws

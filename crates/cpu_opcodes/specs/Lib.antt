@@ -1,0 +1,5 @@
+pub mod OperationNames
+pub mod CodeTexts
+pub mod CentralTables
+pub mod RegistersFound
+pub mod RegisterPieces

@@ -1,0 +1,69 @@
+//! The rows of an operation in each of the three tables.
+ghost use Rattle.std.specs.Prelude.{◌≡◌, map};
+ghost use Rattle.std.specs.List.{list_any};
+ghost use Rattle.definitions.specs.CentralTable as table;
+ghost use Rattle.definitions.specs.Matching.{is_operation};
+ghost use Rattle.definitions.specs.Operations.{is_central};
+ghost use Rattle.cpu_opcodes.specs.CentralTables.{code_row, operand_row, sum_row, ignoring_rows_of, operand_rows_of, sum_rows_of, is_some_of};
+
+use crate::code::{Code, OperandForm, SumForm};
+use crate::operand_table::{IGNORING_ROWS, OPERAND_ROWS};
+use crate::operation_name::rows_named;
+use crate::sum_table::SUM_ROWS;
+use opcode_rows::Row;
+
+/// The rows of an operation whose operand is ignored, in the order in which they count: PS and NO.
+pub fn ignoring_rows(operation: &[u8]) -> &'static [Row<Code>]
+    ensures { map code_row result.now ≡ ignoring_rows_of operation.now }
+{
+    rows_named(&IGNORING_ROWS, operation)
+}
+
+/// The rows of an operation whose operand is a sum, in the order in which they count.
+pub fn sum_rows(operation: &[u8]) -> &'static [Row<SumForm>]
+    ensures { map sum_row result.now ≡ sum_rows_of operation.now }
+{
+    rows_named(&SUM_ROWS, operation)
+}
+
+/// The rows of an operation whose operand is read subfield by subfield, in the order in which they
+/// count: of the 72 rows seven are looked at, those of the operation, and one more.
+pub fn central_rows(operation: &[u8]) -> &'static [Row<OperandForm>]
+    ensures { map operand_row result.now ≡ operand_rows_of operation.now }
+{
+    rows_named(&OPERAND_ROWS, operation)
+}
+
+/// Whether a table has an operation.
+pub fn is_central(operation: &[u8]) -> bool
+    ensures { result ≡ is_central operation.now }
+{
+    is_ignoring(operation) || is_sum(operation) || is_read_by_subfields(operation)
+}
+
+fn is_ignoring(operation: &[u8]) -> bool
+    ensures { result ≡ list_any (λ (row : table.Row). is_operation row.operation operation.now) table.ignoring_rows }
+{
+    has_rows(ignoring_rows(operation))
+}
+
+fn is_sum(operation: &[u8]) -> bool
+    ensures { result ≡ list_any (λ (row : table.SumRow). is_operation row.operation operation.now) table.sum_rows }
+{
+    has_rows(sum_rows(operation))
+}
+
+fn is_read_by_subfields(operation: &[u8]) -> bool
+    ensures { result ≡ list_any (λ (row : table.Row). is_operation row.operation operation.now) table.central_rows }
+{
+    has_rows(central_rows(operation))
+}
+
+fn has_rows<F>(rows: &[Row<F>]) -> bool
+    ensures { result ≡ is_some_of rows.now }
+{
+    match rows {
+        [] => false,
+        [_, ..] => true,
+    }
+}
