@@ -9,6 +9,3 @@ mod table_law;
 pub use code::{Code, Form};
 pub use table::{is_peripheral, row_of};
 pub use table_law::the_table_is_the_definitions;
-
-#[cfg(test)]
-mod tests;
