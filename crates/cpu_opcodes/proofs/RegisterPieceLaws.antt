@@ -1,8 +1,9 @@
 -- The text of a subfield fits a pattern of registers where its pieces do.
-use Rattle.std.proofs.Common.{◌≡◌, ℕ, ◌-◌, Bool, true, false, not, cond, ◌&&◌, List, [], ◌∷◌, ◌++◌, Option, Some, None, eqb, refl, sym, ap, ◌∙◌, inl, inr}
+use Rattle.std.proofs.Common.{◌≡◌, ℕ, ◌-◌, Bool, true, false, not, cond, ◌&&◌, List, [], ◌∷◌, ◌++◌, Option, Some, None, eqb, codes, refl, sym, ap, ◌∙◌, inl, inr}
 use Rattle.std.specs.List.{list_all, slice_split}
 use Rattle.std.proofs.lemmas.Bool.{and_parts, eqb-true}
 use Rattle.std.proofs.lemmas.Bool.Decides.{eqb_tells}
+use Rattle.definitions.specs.Characters.{is_among}
 use Rattle.definitions.specs.CountedItems.{CountedItem}
 use Rattle.definitions.specs.Pieces.{Mark, Comma, Plus, Minus, Star, Slash, Equals, Piece, IsMark, IsCountedItem, Plain}
 use Rattle.definitions.specs.Matching.{RegisterDigits, is_ijk, with_ijk, is_octal_digit, matched, plain_text}
@@ -47,7 +48,7 @@ other_kind p c b one other =
     ]
 
 -- a letter of a register is no mark
-letter_no_mark : (p : ℕ) (mark : Mark) → is_of_run p ≡ true → eqb p 61 ≡ false → eqb p (mark_character mark) ≡ false
+pub letter_no_mark : (p : ℕ) (mark : Mark) → is_of_run p ≡ true → eqb p 61 ≡ false → eqb p (mark_character mark) ≡ false
 letter_no_mark p Comma run equals = other_kind p 44 true run refl
 letter_no_mark p Plus run equals = other_kind p 43 true run refl
 letter_no_mark p Minus run equals = other_kind p 45 true run refl
@@ -55,7 +56,7 @@ letter_no_mark p Star run equals = other_kind p 42 true run refl
 letter_no_mark p Slash run equals = other_kind p 47 true run refl
 letter_no_mark p Equals run equals = equals
 
-cond_same : {A : Type 0} (b : Bool) (x : A) → cond b x x ≡ x
+pub cond_same : {A : Type 0} (b : Bool) (x : A) → cond b x x ≡ x
 cond_same true x = refl
 cond_same false x = refl
 
@@ -71,17 +72,19 @@ digit_needed q ps (Plain text ∷ pieces) ijk place no_run = absurd (cc)
 
 -- what is known of the letter of a register
 pub record IsLetter (p : ℕ) : Type 0 where
+  pub register : is_among p (codes "ABX") ≡ true
   pub no_place : is_ijk p ≡ false
   pub run : is_of_run p ≡ true
   pub no_blank : eqb p 32 ≡ false
   pub no_equals : eqb p 61 ≡ false
 
-letter_of : (p : ℕ) → is_letter_of p ≡ true → IsLetter p
+pub letter_of : (p : ℕ) → is_letter_of p ≡ true → IsLetter p
 letter_of p h =
-    let one = and_parts (not (is_ijk p)) (is_of_run p && (not (eqb p 32) && not (eqb p 61))) h in
+    let zero = and_parts (is_among p (codes "ABX")) (not (is_ijk p) && (is_of_run p && (not (eqb p 32) && not (eqb p 61)))) h in
+    let one = and_parts (not (is_ijk p)) (is_of_run p && (not (eqb p 32) && not (eqb p 61))) zero.1 in
     let two = and_parts (is_of_run p) (not (eqb p 32) && not (eqb p 61)) one.1 in
     let three = and_parts (not (eqb p 32)) (not (eqb p 61)) two.1 in
-    record { no_place = is_not (is_ijk p) one.0; run = two.0; no_blank = is_not (eqb p 32) three.0; no_equals = is_not (eqb p 61) three.1 }
+    record { register = zero.0; no_place = is_not (is_ijk p) one.0; run = two.0; no_blank = is_not (eqb p 32) three.0; no_equals = is_not (eqb p 61) three.1 }
 
 -- at a register, and behind one
 abbrev AtRegister : List Piece → Type 0
@@ -99,9 +102,10 @@ run_goes_on (m ∷ []) e es ijk behind run = absurd (cc)
 run_goes_on (m ∷ p ∷ []) e es ijk behind run = absurd (cc)
 run_goes_on (m ∷ p ∷ q ∷ ps) e es ijk behind run =
     let parts = and_parts (is_operator m) (is_letter_of p && (is_ijk q && is_behind_register ps)) behind in
-    let kinds = and_parts (not (is_ijk m)) (not (is_of_run m)) parts.0 in
+    let kinds = and_parts (not (is_ijk m)) (not (is_of_run m) && not (eqb m 44)) parts.0 in
+    let mark = and_parts (not (is_of_run m)) (not (eqb m 44)) kinds.1 in
     matched-letter m (p ∷ q ∷ ps) e es ijk (is_not (is_ijk m) kinds.0)
-    ∙ ap (λ b. cond b (matched (p ∷ q ∷ ps) es ijk) None) (other_kind m e false (is_not (is_of_run m) kinds.1) run)
+    ∙ ap (λ b. cond b (matched (p ∷ q ∷ ps) es ijk) None) (other_kind m e false (is_not (is_of_run m) mark.0) run)
 
 -- a register against a run
 register_run : (text : List ℕ) (pieces : List Piece) → is_run text ≡ true → begins_with_run pieces ≡ false → BehindRegister pieces → AtRegister (Plain text ∷ pieces)
@@ -149,7 +153,7 @@ behind_mark mark pieces at (m ∷ []) ijk no_run shaped = absurd (cc)
 behind_mark mark pieces at (m ∷ p ∷ []) ijk no_run shaped = absurd (cc)
 behind_mark mark pieces at (m ∷ p ∷ q ∷ ps) ijk no_run shaped =
     let parts = and_parts (is_operator m) (is_letter_of p && (is_ijk q && is_behind_register ps)) shaped in
-    let kinds = and_parts (not (is_ijk m)) (not (is_of_run m)) parts.0 in
+    let kinds = and_parts (not (is_ijk m)) (not (is_of_run m) && not (eqb m 44)) parts.0 in
     let more = and_parts (is_letter_of p) (is_ijk q && is_behind_register ps) parts.1 in
     let rest = and_parts (is_ijk q) (is_behind_register ps) more.1 in
     operator_mark mark pieces at m p q ps ijk (is_not (is_ijk m) kinds.0) (letter_of p more.0) rest.0 rest.1
@@ -181,7 +185,7 @@ both (Plain text ∷ pieces) field =
     let two = and_parts (not (begins_with_run pieces)) (are_of_field pieces) one.1 in
     (register_run text pieces one.0 (is_not (begins_with_run pieces) two.0) (both pieces two.1).1, behind_run text pieces)
 
-registers_fit : (pattern : List ℕ) (pieces : List Piece) (ijk : RegisterDigits) → is_sum_of_registers pattern ≡ true → are_of_field pieces ≡ true →
+pub registers_fit : (pattern : List ℕ) (pieces : List Piece) (ijk : RegisterDigits) → is_sum_of_registers pattern ≡ true → are_of_field pieces ≡ true →
     matched pattern (plain_text pieces) ijk ≡ pieces_fit pattern pieces ijk
 registers_fit [] pieces ijk shaped field = absurd (cc)
 registers_fit (p ∷ []) pieces ijk shaped field = absurd (cc)

@@ -3,3 +3,4 @@ pub mod CodeTexts
 pub mod CentralTables
 pub mod RegistersFound
 pub mod RegisterPieces
+pub mod RegisterLinks

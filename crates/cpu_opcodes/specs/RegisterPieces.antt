@@ -1,7 +1,7 @@
 -- A pattern of registers against the pieces of a subfield (COMPASS 60492600, CPU instructions), without the text in between.
 use Rattle.std.specs.Prelude.{ℕ, ◌-◌, ◌==◌, List, [], ◌∷◌, Option, Some, None, Bool, true, false, not, ◌&&◌, ◌||◌, codes, is_none, if◌then◌else◌}
 use Rattle.std.specs.List.{list_all}
-use Rattle.definitions.specs.Characters.{same_text}
+use Rattle.definitions.specs.Characters.{same_text, is_among}
 use Rattle.definitions.specs.Pieces.{Mark, Comma, Plus, Minus, Star, Slash, Equals, Piece, IsMark, IsCountedItem, Plain, mark_of}
 use Rattle.definitions.specs.Matching.{RegisterDigits, is_ijk, with_ijk, is_octal_digit}
 
@@ -45,11 +45,11 @@ are_of_field (Plain text ∷ pieces) = is_run text && (not (begins_with_run piec
 
 -- the letter of a register in a pattern: no place of a digit, no mark, no blank and no equals sign
 abbrev pub is_letter_of : ℕ → Bool
-is_letter_of p = not (is_ijk p) && (is_of_run p && (not (p == 32) && not (p == 61)))
+is_letter_of p = is_among p (codes "ABX") && (not (is_ijk p) && (is_of_run p && (not (p == 32) && not (p == 61))))
 
--- an operator in a pattern: a mark
+-- an operator in a pattern: a mark, but no comma
 abbrev pub is_operator : ℕ → Bool
-is_operator m = not (is_ijk m) && not (is_of_run m)
+is_operator m = not (is_ijk m) && (not (is_of_run m) && not (m == 44))
 
 -- behind a register: nothing, or an operator and a register
 abbrev pub is_behind_register : List ℕ → Bool

@@ -15,7 +15,7 @@ mod tables;
 
 pub use code::{Code, OperandForm, SumForm};
 pub use digits::Digits;
-pub use pattern_laws::patterns_fit_pieces;
+pub use pattern_laws::{patterns_fit_expressions, patterns_fit_pieces};
 pub use patterns::{OperandPattern, SumPattern};
 pub use registers_found::RegistersFound;
 pub use tables::{central_rows, ignoring_rows, is_central, sum_rows};
