@@ -118,19 +118,18 @@ fn behind_star(text: &[u8]) -> Option<ElementFound<'_>>
         Some(found) => match found.piece {
             Piece::Run(run) => counter_found(run, found.rest),
             Piece::Item(_) => None,
-            Piece::Mark(mark) => {
-                if ends_element(mark) {
-                    alone
-                } else {
-                    None
-                }
-            }
+            Piece::Mark(mark) => { if ends_element(mark) { alone } else { None } }
         },
     }
 }
 
 /// The literal of the number that a run spells, and of its sign, with the text behind it.
-fn number_literal<'a>(base: NumberBase, sign: Sign, run: &'a [u8], rest: &'a [u8]) -> Option<ElementFound<'a>>
+fn number_literal<'a>(
+    base: NumberBase,
+    sign: Sign,
+    run: &'a [u8],
+    rest: &'a [u8],
+) -> Option<ElementFound<'a>>
     ensures elements { (o : Operator) → elements_found base o result ≡ onto_pairs o (literal_of (sign_as sign) (number_read base run.now)) (pairs_of base AnOperator (pieces_at Inside 0 rest.now)) }
     ensures rest { IfSome result (λ found. found.rest.now ≡ rest.now) }
 {

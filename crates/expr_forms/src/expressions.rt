@@ -34,9 +34,7 @@ impl<'a> Model for Expr<'a> {
     ghost use Rattle.expr_forms.specs.Elements.{sign_as, element_as};
     ghost use Rattle.expr_forms.specs.Parsed.{expression_behind, AreLawful};
 
-    ghost view = {
-        λ e. expression_behind e.base (sign_as e.sign) (element_as e.first) e.rest.now
-    };
+    ghost view = { λ e. expression_behind e.base (sign_as e.sign) (element_as e.first) e.rest.now };
 
     ghost invariant = { λ e. AreLawful e.base e.rest.now };
 }
@@ -119,11 +117,9 @@ impl<'a> Expr<'a> {
     /// spells none.
     pub fn parse(text: &'a [u8], base: NumberBase) -> Result<Expr<'a>, Letter>
         requires { length text.now ≤ 711 }
-        ensures {
-            MatchResult result
-                (λ e. expression_of base (pieces_of text.now) ≡ Some e)
-                (λ letter. (letter ≡ Letter.V) × (expression_of base (pieces_of text.now) ≡ None))
-        }
+        ensures { MatchResult result
+            (λ e. expression_of base (pieces_of text.now) ≡ Some e)
+            (λ letter. (letter ≡ Letter.V) × (expression_of base (pieces_of text.now) ≡ None)) }
     {
         let signed = sign_in_front(text);
         match next_element(base, signed.body) {

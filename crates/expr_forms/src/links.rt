@@ -86,7 +86,6 @@ impl<'a> Model for Links<'a> {
     ghost view = { λ l. links_left l.base l.first l.rest.now };
 
     ghost invariant = { λ l. IsLawful l.base l.rest.now };
-
 }
 
 impl<'a> Links<'a> {

@@ -69,5 +69,8 @@ fn are_symbol_characters(text: &[u8]) -> bool
 pub(crate) fn is_symbol(text: &[u8]) -> bool
     ensures { result ≡ is_symbol text.now }
 {
-    begins_symbol(text) && are_symbol_characters(text) && text.len() <= 8 && register_of(text).is_none()
+    begins_symbol(text)
+        && are_symbol_characters(text)
+        && text.len() <= 8
+        && register_of(text).is_none()
 }

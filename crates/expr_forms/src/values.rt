@@ -65,7 +65,12 @@ fn element_form<N: Names>(names: &N, element: Element<'_>) -> Result<Form, Lette
 }
 
 /// A form with one factor more.
-fn with_factor<N: Names>(names: &N, form: Form, operator: Operator, element: Element<'_>) -> Result<Form, Letter>
+fn with_factor<N: Names>(
+    names: &N,
+    form: Form,
+    operator: Operator,
+    element: Element<'_>,
+) -> Result<Form, Letter>
     ensures { result ≡ combined_with (operator_as operator) form (element_form (N.names names.now) (element_as element.entry)) }
 {
     match element_form(names, element) {
@@ -151,7 +156,12 @@ fn walk_end(room: &mut [Base], walk: Walk) -> Option<Result<Form, Letter>>
 }
 
 /// The form of a walk and the links behind it, or nothing where the room is full.
-fn walk_on<N: Names>(room: &mut [Base], names: &N, start: Walk, behind: Links<'_>) -> Option<Result<Form, Letter>>
+fn walk_on<N: Names>(
+    room: &mut [Base],
+    names: &N,
+    start: Walk,
+    behind: Links<'_>,
+) -> Option<Result<Form, Letter>>
     requires none { start.sum.bases ≡ 0 }
     requires few { length behind ≤ 355 }
     ensures value { IfSome result (λ form. form ≡ walk_value (N.names names.now) start room.old behind.entry) }

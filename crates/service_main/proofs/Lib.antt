@@ -1,4 +1,3 @@
-pub mod LineLaws
 pub mod InputLaws
 pub mod DeckLaws
 pub mod CutSteps

@@ -14,7 +14,7 @@ use Rattle.text_ports.specs.declared.lines.LineIs.{LineIs}
 use Rattle.text_ports.specs.declared.lines.LineIs.TheVariants as is
 use Rattle.service_main.specs.declared.asm_fault.AsmFault.{AsmFault}
 use Rattle.service_main.specs.Inputs.{input_in, newest_first, AreDecksOf, IsSound, input_fault, IsFaultOf, TellsFaultOf, ReadsToFault}
-use Rattle.service_main.proofs.LineLaws.{lines_of-line, lines_of-cut, lines_of-few, lines_of-long}
+use Rattle.text_ports.proofs.LineLaws.{lines_of-line, lines_of-cut, lines_of-few, lines_of-long}
 use Rattle.service_main.proofs.InputLaws.{input_in-faulty, few_lines}
 use Rattle.service_main.proofs.DeckLaws.{in_input_order-newest_first}
 
