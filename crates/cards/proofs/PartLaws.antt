@@ -1,22 +1,16 @@
 -- The parts of a text that its fields are.
-use Rattle.std.proofs.Common.{ℕ, suc, ◌≡◌, ◌+◌, ◌-◌, ◌<◌, ◌≤◌, inl, inr, List, [], ◌∷◌, Bool, cond, ◌==◌, if◌then◌else◌, length, drop, refl, sym, ◌∙◌, ap, ap₂, arith, lt-ltb, le-ltb, drop-drop, Decides}
+use Rattle.std.proofs.Common.{ℕ, suc, ◌≡◌, ◌+◌, ◌-◌, ◌<◌, ◌≤◌, inl, inr, List, [], ◌∷◌, Bool, cond, ◌==◌, if◌then◌else◌, length, drop, refl, sym, ◌∙◌, ap, subst, true, arith, lt-ltb, le-ltb, drop-drop, Decides}
 use Rattle.std.specs.List.{prefix_len}
 use Rattle.std.proofs.lemmas.List.{length-drop, drop_all}
-use Rattle.std.proofs.lemmas.Bool.Decides.{eqb_tells, Decides-eqb, Decides-and}
+use Rattle.std.proofs.lemmas.Bool.Decides.{eqb_tells}
 use Rattle.definitions.specs.Characters.{blank, same_text}
 use Rattle.definitions.specs.Fields.{without_blanks}
+use Rattle.definitions.proofs.TextLaws.{same_text-true, same_text-refl}
 use Rattle.cards.specs.FieldParts.{in_time}
 
 -- what the test of two texts tells
 pub same_text-Decides : (a b : List ℕ) → Decides (same_text a b) (a ≡ b)
-same_text-Decides [] [] = (λ e. refl, λ e. refl)
-same_text-Decides [] (d ∷ b) = (λ e. cc, λ e. cc)
-same_text-Decides (c ∷ a) [] = (λ e. cc, λ e. cc)
-same_text-Decides (c ∷ a) (d ∷ b) =
-    let both = Decides-and (c == d) (same_text a b) (Decides-eqb c d) (same_text-Decides a b) in (
-      λ e. ap₂ (λ (x : ℕ) (xs : List ℕ). x ∷ xs) (both.0 e).0 (both.0 e).1,
-      λ e. both.1 (cc, cc),
-    )
+same_text-Decides a b = (same_text-true a b, λ e. subst (λ t. same_text a t ≡ true) e (same_text-refl a))
 
 -- blanks are passed over by their number
 pub without_blanks-drop : (text : List ℕ) → without_blanks text ≡ drop (prefix_len (λ c. c == blank) text) text
