@@ -1,12 +1,13 @@
 //! The fields of a statement.
-ghost use Rattle.std.specs.Prelude.{◌≡◌, ◌∷◌, []};
+ghost use Rattle.std.specs.Prelude.{◌≡◌, ◌≤◌, ◌∷◌, [], length};
 ghost use Rattle.definitions.specs.Fields.{fields_of, fields_of_text, no_fields};
 
 use crate::card::Card;
 use crate::field_parts::{cut, part_text};
 use std::marker::Model;
 
-/// The fields of a statement, as parts of its text. Contracts see the three texts.
+/// The fields of a statement, as parts of its text of at most 711 characters. Contracts see the
+/// three texts.
 #[derive(Drop)]
 pub struct Fields<'a> {
     location: &'a [u8],
@@ -20,6 +21,10 @@ impl<'a> Model for Fields<'a> {
     ghost Value = { FieldTexts };
 
     ghost view = { λ f. fields_made f.location.now f.operation.now f.variable.now };
+
+    ghost use Rattle.std.specs.Prelude.{◌≤◌, length};
+
+    ghost invariant = { λ f. length f.variable.now ≤ 711 };
 }
 
 impl<'a> Fields<'a> {
@@ -47,6 +52,7 @@ impl<'a> Fields<'a> {
 
     /// The fields of a statement's text.
     pub(crate) fn of_text(text: &'a [u8]) -> Fields<'a>
+        requires { length text.now ≤ 711 }
         ensures { result ≡ fields_of_text text.now }
     {
         let parts = cut(text);
@@ -71,7 +77,8 @@ impl<'a> Fields<'a> {
 
     /// The variable field; that of DIS goes to the end of the text, blanks and all.
     pub fn variable(&self) -> &'a [u8]
-        ensures { result.now ≡ self.now.variable }
+        ensures field { result.now ≡ self.now.variable }
+        ensures short { length result.now ≤ 711 }
     {
         self.variable
     }

@@ -7,9 +7,9 @@ use std::marker::Model;
 
 /// How many characters the text of a statement has at most: 72 of its first card and 71 of each of
 /// nine comma cards are 711.
-const MOST_CHARACTERS: usize = 720;
+const MOST_CHARACTERS: usize = 711;
 
-/// Room for the text of one statement, at most 720 characters. Only a statement with comma cards
+/// Room for the text of one statement, at most 711 characters. Only a statement with comma cards
 /// needs it, and one room serves all statements of a deck, one after the other.
 /// Contracts see it as the list of the characters in it.
 #[derive(Drop)]
@@ -25,7 +25,7 @@ impl Model for StatementRoom {
 
     ghost view = { λ t. take t.len t.characters };
 
-    ghost invariant = { λ t. t.len ≤ 720 };
+    ghost invariant = { λ t. t.len ≤ 711 };
 }
 
 impl StatementRoom {
@@ -40,7 +40,8 @@ impl StatementRoom {
     }
 
     pub(crate) fn as_slice(&self) -> &[u8]
-        ensures { result.now ≡ self.now }
+        ensures text { result.now ≡ self.now }
+        ensures short { length result.now ≤ 711 }
     {
         self.characters.split_at(self.len).0
     }
@@ -52,7 +53,7 @@ impl StatementRoom {
     }
 
     fn append(&mut self, columns: &[u8])
-        requires { length self.old + length columns.now ≤ 720 }
+        requires { length self.old + length columns.now ≤ 711 }
         ensures { self.new ≡ self.old ++ columns.now }
     {
         let end = self.len + columns.len();
