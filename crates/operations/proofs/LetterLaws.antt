@@ -1,0 +1,71 @@
+-- The letters of two sets, and of one letter.
+use Rattle.std.proofs.Common.{◌≡◌, ℕ, zero, suc, ◌<◌, ◌/◌, ◌%◌, ◌^◌, List, [], ◌∷◌, ◌++◌, Bool, true, false, ◌&&◌, ◌||◌, cond, eqb, filter, refl, sym, ap, ap₂, ◌∙◌, inl, inr, bit_or, arith}
+use Rattle.std.specs.Prelude.{codes}
+use Rattle.std.proofs.lemmas.Bool.Decides.{eqb_tells}
+use Rattle.std.proofs.lemmas.List.Folds.{list_any-append}
+use Rattle.std.proofs.lemmas.Map.Views.{any-filter_same}
+use Rattle.std.proofs.lemmas.Nat.{or_shr, or_mod, mod_below}
+use Rattle.std.proofs.lemmas.Grind.{flat_map-append}
+use Rattle.definitions.specs.Characters.{is_among}
+use Rattle.definitions.specs.Letters.{letter_text, texts, in_order}
+use Rattle.definitions.specs.declared.marks.Letter.{Letter}
+use Rattle.operations.specs.LetterBits.{is_flagged, flagged}
+
+or_true : (b : Bool) → (b || true) ≡ true
+or_true true = refl
+or_true false = refl
+
+and_true : (b : Bool) → (b && true) ≡ b
+and_true true = refl
+and_true false = refl
+
+is_same : (a b : ℕ) → eqb a b ≡ true → a ≡ b
+is_same a b h = elim (eqb_tells a b) [ inl k ↦ k.1 | inr k ↦ cc ]
+
+-- the first of a list is among it
+first_among : (c : ℕ) (cs : List ℕ) → is_among c (c ∷ cs) ≡ true
+first_among c cs = elim (eqb_tells c c) [ inl h ↦ ap (λ (t : Bool). t || is_among c cs) h.0 | inr h ↦ absurd (h.1 refl) ]
+
+-- tests that agree on a list keep the same
+filter_same : (p q : ℕ → Bool) (cs : List ℕ) → ((c : ℕ) → is_among c cs ≡ true → p c ≡ q c) → filter p cs ≡ filter q cs
+filter_same p q [] same = refl
+filter_same p q (c ∷ cs) same =
+    ap₂ (λ (t : Bool) (l : List ℕ). cond t (c ∷ l) l) (same c (first_among c cs))
+    (filter_same p q cs (λ d h. same d (ap (λ (t : Bool). eqb c d || t) h ∙ or_true (eqb c d))))
+
+-- what is among a list is kept as its test says
+kept : (p : ℕ → Bool) (cs : List ℕ) (c : ℕ) → is_among c cs ≡ true → is_among c (filter p cs) ≡ p c
+kept p cs c there =
+    any-filter_same (λ k. eqb k c) p (p c) (λ k h. ap p (is_same k c h)) cs ∙ ap (λ (t : Bool). p c && t) there ∙ and_true (p c)
+
+-- tests that keep the same agree on the list
+kept_same : (p q : ℕ → Bool) (cs : List ℕ) → filter p cs ≡ filter q cs → (c : ℕ) → is_among c cs ≡ true → p c ≡ q c
+kept_same p q cs same c there = sym (kept p cs c there) ∙ ap (is_among c) same ∙ kept q cs c there
+
+-- the bit of either
+or_bits : (a b : ℕ) → a < 2 → b < 2 → eqb (bit_or a b) 1 ≡ (eqb a 1 || eqb b 1)
+or_bits zero zero small small' = refl
+or_bits zero (suc zero) small small' = refl
+or_bits (suc zero) zero small small' = refl
+or_bits (suc zero) (suc zero) small small' = refl
+or_bits (suc (suc a)) b small small' = absurd (omega arith)
+or_bits zero (suc (suc b)) small small' = absurd (omega arith)
+or_bits (suc zero) (suc (suc b)) small small' = absurd (omega arith)
+
+is_flagged-or : (a b c : ℕ) → is_flagged (bit_or a b) c ≡ (is_flagged a c || is_flagged b c)
+is_flagged-or a b c =
+    let k = c % 32 in
+    ap (λ n. eqb (n % 2) 1) (or_shr a b k)
+    ∙ ap (λ n. eqb n 1) (or_mod (a / 2 ^ k) (b / 2 ^ k) 1)
+    ∙ or_bits (a / 2 ^ k % 2) (b / 2 ^ k % 2) (mod_below (a / 2 ^ k) 2 (omega arith)) (mod_below (b / 2 ^ k) 2 (omega arith))
+
+-- the letters of both sets
+pub flagged-or : (a b : ℕ) (letters others : List Letter) → flagged a ≡ in_order letters → flagged b ≡ in_order others →
+    flagged (bit_or a b) ≡ in_order (letters ++ others)
+flagged-or a b letters others is is' =
+    let cs = codes "ACDLORUVZ" in
+    filter_same (is_flagged (bit_or a b)) (λ c. is_among c (texts (letters ++ others))) cs (λ c there.
+    is_flagged-or a b c
+    ∙ ap₂ (λ (s t : Bool). s || t) (kept_same (is_flagged a) (λ d. is_among d (texts letters)) cs is c there) (kept_same (is_flagged b) (λ d. is_among d (texts others)) cs is' c there)
+    ∙ sym (list_any-append (λ d. eqb d c) (texts letters) (texts others))
+    ∙ ap (is_among c) (sym (flat_map-append letter_text letters others)))

@@ -1,0 +1,3 @@
+pub mod OperationsAs
+pub mod KindsFound
+pub mod LetterBits

@@ -1,0 +1,50 @@
+//! What single operations set: the number base, upper of the next instruction, and the end of the
+//! deck (COMPASS 60492600, BASE, END, forcing upper; which instructions force upper is ours).
+ghost use Rattle.std.specs.Prelude.{◌≡◌, codes};
+ghost use Rattle.definitions.specs.Characters.{same_text};
+ghost use Rattle.definitions.specs.Fields.{Fields};
+ghost use Rattle.definitions.specs.DeckKinds.{is_end, number_base_set};
+ghost use Rattle.definitions.specs.Places.{asks_upper};
+
+use definitions::NumberBase;
+
+/// Whether both texts are the same.
+fn is_same(text: &[u8], other: &[u8]) -> bool
+    ensures { result ≡ same_text text.now other.now }
+{
+    text == other
+}
+
+/// Whether an operation field names END.
+pub fn is_end(operation: &[u8]) -> bool
+    ensures { (fields : Fields) → fields.operation ≡ operation.now → result ≡ is_end fields }
+{
+    is_same(operation, b"END")
+}
+
+/// The number base that a statement with these fields sets, if it is a BASE that is accepted.
+pub fn number_base_set(operation: &[u8], variable: &[u8]) -> Option<NumberBase>
+    ensures { (fields : Fields) → fields.operation ≡ operation.now → fields.variable ≡ variable.now → result ≡ number_base_set fields }
+{
+    if !is_same(operation, b"BASE") {
+        return None;
+    }
+    if is_same(variable, b"O") {
+        return Some(NumberBase::Octal);
+    }
+    if is_same(variable, b"D") {
+        return Some(NumberBase::Decimal);
+    }
+    None
+}
+
+/// Whether an instruction with so many subfields asks that the next instruction of its block is
+/// upper: JP, RJ, PS, and EQ with one subfield.
+pub fn asks_upper(operation: &[u8], subfields: usize) -> bool
+    ensures { result ≡ asks_upper operation.now subfields }
+{
+    is_same(operation, b"JP")
+        || is_same(operation, b"RJ")
+        || is_same(operation, b"PS")
+        || is_same(operation, b"EQ") && subfields == 1
+}
