@@ -41,13 +41,6 @@ characters_number-more_from cs from place behind below =
     ∙ characters_number-more (drop from cs) (place - from) (omega (arith, length-drop from cs))
     ∙ ap (λ c. characters_number (take (place - from) (drop from cs)) * 64 + code_or_zero c) (get_or-drop from cs (place - from) 0 ∙ ap (λ n. get_or cs n 0) there)
 
--- up to nine characters leave room for one more
-pub characters_number-small : (cs : List ℕ) → length cs ≤ 9 → characters_number cs < 2 ^ 54
-characters_number-small cs few =
-    let below = characters_number-below cs in
-    let up : 2 ^ (6 * length cs) ≤ 2 ^ 54 = pow_mono (let h : 6 * length cs ≤ 54 = omega arith in h) in
-    omega arith
-
 -- both texts of a choice have this length
 length-cond : (b : Bool) (xs ys : List ℕ) (n : ℕ) → length xs ≡ n → length ys ≡ n → length (cond b xs ys) ≡ n
 length-cond true xs ys n e f = e

@@ -1,18 +1,14 @@
 -- An expression by its sign, its first element and what is behind it.
-use Rattle.std.proofs.Common.{◌≡◌, ◌≢◌, ℕ, ◌+◌, ◌*◌, ◌≤◌, inl, inr, List, [], ◌∷◌, ◌++◌, length, Bool, true, false, ◌==◌, if◌then◌else◌, Option, Some, None, refl, sym, ◌∙◌, ap, subst, arith, length-append, zero, suc, ne_eqb}
+use Rattle.std.proofs.Common.{◌≡◌, ◌≢◌, ℕ, ◌+◌, ◌*◌, ◌≤◌, inl, inr, List, [], ◌∷◌, length, Bool, true, false, ◌==◌, if◌then◌else◌, Option, Some, None, refl, sym, ◌∙◌, ap, subst, arith, length-append, zero, suc, ne_eqb}
 use Rattle.std.specs.Prelude.{is_some, unwrap_or}
-use Rattle.std.proofs.lemmas.Bool.Decides.{eqb_tells}
 use Rattle.definitions.specs.CountedItems.{CountedSpan, counted_item_at}
-use Rattle.definitions.specs.Pieces.{Mark, Comma, Plus, Minus, Star, Slash, Equals, Spot, AtStart, Inside, Begun, ByMark, ByCountedItem, ByOther, Piece, IsMark, IsCountedItem, Plain, mark_of, begun_by, begun_by_counted_item, begun_at, spot_behind, left_of, onto_plain, onto_pieces, pieces_at, pieces_of}
-use Rattle.definitions.specs.Expressions.{Sign, NoSign, PlusSign, MinusSign, Literal, OfNumber, OfCountedItem, Element, ANumber, ACountedItem, ASymbol, ARegister, LocationCounter, OriginCounter, ALiteral, Operator, Add, Subtract, OperatorElement, Expression, AnOperator, ElementOf, onto_pairs, pairs_of, Grouped, grouped, with_sign, expression_of}
-use Rattle.definitions.specs.Grammar.{sign_pieces, IsElement, operator_of}
+use Rattle.definitions.specs.Pieces.{Mark, Comma, Plus, Minus, Star, Slash, Equals, Spot, Inside, Begun, ByMark, ByCountedItem, ByOther, Piece, IsMark, IsCountedItem, Plain, mark_of, begun_by, begun_by_counted_item, begun_at, spot_behind, left_of, onto_plain, onto_pieces, pieces_at, pieces_of}
+use Rattle.definitions.specs.Expressions.{Sign, NoSign, PlusSign, MinusSign, OfNumber, OfCountedItem, Element, ANumber, ACountedItem, ASymbol, ARegister, LocationCounter, OriginCounter, ALiteral, Operator, Add, Subtract, OperatorElement, AnOperator, ElementOf, onto_pairs, pairs_of, grouped, with_sign, expression_of}
+use Rattle.definitions.specs.Grammar.{IsElement, operator_of}
 use Rattle.definitions.specs.declared.marks.NumberBase.{NumberBase}
 use Rattle.definitions.proofs.GrammarLaws.{link_of, AreLinks, pairs_of-read}
-use Rattle.definitions.proofs.TermLaws.{links_in, term_of, grouped_as, IsGrouping, grouped-groups, onto_grouped-term}
-use Rattle.definitions.proofs.ExpressionLaws.{operator_of-joins}
 use Rattle.expr_forms.specs.Links.{pairs_behind, links_behind, links_left, IsLawful}
 use Rattle.expr_forms.specs.declared.links.Link.{Link}
-use Rattle.expr_forms.specs.Parsed.{expression_behind}
 
 -- a plus in front
 pub signed-plus : (base : NumberBase) (text body : List ℕ) (c : ℕ) → text ≡ c ∷ body → c ≡ 43 →
@@ -38,7 +34,8 @@ unsigned-run base c (IsCountedItem item ∷ pieces) = refl
 abbrev pieces_begun : Begun → List ℕ → List Piece
 pieces_begun begun cs = onto_pieces begun (pieces_at (spot_behind begun) (left_of begun) cs)
 
-abbrev mark_by : Bool → Bool → Bool → Bool → Bool → Option Mark
+-- the mark that the tests of a character tell
+abbrev pub mark_by : Bool → Bool → Bool → Bool → Bool → Option Mark
 mark_by comma plus minus star slash =
     if comma then Some Comma else if plus then Some Plus else if minus then Some Minus
     else if star then Some Star else if slash then Some Slash else None
@@ -112,15 +109,6 @@ links_left-next base (Some link) rest behind o element taken e lawful = cc
 -- what is behind a lawful link is lawful
 pub lawful-onto_pairs : (o : Operator) (element : Element) (x y : Option (List OperatorElement)) → x ≡ onto_pairs o (Some element) y → is_some x ≡ true → is_some y ≡ true
 lawful-onto_pairs o element x y e lawful = sym (is_some-onto_pairs o element y) ∙ (sym (ap is_some e) ∙ lawful)
-
--- an expression's links are its first one and those behind
-pub links_in-behind : (sign : Sign) (element : Element) (more : List OperatorElement) →
-    links_in (grouped (link_of (operator_of sign) element ∷ more)).terms ≡ link_of (operator_of sign) element ∷ more
-links_in-behind sign element more =
-    let o : Operator = operator_of sign in
-    let first = onto_grouped-term element o (grouped more) (operator_of-joins sign) in
-    let made : IsGrouping (grouped more) more = grouped-groups more in
-    ap (λ (g : Grouped). links_in g.terms) first ∙ ap (λ (l : List OperatorElement). link_of o element ∷ l) (sym made.2)
 
 -- an element has at least one piece
 IsElement-some : (base : NumberBase) (element : Element) (pieces : List Piece) → IsElement base element pieces → 1 ≤ length pieces

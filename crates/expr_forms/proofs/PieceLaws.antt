@@ -6,7 +6,7 @@ use Rattle.definitions.specs.CountedItems.{CountedItem, CountedSpan, counted_ite
 use Rattle.definitions.specs.Pieces.{Mark, Spot, AtEquals, Inside, Begun, ByMark, ByCountedItem, ByOther, Piece, IsMark, IsCountedItem, Plain, mark_of, begun_by, begun_by_counted_item, spot_behind, left_of, onto_plain, onto_pieces, pieces_at}
 
 -- whether a character belongs to a run
-abbrev is_of_run : ℕ → Bool
+abbrev pub is_of_run : ℕ → Bool
 is_of_run c = is_none (mark_of c)
 
 -- the characters that belong to what began are passed over
@@ -16,7 +16,7 @@ pieces_at-left spot (suc left) [] = refl
 pieces_at-left spot (suc left) (c ∷ cs) = pieces_at-left spot left cs
 
 -- the pieces that begin with what began
-abbrev pieces_begun : Begun → List ℕ → List Piece
+abbrev pub pieces_begun : Begun → List ℕ → List Piece
 pieces_begun begun cs = onto_pieces begun (pieces_at (spot_behind begun) (left_of begun) cs)
 
 -- an item

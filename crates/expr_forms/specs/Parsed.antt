@@ -1,20 +1,21 @@
 -- What an expression of the code is, in the words of the definitions.
 use Rattle.std.specs.Prelude.{ℕ, ◌≤◌, List, [], ◌∷◌, length}
-use Rattle.definitions.specs.Expressions.{Sign, Element, OperatorElement, Expression, grouped}
-use Rattle.definitions.specs.Grammar.{operator_of}
+use Rattle.definitions.specs.Expressions.{Sign, OperatorElement, Expression, grouped}
 use Rattle.definitions.specs.declared.marks.NumberBase.{NumberBase}
-use Rattle.definitions.proofs.GrammarLaws.{link_of}
 use Rattle.definitions.proofs.TermLaws.{JoinsTerms, links_in}
 use Rattle.expr_forms.specs.Links.{IsLawful, links_behind}
+use Rattle.expr_forms.specs.LoneRegisters.{terms_left_by}
+use Rattle.expr_forms.specs.declared.links.LoneRegisters.{LoneRegisters}
 
--- the expression of a sign, an element and the links that a text spells behind it
-abbrev pub expression_behind : NumberBase → Sign → Element → List ℕ → Expression
-expression_behind base sign element rest = record { sign = sign; terms = (grouped (link_of (operator_of sign) element ∷ links_behind base rest)).terms }
+-- the expression of a sign, its first link and those that a text spells behind it, with the terms of one register or without them
+abbrev pub expression_behind : NumberBase → Sign → OperatorElement → List ℕ → LoneRegisters → Expression
+expression_behind base sign first rest registers = record { sign = sign; terms = terms_left_by registers (grouped (first ∷ links_behind base rest)).terms }
 
--- a text spells links and nothing else, and a statement has room for it behind an element
-pub record AreLawful (base : NumberBase) (rest : List ℕ) : Type 0 where
+-- a text spells links and nothing else, a statement has room for it behind an element, and the link in front begins a term
+pub record AreLawful (base : NumberBase) (first : OperatorElement) (rest : List ℕ) : Type 0 where
   pub lawful : IsLawful base rest
   pub short : length rest ≤ 710
+  pub begins : JoinsTerms first.operator
 
 -- the elements of an expression from left to right, each with the operator before it
 abbrev pub links_of : Expression → List OperatorElement

@@ -4,7 +4,7 @@ use Rattle.definitions.specs.CountedItems.{CountedItem, CountedSpan}
 use Rattle.definitions.specs.Pieces.{Mark, Comma, Plus, Minus, Star, Slash, Equals, Piece, IsMark, IsCountedItem, Plain, Spot, Inside, ByMark, spot_behind, pieces_at}
 use Rattle.expr_forms.specs.declared.pieces.Mark as marks
 use Rattle.expr_forms.specs.declared.pieces.Mark.TheVariants as mark
-use Rattle.expr_forms.specs.declared.pieces.ItemText as items
+use Rattle.expr_forms.specs.declared.item_text.ItemText as items
 use Rattle.expr_forms.specs.declared.pieces.ItemSpan as spans
 use Rattle.expr_forms.specs.declared.pieces.Piece as pieces
 use Rattle.expr_forms.specs.declared.pieces.Piece.TheVariants as piece

@@ -1,9 +1,9 @@
 -- Registers of the code, in the words of the definitions.
 use Rattle.std.specs.Prelude.{ℕ}
 use Rattle.definitions.specs.Symbols.{Register}
-use Rattle.expr_forms.specs.declared.symbols.Register as code
-use Rattle.expr_forms.specs.declared.symbols.RegisterKind as kinds
-use Rattle.expr_forms.specs.declared.symbols.RegisterKind.TheVariants as kind
+use Rattle.expr_forms.specs.declared.register.Register as code
+use Rattle.expr_forms.specs.declared.register.RegisterKind as kinds
+use Rattle.expr_forms.specs.declared.register.RegisterKind.TheVariants as kind
 
 -- the letter of a kind
 abbrev pub letter_of : kinds.RegisterKind → ℕ

@@ -1,7 +1,7 @@
 //! The classes of characters that expressions tell apart.
-ghost use Rattle.std.specs.Prelude.{◌≡◌, ◌≤◌, length, codes};
+ghost use Rattle.std.specs.Prelude.{◌≡◌, ◌≤◌, ◌∷◌, [], length, codes};
 ghost use Rattle.std.specs.List.{prefix_len};
-ghost use Rattle.definitions.specs.Characters.{is_digit, is_letter, is_among, is_symbol_character};
+ghost use Rattle.definitions.specs.Characters.{is_digit, is_letter, is_among, is_symbol_character, same_text};
 
 /// 0 to 9.
 pub(crate) fn is_digit(c: u8) -> bool
@@ -58,4 +58,14 @@ pub(crate) fn digit_count(text: &[u8]) -> usize
         }
     }
     text.len()
+}
+
+/// Whether a text is this character and no other.
+pub(crate) fn is_lone(character: u8, text: &[u8]) -> bool
+    ensures { result ≡ same_text text.now (character ∷ []) }
+{
+    match text.split_first() {
+        None => false,
+        Some((first, behind)) => *first == character && behind.is_empty(),
+    }
 }

@@ -56,7 +56,7 @@ pub fn item_literal(item: &CountedItem) -> u64
 /// The number that an item is in an expression: A where it has more than 10 characters.
 pub fn item_number(item: &CountedItem) -> Result<u64, Letter>
     ensures { MatchResult result
-        (λ number. counted_item_form item.now ≡ Ok (absolute (pos number)))
+        (λ number. (counted_item_form item.now ≡ Ok (absolute (pos number))) × (number < 2 ^ 60))
         (λ fault. counted_item_form item.now ≡ Err fault) }
 {
     let characters = item.characters();
@@ -69,7 +69,8 @@ pub fn item_number(item: &CountedItem) -> Result<u64, Letter>
 /// The number that the codes of up to 10 characters make, six bits each.
 pub fn characters_number(characters: &[u8]) -> u64
     requires { length characters.now ≤ 10 }
-    ensures { result ≡ characters_number characters.now }
+    ensures number { result ≡ characters_number characters.now }
+    ensures small { result < 2 ^ 60 }
 {
     let mut number = 0;
     for character in characters {

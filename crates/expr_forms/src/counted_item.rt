@@ -4,8 +4,10 @@ ghost use Rattle.definitions.specs.CountedItems.{bits_needed};
 ghost use Rattle.definitions.specs.Coding.{words_needed};
 ghost use Rattle.definitions.specs.Kinds.{word_bits};
 ghost use Rattle.expr_forms.specs.CodedItems.{letter_character, item_of};
+ghost use Rattle.expr_forms.specs.PiecesFound.{item_as};
 
 use crate::item_letter::ItemLetter;
+use crate::item_text::ItemText;
 use definitions::DeckKind;
 use std::marker::Model;
 
@@ -43,6 +45,16 @@ impl<'a> CountedItem<'a> {
             return None;
         }
         Some(CountedItem { letter, characters })
+    }
+
+    /// The item that is written.
+    pub fn of_text(item: ItemText<'a>) -> CountedItem<'a>
+        ensures { result ≡ item_as item.entry }
+    {
+        match CountedItem::read(item.letter, item.characters) {
+            Some(item) => item,
+            None => unreachable!(),
+        }
     }
 
     pub fn letter(&self) -> ItemLetter

@@ -8,21 +8,24 @@ ghost use Rattle.definitions.specs.declared.marks.NumberBase.{NumberBase};
 ghost use Rattle.definitions.proofs.GrammarLaws.{link_of};
 ghost use Rattle.expr_forms.specs.Elements.{sign_as, element_as};
 ghost use Rattle.expr_forms.specs.Links.{link_as};
+ghost use Rattle.expr_forms.specs.LoneRegisters.{other_terms};
 ghost use Rattle.expr_forms.specs.Parsed.{links_of, BeginsTerm};
 
 use crate::elements::{Element, Sign, next_element};
-use crate::links::{Link, LinkFound, Links, Operator, next_link};
+use crate::links::{Link, LinkFound, Links, LoneRegisters, Operator, TextLinks, next_link};
 use definitions::{Letter, NumberBase};
 use std::marker::Model;
 
-/// An expression without registers or with them, not longer than a statement. It keeps its text,
-/// which is known to be lawful. Contracts see the definitions' expression.
+/// An expression without registers or with them, not longer than a statement: its first element, and
+/// the text behind it, which is known to be lawful. The terms that are one register may be left out,
+/// so that it is K of a sum. Contracts see the definitions' expression.
 #[derive(Drop)]
 pub struct Expr<'a> {
     base: NumberBase,
     sign: Sign,
-    first: Element<'a>,
+    first: Link<'a>,
     rest: &'a [u8],
+    registers: LoneRegisters,
 }
 
 impl<'a> Model for Expr<'a> {
@@ -31,12 +34,13 @@ impl<'a> Model for Expr<'a> {
 
     ghost Value = { Expression };
 
-    ghost use Rattle.expr_forms.specs.Elements.{sign_as, element_as};
+    ghost use Rattle.expr_forms.specs.Elements.{sign_as};
+    ghost use Rattle.expr_forms.specs.Links.{link_as};
     ghost use Rattle.expr_forms.specs.Parsed.{expression_behind, AreLawful};
 
-    ghost view = { λ e. expression_behind e.base (sign_as e.sign) (element_as e.first) e.rest.now };
+    ghost view = { λ e. expression_behind e.base (sign_as e.sign) (link_as e.first) e.rest.now e.registers };
 
-    ghost invariant = { λ e. AreLawful e.base e.rest.now };
+    ghost invariant = { λ e. AreLawful e.base (link_as e.first) e.rest.now };
 }
 
 /// The sign that begins a text, and what follows it.
@@ -129,8 +133,9 @@ impl<'a> Expr<'a> {
                     Ok(Expr {
                         base,
                         sign: signed.sign,
-                        first: found.element,
+                        first: first_link(signed.sign, found.element),
                         rest: found.rest,
+                        registers: LoneRegisters::Kept,
                     })
                 } else {
                     Err(Letter::V)
@@ -147,6 +152,40 @@ impl<'a> Expr<'a> {
         ensures few { length result ≤ 356 }
         ensures begins { BeginsTerm result }
     {
-        Links::new(self.base, first_link(self.sign, self.first), self.rest)
+        let all = TextLinks::new(self.base, self.first, self.rest);
+        Links::new(all, self.registers)
+    }
+
+    /// The same expression once more.
+    pub fn copied(&self) -> Expr<'a>
+        ensures { result ≡ self.now }
+    {
+        Expr {
+            base: self.base,
+            sign: self.sign,
+            first: self.first,
+            rest: self.rest,
+            registers: self.registers,
+        }
+    }
+
+    /// The sign before it. That of a sum's K is plus where a register was left out.
+    pub fn sign(&self) -> Sign
+        ensures { sign_as result ≡ self.now.sign }
+    {
+        self.sign
+    }
+
+    /// The expression that is left without the terms that are one register, with this sign.
+    pub(crate) fn without_registers(&self, sign: Sign) -> Expr<'a>
+        ensures { result ≡ record { sign = sign_as sign; terms = other_terms self.now.terms } }
+    {
+        Expr {
+            base: self.base,
+            sign,
+            first: self.first,
+            rest: self.rest,
+            registers: LoneRegisters::LeftOut,
+        }
     }
 }

@@ -1,18 +1,30 @@
-//! Variable fields read as expressions, what these are worth, and how values and counted items are
-//! coded in fields and words, exactly as the definitions have them. Nothing here takes memory, and
-//! nothing knows an instruction.
+//! Variable fields cut into subfields and read as expressions or as what each pseudo-instruction
+//! takes, what expressions are worth, and how values and counted items are coded in fields and
+//! words, exactly as the definitions have them. Nothing here takes memory, and nothing knows the
+//! tables of instructions.
 #![tactic(auto)]
 
 // Characters, numbers, symbols and the pieces of a field.
 mod characters;
+mod item_text;
 mod numbers;
 mod pieces;
+mod register;
 mod symbols;
 
 // Expressions.
+mod element_lists;
 mod elements;
 mod expressions;
 mod links;
+mod plain;
+mod shapes;
+mod sums;
+
+// Variable fields cut into subfields.
+mod operand_fields;
+mod operands;
+mod subfields;
 
 // Forms, the names in them, and the value of an expression.
 mod arithmetic;
@@ -28,22 +40,56 @@ mod coding;
 mod counted_item;
 mod item_letter;
 
+// Variable fields that are no instruction's.
+mod base_fields;
+mod bit_fields;
+mod con_words;
+mod data_words;
+mod dis_fields;
+mod linked_names;
+mod use_fields;
+mod value_fields;
+
+pub use base_fields::number_base;
+pub use bit_fields::{BitField, BitFields};
 pub use coding::{
     characters_number, coded_in, counted_item_in, counted_item_word, item_literal, item_number,
     number_literal,
 };
+pub use con_words::ConWords;
 pub use counted_item::CountedItem;
+pub use data_words::{DataWords, Datum};
+pub use dis_fields::{DisText, dis_text};
+pub use element_lists::{Literals, Symbols};
 pub use elements::{Element, Literal, Sign};
 pub use expressions::Expr;
 pub use forms::{Form, Names, Part, Relocation};
 pub use item_letter::ItemLetter;
+pub use item_text::ItemText;
+pub use linked_names::LinkedNames;
 pub use links::{Link, Links, Operator};
 pub use magnitude::Magnitude;
 pub use names::Name;
 pub use numbers::Number;
-pub use pieces::{ItemText, Mark};
-pub use symbols::{Register, RegisterKind};
+pub use operand_fields::operand;
+pub use operands::{Operand, Subfield};
+pub use pieces::Mark;
+pub use register::{Register, RegisterKind};
+pub use shapes::{Field, Shape};
+pub use subfields::Subfields;
+pub use sums::{RegisterText, Sum, SumRegisters};
+pub use symbols::is_symbol;
+pub use use_fields::{UseField, use_field};
+pub use value_fields::one_value;
 pub use values::value;
 
 #[cfg(test)]
 mod tests_coding;
+#[cfg(test)]
+mod tests_fields;
+#[cfg(test)]
+mod tests_readings;
+#[cfg(test)]
+mod tests_sums;
+#[cfg(test)]
+mod tests_values;

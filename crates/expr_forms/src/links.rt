@@ -2,7 +2,10 @@
 ghost use Rattle.std.specs.Prelude.{◌≡◌, ◌≤◌, ◌+◌, ◌∷◌, [], length, option_map, IfNone, IfSome};
 ghost use Rattle.definitions.specs.Pieces.{Inside, mark_of, pieces_at};
 ghost use Rattle.definitions.specs.Expressions.{AnOperator, pairs_of};
+ghost use Rattle.definitions.specs.declared.marks.NumberBase.{NumberBase};
+ghost use Rattle.expr_forms.specs.Elements.{element_as};
 ghost use Rattle.expr_forms.specs.Links.{operator_as, operator_marked, link_as, links_behind, links_found, IsLawful, ForLink};
+ghost use Rattle.expr_forms.specs.LoneRegisters.{joins_terms, is_register, begins_term, is_lone, without_lone, links_left_by};
 
 use crate::elements::{Element, next_element};
 use definitions::NumberBase;
@@ -32,6 +35,13 @@ pub(crate) enum LinkFound<'a> {
     Link(Link<'a>, &'a [u8]),
 }
 
+/// Whether the terms that are one register are among an expression's, or left out of it.
+#[derive(Clone, Copy, Debug, PartialEq, Eq)]
+pub(crate) enum LoneRegisters {
+    Kept,
+    LeftOut,
+}
+
 fn operator_of(c: u8) -> Option<Operator>
     ensures { option_map operator_as result ≡ operator_marked (mark_of c) }
 {
@@ -41,6 +51,45 @@ fn operator_of(c: u8) -> Option<Operator>
         b'+' => Some(Operator::Add),
         b'-' => Some(Operator::Subtract),
         _ => None,
+    }
+}
+
+/// Plus and minus join terms.
+pub(crate) fn joins_terms(operator: Operator) -> bool
+    ensures { result ≡ joins_terms (operator_as operator) }
+{
+    match operator {
+        Operator::Times => false,
+        Operator::Divide => false,
+        Operator::Add => true,
+        Operator::Subtract => true,
+    }
+}
+
+fn is_register(element: Element<'_>) -> bool
+    ensures { result ≡ is_register (element_as element.entry) }
+{
+    match element {
+        Element::Register(_) => true,
+        Element::Number(_) => false,
+        Element::Item(_) => false,
+        Element::Symbol(_) => false,
+        Element::LocationCounter => false,
+        Element::OriginCounter => false,
+        Element::Literal(_) => false,
+    }
+}
+
+/// Whether no link, or one that begins a term, stands behind an element.
+fn term_begins(text: &[u8]) -> bool
+    ensures { (base : NumberBase) → IsLawful base text.now → result ≡ begins_term (links_behind base text.now) }
+{
+    match text.split_first() {
+        None => true,
+        Some((c, _)) => match operator_of(*c) {
+            None => true,
+            Some(operator) => joins_terms(operator),
+        },
     }
 }
 
@@ -67,15 +116,15 @@ pub(crate) fn next_link(base: NumberBase, text: &[u8]) -> LinkFound<'_>
     }
 }
 
-/// The links of an expression that are left, from left to right. Contracts see their list.
+/// Links that are left of those that a text spells. Contracts see their list.
 #[derive(Drop)]
-pub struct Links<'a> {
+pub(crate) struct TextLinks<'a> {
     base: NumberBase,
     first: Option<Link<'a>>,
     rest: &'a [u8],
 }
 
-impl<'a> Model for Links<'a> {
+impl<'a> Model for TextLinks<'a> {
     ghost use Rattle.std.specs.Prelude.{List};
     ghost use Rattle.definitions.specs.Expressions.{OperatorElement};
 
@@ -88,13 +137,13 @@ impl<'a> Model for Links<'a> {
     ghost invariant = { λ l. IsLawful l.base l.rest.now };
 }
 
-impl<'a> Links<'a> {
+impl<'a> TextLinks<'a> {
     /// A first link, and those that a text spells behind its element.
-    pub(crate) fn new(base: NumberBase, first: Link<'a>, rest: &'a [u8]) -> Links<'a>
+    pub(crate) fn new(base: NumberBase, first: Link<'a>, rest: &'a [u8]) -> TextLinks<'a>
         requires { IsLawful base rest.now }
         ensures { result ≡ link_as first.entry ∷ links_behind base rest.now }
     {
-        Links {
+        TextLinks {
             base,
             first: Some(first),
             rest,
@@ -102,7 +151,7 @@ impl<'a> Links<'a> {
     }
 
     /// The next link, if one is left.
-    pub fn next(&mut self) -> Option<Link<'a>>
+    fn next(&mut self) -> Option<Link<'a>>
         ensures none { IfNone result ((self.old ≡ []) × (self.new ≡ [])) }
         ensures some { IfSome result (λ link. self.old ≡ link_as link ∷ self.new) }
     {
@@ -121,5 +170,84 @@ impl<'a> Links<'a> {
                 Some(link)
             }
         }
+    }
+
+    /// Whether nothing is left, or a link that begins a term.
+    fn begins_term(&self) -> bool
+        ensures { result ≡ begins_term self.now }
+    {
+        match self.first {
+            Some(link) => joins_terms(link.operator),
+            None => term_begins(self.rest),
+        }
+    }
+}
+
+/// The next link that is no term of one register, if one is left.
+fn next_other<'a>(all: &mut TextLinks<'a>) -> Option<Link<'a>>
+    ensures none { IfNone result ((without_lone all.old ≡ []) × (all.new ≡ [])) }
+    ensures some { IfSome result (λ link. without_lone all.old ≡ link_as link ∷ without_lone all.new) }
+{
+    'links: loop {
+        match all.next() {
+            None => return None,
+            Some(link) => {
+                if !is_lone(link, all) {
+                    return Some(link);
+                }
+            }
+        }
+    }
+}
+
+/// Whether a link is a term of one register, by the links behind it.
+fn is_lone(link: Link<'_>, behind: &TextLinks<'_>) -> bool
+    ensures { result ≡ is_lone (link_as link.entry) behind.now }
+{
+    joins_terms(link.operator) && is_register(link.element) && behind.begins_term()
+}
+
+/// The links of an expression that are left, from left to right. Contracts see their list.
+#[derive(Drop)]
+pub struct Links<'a> {
+    all: TextLinks<'a>,
+    registers: LoneRegisters,
+}
+
+impl<'a> Model for Links<'a> {
+    ghost use Rattle.std.specs.Prelude.{List};
+    ghost use Rattle.definitions.specs.Expressions.{OperatorElement};
+
+    ghost Value = { List OperatorElement };
+
+    ghost use Rattle.expr_forms.specs.LoneRegisters.{links_left_by};
+
+    ghost view = { λ l. links_left_by l.registers l.all };
+}
+
+impl<'a> Links<'a> {
+    /// Links with those that are terms of one register, or without them.
+    pub(crate) fn new(all: TextLinks<'a>, registers: LoneRegisters) -> Links<'a>
+        ensures { result ≡ links_left_by registers all.entry }
+    {
+        Links { all, registers }
+    }
+
+    /// The next link, if one is left.
+    pub fn next(&mut self) -> Option<Link<'a>>
+        ensures none { IfNone result ((self.old ≡ []) × (self.new ≡ [])) }
+        ensures some { IfSome result (λ link. self.old ≡ link_as link ∷ self.new) }
+    {
+        match self.registers {
+            LoneRegisters::Kept => self.all.next(),
+            LoneRegisters::LeftOut => next_other(&mut self.all),
+        }
+    }
+
+    /// Whether nothing is left, or a link that begins a term.
+    pub(crate) fn begins_term(&self) -> bool
+        ensures { result ≡ begins_term self.now }
+    {
+        self.all.begins_term()
     }
 }

@@ -8,6 +8,7 @@ ghost use Rattle.definitions.specs.Pieces.{AtStart, AtEquals, mark_of, pieces_at
 ghost use Rattle.expr_forms.specs.PiecesFound.{mark_as, span_as, pieces_found};
 
 use crate::characters::digit_count;
+use crate::item_text::ItemText;
 use crate::numbers::capped_number;
 use definitions::NumberBase;
 
@@ -25,18 +26,11 @@ pub enum Mark {
     Equals,
 }
 
-/// A counted item as it is written: its letter, one of H A L R C, and its 1 to 100 characters.
-#[derive(Clone, Copy, Debug)]
-pub struct ItemText<'a> {
-    pub letter: u8,
-    pub characters: &'a [u8],
-}
-
 /// A counted item and how many characters of the text it takes.
 #[derive(Clone, Copy)]
 pub(crate) struct ItemSpan<'a> {
     item: ItemText<'a>,
-    taken: usize,
+    pub(crate) taken: usize,
 }
 
 /// A mark, an item, or a run of characters that are neither.
@@ -69,7 +63,7 @@ pub(crate) fn mark_of(c: u8) -> Option<Mark>
 }
 
 /// How many characters begin a text that are no mark.
-fn run_len(text: &[u8]) -> usize
+pub(crate) fn run_len(text: &[u8]) -> usize
     ensures len { result ≡ prefix_len (λ c. is_none (mark_of c)) text.now }
     ensures within { result ≤ length text.now }
 {
@@ -112,7 +106,7 @@ fn item_behind(digits: usize, count: u64, text: &[u8]) -> Option<ItemSpan<'_>>
 }
 
 /// The item that begins a text, if one does.
-fn item_at(text: &[u8]) -> Option<ItemSpan<'_>>
+pub(crate) fn item_at(text: &[u8]) -> Option<ItemSpan<'_>>
     ensures item { option_map span_as result ≡ counted_item_at text.now }
     ensures some { IfSome result (λ span. 0 < span.taken) }
     ensures within { IfSome result (λ span. span.taken ≤ length text.now) }

@@ -1,31 +1,16 @@
 //! Symbols and register names as runs of characters (COMPASS 60492600, names, registers).
-ghost use Rattle.std.specs.Prelude.{◌≡◌, ◌≤◌, ◌<◌, length, option_map, IfSome};
+ghost use Rattle.std.specs.Prelude.{◌≡◌, ◌≤◌, length, option_map, true};
 ghost use Rattle.std.specs.List.{list_all};
 ghost use Rattle.definitions.specs.Characters.{is_symbol_character};
 ghost use Rattle.definitions.specs.Symbols.{register_of, is_register, begins_symbol, is_symbol};
 ghost use Rattle.expr_forms.specs.Registers.{register_as};
 
 use crate::characters::{is_digit, is_symbol_character};
-
-/// The three kinds of registers.
-#[derive(Clone, Copy, Debug, PartialEq, Eq)]
-pub enum RegisterKind {
-    A,
-    B,
-    X,
-}
-
-/// A register: its kind, and its digit, 0 to 7 in each that is read.
-#[derive(Clone, Copy, Debug, PartialEq, Eq)]
-pub struct Register {
-    pub kind: RegisterKind,
-    pub digit: u8,
-}
+use crate::register::{Register, RegisterKind};
 
 /// The register that a text names, if it does.
 pub(crate) fn register_of(text: &[u8]) -> Option<Register>
-    ensures register { option_map register_as result ≡ register_of text.now }
-    ensures digit { IfSome result (λ register. register.digit < 8) }
+    ensures { option_map register_as result ≡ register_of text.now }
 {
     let [letter, digit] = text else {
         return None;
@@ -66,8 +51,9 @@ fn are_symbol_characters(text: &[u8]) -> bool
 }
 
 /// Whether a text is 1 to 8 characters of symbols and no name of a register.
-pub(crate) fn is_symbol(text: &[u8]) -> bool
-    ensures { result ≡ is_symbol text.now }
+pub fn is_symbol(text: &[u8]) -> bool
+    ensures symbol { result ≡ is_symbol text.now }
+    ensures short { result ≡ true → length text.now ≤ 8 }
 {
     begins_symbol(text)
         && are_symbol_characters(text)

@@ -2,7 +2,7 @@ use Rattle.std.proofs.Common.{◌∙◌, sym}
 use Rattle.expr_forms.specs.Elements.{element_as}
 use Rattle.expr_forms.specs.Links.{operator_as, pairs_behind}
 use Rattle.expr_forms.proofs.ParseLaws.{links_left-next, lawful-onto_pairs}
-use Rattle.expr_forms.proofs.links.Links.next.Goals as goal
+use Rattle.expr_forms.proofs.links.TextLinks.next.Goals as goal
 
 pub returns-in-Link-clause-some : goal.returns-in-Link-clause-some
 returns-in-Link-clause-some c =

@@ -1,0 +1,8 @@
+use Rattle.std.proofs.Common.{ap}
+use Rattle.std.specs.Prelude.{flat_map}
+use Rattle.definitions.specs.States.{symbols_of_element}
+use Rattle.expr_forms.proofs.ElementListLaws.{elements_in-links}
+use Rattle.expr_forms.proofs.expressions.Expr.symbols.Goals as goal
+
+pub returns : goal.returns
+returns c = ap (flat_map symbols_of_element) (elements_in-links c.links.result c.args.self.now c.links.ensures.links)

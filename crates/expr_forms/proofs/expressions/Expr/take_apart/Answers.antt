@@ -1,0 +1,30 @@
+use Rattle.std.proofs.Common.{List, ◌∙◌, ap, sym, subst}
+use Rattle.definitions.specs.Expressions.{Sign, Term}
+use Rattle.definitions.specs.Matching.{Sum, sum_of}
+use Rattle.definitions.proofs.ExpressionLaws.{expression_with}
+use Rattle.expr_forms.specs.Elements.{sign_as}
+use Rattle.expr_forms.specs.LoneRegisters.{other_terms}
+use Rattle.expr_forms.specs.Sums.{HasParts, sum_from, field_of}
+use Rattle.expr_forms.proofs.SumLaws.{sum-others, field-some, field-none}
+use Rattle.expr_forms.proofs.expressions.Expr.take_apart.Goals as goal
+use Rattle.expr_forms.proofs.expressions.Expr.take_apart.Goals.{then-parts, else-parts}
+
+pub returns : goal.returns
+returns c =
+    let parts = c.parts_of-parts.result in
+    let e = c.args.self.now in
+    let sum : Sum = sum_of e.terms (sum_from e.sign) in
+    let has : HasParts parts sum =
+    subst (λ (s : Sign). HasParts parts (sum_of e.terms (sum_from s))) c.sign.ensures
+    (subst (λ (t : List Term). HasParts parts (sum_of t (sum_from (sign_as c.sign.result)))) c.links.ensures.grouped c.parts_of-parts.ensures) in (
+      has.1,
+      elim c.if-parts.branch [
+        | then-parts w ↦
+            ap field_of w.others-is
+            ∙ field-some sum.sign sum.others w.without_registers.result (sym has.2 ∙ w.if-parts.true)
+            (w.without_registers.ensures
+            ∙ (ap (λ (s : Sign). expression_with s (other_terms e.terms)) has.0
+            ∙ ap (expression_with sum.sign) (sym (sum-others e.terms (sum_from e.sign)))))
+        | else-parts w ↦ ap field_of w.others-is ∙ field-none sum.sign sum.others (sym has.2 ∙ w.if-parts.false)
+      ],
+    )

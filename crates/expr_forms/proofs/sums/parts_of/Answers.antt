@@ -1,0 +1,7 @@
+use Rattle.std.proofs.Common.{refl}
+use Rattle.expr_forms.specs.Elements.{sign_as}
+use Rattle.expr_forms.specs.Sums.{sum_from}
+use Rattle.expr_forms.proofs.sums.parts_of.Goals as goal
+
+pub links-init : goal.links-init
+links-init c = (sum_from (sign_as c.args.sign), (refl, c.new.ensures, refl), refl)

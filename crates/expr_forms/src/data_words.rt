@@ -1,0 +1,173 @@
+//! The variable field of DATA: what fills its words (COMPASS 60492600, DATA).
+ghost use Rattle.std.specs.Prelude.{◌≡◌, ◌≤◌, ◌∷◌, [], length, option_map, is_some, Some, None, IfSome, IfNone, MatchResult};
+ghost use Rattle.definitions.specs.Pieces.{Inside, ByMark, IsMark, IsCountedItem, spot_behind, pieces_at, pieces_of, subfields_of};
+ghost use Rattle.definitions.specs.Symbols.{number_read};
+ghost use Rattle.definitions.specs.Operands.{CountedItemWords, number_word, data_word, all_words};
+ghost use Rattle.definitions.specs.declared.marks.Letter.TheVariants as letter;
+ghost use Rattle.expr_forms.specs.Elements.{sign_as};
+ghost use Rattle.expr_forms.specs.PiecesFound.{mark_as, item_as};
+ghost use Rattle.expr_forms.specs.Readings.{datum_as, alone, signed_word};
+
+use crate::elements::Sign;
+use crate::expressions::Expr;
+use crate::item_text::ItemText;
+use crate::numbers::{Number, number_read};
+use crate::pieces::{Mark, Piece, piece_at_start};
+use crate::subfields::Subfields;
+use definitions::{Letter, NumberBase};
+use std::marker::Model;
+
+/// What fills words of DATA or CON.
+#[derive(Drop)]
+pub enum Datum<'a> {
+    /// Nothing is written: one word that is 0.
+    Zero,
+    /// A number of DATA, which fills one word.
+    Number(Sign, Number),
+    /// A counted item of DATA, which fills as many words as it needs.
+    Item(ItemText<'a>),
+    /// An expression of CON, which fills one word.
+    Expression(Expr<'a>),
+}
+
+/// The number of DATA that a run of characters is, where nothing is behind it.
+fn lone_number<'a>(
+    base: NumberBase,
+    sign: Sign,
+    run: &'a [u8],
+    behind: &'a [u8],
+) -> Option<Datum<'a>>
+    ensures { option_map datum_as result ≡ alone (number_word (sign_as sign) (number_read base run.now)) (pieces_at Inside 0 behind.now) }
+{
+    match behind.split_first() {
+        Some(_) => None,
+        None => match number_read(base, run) {
+            Some(number) => Some(Datum::Number(sign, number)),
+            None => None,
+        },
+    }
+}
+
+/// The item of DATA, where nothing is behind it.
+fn lone_item<'a>(item: ItemText<'a>, behind: &'a [u8]) -> Option<Datum<'a>>
+    ensures { option_map datum_as result ≡ alone (Some (CountedItemWords (item_as item.entry))) (pieces_at Inside 0 behind.now) }
+{
+    match behind.split_first() {
+        Some(_) => None,
+        None => Some(Datum::Item(item)),
+    }
+}
+
+/// The number of DATA behind its sign.
+fn signed_number(base: NumberBase, sign: Sign, text: &[u8]) -> Option<Datum<'_>>
+    ensures { option_map datum_as result ≡ signed_word base (sign_as sign) (pieces_of text.now) }
+{
+    match piece_at_start(text) {
+        None => None,
+        Some(found) => match found.piece {
+            Piece::Run(run) => lone_number(base, sign, run, found.rest),
+            Piece::Item(_) => None,
+            Piece::Mark(_) => None,
+        },
+    }
+}
+
+/// The word of DATA that begins with a mark, which this text follows.
+fn data_behind(base: NumberBase, mark: Mark, text: &[u8]) -> Option<Datum<'_>>
+    ensures { option_map datum_as result ≡ data_word base (IsMark (mark_as mark) ∷ pieces_at (spot_behind (ByMark (mark_as mark))) 0 text.now) }
+{
+    match mark {
+        Mark::Plus => signed_number(base, Sign::Plus, text),
+        Mark::Minus => signed_number(base, Sign::Minus, text),
+        Mark::Comma => None,
+        Mark::Star => None,
+        Mark::Slash => None,
+        Mark::Equals => None,
+    }
+}
+
+/// What a subfield of DATA is, if it is lawful: nothing, a number with or without a sign, or an
+/// item.
+fn data_word(base: NumberBase, text: &[u8]) -> Option<Datum<'_>>
+    ensures { option_map datum_as result ≡ data_word base (pieces_of text.now) }
+{
+    match piece_at_start(text) {
+        None => Some(Datum::Zero),
+        Some(found) => match found.piece {
+            Piece::Run(run) => lone_number(base, Sign::Absent, run, found.rest),
+            Piece::Item(item) => lone_item(item, found.rest),
+            Piece::Mark(mark) => data_behind(base, mark, found.rest),
+        },
+    }
+}
+
+/// Whether each subfield is lawful in DATA.
+fn are_words(base: NumberBase, subfields: Subfields<'_>) -> bool
+    ensures { result ≡ is_some (all_words (data_word base) subfields.entry) }
+{
+    let mut rest = subfields;
+    'subfields: loop {
+        match rest.next() {
+            None => return true,
+            Some(text) => match data_word(base, text) {
+                None => return false,
+                Some(_) => {}
+            },
+        }
+    }
+}
+
+/// What fills the words of a DATA, from left to right. Contracts see the list of what is left.
+#[derive(Drop)]
+pub struct DataWords<'a> {
+    base: NumberBase,
+    subfields: Subfields<'a>,
+}
+
+impl<'a> Model for DataWords<'a> {
+    ghost use Rattle.std.specs.Prelude.{List, [], ◌≡◌, true, is_some, unwrap_or};
+    ghost use Rattle.definitions.specs.Operands.{Datum, data_word, all_words};
+
+    ghost Value = { List Datum };
+
+    ghost view = { λ w. unwrap_or (all_words (data_word w.base) w.subfields) [] };
+
+    ghost invariant = { λ w. is_some (all_words (data_word w.base) w.subfields) ≡ true };
+}
+
+impl<'a> DataWords<'a> {
+    /// The words of a field of at most 711 characters: V where a subfield is not lawful.
+    pub fn read(text: &'a [u8], base: NumberBase) -> Result<DataWords<'a>, Letter>
+        requires { length text.now ≤ 711 }
+        ensures { let words = all_words (data_word base) (subfields_of (pieces_of text.now)) in
+            MatchResult result (λ found. words ≡ Some found) (λ fault. (fault ≡ letter.V) × (words ≡ None)) }
+    {
+        let subfields = Subfields::new(text);
+        if are_words(base, subfields.copied()) {
+            Ok(DataWords { base, subfields })
+        } else {
+            Err(Letter::V)
+        }
+    }
+
+    /// What fills the next words, if anything is left.
+    pub fn next(&mut self) -> Option<Datum<'a>>
+        ensures none { IfNone result ((self.old ≡ []) × (self.new ≡ [])) }
+        ensures some { IfSome result (λ datum. self.old ≡ datum_as datum ∷ self.new) }
+    {
+        match self.subfields.next() {
+            None => None,
+            Some(text) => data_word(self.base, text),
+        }
+    }
+
+    /// The same words, to go over them once more.
+    pub fn copied(&self) -> DataWords<'a>
+        ensures { result ≡ self.now }
+    {
+        DataWords {
+            base: self.base,
+            subfields: self.subfields.copied(),
+        }
+    }
+}

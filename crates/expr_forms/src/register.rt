@@ -1,0 +1,18 @@
+//! A register.
+ghost use Rattle.std.specs.Prelude.{◌<◌};
+
+/// The three kinds of registers.
+#[derive(Clone, Copy, Debug, PartialEq, Eq)]
+pub enum RegisterKind {
+    A,
+    B,
+    X,
+}
+
+/// A register: its kind, and its digit, 0 to 7.
+#[derive(Clone, Copy, Debug, PartialEq, Eq)]
+pub struct Register {
+    pub kind: RegisterKind,
+    pub digit: u8,
+    pub ghost octal: { digit < 8 },
+}
