@@ -1,5 +1,5 @@
 -- The three tables against those of the definitions: for each operation the same rows in the same order.
-use Rattle.std.proofs.Common.{◌≡◌, ℕ, ◌<◌, Bool, true, false, cond, ◌||◌, List, [], ◌∷◌, Some, None, map, filter, eqb, get_or, Fits, w8, refl, sym, ap, ◌∙◌, arith}
+use Rattle.std.proofs.Common.{◌≡◌, ℕ, ◌<◌, Bool, true, false, cond, ◌&&◌, ◌||◌, List, [], ◌∷◌, Option, Some, None, map, filter, eqb, get_or, Fits, w8, refl, sym, ap, ap₂, ◌∙◌, arith}
 use Rattle.std.specs.List.{list_all, list_any}
 use Rattle.std.proofs.lemmas.Bool.{and_parts}
 use Rattle.definitions.specs.CentralTable as table
@@ -8,12 +8,9 @@ use Rattle.definitions.specs.Matching.{is_octal_digit, is_operation}
 use Rattle.opcode_rows.specs.declared.row.Row.{Row}
 use Rattle.opcode_rows.specs.SortedNames.{name_number, has_number}
 use Rattle.opcode_rows.proofs.TableLaws.{same_filters, filter-map}
-use Rattle.cpu_opcodes.specs.declared.code.Code.{Code}
-use Rattle.cpu_opcodes.specs.declared.code.OperandForm.{OperandForm}
-use Rattle.cpu_opcodes.specs.declared.code.SumForm.{SumForm}
 use Rattle.cpu_opcodes.specs.declared.operand_table.TheConstants.{OPERAND_ROWS, IGNORING_ROWS}
 use Rattle.cpu_opcodes.specs.declared.sum_table.TheConstants.{SUM_ROWS}
-use Rattle.cpu_opcodes.specs.OperationNames.{padded, rows_with, rows_named}
+use Rattle.cpu_opcodes.specs.OperationNames.{name_of, padded, rows_with, rows_named}
 use Rattle.cpu_opcodes.specs.CentralTables.{operand_row, code_row, sum_row, padded_row, padded_sum_row, ignoring_rows_of, operand_rows_of, sum_rows_of, is_some_of}
 use Rattle.cpu_opcodes.proofs.OperationLaws.{is_shaped, operation-two, operation-three, operation-other, operation-long, operation-short, operation-none}
 
@@ -113,3 +110,21 @@ is_some_of-filter p (x ∷ xs) = kept_one (p x) (list_any p xs) x (filter p xs) 
 -- an operation is in a table where there are rows of it
 pub any_row : {X Y Z : Type 0} (f : Y → Z) (d : X → Z) (p : X → Bool) (xs : List X) (rows : List Y) → map f rows ≡ map d (filter p xs) → is_some_of rows ≡ list_any p xs
 any_row f d p xs rows same = sym (is_some_of-map f rows) ∙ ap is_some_of same ∙ is_some_of-map d (filter p xs) ∙ is_some_of-filter p xs
+
+all-kept : {X : Type 0} (b : Bool) (p : X → Bool) (x : X) (rest : List X) → p x ≡ true → list_all p rest ≡ true → list_all p (cond b (x ∷ rest) rest) ≡ true
+all-kept true p x rest one more = ap₂ (λ (s t : Bool). s && t) one more
+all-kept false p x rest one more = more
+
+all-filter : {X : Type 0} (p q : X → Bool) (xs : List X) → list_all p xs ≡ true → list_all p (filter q xs) ≡ true
+all-filter p q [] all = refl
+all-filter p q (x ∷ xs) all =
+    let parts = and_parts (p x) (list_all p xs) all in
+    all-kept (q x) p x (filter q xs) parts.0 (all-filter p q xs parts.1)
+
+all-with : {F : Type 0} (p : Row F → Bool) (rows : List (Row F)) (name : Option (List ℕ)) → list_all p rows ≡ true → list_all p (rows_with rows name) ≡ true
+all-with p rows None all = refl
+all-with p rows (Some name) all = all-filter p (has_number (name_number name)) rows all
+
+-- what holds of each row of a table holds of those of an operation
+pub all-named : {F : Type 0} (p : Row F → Bool) (rows : List (Row F)) (operation : List ℕ) → list_all p rows ≡ true → list_all p (rows_named rows operation) ≡ true
+all-named p rows operation all = all-with p rows (name_of operation) all

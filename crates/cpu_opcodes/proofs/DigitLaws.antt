@@ -2,7 +2,7 @@
 use Rattle.std.proofs.Common.{◌≡◌, ℕ, ◌+◌, ◌*◌, ◌^◌, ◌<◌, ◌≤◌, Bool, true, false, List, [], ◌∷◌, codes, refl, sym, ap, ◌∙◌, arith}
 use Rattle.std.proofs.Math.Nat.{pow-le-pow_right}
 use Rattle.definitions.specs.Characters.{is_among}
-use Rattle.definitions.specs.Matching.{RegisterDigits, digit_in, code_digits, octal_number}
+use Rattle.definitions.specs.Matching.{RegisterDigits, digit_in, code_digits}
 use Rattle.cpu_opcodes.specs.CodeTexts.{shortened}
 
 -- a digit more

@@ -1,12 +1,10 @@
 -- An operation is that of a pattern where their names are the same number.
-use Rattle.std.proofs.Common.{◌≡◌, ℕ, ◌<◌, Bool, true, false, not, cond, ◌&&◌, List, [], ◌∷◌, Option, Some, None, map, filter, eqb, ltb, get_or, refl, sym, ap, ◌∙◌, arith}
-use Rattle.std.specs.List.{list_all}
+use Rattle.std.proofs.Common.{◌≡◌, ℕ, ◌<◌, Bool, true, false, not, cond, ◌&&◌, List, [], ◌∷◌, Option, Some, None, eqb, ltb, refl, sym, ap, ◌∙◌, arith}
 use Rattle.std.proofs.lemmas.Bool.{and_parts, and_right, eqb-true, ltb-true}
 use Rattle.definitions.specs.Matching.{RegisterDigits, no_ijk, is_ijk, is_octal_digit, matched, is_operation}
-use Rattle.opcode_rows.specs.declared.row.Row.{Row}
-use Rattle.opcode_rows.specs.SortedNames.{name_number, has_number}
+use Rattle.opcode_rows.specs.SortedNames.{name_number}
 use Rattle.opcode_rows.proofs.TableLaws.{eqb-name_number}
-use Rattle.cpu_opcodes.specs.OperationNames.{name_of, padded, rows_with, rows_named}
+use Rattle.cpu_opcodes.specs.OperationNames.{padded}
 
 -- two letters that are no digits of registers, and perhaps i
 abbrev pub is_shaped : List ℕ → Bool
@@ -14,7 +12,7 @@ is_shaped (p ∷ q ∷ []) = not (is_ijk p) && (not (is_ijk q) && ltb q 256)
 is_shaped (p ∷ q ∷ r ∷ []) = eqb r 105 && (not (is_ijk p) && (not (is_ijk q) && ltb q 256))
 is_shaped _ = false
 
-abbrev is_found : Option RegisterDigits → Bool
+abbrev pub is_found : Option RegisterDigits → Bool
 is_found (Some ijk) = true
 is_found None = false
 
@@ -22,7 +20,7 @@ found-elim : (o : Option RegisterDigits) → elim o [ Some ijk ↦ true | None �
 found-elim (Some ijk) = refl
 found-elim None = refl
 
-is_operation-found : (pattern operation : List ℕ) → is_operation pattern operation ≡ is_found (matched pattern operation no_ijk)
+pub is_operation-found : (pattern operation : List ℕ) → is_operation pattern operation ≡ is_found (matched pattern operation no_ijk)
 is_operation-found pattern operation = found-elim (matched pattern operation no_ijk)
 
 pub matched-letter : (p : ℕ) (ps : List ℕ) (c : ℕ) (cs : List ℕ) (ijk : RegisterDigits) → is_ijk p ≡ false → matched (p ∷ ps) (c ∷ cs) ijk ≡ cond (eqb p c) (matched ps cs ijk) None
@@ -46,11 +44,11 @@ letters p q a b ps cs first second =
     ∙ ap (λ t. eqb p a && t) (ap is_found (matched-letter q ps b cs no_ijk second) ∙ is_found-cond (eqb q b) (matched ps cs no_ijk))
 
 -- a digit that is asked for and given
-digit : (c : ℕ) (ijk : RegisterDigits) (o : Bool) → is_octal_digit c ≡ o → is_found (matched (105 ∷ []) (c ∷ []) ijk) ≡ o
+pub digit : (c : ℕ) (ijk : RegisterDigits) (o : Bool) → is_octal_digit c ≡ o → is_found (matched (105 ∷ []) (c ∷ []) ijk) ≡ o
 digit c ijk true octal = rw octal refl
 digit c ijk false octal = rw octal refl
 
-no_more : (c d : ℕ) (ds : List ℕ) (ijk : RegisterDigits) (o : Bool) → is_octal_digit c ≡ o → is_found (matched (105 ∷ []) (c ∷ d ∷ ds) ijk) ≡ false
+pub no_more : (c d : ℕ) (ds : List ℕ) (ijk : RegisterDigits) (o : Bool) → is_octal_digit c ≡ o → is_found (matched (105 ∷ []) (c ∷ d ∷ ds) ijk) ≡ false
 no_more c d ds ijk true octal = rw octal refl
 no_more c d ds ijk false octal = rw octal refl
 

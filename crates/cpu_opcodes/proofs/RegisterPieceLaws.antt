@@ -1,5 +1,5 @@
 -- The text of a subfield fits a pattern of registers where its pieces do.
-use Rattle.std.proofs.Common.{◌≡◌, ℕ, ◌-◌, Bool, true, false, not, cond, ◌&&◌, List, [], ◌∷◌, ◌++◌, Option, Some, None, eqb, codes, refl, sym, ap, ◌∙◌, inl, inr}
+use Rattle.std.proofs.Common.{◌≡◌, ℕ, ◌-◌, Bool, true, false, not, cond, ◌&&◌, List, [], ◌∷◌, ◌++◌, None, eqb, codes, refl, sym, ap, ◌∙◌, inl, inr}
 use Rattle.std.specs.List.{list_all, slice_split}
 use Rattle.std.proofs.lemmas.Bool.{and_parts, eqb-true}
 use Rattle.std.proofs.lemmas.Bool.Decides.{eqb_tells}
@@ -19,7 +19,7 @@ matched-digit : (q : ℕ) (ps : List ℕ) (c : ℕ) (cs : List ℕ) (ijk : Regis
 matched-digit q ps c cs ijk place = rw place refl
 
 -- the text of a mark and what is behind it
-plain_text-mark : (mark : Mark) (pieces : List Piece) → plain_text (IsMark mark ∷ pieces) ≡ mark_character mark ∷ plain_text pieces
+pub plain_text-mark : (mark : Mark) (pieces : List Piece) → plain_text (IsMark mark ∷ pieces) ≡ mark_character mark ∷ plain_text pieces
 plain_text-mark Comma pieces = refl
 plain_text-mark Plus pieces = refl
 plain_text-mark Minus pieces = refl
@@ -27,7 +27,7 @@ plain_text-mark Star pieces = refl
 plain_text-mark Slash pieces = refl
 plain_text-mark Equals pieces = refl
 
-no_digit : (mark : Mark) → is_octal_digit (mark_character mark) ≡ false
+pub no_digit : (mark : Mark) → is_octal_digit (mark_character mark) ≡ false
 no_digit Comma = refl
 no_digit Plus = refl
 no_digit Minus = refl

@@ -4,3 +4,9 @@ pub mod CentralTables
 pub mod RegistersFound
 pub mod RegisterPieces
 pub mod RegisterLinks
+pub mod PatternTexts
+pub mod Fits
+pub mod Parts
+pub mod Found
+pub mod LawfulCodes
+pub mod FirstLetters

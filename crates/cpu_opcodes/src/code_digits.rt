@@ -1,5 +1,5 @@
 //! The shape of a code: its digits, its parcels and its field.
-ghost use Rattle.std.specs.Prelude.{◌≡◌, length};
+ghost use Rattle.std.specs.Prelude.{◌≡◌, ◌≤◌, length};
 ghost use Rattle.definitions.specs.Matching.{code_digits, octal_number};
 ghost use Rattle.cpu_opcodes.specs.CodeTexts.{code_text};
 ghost use Rattle.cpu_opcodes.specs.RegistersFound.{digits_as};
@@ -13,6 +13,7 @@ impl Code {
     pub fn digits(self, registers: RegistersFound) -> Digits
         ensures number { result.number ≡ octal_number 0 (code_digits (digits_as registers) (code_text self)) }
         ensures count { result.count ≡ length (code_digits (digits_as registers) (code_text self)) }
+        ensures within { result.count ≤ 10 }
     {
         match self {
             Code::Short(text) => digits_of(&text, registers),

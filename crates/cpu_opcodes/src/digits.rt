@@ -18,6 +18,7 @@ pub(crate) fn digits_of(text: &[u8], registers: RegistersFound) -> Digits
     requires { length text.now ≤ 10 }
     ensures number { result.number ≡ octal_number 0 (code_digits (digits_as registers) text.now) }
     ensures count { result.count ≡ length (code_digits (digits_as registers) text.now) }
+    ensures within { result.count ≤ length text.now }
 {
     let mut number = 0;
     for (i, c) in text.iter().enumerate() {

@@ -1,10 +1,12 @@
 //! The rows of an operation in each of the three tables.
-ghost use Rattle.std.specs.Prelude.{◌≡◌, map};
-ghost use Rattle.std.specs.List.{list_any};
+ghost use Rattle.std.specs.Prelude.{◌≡◌, IsTrue, map};
+ghost use Rattle.std.specs.List.{list_all, list_any};
 ghost use Rattle.definitions.specs.CentralTable as table;
 ghost use Rattle.definitions.specs.Matching.{is_operation};
 ghost use Rattle.definitions.specs.Operations.{is_central};
 ghost use Rattle.cpu_opcodes.specs.CentralTables.{code_row, operand_row, sum_row, ignoring_rows_of, operand_rows_of, sum_rows_of, is_some_of};
+ghost use Rattle.cpu_opcodes.specs.FirstLetters.{begins_sum};
+ghost use Rattle.cpu_opcodes.specs.LawfulCodes.{is_lawful_row, has_lawful_code, has_lawful_codes};
 
 use crate::code::{Code, OperandForm, SumForm};
 use crate::operand_table::{IGNORING_ROWS, OPERAND_ROWS};
@@ -14,24 +16,48 @@ use opcode_rows::Row;
 
 /// The rows of an operation whose operand is ignored, in the order in which they count: PS and NO.
 pub fn ignoring_rows(operation: &[u8]) -> &'static [Row<Code>]
-    ensures { map code_row result.now ≡ ignoring_rows_of operation.now }
+    ensures rows { map code_row result.now ≡ ignoring_rows_of operation.now }
+    ensures lawful { IsTrue (list_all is_lawful_row result.now) }
 {
     rows_named(&IGNORING_ROWS, operation)
 }
 
-/// The rows of an operation whose operand is a sum, in the order in which they count.
-pub fn sum_rows(operation: &[u8]) -> &'static [Row<SumForm>]
-    ensures { map sum_row result.now ≡ sum_rows_of operation.now }
+/// Whether an operation begins with J or S, as JP and what sets a register do. These alone take a
+/// sum, and they take nothing else.
+fn begins_sum(operation: &[u8]) -> bool
+    ensures { result ≡ begins_sum operation.now }
 {
-    rows_named(&SUM_ROWS, operation)
+    match operation.split_first() {
+        None => false,
+        Some((letter, _)) => *letter == b'J' || *letter == b'S',
+    }
+}
+
+/// The rows of an operation whose operand is a sum, in the order in which they count: of the 44 rows
+/// six are looked at, those of the operation, and one more; none where its first letter is another.
+pub fn sum_rows(operation: &[u8]) -> &'static [Row<SumForm>]
+    ensures rows { map sum_row result.now ≡ sum_rows_of operation.now }
+    ensures lawful { IsTrue (list_all has_lawful_codes result.now) }
+{
+    if begins_sum(operation) {
+        rows_named(&SUM_ROWS, operation)
+    } else {
+        &[]
+    }
 }
 
 /// The rows of an operation whose operand is read subfield by subfield, in the order in which they
-/// count: of the 72 rows seven are looked at, those of the operation, and one more.
+/// count: of the 72 rows seven are looked at, those of the operation, and one more; none where its
+/// first letter is that of a sum.
 pub fn central_rows(operation: &[u8]) -> &'static [Row<OperandForm>]
-    ensures { map operand_row result.now ≡ operand_rows_of operation.now }
+    ensures rows { map operand_row result.now ≡ operand_rows_of operation.now }
+    ensures lawful { IsTrue (list_all has_lawful_code result.now) }
 {
-    rows_named(&OPERAND_ROWS, operation)
+    if begins_sum(operation) {
+        &[]
+    } else {
+        rows_named(&OPERAND_ROWS, operation)
+    }
 }
 
 /// Whether a table has an operation.
@@ -59,7 +85,8 @@ fn is_read_by_subfields(operation: &[u8]) -> bool
     has_rows(central_rows(operation))
 }
 
-fn has_rows<F>(rows: &[Row<F>]) -> bool
+/// Whether there is a row.
+pub(crate) fn has_rows<F>(rows: &[Row<F>]) -> bool
     ensures { result ≡ is_some_of rows.now }
 {
     match rows {

@@ -6,4 +6,4 @@ use Rattle.cpu_opcodes.proofs.CentralLaws.{any_row}
 use Rattle.cpu_opcodes.proofs.tables.is_read_by_subfields.Goals as goal
 
 pub returns : goal.returns
-returns c = c.has_rows.ensures ∙ any_row operand_row padded_row (λ (row : table.Row). is_operation row.operation c.args.operation.now) table.central_rows c.central_rows.result.now c.central_rows.ensures
+returns c = c.has_rows.ensures ∙ any_row operand_row padded_row (λ (row : table.Row). is_operation row.operation c.args.operation.now) table.central_rows c.central_rows.result.now c.central_rows.ensures.rows

@@ -1,0 +1,10 @@
+use Rattle.std.proofs.Common.{ap, ◌∙◌}
+use Rattle.definitions.specs.Matching.{first_fit}
+use Rattle.cpu_opcodes.specs.RegistersFound.{digits_as}
+use Rattle.cpu_opcodes.proofs.RowLaws.{central-fits}
+use Rattle.cpu_opcodes.proofs.central_fits.central_fit.Goals as goal
+
+pub returns-clause-instruction : goal.returns-clause-instruction
+returns-clause-instruction c base subfields h =
+    c.first_fit.ensures.instruction base subfields h
+    ∙ ap first_fit (central-fits base c.args.operation.now subfields c.central_rows.result.now (digits_as c.named_registers.result) c.named_registers.ensures c.central_rows.ensures.rows)

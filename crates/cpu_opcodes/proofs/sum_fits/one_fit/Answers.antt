@@ -1,0 +1,18 @@
+use Rattle.std.proofs.Common.{Some, ap, sym, ◌∙◌}
+use Rattle.definitions.specs.Matching.{Sum, first_fit, sum_of}
+use Rattle.expr_forms.specs.Sums.{sum_from}
+use Rattle.cpu_opcodes.specs.RegistersFound.{digits_as}
+use Rattle.cpu_opcodes.proofs.RowLaws.{sum-fits}
+use Rattle.cpu_opcodes.proofs.SumLaws.{no_rows-fit}
+use Rattle.cpu_opcodes.proofs.sum_fits.one_fit.Goals as goal
+
+pub returns-then-has_rows-clause-instruction : goal.returns-then-has_rows-clause-instruction
+returns-then-has_rows-clause-instruction c =
+    let of : Sum = sum_of c.args.expression.now.terms (sum_from c.args.expression.now.sign) in
+    c.first_fit.ensures.instruction of c.take_apart.ensures
+    ∙ ap first_fit (sum-fits c.args.operation.now (Some of) c.sum_rows-rows.result.now (digits_as c.named_registers.result) c.named_registers.ensures c.sum_rows-rows.ensures.rows)
+
+pub returns-else-has_rows-clause-instruction : goal.returns-else-has_rows-clause-instruction
+returns-else-has_rows-clause-instruction c =
+    let of : Sum = sum_of c.args.expression.now.terms (sum_from c.args.expression.now.sign) in
+    no_rows-fit c.args.operation.now (Some of) c.sum_rows-rows.result.now (sym c.has_rows.ensures ∙ c.if-has_rows.false) c.sum_rows-rows.ensures.rows

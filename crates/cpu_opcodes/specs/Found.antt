@@ -1,0 +1,31 @@
+-- What an operand gives while it is matched, in the words of the definitions.
+use Rattle.std.specs.Prelude.{ℕ, List, Option, Some, None}
+use Rattle.definitions.specs.Pieces.{Piece}
+use Rattle.definitions.specs.Matching.{Field, NoField, OfK, OfN, Match, Instruction, subfield_matched}
+use Rattle.definitions.specs.declared.marks.NumberBase.{NumberBase}
+use Rattle.expr_forms.specs.Shapes.{instruction_as}
+use Rattle.expr_forms.specs.declared.shapes.Shape.{Shape}
+use Rattle.cpu_opcodes.specs.RegistersFound.{digits_as}
+use Rattle.cpu_opcodes.specs.declared.found.CentralField as fields
+use Rattle.cpu_opcodes.specs.declared.found.CentralField.TheVariants as field
+use Rattle.cpu_opcodes.specs.declared.found.Found as founds
+
+-- the field
+abbrev pub central_field_as : fields.CentralField → Field
+central_field_as field.Absent = NoField
+central_field_as (field.Address e) = OfK e
+central_field_as (field.Count e) = OfN e
+
+-- the digits and the field
+abbrev pub found_as : founds.Found → Match
+found_as found = record { ijk = digits_as found.registers; field = central_field_as found.field }
+
+-- what a subfield makes of a match, if there is one
+abbrev pub next_found : NumberBase → List ℕ → List Piece → Option Match → Option Match
+next_found base pattern pieces None = None
+next_found base pattern pieces (Some so_far) = subfield_matched base pattern pieces so_far
+
+-- the instruction of a shape, if there is one
+abbrev pub shape_as : Option Shape → Option Instruction
+shape_as None = None
+shape_as (Some shape) = instruction_as shape

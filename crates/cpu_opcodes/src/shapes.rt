@@ -1,0 +1,50 @@
+//! The instruction of a code, with what was found in its operand.
+ghost use Rattle.std.specs.Prelude.{◌≡◌, ◌≤◌, Some, IsTrue, is_some, IfSome};
+ghost use Rattle.definitions.specs.Matching.{instruction_of};
+ghost use Rattle.expr_forms.specs.Shapes.{field_as, instruction_as};
+ghost use Rattle.cpu_opcodes.specs.CodeTexts.{code_text, code_text_or_none};
+ghost use Rattle.cpu_opcodes.specs.LawfulCodes.{is_lawful, is_lawful_or_none};
+ghost use Rattle.cpu_opcodes.specs.Found.{central_field_as, found_as, shape_as};
+ghost use Rattle.cpu_opcodes.specs.Fits.{code_fit};
+
+use crate::code::Code;
+use crate::found::{CentralField, Found};
+use expr_forms::{Field, Shape};
+
+/// The field as an instruction has it.
+fn field_of<'a>(field: CentralField<'a>) -> Field<'a>
+    ensures { field_as result ≡ Some (central_field_as field.entry) }
+{
+    match field {
+        CentralField::Absent => Field::Absent,
+        CentralField::Address(expression) => Field::Address(expression),
+        CentralField::Count(expression) => Field::Count(expression),
+    }
+}
+
+/// The instruction that a code makes with the digits and the field found.
+pub(crate) fn shape_of<'a>(code: Code, found: Found<'a>) -> Shape<'a>
+    requires { IsTrue (is_lawful code) }
+    ensures instruction { instruction_as result ≡ Some (instruction_of (code_text code) (found_as found.entry)) }
+    ensures short { result.digit_count ≤ 10 }
+{
+    let digits = code.digits(found.registers);
+    Shape {
+        digits: digits.number as u32,
+        digit_count: digits.count as u8,
+        field: field_of(found.field),
+    }
+}
+
+/// The same, if there is a code.
+pub(crate) fn shape_with<'a>(code: Option<Code>, found: Found<'a>) -> Option<Shape<'a>>
+    requires { IsTrue (is_lawful_or_none code) }
+    ensures instruction { shape_as result ≡ code_fit (code_text_or_none code) (found_as found.entry) }
+    ensures central { IfSome result (λ shape. IsTrue (is_some (instruction_as shape))) }
+    ensures short { IfSome result (λ shape. shape.digit_count ≤ 10) }
+{
+    match code {
+        Some(code) => Some(shape_of(code, found)),
+        None => None,
+    }
+}

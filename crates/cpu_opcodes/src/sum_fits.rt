@@ -1,0 +1,148 @@
+//! A sum against the rows of an operation whose operand is a sum.
+ghost use Rattle.std.specs.Prelude.{◌≡◌, ◌≤◌, ℕ, List, Some, option_map, IsTrue, map, is_some, IfSome};
+ghost use Rattle.std.specs.List.{list_all};
+ghost use Rattle.definitions.specs.Pieces.{Piece};
+ghost use Rattle.definitions.specs.CentralTable as table;
+ghost use Rattle.definitions.specs.Matching as matching;
+ghost use Rattle.definitions.specs.Matching.{sum_read, single, sum_rows_for};
+ghost use Rattle.definitions.specs.declared.marks.NumberBase.{NumberBase};
+ghost use Rattle.opcode_rows.specs.declared.row.Row.{Row};
+ghost use Rattle.expr_forms.specs.Operands.{IsOperand};
+ghost use Rattle.expr_forms.specs.Shapes.{instruction_as};
+ghost use Rattle.expr_forms.specs.Sums.{IsSum, AreRegisters, field_of};
+ghost use Rattle.cpu_opcodes.specs.declared.code.SumForm.{SumForm};
+ghost use Rattle.cpu_opcodes.specs.RegistersFound.{digits_as};
+ghost use Rattle.cpu_opcodes.specs.CodeTexts.{registers_text, code_text_or_none};
+ghost use Rattle.cpu_opcodes.specs.CentralTables.{sum_row};
+ghost use Rattle.cpu_opcodes.specs.LawfulCodes.{is_lawful_or_none, has_lawful_codes};
+ghost use Rattle.cpu_opcodes.specs.Found.{shape_as};
+ghost use Rattle.cpu_opcodes.specs.Fits.{sum_fit_with, form_fit};
+
+use crate::code::SumForm;
+use crate::found::{CentralField, Found};
+use crate::patterns::SumPattern;
+use crate::registers_found::RegistersFound;
+use crate::shapes::shape_with;
+use crate::tables::{has_rows, sum_rows};
+use crate::text_match::{matched, named_registers};
+use expr_forms::{Expr, Operand, Shape, Sum, SumRegisters};
+use opcode_rows::Row;
+
+/// The digits of the registers of a sum, if they fit a pattern.
+fn registers_fit(
+    pattern: SumPattern,
+    registers: &SumRegisters,
+    found: RegistersFound,
+) -> Option<RegistersFound>
+    ensures { (text : List ℕ) → AreRegisters registers.now text → option_map digits_as result ≡ matching.matched (registers_text pattern) text (digits_as found) }
+{
+    match registers {
+        SumRegisters::TooMany => None,
+        SumRegisters::Text(text) => matched(pattern.text(), text.as_slice(), found),
+    }
+}
+
+/// The instruction of a form with K, or without it where there are no other terms.
+fn form_fit<'a>(
+    form: SumForm,
+    registers: RegistersFound,
+    others: &Option<Expr<'a>>,
+) -> Option<Shape<'a>>
+    requires with_k { IsTrue (is_lawful_or_none form.with_k) }
+    requires alone { IsTrue (is_lawful_or_none form.alone) }
+    ensures instruction { shape_as result ≡ form_fit (code_text_or_none form.with_k) (code_text_or_none form.alone) (digits_as registers) (field_of others.now) }
+    ensures central { IfSome result (λ shape. IsTrue (is_some (instruction_as shape))) }
+    ensures short { IfSome result (λ shape. shape.digit_count ≤ 10) }
+{
+    match others {
+        None => shape_with(
+            form.alone,
+            Found {
+                registers,
+                field: CentralField::Absent,
+            },
+        ),
+        Some(expression) => {
+            if expression.is_plain(true) {
+                shape_with(
+                    form.with_k,
+                    Found {
+                        registers,
+                        field: CentralField::Address(expression.copied()),
+                    },
+                )
+            } else {
+                None
+            }
+        }
+    }
+}
+
+/// The instruction of a sum by a row, if the sum fits it.
+fn row_fit<'a>(row: &Row<SumForm>, sum: &Sum<'a>, registers: RegistersFound) -> Option<Shape<'a>>
+    requires { IsTrue (has_lawful_codes row.now) }
+    ensures instruction { (of : matching.Sum) → IsSum sum.now of → shape_as result ≡ sum_fit_with (digits_as registers) (Some of) (sum_row row.now) }
+    ensures central { IfSome result (λ shape. IsTrue (is_some (instruction_as shape))) }
+    ensures short { IfSome result (λ shape. shape.digit_count ≤ 10) }
+{
+    match registers_fit(row.form.registers, &sum.registers, registers) {
+        Some(found) => form_fit(row.form, found, &sum.others),
+        None => None,
+    }
+}
+
+/// The instruction of a sum by the first row that it fits.
+fn first_fit<'a>(
+    rows: &[Row<SumForm>],
+    sum: &Sum<'a>,
+    registers: RegistersFound,
+) -> Option<Shape<'a>>
+    requires { IsTrue (list_all has_lawful_codes rows.now) }
+    ensures instruction { (of : matching.Sum) → IsSum sum.now of →
+        shape_as result ≡ matching.first_fit (map (λ (row : Row SumForm). sum_fit_with (digits_as registers) (Some of) (sum_row row)) rows.now) }
+    ensures central { IfSome result (λ shape. IsTrue (is_some (instruction_as shape))) }
+    ensures short { IfSome result (λ shape. shape.digit_count ≤ 10) }
+{
+    let mut rest = rows;
+    'rows: loop {
+        match rest.split_first() {
+            None => return None,
+            Some((row, behind)) => {
+                match row_fit(row, sum, registers) {
+                    Some(shape) => return Some(shape),
+                    None => {}
+                }
+                rest = behind;
+            }
+        }
+    }
+}
+
+/// The instruction of an operation whose operand is one sum.
+fn one_fit<'a>(operation: &[u8], expression: &Expr<'a>) -> Option<Shape<'a>>
+    ensures instruction { shape_as result ≡ matching.first_fit (map (matching.sum_fit operation.now (sum_read (Some expression.now))) (sum_rows_for operation.now table.sum_rows)) }
+    ensures central { IfSome result (λ shape. IsTrue (is_some (instruction_as shape))) }
+    ensures short { IfSome result (λ shape. shape.digit_count ≤ 10) }
+{
+    let rows = sum_rows(operation);
+    if has_rows(rows) {
+        first_fit(rows, &expression.take_apart(), named_registers(operation))
+    } else {
+        None
+    }
+}
+
+/// The instruction of an operation whose operand is a sum: only JP, and what sets a register, asks
+/// for the sum, and of the set instructions the fourteenth row at most decides.
+pub(crate) fn sum_fit<'a>(operation: &[u8], operand: &Operand<'a>) -> Option<Shape<'a>>
+    ensures instruction { (base : NumberBase) (subfields : List (List Piece)) → IsOperand base subfields operand.now →
+        shape_as result ≡ matching.first_fit (map (matching.sum_fit operation.now (sum_read (single base subfields))) (sum_rows_for operation.now table.sum_rows)) }
+    ensures central { IfSome result (λ shape. IsTrue (is_some (instruction_as shape))) }
+    ensures short { IfSome result (λ shape. shape.digit_count ≤ 10) }
+{
+    match operand {
+        Operand::One(subfield) => one_fit(operation, &subfield.expression),
+        Operand::Two(_, _) => None,
+        Operand::Three(_, _, _) => None,
+    }
+}
