@@ -1,5 +1,5 @@
 -- The table of peripheral instructions against that of the definitions.
-use Rattle.std.proofs.Common.{◌≡◌, ℕ, ◌<◌, ◌≤◌, suc, Bool, true, false, List, [], ◌∷◌, map, filter, eqb, ltb, length, get_or, Option, Some, None, refl, sym, ap, ◌∙◌, ◌&&◌, cond, Fits, w8, inl, inr, arith}
+use Rattle.std.proofs.Common.{◌≡◌, ℕ, ◌<◌, ◌≤◌, Bool, true, false, List, [], ◌∷◌, map, filter, eqb, ltb, length, get_or, Option, Some, None, refl, sym, ap, ◌∙◌, ◌&&◌, cond, Fits, w8, inl, inr, arith}
 use Rattle.std.specs.List.{list_all}
 use Rattle.std.specs.Bool.{OnTrue}
 use Rattle.std.proofs.lemmas.Bool.Decides.{eqb_tells}

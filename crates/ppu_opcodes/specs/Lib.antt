@@ -1,2 +1,3 @@
 pub mod PeripheralCodes
 pub mod PeripheralTables
+pub mod PeripheralShapes
