@@ -1,0 +1,26 @@
+use Rattle.std.proofs.Common.{◌∙◌, ℕ, List, ap, sym, refl}
+use Rattle.std.specs.Prelude.{nat_lt}
+use Rattle.std.specs.List.{prefix_len}
+use Rattle.std.proofs.lemmas.Bool.{lt-ltb, le-ltb}
+use Rattle.definitions.specs.States.{UsedBlock}
+use Rattle.use_blocks.specs.StateInside.{is_other}
+use Rattle.use_blocks.proofs.StackLaws.{accepted-index}
+use Rattle.use_blocks.proofs.block_state.BlockState.use_name.Goals as goal
+
+pub returns-then-opened-lt-MOST_BLOCKS-clause-change : goal.returns-then-opened-lt-MOST_BLOCKS-clause-change
+returns-then-opened-lt-MOST_BLOCKS-clause-change c =
+    let at = c.index_of-opened.ensures ∙ ap (λ (l : List UsedBlock). prefix_len (is_other c.args.name.now) l) c.as_slice.ensures.value in
+    let e = accepted-index c.args.name.now c.self.inside.blocks.items c.self.invariant.few ∙ (ap (λ (n : ℕ). nat_lt n 64) (sym at) ∙ lt-ltb c.index_of-opened.result 64 c.if-opened-lt-MOST_BLOCKS.true) in
+    rw (← c.self.view_is, e) refl
+
+pub returns-then-opened-lt-MOST_BLOCKS-clause-accepted : goal.returns-then-opened-lt-MOST_BLOCKS-clause-accepted
+returns-then-opened-lt-MOST_BLOCKS-clause-accepted c =
+    let at = c.index_of-opened.ensures ∙ ap (λ (l : List UsedBlock). prefix_len (is_other c.args.name.now) l) c.as_slice.ensures.value in
+    let e = accepted-index c.args.name.now c.self.inside.blocks.items c.self.invariant.few ∙ (ap (λ (n : ℕ). nat_lt n 64) (sym at) ∙ lt-ltb c.index_of-opened.result 64 c.if-opened-lt-MOST_BLOCKS.true) in
+    rw (← c.self.view_is) e
+
+pub returns-else-opened-lt-MOST_BLOCKS-clause-change : goal.returns-else-opened-lt-MOST_BLOCKS-clause-change
+returns-else-opened-lt-MOST_BLOCKS-clause-change c =
+    let at = c.index_of-opened.ensures ∙ ap (λ (l : List UsedBlock). prefix_len (is_other c.args.name.now) l) c.as_slice.ensures.value in
+    let e = accepted-index c.args.name.now c.self.inside.blocks.items c.self.invariant.few ∙ (ap (λ (n : ℕ). nat_lt n 64) (sym at) ∙ le-ltb c.index_of-opened.result 64 c.if-opened-lt-MOST_BLOCKS.false) in
+    rw (← c.self.view_is, e) refl

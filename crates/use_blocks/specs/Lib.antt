@@ -1,0 +1,4 @@
+pub mod BlockLengths
+pub mod EffectsAs
+pub mod StateInside
+pub mod Changes

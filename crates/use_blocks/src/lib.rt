@@ -1,0 +1,32 @@
+//! What statements leave of blocks: the stack of USE, the position, the LOC and the length of each
+//! block, the number base, and the literals, exactly as the definitions have them.
+#![tactic(auto)]
+
+// The state between statements.
+mod block_list;
+mod block_state;
+mod counters;
+mod effects;
+mod positions;
+mod used_block;
+
+// Literals, and the lengths and bases of blocks.
+mod bases;
+mod laws;
+mod lengths;
+mod literals;
+
+pub use bases::{Bases, BlockRow};
+pub use block_state::BlockState;
+pub use counters::{location, origin};
+pub use effects::{BlockChange, Effect, LocationSetting};
+pub use laws::{blocks_are_bounded, blocks_are_few};
+pub use lengths::{BlockLength, Lengths};
+pub use literals::Literals;
+pub use positions::{Counting, Position};
+pub use used_block::UsedBlock;
+
+#[cfg(test)]
+mod tests_lengths;
+#[cfg(test)]
+mod tests_state;

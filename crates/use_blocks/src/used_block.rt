@@ -1,0 +1,113 @@
+//! A block that is used: where its statements have come to, and its LOC in force.
+ghost use Rattle.std.specs.Prelude.{◌≡◌};
+ghost use Rattle.std.specs.Bool.{Decides};
+ghost use Rattle.definitions.specs.States.{fresh_block, block_behind, or_position, counting_behind};
+ghost use Rattle.use_blocks.specs.EffectsAs.{effect_as, setting_as};
+
+use crate::effects::{Effect, LocationSetting};
+use crate::positions::{Counting, Position, is_same_name};
+use expr_forms::Name;
+use std::marker::Model;
+
+/// A block that is used. Contracts see the definitions' record.
+#[derive(Clone, Copy, Debug, PartialEq, Eq)]
+pub struct UsedBlock {
+    name: Name,
+    position: Position,
+    counting: Option<Counting>,
+}
+
+impl Model for UsedBlock {
+    ghost use Rattle.definitions.specs.States as states;
+
+    ghost Value = { states.UsedBlock };
+
+    ghost view = { λ b. record { name = b.name; position = b.position; counting = b.counting } };
+
+    ghost inverse = { λ v. record { name = v.name; position = v.position; counting = v.counting } };
+}
+
+impl UsedBlock {
+    /// A block in which nothing stands yet.
+    pub fn fresh(name: Name) -> UsedBlock
+        ensures { result ≡ fresh_block name }
+    {
+        UsedBlock {
+            name,
+            position: Position::start(),
+            counting: None,
+        }
+    }
+
+    pub fn name(&self) -> Name
+        ensures { result ≡ self.now.name }
+    {
+        self.name
+    }
+
+    /// The end of its latest statement, and whether that asks for upper.
+    pub fn position(&self) -> Position
+        ensures { result ≡ self.now.position }
+    {
+        self.position
+    }
+
+    /// Its LOC in force.
+    pub fn counting(&self) -> Option<Counting>
+        ensures { result ≡ self.now.counting }
+    {
+        self.counting
+    }
+
+    /// The block behind a statement in it.
+    pub(crate) fn behind(&self, effect: &Effect) -> UsedBlock
+        ensures { result ≡ block_behind self.now.name (effect_as effect.now) self.now }
+    {
+        UsedBlock {
+            name: self.name,
+            position: position_behind(effect.position, self.position),
+            counting: counting_behind(effect.setting, self.counting),
+        }
+    }
+
+    /// Whether both are the same.
+    pub(crate) fn is_same(&self, other: &UsedBlock) -> bool
+        ensures { Decides result (self.now ≡ other.now) }
+    {
+        is_same_name(&self.name, &other.name)
+            && self.position.is_same(&other.position)
+            && is_same_counting(self.counting, other.counting)
+    }
+}
+
+/// The position that is set, or else the one before.
+fn position_behind(set: Option<Position>, before: Position) -> Position
+    ensures { result ≡ or_position set before }
+{
+    match set {
+        Some(position) => position,
+        None => before,
+    }
+}
+
+/// The LOC in force behind a setting.
+fn counting_behind(setting: LocationSetting, before: Option<Counting>) -> Option<Counting>
+    ensures { result ≡ counting_behind (setting_as setting) before }
+{
+    match setting {
+        LocationSetting::Unchanged => before,
+        LocationSetting::Counts(counting) => Some(counting),
+        LocationSetting::Ended => None,
+    }
+}
+
+fn is_same_counting(counting: Option<Counting>, other: Option<Counting>) -> bool
+    ensures { Decides result (counting ≡ other) }
+{
+    match (counting, other) {
+        (None, None) => true,
+        (None, Some(_)) => false,
+        (Some(_), None) => false,
+        (Some(counting), Some(other)) => counting.is_same(&other),
+    }
+}
