@@ -20,3 +20,6 @@ pub use laws::{
 pub use places::{Place, Placed, Size, Upper};
 pub use placing::place;
 pub use words::Words;
+
+#[cfg(test)]
+mod tests;
