@@ -18,3 +18,6 @@ pub use book::Book;
 pub use name::{Name, names_differ};
 pub use note::{Mark, Note, Role};
 pub use place::{First, Place};
+
+#[cfg(test)]
+mod tests;
