@@ -1,0 +1,96 @@
+//! How long the layers of the language take: expressions read and valued, instructions found, words
+//! put into a block, and names defined and found. With the name of a layer it runs that layer a
+//! hundred times, for bench/language to measure; with no word it runs each once. It prints checksums.
+#![tactic(auto)]
+
+mod expressions;
+mod instructions;
+mod names;
+mod packing;
+
+use expressions::{parse_all, value_all};
+use instructions::find_all;
+use names::define_and_find;
+use packing::pack;
+use std::alloc::{AllocGlobal, Global};
+use std::rt::Env;
+use std::{env, io};
+
+/// How often a layer that is measured is run.
+const ROUNDS: u32 = 100;
+
+/// What is measured.
+#[derive(Clone, Copy)]
+enum Layer {
+    /// 20,000 expressions are read.
+    Parse,
+    /// 20,000 expressions are read and valued.
+    Value,
+    /// The operands of 20,000 instructions are read, and their rows found.
+    Find,
+    /// 131,072 words are put in order, and filled.
+    Words,
+    /// 20,000 names are defined and found.
+    Names,
+}
+
+fn layer_named(word: &str) -> Option<Layer> {
+    match word {
+        "parse" => Some(Layer::Parse),
+        "value" => Some(Layer::Value),
+        "find" => Some(Layer::Find),
+        "words" => Some(Layer::Words),
+        "names" => Some(Layer::Names),
+        _ => None,
+    }
+}
+
+/// One run of a layer, which gives a checksum.
+fn run_once(alloc: Global, layer: Layer) -> io::Result<u64> {
+    match layer {
+        Layer::Parse => Ok(parse_all()),
+        Layer::Value => Ok(value_all()),
+        Layer::Find => Ok(find_all()),
+        Layer::Words => pack(alloc),
+        Layer::Names => define_and_find(alloc),
+    }
+}
+
+/// The checksums of so many runs together.
+fn run(alloc: Global, layer: Layer, rounds: u32) -> io::Result<u64> {
+    let mut sum: u64 = 0;
+    for _ in 0..rounds {
+        sum = sum.wrapping_add(run_once(alloc, layer)?);
+    }
+    Ok(sum)
+}
+
+/// Each layer once.
+fn try_out<R: AllocGlobal + Print>(rt: &R) -> io::Result<()> {
+    for layer in [
+        Layer::Parse,
+        Layer::Value,
+        Layer::Find,
+        Layer::Words,
+        Layer::Names,
+    ] {
+        println!(rt; "{}", run(rt.alloc(), layer, 1)?)?;
+    }
+    Ok(())
+}
+
+/// One layer, as often as it takes to measure it.
+fn measure<R: AllocGlobal + Print>(rt: &R, word: &str) -> io::Result<()> {
+    match layer_named(word) {
+        Some(layer) => println!(rt; "{}", run(rt.alloc(), layer, ROUNDS)?),
+        None => Err(io::Error::other("no such layer")),
+    }
+}
+
+fn main(rt: HostRuntime) -> io::Result<()> {
+    let words: Vec<String> = env::args(&rt)?.collect(rt.alloc())?;
+    match words.get(1) {
+        Some(word) => measure(&rt, word.as_str()),
+        None => try_out(&rt),
+    }
+}
