@@ -1,0 +1,144 @@
+-- The letters of an EXT hang on two facts: whether one of its names is unlawful, and whether one is not new.
+use Rattle.std.proofs.Common.{◌≡◌, ℕ, List, [], ◌∷◌, ◌++◌, Bool, true, false, ◌||◌, cond, eqb, filter, Option, Some, None, refl, sym, ap, ap₂, ◌∙◌}
+use Rattle.std.specs.Prelude.{codes, is_some, if◌then◌else◌}
+use Rattle.definitions.specs.Characters.{is_among, same_text}
+use Rattle.definitions.specs.Forms.{Form}
+use Rattle.definitions.specs.Letters.{texts, in_order}
+use Rattle.definitions.specs.Settled.{Definition, defined_in}
+use Rattle.definitions.specs.Settling.{View, external, is_known, letter_where, external_letters}
+use Rattle.definitions.specs.declared.marks.Letter.{Letter}
+use Rattle.definitions.specs.declared.marks.Letter.TheVariants as letter
+use Rattle.statement_coder.specs.Externals.{has_unlawful, is_listed, has_known}
+
+-- whether one of these names is defined so far
+abbrev any_defined : List (Option (List ℕ)) → List Definition → Bool
+any_defined [] so_far = false
+any_defined (None ∷ names) so_far = any_defined names so_far
+any_defined (Some name ∷ names) so_far = is_some (defined_in name so_far) || any_defined names so_far
+
+some_if : (t s : Bool) (form : Form) (o p : Option Form) → is_some o ≡ (is_some p || s) → is_some (if t then Some form else o) ≡ (is_some (if t then Some form else p) || s)
+some_if true s form o p e = refl
+some_if false s form o p e = e
+
+last_form : (t : Bool) (form : Form) → is_some (if t then Some form else None) ≡ t
+last_form true form = refl
+last_form false form = refl
+
+-- one definition more
+defined_in-last : (name other : List ℕ) (so_far : List Definition) →
+    is_some (defined_in name (so_far ++ external other ∷ [])) ≡ (is_some (defined_in name so_far) || same_text name other)
+defined_in-last name other [] = last_form (same_text name other) (external other).form
+defined_in-last name other (definition ∷ so_far) =
+    some_if (same_text name definition.name) (same_text name other) definition.form
+    (defined_in name (so_far ++ external other ∷ [])) (defined_in name so_far) (defined_in-last name other so_far)
+
+or_pairs : (a s b l : Bool) → ((a || s) || (b || l)) ≡ ((a || b) || (s || l))
+or_pairs true s b l = refl
+or_pairs false true true l = refl
+or_pairs false true false l = refl
+or_pairs false false b l = refl
+
+any_defined-last : (other : List ℕ) (names : List (Option (List ℕ))) (so_far : List Definition) →
+    any_defined names (so_far ++ external other ∷ []) ≡ (any_defined names so_far || is_listed other names)
+any_defined-last other [] so_far = refl
+any_defined-last other (None ∷ names) so_far = any_defined-last other names so_far
+any_defined-last other (Some name ∷ names) so_far =
+    ap₂ (λ (s t : Bool). s || t) (defined_in-last name other so_far) (any_defined-last other names so_far)
+    ∙ or_pairs (is_some (defined_in name so_far)) (same_text name other) (any_defined names so_far) (is_listed other names)
+
+none_defined : (names : List (Option (List ℕ))) → any_defined names [] ≡ false
+none_defined [] = refl
+none_defined (None ∷ names) = none_defined names
+none_defined (Some name ∷ names) = none_defined names
+
+-- V and D, each where it applies
+abbrev two : Bool → Bool → List Letter
+two unlawful known = letter_where unlawful letter.V ++ letter_where known letter.D
+
+-- whether a character is the text of one of these letters
+abbrev tells : ℕ → List Letter → Bool
+tells c letters = is_among c (texts letters)
+
+or_again : (a b : Bool) → (a || (a || b)) ≡ (a || b)
+or_again true b = refl
+or_again false b = refl
+
+or_between : (a b : Bool) → (a || (b || (a || false))) ≡ (b || (a || false))
+or_between true true = refl
+or_between true false = refl
+or_between false b = refl
+
+or_behind : (a b : Bool) → (a || (b || false)) ≡ (b || (a || false))
+or_behind true true = refl
+or_behind true false = refl
+or_behind false true = refl
+or_behind false false = refl
+
+V_more : (c : ℕ) (unlawful known : Bool) → tells c (letter.V ∷ two unlawful known) ≡ tells c (two true known)
+V_more c true known = or_again (eqb 86 c) (tells c (letter_where known letter.D))
+V_more c false known = refl
+
+D_more : (c : ℕ) (unlawful known : Bool) → tells c (letter.D ∷ two unlawful known) ≡ tells c (two unlawful true)
+D_more c true true = or_between (eqb 68 c) (eqb 86 c)
+D_more c true false = or_behind (eqb 68 c) (eqb 86 c)
+D_more c false true = or_again (eqb 68 c) false
+D_more c false false = refl
+
+-- a name that is not new
+or_known : (a s b l h : Bool) → (a || s) ≡ true → ((a || b) || ((s || l) || h)) ≡ true
+or_known true s b l h e = refl
+or_known false true true l h e = refl
+or_known false true false l h e = refl
+or_known false false b l h e = cc
+
+-- a name that is new
+or_new : (a s b l h : Bool) → (a || s) ≡ false → ((b || l) || h) ≡ ((a || b) || ((s || l) || h))
+or_new true s b l h e = cc
+or_new false true b l h e = cc
+or_new false false true l h e = refl
+or_new false false false l h e = refl
+
+-- what the two facts are, behind the definitions so far
+abbrev facts : View → List (Option (List ℕ)) → List Definition → List Letter
+facts symbol names so_far = two (has_unlawful names) (any_defined names so_far || has_known symbol names)
+
+-- one name more, once it is told whether it is known
+name_more : (c : ℕ) (symbol : View) (name : List ℕ) (names : List (Option (List ℕ))) (so_far : List Definition) (known : Bool) → is_known symbol name so_far ≡ known →
+    ((before : List Definition) → tells c (external_letters symbol names before) ≡ tells c (facts symbol names before)) →
+    tells c (letter_where known letter.D ++ external_letters symbol names (if known then so_far else so_far ++ external name ∷ [])) ≡ tells c (facts symbol (Some name ∷ names) so_far)
+name_more c symbol name names so_far true e rest =
+    let a = is_some (defined_in name so_far) in
+    let b = any_defined names so_far in
+    let h = has_known symbol names in
+    ap (λ (t : Bool). eqb 68 c || t) (rest so_far)
+    ∙ D_more c (has_unlawful names) (b || h)
+    ∙ ap (λ (t : Bool). tells c (two (has_unlawful names) t)) (sym (or_known a (is_some (symbol name)) b (is_listed name names) h e))
+name_more c symbol name names so_far false e rest =
+    let a = is_some (defined_in name so_far) in
+    let b = any_defined names so_far in
+    let l = is_listed name names in
+    let h = has_known symbol names in
+    rest (so_far ++ external name ∷ [])
+    ∙ ap (λ (t : Bool). tells c (two (has_unlawful names) (t || h))) (any_defined-last name names so_far)
+    ∙ ap (λ (t : Bool). tells c (two (has_unlawful names) t)) (or_new a (is_some (symbol name)) b l h e)
+
+letters-facts : (c : ℕ) (symbol : View) (names : List (Option (List ℕ))) (so_far : List Definition) → tells c (external_letters symbol names so_far) ≡ tells c (facts symbol names so_far)
+letters-facts c symbol [] so_far = refl
+letters-facts c symbol (None ∷ names) so_far =
+    ap (λ (t : Bool). eqb 86 c || t) (letters-facts c symbol names so_far)
+    ∙ V_more c (has_unlawful names) (any_defined names so_far || has_known symbol names)
+letters-facts c symbol (Some name ∷ names) so_far =
+    name_more c symbol name names so_far (is_known symbol name so_far) refl (λ before. letters-facts c symbol names before)
+
+-- tests that agree keep the same
+filter_alike : (p q : ℕ → Bool) (cs : List ℕ) → ((c : ℕ) → p c ≡ q c) → filter p cs ≡ filter q cs
+filter_alike p q [] same = refl
+filter_alike p q (c ∷ cs) same = ap₂ (λ (t : Bool) (l : List ℕ). cond t (c ∷ l) l) (same c) (filter_alike p q cs same)
+
+-- the letters of an EXT are V and D, each where it applies
+pub unlawful_or_known : (symbol : View) (names : List (Option (List ℕ))) →
+    in_order (letter_where (has_unlawful names) letter.V ++ letter_where (has_known symbol names) letter.D) ≡ in_order (external_letters symbol names [])
+unlawful_or_known symbol names =
+    filter_alike (λ c. tells c (two (has_unlawful names) (has_known symbol names))) (λ c. tells c (external_letters symbol names [])) (codes "ACDLORUVZ")
+    (λ c. sym (letters-facts c symbol names []
+    ∙ ap (λ (t : Bool). tells c (two (has_unlawful names) (t || has_known symbol names))) (none_defined names)))

@@ -1,0 +1,3 @@
+pub mod ExternalLaws
+pub mod PeripheralLaws
+pub mod ReadLaws

@@ -1,0 +1,23 @@
+-- What a statement defines, in the words of the definitions.
+use Rattle.std.specs.Prelude.{ℕ, List, [], ◌∷◌, Bool, true, false}
+use Rattle.definitions.specs.Operands.{Operand, NamesOperand}
+use Rattle.definitions.specs.Settled.{Definition}
+use Rattle.definitions.specs.Settling.{View, externals}
+use Rattle.statement_coder.specs.declared.definitions_made.Defines as code
+use Rattle.statement_coder.specs.declared.definitions_made.Defines.TheVariants as defines
+
+-- whether an operand is names
+abbrev pub has_names : Operand → Bool
+has_names (NamesOperand names) = true
+has_names _ = false
+
+-- the externals of names, where there are names
+abbrev pub externals_of : View → Operand → List Definition
+externals_of view (NamesOperand names) = externals view names []
+externals_of view _ = []
+
+-- the symbols that are defined, for a location field and an operand
+abbrev pub defined_by : View → List ℕ → Operand → code.Defines → List Definition
+defined_by view location operand defines.Nothing = []
+defined_by view location operand (defines.Symbol form) = record { name = location; form = form } ∷ []
+defined_by view location operand defines.Externals = externals_of view operand

@@ -1,0 +1,27 @@
+-- What was read in a variable field, in the words of the definitions.
+use Rattle.std.specs.Prelude.{◌≡◌, Some}
+use Rattle.definitions.specs.Operands as definitions
+use Rattle.expr_forms.specs.Readings.{use_as}
+use Rattle.expr_forms.specs.Shapes.{instruction_as, IsPeripheral}
+use Rattle.expr_forms.specs.declared.shapes.Shape.{Shape}
+use Rattle.statement_coder.specs.declared.readings.Reading as code
+use Rattle.statement_coder.specs.declared.readings.Reading.TheVariants as reading
+
+-- an instruction of either table
+abbrev pub IsInstruction : Shape → definitions.Operand → Type 0
+IsInstruction shape (definitions.CentralOperand instruction) = instruction_as shape ≡ Some instruction
+IsInstruction shape (definitions.PeripheralOperand row values) = IsPeripheral shape row values
+IsInstruction shape _ = ⊥
+
+-- what was read is this operand
+abbrev pub IsReading : code.Reading → definitions.Operand → Type 0
+IsReading reading.Unread operand = operand ≡ definitions.Unread
+IsReading reading.Bad operand = operand ≡ definitions.BadOperand
+IsReading (reading.Instruction shape) operand = IsInstruction shape operand
+IsReading (reading.Data words) operand = operand ≡ definitions.WordsOperand words
+IsReading (reading.Con words) operand = operand ≡ definitions.WordsOperand words
+IsReading (reading.Vfd fields) operand = operand ≡ definitions.BitsOperand fields
+IsReading (reading.Text text) operand = operand ≡ definitions.TextOperand text.words text.characters
+IsReading (reading.Value e) operand = operand ≡ definitions.ValueOperand e
+IsReading (reading.Names names) operand = operand ≡ definitions.NamesOperand names
+IsReading (reading.Use field) operand = operand ≡ use_as field

@@ -1,0 +1,143 @@
+//! What a USE does to the stack of blocks, and which statements are refused (COMPASS 60492600, USE,
+//! ABS, PERIPH, ENTRY, EXT).
+ghost use Rattle.std.specs.Prelude.{◌≡◌, not};
+ghost use Rattle.definitions.specs.Operations as op;
+ghost use Rattle.expr_forms.specs.Readings.{use_as};
+ghost use Rattle.definitions.specs.Operands as operands;
+ghost use Rattle.definitions.specs.Blocks.{change_of, is_accepted};
+ghost use Rattle.definitions.specs.Settling.{is_refused};
+ghost use Rattle.definitions.specs.States.{names_of_blocks};
+ghost use Rattle.operations.specs.OperationsAs.{operation_as};
+ghost use Rattle.use_blocks.specs.Changes.{IsAccepted};
+ghost use Rattle.use_blocks.specs.EffectsAs.{change_as};
+ghost use Rattle.statement_coder.specs.Readings.{IsReading};
+
+use crate::readings::Reading;
+use definitions::DeckKind;
+use expr_forms::{Name, UseField};
+use operations::Operation;
+use use_blocks::{BlockChange, BlockState};
+
+/// What the field of a USE does.
+fn change_of_use(field: UseField, state: &BlockState) -> BlockChange
+    ensures change { change_as result ≡ change_of (use_as field) (names_of_blocks state.now.blocks) }
+    ensures accepted { IsAccepted (change_as result) state.now }
+{
+    match field {
+        UseField::UseName(name) => state.use_name(&name),
+        UseField::UseBefore => BlockChange::Closes,
+        UseField::Refused => BlockChange::Nothing,
+        UseField::Bad => BlockChange::Nothing,
+    }
+}
+
+/// What an operand does to the stack of blocks.
+pub(crate) fn change_of(reading: &Reading<'_>, state: &BlockState) -> BlockChange
+    ensures change { (operand : operands.Operand) → IsReading reading.now operand → change_as result ≡ change_of operand (names_of_blocks state.now.blocks) }
+    ensures accepted { IsAccepted (change_as result) state.now }
+{
+    match reading {
+        Reading::Use(field) => change_of_use(*field, state),
+        Reading::Unread => BlockChange::Nothing,
+        Reading::Bad => BlockChange::Nothing,
+        Reading::Instruction(_) => BlockChange::Nothing,
+        Reading::Data(_) => BlockChange::Nothing,
+        Reading::Con(_) => BlockChange::Nothing,
+        Reading::Vfd(_) => BlockChange::Nothing,
+        Reading::Text(_) => BlockChange::Nothing,
+        Reading::Value(_) => BlockChange::Nothing,
+        Reading::Names(_) => BlockChange::Nothing,
+    }
+}
+
+/// Whether a USE of this name is refused.
+fn is_refused_name(name: &Name, state: &BlockState) -> bool
+    ensures { result ≡ not (is_accepted name.now (names_of_blocks state.now.blocks)) }
+{
+    match state.use_name(name) {
+        BlockChange::Opens(_) => false,
+        BlockChange::Nothing => true,
+        BlockChange::Closes => true,
+    }
+}
+
+/// Whether a USE with this field is refused.
+fn is_refused_use(
+    kind: DeckKind,
+    field: UseField,
+    location: &[u8],
+    neutral: bool,
+    state: &BlockState,
+) -> bool
+    ensures { (operand : operands.Operand) → operand ≡ use_as field → result ≡ is_refused kind op.Use operand location.now neutral (names_of_blocks state.now.blocks) }
+{
+    match field {
+        UseField::UseName(name) => is_refused_name(&name, state),
+        UseField::UseBefore => false,
+        UseField::Refused => true,
+        UseField::Bad => false,
+    }
+}
+
+/// Whether a USE is refused.
+fn is_refused_block(
+    kind: DeckKind,
+    reading: &Reading<'_>,
+    location: &[u8],
+    neutral: bool,
+    state: &BlockState,
+) -> bool
+    ensures { (operand : operands.Operand) → IsReading reading.now operand →
+        result ≡ is_refused kind op.Use operand location.now neutral (names_of_blocks state.now.blocks) }
+{
+    match reading {
+        Reading::Use(field) => is_refused_use(kind, *field, location, neutral, state),
+        Reading::Unread => false,
+        Reading::Bad => false,
+        Reading::Instruction(_) => false,
+        Reading::Data(_) => false,
+        Reading::Con(_) => false,
+        Reading::Vfd(_) => false,
+        Reading::Text(_) => false,
+        Reading::Value(_) => false,
+        Reading::Names(_) => false,
+    }
+}
+
+/// Whether a statement is O: its operation is unknown or misplaced, or its block is not to be had.
+pub(crate) fn is_refused(
+    kind: DeckKind,
+    operation: Operation,
+    reading: &Reading<'_>,
+    location: &[u8],
+    state: &BlockState,
+) -> bool
+    ensures { (operand : operands.Operand) → IsReading reading.now operand →
+        result ≡ is_refused kind (operation_as operation) operand location.now state.now.neutral (names_of_blocks state.now.blocks) }
+{
+    match operation {
+        Operation::Unknown => true,
+        Operation::EmptyField => !location.is_empty(),
+        Operation::Kind(_) => !state.is_neutral(),
+        Operation::Use => is_refused_block(kind, reading, location, state.is_neutral(), state),
+        Operation::Entry => matches!(kind, DeckKind::Periph),
+        Operation::Ext => match kind {
+            DeckKind::Rel => false,
+            DeckKind::Abs => true,
+            DeckKind::Periph => true,
+        },
+        Operation::Listed => false,
+        Operation::End => false,
+        Operation::Base => false,
+        Operation::Org => false,
+        Operation::Loc => false,
+        Operation::Equ => false,
+        Operation::Bss => false,
+        Operation::Bssz => false,
+        Operation::Data => false,
+        Operation::Con => false,
+        Operation::Vfd => false,
+        Operation::Dis => false,
+        Operation::Instruction => false,
+    }
+}

@@ -1,0 +1,190 @@
+//! What the variable field of a statement is to its operation, before any name is known
+//! (COMPASS 60492600, variable field).
+ghost use Rattle.std.specs.Prelude.{◌≡◌, ◌≤◌, length};
+ghost use Rattle.definitions.specs.Pieces.{pieces_of, subfields_of};
+ghost use Rattle.definitions.specs.PeripheralTable.{peripheral_row};
+ghost use Rattle.definitions.specs.Operands.{operand_of, central_operand, peripheral_operand, base_operand, words_operand, bits_operand, all_words, data_word, con_word, all_fields, vfd_field, one_value, dis_operand, use_operand};
+ghost use Rattle.definitions.specs.Matching.{central_of};
+ghost use Rattle.definitions.specs.Kinds.{allows_literals};
+ghost use Rattle.operations.specs.OperationsAs.{operation_as};
+ghost use Rattle.statement_coder.specs.Readings.{IsReading};
+
+use definitions::{DeckKind, NumberBase};
+use expr_forms::{
+    BitFields, ConWords, DataWords, DisText, Expr, LinkedNames, Shape, UseField, dis_text,
+    number_base, one_value, operand, use_field,
+};
+use operations::Operation;
+
+/// What was read in a variable field.
+#[derive(Drop)]
+pub enum Reading<'a> {
+    /// The operation reads nothing.
+    Unread,
+    /// Flagged V.
+    Bad,
+    Instruction(Shape<'a>),
+    Data(DataWords<'a>),
+    Con(ConWords<'a>),
+    Vfd(BitFields<'a>),
+    Text(DisText<'a>),
+    /// The one value of BSS, BSSZ, ORG, LOC and EQU.
+    Value(Expr<'a>),
+    /// The names of ENTRY and EXT.
+    Names(LinkedNames<'a>),
+    Use(UseField),
+}
+
+/// The operand of a central instruction.
+fn read_central<'a>(base: NumberBase, name: &[u8], text: &'a [u8]) -> Reading<'a>
+    requires { length text.now ≤ 711 }
+    ensures { IsReading result (central_operand (central_of base name.now (subfields_of (pieces_of text.now)))) }
+{
+    match cpu_opcodes::ignoring(name) {
+        Some(shape) => Reading::Instruction(shape),
+        None => match operand(text, base) {
+            Err(_) => Reading::Bad,
+            Ok(operand) => match cpu_opcodes::find(name, &operand) {
+                Ok(shape) => Reading::Instruction(shape),
+                Err(_) => Reading::Bad,
+            },
+        },
+    }
+}
+
+/// The operand of a peripheral instruction.
+fn read_peripheral<'a>(base: NumberBase, name: &[u8], text: &'a [u8]) -> Reading<'a>
+    requires { length text.now ≤ 711 }
+    ensures { IsReading result (peripheral_operand base (peripheral_row name.now) (subfields_of (pieces_of text.now))) }
+{
+    match ppu_opcodes::ignoring(name) {
+        Some(shape) => Reading::Instruction(shape),
+        None => match operand(text, base) {
+            Err(_) => Reading::Bad,
+            Ok(operand) => match ppu_opcodes::find(name, &operand) {
+                Ok(shape) => Reading::Instruction(shape),
+                Err(_) => Reading::Bad,
+            },
+        },
+    }
+}
+
+/// Whether a deck of this kind may have literals in CON and VFD.
+fn allows_literals(kind: DeckKind) -> bool
+    ensures { result ≡ allows_literals kind }
+{
+    match kind {
+        DeckKind::Periph => false,
+        DeckKind::Rel | DeckKind::Abs => true,
+    }
+}
+
+/// The operand of DATA.
+fn read_data(base: NumberBase, text: &[u8]) -> Reading<'_>
+    requires { length text.now ≤ 711 }
+    ensures { IsReading result (words_operand (all_words (data_word base) (subfields_of (pieces_of text.now)))) }
+{
+    match DataWords::read(text, base) {
+        Ok(words) => Reading::Data(words),
+        Err(_) => Reading::Bad,
+    }
+}
+
+/// The operand of CON.
+fn read_con(kind: DeckKind, base: NumberBase, text: &[u8]) -> Reading<'_>
+    requires { length text.now ≤ 711 }
+    ensures { IsReading result (words_operand (all_words (con_word (allows_literals kind) base) (subfields_of (pieces_of text.now)))) }
+{
+    match ConWords::read(text, allows_literals(kind), base) {
+        Ok(words) => Reading::Con(words),
+        Err(_) => Reading::Bad,
+    }
+}
+
+/// The operand of VFD.
+fn read_vfd(kind: DeckKind, base: NumberBase, text: &[u8]) -> Reading<'_>
+    requires { length text.now ≤ 711 }
+    ensures { IsReading result (bits_operand (all_fields (vfd_field (allows_literals kind) base) (subfields_of (pieces_of text.now)))) }
+{
+    match BitFields::read(text, allows_literals(kind), base) {
+        Ok(fields) => Reading::Vfd(fields),
+        Err(_) => Reading::Bad,
+    }
+}
+
+/// The operand of DIS.
+fn read_dis(kind: DeckKind, base: NumberBase, text: &[u8]) -> Reading<'_>
+    ensures { IsReading result (dis_operand kind base text.now) }
+{
+    match dis_text(text, base, kind) {
+        Ok(dis) => Reading::Text(dis),
+        Err(_) => Reading::Bad,
+    }
+}
+
+/// The operand of BSS, BSSZ, ORG, LOC and EQU.
+fn read_value(base: NumberBase, text: &[u8]) -> Reading<'_>
+    requires { length text.now ≤ 711 }
+    ensures { IsReading result (one_value base (subfields_of (pieces_of text.now))) }
+{
+    match one_value(text, base) {
+        Ok(expression) => Reading::Value(expression),
+        Err(_) => Reading::Bad,
+    }
+}
+
+/// The operand of BASE.
+fn read_base(text: &[u8]) -> Reading<'_>
+    ensures { IsReading result (base_operand text.now) }
+{
+    match number_base(text) {
+        Ok(_) => Reading::Unread,
+        Err(_) => Reading::Bad,
+    }
+}
+
+/// The operand of USE.
+fn read_use(kind: DeckKind, text: &[u8]) -> Reading<'_>
+    ensures { IsReading result (use_operand kind text.now) }
+{
+    Reading::Use(use_field(text, kind))
+}
+
+/// What a variable field of at most 711 characters is to an operation of this name, in a deck of
+/// this kind: `Bad` where it is flagged V.
+pub fn read_operand<'a>(
+    kind: DeckKind,
+    base: NumberBase,
+    operation: Operation,
+    name: &[u8],
+    text: &'a [u8],
+) -> Reading<'a>
+    requires { length text.now ≤ 711 }
+    ensures { IsReading result (operand_of kind base (operation_as operation) name.now text.now) }
+{
+    match operation {
+        Operation::Base => read_base(text),
+        Operation::Use => read_use(kind, text),
+        Operation::Org => read_value(base, text),
+        Operation::Loc => read_value(base, text),
+        Operation::Equ => read_value(base, text),
+        Operation::Bss => read_value(base, text),
+        Operation::Bssz => read_value(base, text),
+        Operation::Data => read_data(base, text),
+        Operation::Con => read_con(kind, base, text),
+        Operation::Vfd => read_vfd(kind, base, text),
+        Operation::Dis => read_dis(kind, base, text),
+        Operation::Entry => Reading::Names(LinkedNames::new(text)),
+        Operation::Ext => Reading::Names(LinkedNames::new(text)),
+        Operation::Instruction => match kind {
+            DeckKind::Periph => read_peripheral(base, name, text),
+            DeckKind::Rel => read_central(base, name, text),
+            DeckKind::Abs => read_central(base, name, text),
+        },
+        Operation::EmptyField => Reading::Unread,
+        Operation::Listed => Reading::Unread,
+        Operation::End => Reading::Unread,
+        Operation::Kind(_) => Reading::Unread,
+        Operation::Unknown => Reading::Unread,
+    }
+}

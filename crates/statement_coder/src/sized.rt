@@ -1,0 +1,177 @@
+//! What a statement is once the state before it is known.
+ghost use Rattle.std.specs.Prelude.{◌≡◌, ◌≤◌, ◌==◌, ◌+◌, ◌-◌, ◌^◌, length, min};
+ghost use Rattle.definitions.specs.Statements as statements;
+ghost use Rattle.definitions.specs.Statements.{is_stray};
+ghost use Rattle.definitions.specs.Operands as operands;
+ghost use Rattle.definitions.specs.Pieces.{pieces_of, subfields_of};
+ghost use Rattle.definitions.specs.Places.{asks_upper, asks_after};
+ghost use Rattle.definitions.specs.Settling.{is_run, settled_from};
+ghost use Rattle.definitions.specs.States.{seen_from};
+ghost use Rattle.definitions.specs.declared.marks.DeckKind as kinds;
+ghost use Rattle.operations.specs.OperationsAs.{operation_as};
+ghost use Rattle.use_blocks.specs.EffectsAs.{setting_as};
+ghost use Rattle.statement_coder.specs.Readings.{IsReading};
+ghost use Rattle.statement_coder.specs.StatementsRead.{IsRead};
+ghost use Rattle.statement_coder.specs.Sizings.{read_as, settled_read, IsSizing};
+
+use crate::block_changes::change_of;
+use crate::definitions_made::definition_made;
+use crate::early_values::{EarlyNames, EarlySymbols, early_value, equated};
+use crate::meter::Meter;
+use crate::outcomes::outcome_of;
+use crate::placing::{OperandClass, is_same, place_of};
+use crate::readings::{Reading, read_operand};
+use crate::size_letters::size_letters;
+use crate::sizes::{is_bad, is_long, size_of};
+use crate::sizing::Sizing;
+use crate::statement::Statement;
+use definitions::DeckKind;
+use expr_forms::Subfields;
+use operations::Operation;
+use use_blocks::{BlockState, LocationSetting};
+
+/// Whether a variable field has one subfield.
+fn is_one(text: &[u8]) -> bool
+    requires { length text.now ≤ 711 }
+    ensures { result ≡ (length (subfields_of (pieces_of text.now)) == 1) }
+{
+    let mut subfields = Subfields::new(text);
+    match subfields.next() {
+        None => false,
+        Some(_) => match subfields.next() {
+            None => true,
+            Some(_) => false,
+        },
+    }
+}
+
+/// Whether the name of a central instruction with this field asks that the next one is upper.
+fn asks_upper(name: &[u8], text: &[u8]) -> bool
+    requires { length text.now ≤ 711 }
+    ensures { result ≡ asks_upper name.now (length (subfields_of (pieces_of text.now))) }
+{
+    is_same(name, b"JP")
+        || is_same(name, b"RJ")
+        || is_same(name, b"PS")
+        || is_same(name, b"EQ") && is_one(text)
+}
+
+/// Whether the block asks for upper behind a statement.
+fn asks_after(statement: &Statement<'_>, reading: &Reading<'_>) -> bool
+    ensures { (operand : operands.Operand) → IsReading reading.now operand →
+        result ≡ asks_after statement.now.kind (operation_as statement.now.operation) operand statement.now.name.now (length (subfields_of (pieces_of statement.now.variable.now))) }
+{
+    if !statement.operation.is_instruction() {
+        return false;
+    }
+    match statement.kind {
+        DeckKind::Periph => false,
+        DeckKind::Rel => !is_bad(reading) && asks_upper(statement.name, statement.variable),
+        DeckKind::Abs => !is_bad(reading) && asks_upper(statement.name, statement.variable),
+    }
+}
+
+/// Whether a run begins: an ORG that is not faulty begins one.
+fn is_run(setting: LocationSetting) -> bool
+    ensures { result ≡ is_run (setting_as setting) }
+{
+    match setting {
+        LocationSetting::Ended => true,
+        LocationSetting::Unchanged => false,
+        LocationSetting::Counts(_) => false,
+    }
+}
+
+/// A statement whose operand was read, settled from the state before it and the early values.
+fn settle<S: EarlySymbols>(
+    statement: &Statement<'_>,
+    reading: &Reading<'_>,
+    state: &BlockState,
+    symbols: &S,
+) -> Sizing
+    ensures { (given : statements.Statement) (operand : operands.Operand) → is_stray given.cards ≡ statement.now.is_stray → IsReading reading.now operand →
+        IsSizing (S.view symbols.now) (settled_read statement.now.kind (seen_from state.now (S.view symbols.now)) (read_as statement.now given operand)) result }
+{
+    let kind = statement.kind;
+    let operation = statement.operation;
+    let used = state.block();
+    let size = size_of(kind, reading);
+    let class = OperandClass {
+        is_bad: is_bad(reading),
+        is_long: is_long(kind, operation, size),
+    };
+    let position = used.position();
+    let place = place_of(
+        kind,
+        operation,
+        class,
+        statement.location,
+        position.asks(),
+        position.end(),
+    );
+    let location = state.location(kind, place);
+    let origin = state.origin(kind, place);
+    let value = early_value(
+        &EarlyNames {
+            symbols,
+            location,
+            origin,
+        },
+        reading,
+    );
+    let equated = equated(&value);
+    let outcome = outcome_of(kind, operation, size, &used.name(), place, value);
+    let is_defined = symbols.symbol(statement.location).is_some();
+    let defines = definition_made(
+        kind,
+        operation,
+        reading,
+        statement.location,
+        is_defined,
+        equated,
+        location,
+    );
+    let letters = size_letters(statement, symbols, reading, state, outcome.letter);
+    let change = change_of(reading, state);
+    let asks = asks_after(statement, reading);
+    let begins_run = is_run(outcome.setting);
+    let block = used.name();
+    Sizing {
+        block,
+        change,
+        is_placed: operation.has_place(),
+        place,
+        end: outcome.end,
+        asks,
+        begins_run,
+        setting: outcome.setting,
+        location,
+        origin,
+        defines,
+        letters,
+    }
+}
+
+/// What a statement is once the state before it and the early values of symbols are known, counted in
+/// the meter: exactly what the definitions settle from these.
+pub fn size<S: EarlySymbols>(
+    statement: &Statement<'_>,
+    state: &BlockState,
+    symbols: &S,
+    meter: &mut Meter,
+) -> Sizing
+    ensures sizing { (kind : kinds.DeckKind) (given : statements.Statement) → IsRead kind given.cards statement.now →
+        IsSizing (S.view symbols.now) (settled_from kind (seen_from state.now (S.view symbols.now)) given) result }
+    ensures sized { meter.new.sized ≡ min (meter.old.sized + 1) (2 ^ 64 - 1) }
+    ensures coded { meter.new.coded ≡ meter.old.coded }
+{
+    meter.sized = meter.sized.saturating_add(1);
+    let reading = read_operand(
+        statement.kind,
+        state.number_base(),
+        statement.operation,
+        statement.name,
+        statement.variable,
+    );
+    settle(statement, &reading, state, symbols)
+}
