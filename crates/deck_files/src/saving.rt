@@ -1,5 +1,5 @@
 //! Saves cards as a file.
-ghost use Rattle.std.specs.Prelude.{◌≡◌, ◌≤◌, ◌<◌, length, take, OnOk, IfErr};
+ghost use Rattle.std.specs.Prelude.{◌≡◌, ◌≤◌, ◌<◌, ◌*◌, length, take, OnOk, IfErr};
 ghost use Rattle.std.specs.Io.KnownBytes.{Appends};
 ghost use Rattle.text_ports.specs.Faults.{count_up};
 ghost use Rattle.deck_files.specs.DeckFiles.{file_of};
@@ -18,6 +18,7 @@ pub fn save<W: Write>(writer: &mut Counted<W>, cards: &[Card]) -> Result<(), Bro
         × Appends (W.contents writer.old.0) (W.contents writer.new.0) (take b.sent (file_of cards.now))) }
     ensures no_fault { OnOk result (writer.new.1 ≡ writer.old.1) }
     ensures one_fault { IfErr result (λ b. writer.new.1 ≡ count_up writer.old.1) }
+    ensures few { IfErr result (λ b. b.sent < 81 * 20000) }
 {
     let mut sent = 0;
     for card in cards {

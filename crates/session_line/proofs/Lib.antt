@@ -1,0 +1,5 @@
+pub mod SendSteps
+pub mod WorkedLines
+pub mod WorkedReplies
+pub mod ReadBack
+pub mod LineLaws

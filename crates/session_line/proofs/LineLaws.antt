@@ -1,0 +1,104 @@
+-- The line of each command reads back.
+use Rattle.std.proofs.Common.{ℕ, ◌≡◌, ◌≤◌, ◌&&◌, arith, Bool, true, List, [], ◌∷◌, ◌++◌, Option, Result, Ok, Err, refl, ap, ◌∙◌, if◌then◌else◌}
+use Rattle.std.specs.Prelude.{nat_le, decimal}
+use Rattle.std.proofs.lemmas.Bool.{and_parts, leb-true}
+use Rattle.definitions.specs.Cards.{CardRead}
+use Rattle.definitions.specs.DeckInput.{is_deck_name}
+use Rattle.session_line.specs.declared.verbs.EditKind.{EditKind}
+use Rattle.session_line.specs.declared.verbs.EditKind.TheVariants as kind
+use Rattle.session_line.specs.declared.edits.Edit.{Edit}
+use Rattle.session_line.specs.declared.edits.Edit.TheVariants.{Insert, Replace, Remove}
+use Rattle.session_line.specs.declared.commands.Command.{Command}
+use Rattle.session_line.specs.declared.commands.Command.TheVariants as command
+use Rattle.session_line.specs.declared.refusals.Refusal.{Refusal}
+use Rattle.session_line.specs.declared.refusals.Refusal.TheVariants.{BadName}
+use Rattle.session_line.specs.Words.{first_word, behind_word, first_number, greatest_number}
+use Rattle.session_line.specs.Edits.{needs, only_if, made_of, is_end, card_or_fault, fits_edit, edit_at}
+use Rattle.session_line.specs.Commands.{name_in, only_name, drop_in, edit_of, edit_in, batch_in, is_batch_size, command_of}
+use Rattle.session_line.specs.Lines.{name_and_number, line_of_edit, line_of_batch, line_of_command, IsLawfulEdit, IsLawfulName, IsLawful}
+use Rattle.session_line.proofs.ReadBack.{IsRest, word-name, word-decimal, first-word, behind-word, first-number}
+
+-- a lawful name
+name-is : (name : List ℕ) → is_deck_name name ≡ true → name_in name ≡ Ok name
+name-is name is = ap (λ (t : Bool). if t then Ok name else Err BadName) is
+
+-- a name alone
+only-name : (name : List ℕ) → is_deck_name name ≡ true → only_name (32 ∷ (name ++ [])) ≡ Ok name
+only-name name is =
+    let rest = 32 ∷ (name ++ []) in
+    ap (λ (o : Option (List ℕ)). needs o (λ n. only_if (is_end (behind_word rest)) (name_in n))) (first-word name [] (word-name name is) refl)
+    ∙ ap (λ (l : List ℕ). only_if (is_end l) (name_in name)) (behind-word name [] (word-name name is) refl)
+    ∙ name-is name is
+
+-- a number, and what is made of it and of what stands behind it
+number-made : {B : Type 0} (made : ℕ → List ℕ → Result B Refusal) (n : ℕ) (rest : List ℕ) → n ≤ greatest_number → IsRest rest →
+    needs (first_number (32 ∷ (decimal n ++ rest))) (λ m. made m (behind_word (32 ∷ (decimal n ++ rest)))) ≡ made n rest
+number-made {B} made n rest within none =
+    let line = 32 ∷ (decimal n ++ rest) in
+    ap (λ (o : Option ℕ). needs {A = ℕ} {B = B} o (λ m. made m (behind_word line))) (first-number n rest within none)
+    ∙ ap (λ (l : List ℕ). made n l) (behind-word (decimal n) rest (word-decimal n within) none)
+
+-- a name and a number, and what is made of them and of what stands behind them
+both-made : {B : Type 0} (made : List ℕ → ℕ → List ℕ → Result B Refusal) (name : List ℕ) (n : ℕ) (rest : List ℕ) → is_deck_name name ≡ true → n ≤ greatest_number → IsRest rest →
+    needs (first_word (name_and_number name n rest)) (λ w. needs (first_number (behind_word (name_and_number name n rest))) (λ m. made w m (behind_word (behind_word (name_and_number name n rest))))) ≡ made name n rest
+both-made {B} made name n rest is within none =
+    let line = name_and_number name n rest in
+    let more = 32 ∷ (decimal n ++ rest) in
+    ap (λ (o : Option (List ℕ)). needs {A = List ℕ} {B = B} o (λ w. needs (first_number (behind_word line)) (λ m. made w m (behind_word (behind_word line))))) (first-word name more (word-name name is) refl)
+    ∙ ap (λ (l : List ℕ). needs {A = ℕ} {B = B} (first_number l) (λ m. made name m (behind_word l))) (behind-word name more (word-name name is) refl)
+    ∙ number-made (made name) n rest within none
+
+-- DROP
+drop-back : (name : List ℕ) (version : ℕ) → is_deck_name name ≡ true → version ≤ greatest_number → drop_in (name_and_number name version []) ≡ Ok (command.Drop name version)
+drop-back name version is within =
+    both-made (λ n v l. only_if (is_end l) (made_of (λ m. command.Drop m v) (name_in n))) name version [] is within refl
+    ∙ ap (λ (r : Result (List ℕ) Refusal). made_of (λ m. command.Drop m version) r) (name-is name is)
+
+-- INS, REP and DEL, to the edit
+edit-made : (kind : EditKind) (name : List ℕ) (version place : ℕ) (rest : List ℕ) → is_deck_name name ≡ true → version ≤ greatest_number → place ≤ greatest_number → IsRest rest →
+    edit_in kind (name_and_number name version (32 ∷ (decimal place ++ rest))) ≡ only_if (fits_edit kind rest) (edit_of (Ok name) version (edit_at kind place rest))
+edit-made kind name version place rest is within placed none =
+    both-made (λ n v l. needs (first_number l) (λ p. only_if (fits_edit kind (behind_word l)) (edit_of (name_in n) v (edit_at kind p (behind_word l))))) name version (32 ∷ (decimal place ++ rest)) is within refl
+    ∙ number-made (λ p l. only_if (fits_edit kind l) (edit_of (name_in name) version (edit_at kind p l))) place rest placed none
+    ∙ ap (λ (r : Result (List ℕ) Refusal). only_if (fits_edit kind rest) (edit_of r version (edit_at kind place rest))) (name-is name is)
+
+-- an edit
+edit-back : (name : List ℕ) (version : ℕ) (edit : Edit) → is_deck_name name ≡ true → version ≤ greatest_number → IsLawfulEdit edit →
+    command_of (line_of_edit name version edit) ≡ Ok (command.Edit name version edit)
+edit-back name version (Insert place card) is within lawful =
+    edit-made kind.Insert name version place (32 ∷ card) is within lawful.0 refl
+    ∙ ap (λ (r : CardRead). edit_of (Ok name) version (made_of (Insert place) (card_or_fault r))) lawful.1
+edit-back name version (Replace place card) is within lawful =
+    edit-made kind.Replace name version place (32 ∷ card) is within lawful.0 refl
+    ∙ ap (λ (r : CardRead). edit_of (Ok name) version (made_of (Replace place) (card_or_fault r))) lawful.1
+edit-back name version (Remove place) is within lawful = edit-made kind.Remove name version place [] is within lawful refl
+
+-- the first line of a batch
+batch-made : (name : List ℕ) (version count : ℕ) → is_deck_name name ≡ true → version ≤ greatest_number → is_batch_size count ≡ true →
+    batch_in (name_and_number name version (32 ∷ (decimal count ++ []))) ≡ Ok (command.Batch (record { name = Ok name; version = version; count = count }))
+batch-made name version count is within size =
+    let few : count ≤ 100 = leb-true count 100 (and_parts (nat_le 1 count) (nat_le count 100) size).1 in
+    let head : Result (List ℕ) Refusal → ℕ → ℕ → Result Command Refusal = λ r v n. Ok (command.Batch (record { name = r; version = v; count = n })) in
+    both-made (λ w v l. needs (first_number l) (λ n. only_if (is_end (behind_word l) && is_batch_size n) (head (name_in w) v n))) name version (32 ∷ (decimal count ++ [])) is within refl
+    ∙ number-made (λ n l. only_if (is_end l && is_batch_size n) (head (name_in name) version n)) count [] (omega (arith, few)) refl
+    ∙ ap (λ (t : Bool). only_if t (head (name_in name) version count)) size
+    ∙ ap (λ (r : Result (List ℕ) Refusal). head r version count) (name-is name is)
+
+batch-back : (name : Result (List ℕ) Refusal) (version count : ℕ) → IsLawfulName name → version ≤ greatest_number → is_batch_size count ≡ true →
+    command_of (line_of_batch name version count) ≡ Ok (command.Batch (record { name = name; version = version; count = count }))
+batch-back (Ok name) version count is within size = batch-made name version count is within size
+batch-back (Err refusal) version count is within size = absurd is
+
+-- each command
+pub line-back : (command : Command) → IsLawful command → command_of (line_of_command command) ≡ Ok command
+line-back (command.Add name) is = ap (λ (r : Result (List ℕ) Refusal). made_of command.Add r) (only-name name is)
+line-back (command.Load name) is = ap (λ (r : Result (List ℕ) Refusal). made_of command.Load r) (only-name name is)
+line-back (command.Drop name version) lawful = drop-back name version lawful.0 lawful.1
+line-back (command.Edit name version edit) lawful = edit-back name version edit lawful.0 lawful.1 lawful.2
+line-back (command.Cards name) is = ap (λ (r : Result (List ℕ) Refusal). made_of command.Cards r) (only-name name is)
+line-back (command.Save name) is = ap (λ (r : Result (List ℕ) Refusal). made_of command.Save r) (only-name name is)
+line-back command.Image _ = refl
+line-back command.List _ = refl
+line-back command.Status _ = refl
+line-back (command.Batch head) lawful = batch-back head.name head.version head.count lawful.0 lawful.1 lawful.2
+line-back command.Bye _ = refl

@@ -1,0 +1,157 @@
+-- Worked lines, computed: which command each is, or why it is refused.
+use Rattle.std.proofs.Common.{◌≡◌, Ok, Err, codes, refl}
+use Rattle.cards.specs.declared.card.CardFault.TheVariants as card
+use Rattle.session_line.specs.declared.edits.Edit.TheVariants.{Insert, Replace, Remove}
+use Rattle.session_line.specs.declared.commands.Command.TheVariants as command
+use Rattle.session_line.specs.declared.refusals.Refusal.TheVariants.{BadCommand, BadName, BadCard}
+use Rattle.session_line.specs.Edits.{edit_in_batch}
+use Rattle.session_line.specs.Commands.{command_of}
+
+-- each command
+pub add : command_of (codes "ADD M") ≡ Ok (command.Add (codes "M"))
+add = refl
+
+pub load : command_of (codes "LOAD 1AJ") ≡ Ok (command.Load (codes "1AJ"))
+load = refl
+
+pub drop : command_of (codes "DROP M 2") ≡ Ok (command.Drop (codes "M") 2)
+drop = refl
+
+pub insert : command_of (codes "INS M 1 1 *A") ≡ Ok (command.Edit (codes "M") 1 (Insert 1 (codes "*A")))
+insert = refl
+
+pub replace : command_of (codes "REP M 7 3  SB1 1 ") ≡ Ok (command.Edit (codes "M") 7 (Replace 3 (codes " SB1 1")))
+replace = refl
+
+pub delete : command_of (codes "DEL M 007 0") ≡ Ok (command.Edit (codes "M") 7 (Remove 0))
+delete = refl
+
+pub cards : command_of (codes "CARDS M") ≡ Ok (command.Cards (codes "M"))
+cards = refl
+
+pub save : command_of (codes "SAVE M") ≡ Ok (command.Save (codes "M"))
+save = refl
+
+pub image : command_of (codes "IMAGE") ≡ Ok command.Image
+image = refl
+
+pub list : command_of (codes "LIST") ≡ Ok command.List
+list = refl
+
+pub status : command_of (codes "STATUS") ≡ Ok command.Status
+status = refl
+
+pub bye : command_of (codes "BYE") ≡ Ok command.Bye
+bye = refl
+
+pub batch : command_of (codes "BATCH M 3 100") ≡ Ok (command.Batch (record { name = Ok (codes "M"); version = 3; count = 100 }))
+batch = refl
+
+-- the name of a batch is told later
+pub batch-bad_name : command_of (codes "BATCH M+ 3 1") ≡ Ok (command.Batch (record { name = Err BadName; version = 3; count = 1 }))
+batch-bad_name = refl
+
+-- the empty card, with a blank behind the place and without
+pub empty_card : command_of (codes "INS M 1 1") ≡ Ok (command.Edit (codes "M") 1 (Insert 1 (codes "")))
+empty_card = refl
+
+pub empty_text : command_of (codes "INS M 1 1 ") ≡ Ok (command.Edit (codes "M") 1 (Insert 1 (codes "")))
+empty_text = refl
+
+-- the greatest number, and 19 digits of it
+pub greatest : command_of (codes "DROP M 4611686018427387904") ≡ Ok (command.Drop (codes "M") 4611686018427387904)
+greatest = refl
+
+pub greater : command_of (codes "DROP M 4611686018427387905") ≡ Err BadCommand
+greater = refl
+
+pub nineteen_digits : command_of (codes "DROP M 0000000000000000007") ≡ Ok (command.Drop (codes "M") 7)
+nineteen_digits = refl
+
+pub twenty_digits : command_of (codes "DROP M 00000000000000000007") ≡ Err BadCommand
+twenty_digits = refl
+
+-- blanks that are one too many, or behind the last word
+pub two_blanks : command_of (codes "ADD  M") ≡ Err BadCommand
+two_blanks = refl
+
+pub blank_behind_name : command_of (codes "ADD M ") ≡ Err BadCommand
+blank_behind_name = refl
+
+pub blank_behind_image : command_of (codes "IMAGE ") ≡ Err BadCommand
+blank_behind_image = refl
+
+pub blank_in_front : command_of (codes " ADD M") ≡ Err BadCommand
+blank_in_front = refl
+
+pub two_blanks_in_front_of_place : command_of (codes "INS M 1  1 X") ≡ Err BadCommand
+two_blanks_in_front_of_place = refl
+
+pub blank_behind_removal : command_of (codes "DEL M 1 1 ") ≡ Err BadCommand
+blank_behind_removal = refl
+
+-- words that are missing, too many, or none
+pub nothing : command_of (codes "") ≡ Err BadCommand
+nothing = refl
+
+pub no_name : command_of (codes "ADD") ≡ Err BadCommand
+no_name = refl
+
+pub two_names : command_of (codes "ADD M N") ≡ Err BadCommand
+two_names = refl
+
+pub no_place : command_of (codes "INS M 1") ≡ Err BadCommand
+no_place = refl
+
+pub small_letters : command_of (codes "add M") ≡ Err BadCommand
+small_letters = refl
+
+pub no_number : command_of (codes "DROP M -1") ≡ Err BadCommand
+no_number = refl
+
+pub empty_batch : command_of (codes "BATCH M 4 0") ≡ Err BadCommand
+empty_batch = refl
+
+pub long_batch : command_of (codes "BATCH M 4 101") ≡ Err BadCommand
+long_batch = refl
+
+pub batch_of_nobody : command_of (codes "BATCH M+ 4 0") ≡ Err BadCommand
+batch_of_nobody = refl
+
+-- the order of refusals: the line, then the name, then the card
+pub line_first : command_of (codes "INS M+ 1 X a") ≡ Err BadCommand
+line_first = refl
+
+pub removal_first : command_of (codes "DEL M+ 1 1 X") ≡ Err BadCommand
+removal_first = refl
+
+pub name_second : command_of (codes "INS M+ 1 1 a") ≡ Err BadName
+name_second = refl
+
+pub long_name : command_of (codes "ADD ABCDEFGH") ≡ Err BadName
+long_name = refl
+
+pub card_third : command_of (codes "INS M 1 1 Xa") ≡ Err (BadCard (card.BadCharacter 2))
+card_third = refl
+
+-- lines of a batch
+pub batch_insert : edit_in_batch (codes "INS 1 *X") ≡ Ok (Insert 1 (codes "*X"))
+batch_insert = refl
+
+pub batch_replace : edit_in_batch (codes "REP 2") ≡ Ok (Replace 2 (codes ""))
+batch_replace = refl
+
+pub batch_delete : edit_in_batch (codes "DEL 3") ≡ Ok (Remove 3)
+batch_delete = refl
+
+pub batch_none : edit_in_batch (codes "FOO") ≡ Err BadCommand
+batch_none = refl
+
+pub batch_behind_removal : edit_in_batch (codes "DEL 3 ") ≡ Err BadCommand
+batch_behind_removal = refl
+
+pub batch_with_name : edit_in_batch (codes "INS M 1 1 X") ≡ Err BadCommand
+batch_with_name = refl
+
+pub batch_card : edit_in_batch (codes "INS 1 a") ≡ Err (BadCard (card.BadCharacter 1))
+batch_card = refl

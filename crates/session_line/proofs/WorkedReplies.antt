@@ -1,0 +1,48 @@
+-- Worked replies, computed.
+use Rattle.std.proofs.Common.{◌≡◌, None, Some, codes, refl}
+use Rattle.std.specs.Fmt.{digits}
+use Rattle.cards.specs.declared.card.CardFault.TheVariants as card
+use Rattle.session_line.specs.declared.refusals.EditFault.TheVariants as fault
+use Rattle.session_line.specs.declared.refusals.Refusal.TheVariants as refusal
+use Rattle.session_line.specs.declared.replies.Reply.TheVariants as reply
+use Rattle.session_line.specs.declared.replies.DeckState.TheVariants as state
+use Rattle.session_line.specs.Replies.{text_of_reply, row_text, published_text, counted_text, line_count}
+
+-- a version; names with their numbers
+pub done : text_of_reply (reply.Done 12) ≡ codes "OK 12\n"
+done = unfold digits in refl
+
+pub bye : text_of_reply reply.Bye ≡ codes "BYE\n"
+bye = refl
+
+pub old_version : text_of_reply (reply.Refused (refusal.OldVersion 4)) ≡ codes "NO OldVersion 4\n"
+old_version = unfold digits in refl
+
+pub bad_line : text_of_reply (reply.Refused (refusal.BadLine 1 (card.BadCharacter 10))) ≡ codes "NO BadLine 1 BadCharacter 10\n"
+bad_line = unfold digits in refl
+
+pub wide_line : text_of_reply (reply.Refused (refusal.BadLine 20 card.TooWide)) ≡ codes "NO BadLine 20 TooWide\n"
+wide_line = unfold digits in refl
+
+pub bad_edit : text_of_reply (reply.Refused (refusal.BadEdit 2 fault.NoSuchCard)) ≡ codes "NO BadEdit 2 NoSuchCard\n"
+bad_edit = unfold digits in refl
+
+pub write_fault : text_of_reply (reply.Refused (refusal.WriteFault 3)) ≡ codes "NO WriteFault 3\n"
+write_fault = unfold digits in refl
+
+-- the lines of a status
+pub row : row_text (record { name = codes "M"; version = 1; cards = 0; state = state.Behind }) ≡ codes "M 1 0 BEHIND"
+row = unfold digits in refl
+
+pub published : published_text (Some 7) ≡ codes "PUBLISHED 7"
+published = unfold digits in refl
+
+pub none_published : published_text None ≡ codes "PUBLISHED NONE"
+none_published = refl
+
+-- a first line that tells how many follow
+pub counted : counted_text 5 4 ≡ codes "OK 5 4"
+counted = unfold digits in refl
+
+pub two_lines : line_count (codes "MAP\nEND\n") ≡ 2
+two_lines = refl

@@ -1,0 +1,9 @@
+use Rattle.std.proofs.Common.{◌∙◌}
+use Rattle.session_line.specs.Replies.{body_text}
+use Rattle.session_line.proofs.SendSteps.{part-second}
+use Rattle.session_line.proofs.writing.write_reply.Goals as goal
+
+pub returns-in-Err-clause-sends : goal.returns-in-Err-clause-sends
+returns-in-Err-clause-sends g c =
+    part-second _ _ _ _ c.as_slice-bytes.result.now (body_text c.args.reply.now) c.in-Err.broken.sent (c.as_slice-bytes.ensures.value ∙ c.head_line-line.ensures)
+    c.in_ok-put_all.ensures.all c.in-Err.ensures.sends

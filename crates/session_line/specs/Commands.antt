@@ -1,0 +1,84 @@
+-- Which line of a session is which command, or why it is refused: a line that is none first, then the name, then the card (ours).
+use Rattle.std.specs.Prelude.{ℕ, List, Result, Ok, Err, Bool, ◌&&◌, nat_le, if◌then◌else◌}
+use Rattle.definitions.specs.DeckInput.{is_deck_name}
+use Rattle.definitions.specs.Fields.{unbroken_front}
+use Rattle.session_line.specs.declared.verbs.EditKind.{EditKind}
+use Rattle.session_line.specs.declared.verbs.Verb.{Verb}
+use Rattle.session_line.specs.declared.verbs.Verb.TheVariants as verb
+use Rattle.session_line.specs.declared.edits.Edit.{Edit}
+use Rattle.session_line.specs.declared.commands.Command.{Command}
+use Rattle.session_line.specs.declared.commands.Command.TheVariants as command
+use Rattle.session_line.specs.declared.refusals.Refusal.{Refusal}
+use Rattle.session_line.specs.declared.refusals.Refusal.TheVariants.{BadName}
+use Rattle.session_line.specs.Words.{from_blank, first_word, first_number, behind_word}
+use Rattle.session_line.specs.Verbs.{verb_of}
+use Rattle.session_line.specs.Edits.{needs, only_if, made_of, is_end, fits_edit, edit_at}
+
+-- the name that a word is
+abbrev pub name_in : List ℕ → Result (List ℕ) Refusal
+name_in word = if is_deck_name word then Ok word else Err BadName
+
+-- a word of its own
+abbrev pub alone : Command → List ℕ → Result Command Refusal
+alone command rest = only_if (is_end rest) (Ok command)
+
+-- name
+abbrev pub only_name : List ℕ → Result (List ℕ) Refusal
+only_name rest = needs (first_word rest) (λ name. only_if (is_end (behind_word rest)) (name_in name))
+
+-- name version
+abbrev pub drop_in : List ℕ → Result Command Refusal
+drop_in rest =
+    needs (first_word rest) (λ name.
+    needs (first_number (behind_word rest)) (λ version.
+    only_if (is_end (behind_word (behind_word rest))) (made_of (λ name. command.Drop name version) (name_in name))))
+
+-- an edit of a deck, where the name is one
+abbrev pub edit_of : Result (List ℕ) Refusal → ℕ → Result Edit Refusal → Result Command Refusal
+edit_of (Err refusal) version edit = Err refusal
+edit_of (Ok name) version edit = made_of (command.Edit name version) edit
+
+-- name version at, and text but for a removal
+abbrev pub edit_in : EditKind → List ℕ → Result Command Refusal
+edit_in kind rest =
+    let behind = behind_word (behind_word rest) in
+    needs (first_word rest) (λ name.
+    needs (first_number (behind_word rest)) (λ version.
+    needs (first_number behind) (λ at.
+    only_if (fits_edit kind (behind_word behind)) (edit_of (name_in name) version (edit_at kind at (behind_word behind))))))
+
+-- how many edits a batch has at most
+abbrev pub most_edits : ℕ
+most_edits = 100
+
+-- whether a batch may have so many edits
+abbrev pub is_batch_size : ℕ → Bool
+is_batch_size count = nat_le 1 count && nat_le count most_edits
+
+-- name version n; the name is looked at when the lines of the batch are read
+abbrev pub batch_in : List ℕ → Result Command Refusal
+batch_in rest =
+    let behind = behind_word (behind_word rest) in
+    needs (first_word rest) (λ name.
+    needs (first_number (behind_word rest)) (λ version.
+    needs (first_number behind) (λ count.
+    only_if (is_end (behind_word behind) && is_batch_size count)
+    (Ok (command.Batch (record { name = name_in name; version = version; count = count }))))))
+
+-- the command of a verb, by what stands behind it
+abbrev pub command_by : Verb → List ℕ → Result Command Refusal
+command_by verb.Add rest = made_of command.Add (only_name rest)
+command_by verb.Load rest = made_of command.Load (only_name rest)
+command_by verb.Drop rest = drop_in rest
+command_by (verb.Edit kind) rest = edit_in kind rest
+command_by verb.Cards rest = made_of command.Cards (only_name rest)
+command_by verb.Save rest = made_of command.Save (only_name rest)
+command_by verb.Image rest = alone command.Image rest
+command_by verb.List rest = alone command.List rest
+command_by verb.Status rest = alone command.Status rest
+command_by verb.Batch rest = batch_in rest
+command_by verb.Bye rest = alone command.Bye rest
+
+-- the command that a line is, or why it is refused
+abbrev pub command_of : List ℕ → Result Command Refusal
+command_of line = needs (verb_of (unbroken_front line)) (λ verb. command_by verb (from_blank line))

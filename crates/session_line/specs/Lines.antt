@@ -1,0 +1,69 @@
+-- The line that a client writes for a command (ours).
+use Rattle.std.specs.Prelude.{ℕ, ◌≡◌, ◌≤◌, ⊤, List, [], ◌++◌, Result, Ok, Err, IsTrue, codes, decimal}
+use Rattle.definitions.specs.Cards.{IsCard, card_of}
+use Rattle.definitions.specs.DeckInput.{is_deck_name}
+use Rattle.session_line.specs.declared.edits.Edit.{Edit}
+use Rattle.session_line.specs.declared.edits.Edit.TheVariants.{Insert, Replace, Remove}
+use Rattle.session_line.specs.declared.commands.Command.{Command}
+use Rattle.session_line.specs.declared.commands.Command.TheVariants as command
+use Rattle.session_line.specs.declared.refusals.Refusal.{Refusal}
+use Rattle.session_line.specs.Words.{greatest_number}
+use Rattle.session_line.specs.Commands.{is_batch_size}
+
+-- a blank, and a text behind it
+abbrev pub behind_a_blank : List ℕ → List ℕ
+behind_a_blank text = codes " " ++ text
+
+-- a name, and a number behind it
+abbrev pub name_and_number : List ℕ → ℕ → List ℕ → List ℕ
+name_and_number name number rest = behind_a_blank (name ++ behind_a_blank (decimal number ++ rest))
+
+-- the line of an edit
+abbrev pub line_of_edit : List ℕ → ℕ → Edit → List ℕ
+line_of_edit name version (Insert at card) = codes "INS" ++ name_and_number name version (behind_a_blank (decimal at ++ behind_a_blank card))
+line_of_edit name version (Replace at card) = codes "REP" ++ name_and_number name version (behind_a_blank (decimal at ++ behind_a_blank card))
+line_of_edit name version (Remove at) = codes "DEL" ++ name_and_number name version (behind_a_blank (decimal at ++ []))
+
+-- the first line of a batch; one whose name is none has no line of its own
+abbrev pub line_of_batch : Result (List ℕ) Refusal → ℕ → ℕ → List ℕ
+line_of_batch (Ok name) version count = codes "BATCH" ++ name_and_number name version (behind_a_blank (decimal count ++ []))
+line_of_batch (Err refusal) version count = []
+
+-- the line of a command
+abbrev pub line_of_command : Command → List ℕ
+line_of_command (command.Add name) = codes "ADD" ++ behind_a_blank (name ++ [])
+line_of_command (command.Load name) = codes "LOAD" ++ behind_a_blank (name ++ [])
+line_of_command (command.Drop name version) = codes "DROP" ++ name_and_number name version []
+line_of_command (command.Edit name version edit) = line_of_edit name version edit
+line_of_command (command.Cards name) = codes "CARDS" ++ behind_a_blank (name ++ [])
+line_of_command (command.Save name) = codes "SAVE" ++ behind_a_blank (name ++ [])
+line_of_command command.Image = codes "IMAGE"
+line_of_command command.List = codes "LIST"
+line_of_command command.Status = codes "STATUS"
+line_of_command (command.Batch head) = line_of_batch head.name head.version head.count
+line_of_command command.Bye = codes "BYE"
+
+-- a place that can be told, and a card
+abbrev pub IsLawfulEdit : Edit → Type 0
+IsLawfulEdit (Insert at card) = (at ≤ greatest_number) × (card_of card ≡ IsCard card)
+IsLawfulEdit (Replace at card) = (at ≤ greatest_number) × (card_of card ≡ IsCard card)
+IsLawfulEdit (Remove at) = at ≤ greatest_number
+
+-- a name, where there is one
+abbrev pub IsLawfulName : Result (List ℕ) Refusal → Type 0
+IsLawfulName (Ok name) = IsTrue (is_deck_name name)
+IsLawfulName (Err refusal) = ⊥
+
+-- a command with a lawful name, numbers that can be told, and a card; and where it is a batch, with a name and 1 to 100 edits
+abbrev pub IsLawful : Command → Type 0
+IsLawful (command.Add name) = IsTrue (is_deck_name name)
+IsLawful (command.Load name) = IsTrue (is_deck_name name)
+IsLawful (command.Drop name version) = IsTrue (is_deck_name name) × (version ≤ greatest_number)
+IsLawful (command.Edit name version edit) = IsTrue (is_deck_name name) × (version ≤ greatest_number) × IsLawfulEdit edit
+IsLawful (command.Cards name) = IsTrue (is_deck_name name)
+IsLawful (command.Save name) = IsTrue (is_deck_name name)
+IsLawful command.Image = ⊤
+IsLawful command.List = ⊤
+IsLawful command.Status = ⊤
+IsLawful (command.Batch head) = IsLawfulName head.name × (head.version ≤ greatest_number) × IsTrue (is_batch_size head.count)
+IsLawful command.Bye = ⊤

@@ -1,0 +1,76 @@
+-- The texts of replies (ours): a first line, and for some commands as many lines more as it tells.
+use Rattle.std.specs.Prelude.{ℕ, ◌+◌, ◌≤◌, ◌==◌, ⊤, List, [], ◌∷◌, ◌++◌, Option, Some, None, length, filter, flat_map, codes, decimal}
+use Rattle.definitions.specs.Characters.{line_feed}
+use Rattle.deck_files.specs.DeckFiles.{file_of}
+use Rattle.session_line.specs.Refusals.{refusal_text}
+use Rattle.session_line.specs.declared.replies.DeckState.{DeckState}
+use Rattle.session_line.specs.declared.replies.DeckState.TheVariants as state
+use Rattle.session_line.specs.declared.replies.DeckRow.{DeckRow}
+use Rattle.session_line.specs.declared.replies.Reply.{Reply}
+use Rattle.session_line.specs.declared.replies.Reply.TheVariants as reply
+
+-- a text and its line feed
+abbrev pub line_of : List ℕ → List ℕ
+line_of text = text ++ line_feed ∷ []
+
+-- how many lines a text has
+abbrev pub line_count : List ℕ → ℕ
+line_count text = length (filter (λ c. c == line_feed) text)
+
+-- the word for the state of a deck
+abbrev pub state_text : DeckState → List ℕ
+state_text state.Out = codes "OUT"
+state_text state.Behind = codes "BEHIND"
+state_text state.Ready = codes "READY"
+
+-- name, version, number of cards and state of a deck
+abbrev pub row_text : DeckRow → List ℕ
+row_text row = row.name ++ (codes " " ++ (decimal row.version ++ (codes " " ++ (decimal row.cards ++ (codes " " ++ state_text row.state)))))
+
+-- the version that is published
+abbrev pub published_text : Option ℕ → List ℕ
+published_text None = codes "PUBLISHED NONE"
+published_text (Some version) = codes "PUBLISHED " ++ decimal version
+
+-- a version
+abbrev pub ok_text : ℕ → List ℕ
+ok_text version = codes "OK " ++ decimal version
+
+-- a version, and how many lines follow
+abbrev pub counted_text : ℕ → ℕ → List ℕ
+counted_text version count = codes "OK " ++ (decimal version ++ (codes " " ++ decimal count))
+
+-- the first line of a reply
+abbrev pub head_text : Reply → List ℕ
+head_text (reply.Done version) = ok_text version
+head_text (reply.Cards version cards) = counted_text version (length cards.now)
+head_text (reply.Text version text) = counted_text version (line_count text.now)
+head_text (reply.Status version published decks) = counted_text version (length decks.now + 1)
+head_text reply.Bye = codes "BYE"
+head_text (reply.Refused refusal) = codes "NO " ++ refusal_text refusal
+
+-- the lines of some decks in a status
+abbrev pub rows_text : List DeckRow → List ℕ
+rows_text rows = flat_map (λ row. line_of (row_text row)) rows
+
+-- the lines that follow the first
+abbrev pub body_text : Reply → List ℕ
+body_text (reply.Done version) = []
+body_text (reply.Cards version cards) = file_of cards.now
+body_text (reply.Text version text) = text.now
+body_text (reply.Status version published decks) = line_of (published_text published) ++ rows_text decks.now
+body_text reply.Bye = []
+body_text (reply.Refused refusal) = []
+
+-- the bytes of a reply
+abbrev pub text_of_reply : Reply → List ℕ
+text_of_reply reply = line_of (head_text reply) ++ body_text reply
+
+-- no more cards than a deck may have, and no more decks than a desk may have
+abbrev pub IsWithinLimits : Reply → Type 0
+IsWithinLimits (reply.Done version) = ⊤
+IsWithinLimits (reply.Cards version cards) = length cards.now ≤ 20000
+IsWithinLimits (reply.Text version text) = ⊤
+IsWithinLimits (reply.Status version published decks) = length decks.now ≤ 64
+IsWithinLimits reply.Bye = ⊤
+IsWithinLimits (reply.Refused refusal) = ⊤

@@ -1,0 +1,216 @@
+//! The commands of a session.
+ghost use Rattle.std.specs.Prelude.{◌≡◌};
+ghost use Rattle.session_line.specs.Commands.{name_in, alone, only_name, drop_in, edit_in, batch_in, command_by, command_of, is_batch_size};
+
+use crate::edits::{Edit, edit_at, fits_edit};
+use crate::refusals::Refusal;
+use crate::verbs::{EditKind, Verb, verb_of};
+use crate::words::{behind_word, first_number, first_word, from_blank, to_blank};
+use cards::DeckName;
+
+/// How many edits a batch has at most.
+const MOST_EDITS: u64 = 100;
+
+/// What a line of a session asks for. Who changes a deck tells the version of it that was seen.
+#[derive(Drop)]
+pub enum Command {
+    /// A new deck without cards.
+    Add {
+        name: DeckName,
+    },
+    /// A new deck with the cards of the shelf's file of its name.
+    Load {
+        name: DeckName,
+    },
+    /// The deck goes.
+    Drop {
+        name: DeckName,
+        version: u64,
+    },
+    /// One edit of the deck.
+    Edit {
+        name: DeckName,
+        version: u64,
+        edit: Edit,
+    },
+    /// The cards of the deck.
+    Cards {
+        name: DeckName,
+    },
+    /// The cards of the deck go to the shelf's file of its name.
+    Save {
+        name: DeckName,
+    },
+    /// The published image.
+    Image,
+    /// The published listing.
+    List,
+    /// The versions and states of all decks.
+    Status,
+    /// Edits of one deck, all or none, each on a line of its own behind this one.
+    Batch(BatchHead),
+    /// The end of the session.
+    Bye,
+}
+
+/// The first line of a batch: the deck, or why the word is no name, the version of it that was seen,
+/// and how many lines of edits follow, 1 to 100.
+#[derive(Drop)]
+pub struct BatchHead {
+    pub name: Result<DeckName, Refusal>,
+    pub version: u64,
+    pub count: u64,
+}
+
+/// The name that a word is.
+fn name_in(word: &[u8]) -> Result<DeckName, Refusal>
+    ensures { result ≡ name_in word.now }
+{
+    match DeckName::read(word) {
+        Ok(name) => Ok(name),
+        Err(_) => Err(Refusal::BadName),
+    }
+}
+
+/// The command that stands alone on its line.
+fn alone(command: Command, rest: &[u8]) -> Result<Command, Refusal>
+    ensures { result ≡ alone command rest.now }
+{
+    if rest.is_empty() {
+        Ok(command)
+    } else {
+        Err(Refusal::BadCommand)
+    }
+}
+
+/// `name`
+fn only_name(rest: &[u8]) -> Result<DeckName, Refusal>
+    ensures { result ≡ only_name rest.now }
+{
+    let Some(name) = first_word(rest) else {
+        return Err(Refusal::BadCommand);
+    };
+    if !behind_word(rest).is_empty() {
+        return Err(Refusal::BadCommand);
+    }
+    name_in(name)
+}
+
+/// `name version`
+fn drop_in(rest: &[u8]) -> Result<Command, Refusal>
+    ensures { result ≡ drop_in rest.now }
+{
+    let Some(name) = first_word(rest) else {
+        return Err(Refusal::BadCommand);
+    };
+    let rest = behind_word(rest);
+    let Some(version) = first_number(rest) else {
+        return Err(Refusal::BadCommand);
+    };
+    if !behind_word(rest).is_empty() {
+        return Err(Refusal::BadCommand);
+    }
+    Ok(Command::Drop {
+        name: name_in(name)?,
+        version,
+    })
+}
+
+/// `name version at text`, without the text where a card goes.
+fn edit_in(kind: EditKind, rest: &[u8]) -> Result<Command, Refusal>
+    ensures { result ≡ edit_in kind rest.now }
+{
+    let Some(name) = first_word(rest) else {
+        return Err(Refusal::BadCommand);
+    };
+    let rest = behind_word(rest);
+    let Some(version) = first_number(rest) else {
+        return Err(Refusal::BadCommand);
+    };
+    let rest = behind_word(rest);
+    let Some(at) = first_number(rest) else {
+        return Err(Refusal::BadCommand);
+    };
+    let rest = behind_word(rest);
+    if !fits_edit(kind, rest) {
+        return Err(Refusal::BadCommand);
+    }
+    Ok(Command::Edit {
+        name: name_in(name)?,
+        version,
+        edit: edit_at(kind, at, rest)?,
+    })
+}
+
+fn is_batch_size(count: u64) -> bool
+    ensures { result ≡ is_batch_size count }
+{
+    1 <= count && count <= MOST_EDITS
+}
+
+/// `name version n`
+fn batch_in(rest: &[u8]) -> Result<Command, Refusal>
+    ensures { result ≡ batch_in rest.now }
+{
+    let Some(name) = first_word(rest) else {
+        return Err(Refusal::BadCommand);
+    };
+    let rest = behind_word(rest);
+    let Some(version) = first_number(rest) else {
+        return Err(Refusal::BadCommand);
+    };
+    let rest = behind_word(rest);
+    let Some(count) = first_number(rest) else {
+        return Err(Refusal::BadCommand);
+    };
+    if !behind_word(rest).is_empty() || !is_batch_size(count) {
+        return Err(Refusal::BadCommand);
+    }
+    let name = name_in(name);
+    Ok(Command::Batch(BatchHead {
+        name,
+        version,
+        count,
+    }))
+}
+
+/// Reads a line as a command. Words are separated by one blank each; a number has 1 to 19 decimal
+/// digits and is at most 2^62; the text of a card is all that stands behind one blank, and a line
+/// that ends behind its place has the empty card. Any other line is `BadCommand`; then comes
+/// `BadName`, and then the fault of the card. The name of a batch is looked at later, so its fault
+/// stands in the head.
+pub fn read_command(line: &[u8]) -> Result<Command, Refusal>
+    ensures command { result ≡ command_of line.now }
+{
+    match verb_of(to_blank(line)) {
+        Some(verb) => command_by(verb, from_blank(line)),
+        None => Err(Refusal::BadCommand),
+    }
+}
+
+/// The command of a verb, by what stands behind it.
+fn command_by(verb: Verb, rest: &[u8]) -> Result<Command, Refusal>
+    ensures { result ≡ command_by verb rest.now }
+{
+    match verb {
+        Verb::Add => Ok(Command::Add {
+            name: only_name(rest)?,
+        }),
+        Verb::Load => Ok(Command::Load {
+            name: only_name(rest)?,
+        }),
+        Verb::Drop => drop_in(rest),
+        Verb::Edit(kind) => edit_in(kind, rest),
+        Verb::Cards => Ok(Command::Cards {
+            name: only_name(rest)?,
+        }),
+        Verb::Save => Ok(Command::Save {
+            name: only_name(rest)?,
+        }),
+        Verb::Image => alone(Command::Image, rest),
+        Verb::List => alone(Command::List, rest),
+        Verb::Status => alone(Command::Status, rest),
+        Verb::Batch => batch_in(rest),
+        Verb::Bye => alone(Command::Bye, rest),
+    }
+}

@@ -1,0 +1,54 @@
+//! The replies of a session.
+
+use crate::refusals::Refusal;
+use cards::{Card, DeckName};
+
+/// The state of a deck.
+#[derive(Clone, Copy, Debug, PartialEq, Eq)]
+pub enum DeckState {
+    /// It is given to somebody who assembles it.
+    Out,
+    /// It is not assembled since its last change.
+    Behind,
+    /// It is assembled.
+    Ready,
+}
+
+/// A deck in the reply to `STATUS`.
+#[derive(Drop)]
+pub struct DeckRow {
+    pub name: DeckName,
+    pub version: u64,
+    /// How many cards it has.
+    pub cards: usize,
+    pub state: DeckState,
+}
+
+/// The reply to one command.
+#[derive(Clone, Copy)]
+pub enum Reply<'a> {
+    /// `OK version`: what was asked is done, and the version is the deck's.
+    Done {
+        version: u64,
+    },
+    /// `OK version n`, then a line for each card.
+    Cards {
+        version: u64,
+        cards: &'a [Card],
+    },
+    /// `OK version n`, then the `n` lines of a text, each of which has its line feed.
+    Text {
+        version: u64,
+        text: &'a [u8],
+    },
+    /// `OK version n`, then `PUBLISHED version` or `PUBLISHED NONE`, and a line for each deck.
+    Status {
+        version: u64,
+        published: Option<u64>,
+        decks: &'a [DeckRow],
+    },
+    /// `BYE`
+    Bye,
+    /// `NO`, and the text of the refusal.
+    Refused(Refusal),
+}

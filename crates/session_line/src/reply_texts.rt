@@ -1,0 +1,115 @@
+//! The lines of replies.
+ghost use Rattle.std.specs.Prelude.{◌≡◌, ◌+◌, ◌≤◌, ◌++◌, length};
+ghost use Rattle.session_line.specs.Replies.{line_of, line_count, counted_text, ok_text, head_text, published_text, row_text, state_text};
+
+use crate::refusal_texts::put_refusal;
+use crate::refusals::Refusal;
+use crate::replies::{DeckRow, DeckState, Reply};
+use crate::reply_line::ReplyLine;
+
+/// `OK version`
+fn ok_line(version: u64) -> ReplyLine
+    ensures { result ≡ line_of (ok_text version) }
+{
+    let mut line = ReplyLine::new();
+    line.put(b"OK ");
+    line.put_number(version);
+    line.end();
+    line
+}
+
+/// `OK version n`
+fn counted_line(version: u64, count: usize) -> ReplyLine
+    ensures { result ≡ line_of (counted_text version count) }
+{
+    let mut line = ReplyLine::new();
+    line.put(b"OK ");
+    line.put_number(version);
+    line.put(b" ");
+    line.put_number(count as u64);
+    line.end();
+    line
+}
+
+/// `BYE`
+fn bye_line() -> ReplyLine
+    ensures { result ≡ line_of (head_text Reply.Bye) }
+{
+    let mut line = ReplyLine::new();
+    line.put(b"BYE");
+    line.end();
+    line
+}
+
+/// `NO`, and the text of a refusal.
+fn refusal_line(refusal: &Refusal) -> ReplyLine
+    ensures { result ≡ line_of (head_text (Reply.Refused refusal.now)) }
+{
+    let mut line = ReplyLine::new();
+    line.put(b"NO ");
+    put_refusal(&mut line, refusal);
+    line.end();
+    line
+}
+
+/// How many lines a text has.
+fn line_count(text: &[u8]) -> usize
+    ensures { result ≡ line_count text.now }
+{
+    text.iter().filter(|c| **c == b'\n').count()
+}
+
+/// The first line of a reply.
+pub(crate) fn head_line(reply: &Reply<'_>) -> ReplyLine
+    ensures { result ≡ line_of (head_text reply.now) }
+{
+    match reply {
+        Reply::Done { version } => ok_line(*version),
+        Reply::Cards { version, cards } => counted_line(*version, cards.len()),
+        Reply::Text { version, text } => counted_line(*version, line_count(text)),
+        Reply::Status { version, decks, .. } => counted_line(*version, decks.len() + 1),
+        Reply::Bye => bye_line(),
+        Reply::Refused(refusal) => refusal_line(refusal),
+    }
+}
+
+/// The version that is published.
+pub(crate) fn published_line(published: Option<u64>) -> ReplyLine
+    ensures { result ≡ line_of (published_text published) }
+{
+    let mut line = ReplyLine::new();
+    line.put(b"PUBLISHED ");
+    match published {
+        Some(version) => line.put_number(version),
+        None => line.put(b"NONE"),
+    }
+    line.end();
+    line
+}
+
+fn state_text(state: DeckState) -> &'static [u8]
+    ensures text { result.now ≡ state_text state }
+    ensures short { length result.now ≤ 6 }
+{
+    match state {
+        DeckState::Out => b"OUT",
+        DeckState::Behind => b"BEHIND",
+        DeckState::Ready => b"READY",
+    }
+}
+
+/// The line of a deck in a status.
+pub(crate) fn row_line(row: &DeckRow) -> ReplyLine
+    ensures { result ≡ line_of (row_text row.now) }
+{
+    let mut line = ReplyLine::new();
+    line.put(row.name.as_slice());
+    line.put(b" ");
+    line.put_number(row.version);
+    line.put(b" ");
+    line.put_number(row.cards as u64);
+    line.put(b" ");
+    line.put(state_text(row.state));
+    line.end();
+    line
+}

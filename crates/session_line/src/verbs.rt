@@ -1,0 +1,87 @@
+//! The words that begin a line.
+ghost use Rattle.std.specs.Prelude.{◌≡◌};
+ghost use Rattle.definitions.specs.Characters.{same_text};
+ghost use Rattle.session_line.specs.Verbs.{edit_kind_of, other_verb_of, verb_of};
+
+/// What an edit does: a card comes in, takes the place of another, or goes.
+#[derive(Clone, Copy, Debug, PartialEq, Eq)]
+pub(crate) enum EditKind {
+    Insert,
+    Replace,
+    Remove,
+}
+
+/// What the first word of a line asks for.
+#[derive(Clone, Copy, Debug, PartialEq, Eq)]
+pub(crate) enum Verb {
+    Add,
+    Load,
+    Drop,
+    Edit(EditKind),
+    Cards,
+    Save,
+    Image,
+    List,
+    Status,
+    Batch,
+    Bye,
+}
+
+fn is_same(word: &[u8], other: &[u8]) -> bool
+    ensures { result ≡ same_text word.now other.now }
+{
+    word == other
+}
+
+/// The edit that a word asks for, if it asks for one.
+pub(crate) fn edit_kind_of(word: &[u8]) -> Option<EditKind>
+    ensures { result ≡ edit_kind_of word.now }
+{
+    if is_same(word, b"INS") {
+        Some(EditKind::Insert)
+    } else if is_same(word, b"REP") {
+        Some(EditKind::Replace)
+    } else if is_same(word, b"DEL") {
+        Some(EditKind::Remove)
+    } else {
+        None
+    }
+}
+
+fn other_verb_of(word: &[u8]) -> Option<Verb>
+    ensures { result ≡ other_verb_of word.now }
+{
+    if is_same(word, b"ADD") {
+        Some(Verb::Add)
+    } else if is_same(word, b"LOAD") {
+        Some(Verb::Load)
+    } else if is_same(word, b"DROP") {
+        Some(Verb::Drop)
+    } else if is_same(word, b"CARDS") {
+        Some(Verb::Cards)
+    } else if is_same(word, b"SAVE") {
+        Some(Verb::Save)
+    } else if is_same(word, b"IMAGE") {
+        Some(Verb::Image)
+    } else if is_same(word, b"LIST") {
+        Some(Verb::List)
+    } else if is_same(word, b"STATUS") {
+        Some(Verb::Status)
+    } else if is_same(word, b"BATCH") {
+        Some(Verb::Batch)
+    } else if is_same(word, b"BYE") {
+        Some(Verb::Bye)
+    } else {
+        None
+    }
+}
+
+/// What a word asks for, if it is one of those that begin a line.
+pub(crate) fn verb_of(word: &[u8]) -> Option<Verb>
+    ensures { result ≡ verb_of word.now }
+{
+    match edit_kind_of(word) {
+        Some(kind) => Some(Verb::Edit(kind)),
+        None => other_verb_of(word),
+    }
+}

@@ -1,0 +1,103 @@
+//! Replies as bytes: to a writer, or in memory.
+ghost use Rattle.std.specs.Prelude.{◌≡◌, ◌≤◌, ◌<◌, ◌*◌, ◌^◌, ◌++◌, length, IfOk, IfErr};
+ghost use Rattle.session_line.specs.Replies.{line_of, published_text, row_text, rows_text, body_text, text_of_reply, IsWithinLimits};
+ghost use Rattle.session_line.specs.Sending.{Sends, count_after_sending};
+
+use crate::replies::{DeckRow, Reply};
+use crate::reply_texts::{head_line, published_line, row_line};
+use deck_files::save;
+use std::alloc::{AllocError, Global};
+use std::io::Write;
+use text_ports::{Broken, Counted, put_all};
+
+/// The lines of some decks in a status.
+fn write_rows<W: Write>(output: &mut Counted<W>, decks: &[DeckRow]) -> Result<(), Broken>
+    requires { length decks.now ≤ 64 }
+    ensures sends { Sends (W.contents output.old.0) (W.contents output.new.0) (rows_text decks.now) result }
+    ensures count { output.new.1 ≡ count_after_sending result output.old.1 }
+    ensures few { IfErr result (λ broken. broken.sent ≤ 80 * 65) }
+{
+    let mut sent = 0;
+    for deck in decks {
+        let line = row_line(deck);
+        let bytes = line.as_slice();
+        if let Err(broken) = put_all(output, bytes) {
+            return Err(Broken {
+                sent: sent + broken.sent,
+            });
+        }
+        sent += bytes.len();
+    }
+    Ok(())
+}
+
+/// The lines behind the first of a status.
+fn write_status<W: Write>(
+    output: &mut Counted<W>,
+    published: Option<u64>,
+    decks: &[DeckRow],
+) -> Result<(), Broken>
+    requires { length decks.now ≤ 64 }
+    ensures sends { Sends (W.contents output.old.0) (W.contents output.new.0) (line_of (published_text published) ++ rows_text decks.now) result }
+    ensures count { output.new.1 ≡ count_after_sending result output.old.1 }
+    ensures few { IfErr result (λ broken. broken.sent ≤ 80 * 66) }
+{
+    let line = published_line(published);
+    let bytes = line.as_slice();
+    put_all(output, bytes)?;
+    match write_rows(output, decks) {
+        Ok(()) => Ok(()),
+        Err(broken) => Err(Broken {
+            sent: bytes.len() + broken.sent,
+        }),
+    }
+}
+
+/// The lines behind the first of a reply.
+fn write_body<W: Write>(output: &mut Counted<W>, reply: &Reply<'_>) -> Result<(), Broken>
+    requires { IsWithinLimits reply.now }
+    ensures sends { Sends (W.contents output.old.0) (W.contents output.new.0) (body_text reply.now) result }
+    ensures count { output.new.1 ≡ count_after_sending result output.old.1 }
+    ensures few { IfErr result (λ broken. broken.sent < 2 ^ 63) }
+{
+    match reply {
+        Reply::Done { .. } | Reply::Bye | Reply::Refused(_) => Ok(()),
+        Reply::Cards { cards, .. } => save(output, cards),
+        Reply::Text { text, .. } => put_all(output, text),
+        Reply::Status {
+            published,
+            decks,
+            ..
+        } => write_status(output, *published, decks),
+    }
+}
+
+/// Writes a reply: its bytes, or exactly the first `sent` of them up to the first fault. Takes no
+/// memory. A reply has no more cards than a deck may have, and no more decks than a desk may have.
+pub fn write_reply<W: Write>(output: &mut Counted<W>, reply: &Reply<'_>) -> Result<(), Broken>
+    requires limits { IsWithinLimits reply.now }
+    ensures sends { Sends (W.contents output.old.0) (W.contents output.new.0) (text_of_reply reply.now) result }
+    ensures count { output.new.1 ≡ count_after_sending result output.old.1 }
+{
+    let line = head_line(reply);
+    let bytes = line.as_slice();
+    put_all(output, bytes)?;
+    match write_body(output, reply) {
+        Ok(()) => Ok(()),
+        Err(broken) => Err(Broken {
+            sent: bytes.len() + broken.sent,
+        }),
+    }
+}
+
+/// The bytes of a reply, the same that `write_reply` writes.
+pub fn reply_text(alloc: Global, reply: &Reply<'_>) -> Result<Vec<u8>, AllocError>
+    requires limits { IsWithinLimits reply.now }
+    ensures text { IfOk result (λ text. text.items ≡ text_of_reply reply.now) }
+{
+    let mut output = Counted::new(Vec::new(alloc));
+    match write_reply(&mut output, reply) {
+        Ok(()) => Ok(output.into_inner()),
+        Err(_) => Err(AllocError),
+    }
+}
