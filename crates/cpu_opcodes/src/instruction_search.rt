@@ -71,10 +71,11 @@ fn fit<'a>(operation: &[u8], operand: &Operand<'a>) -> Option<Shape<'a>>
 
 /// The instruction of an operation and its operand (COMPASS 60492600, CPU instructions): O where no
 /// row has the operation, V where its rows do not take the operand. PS and NO take every operand.
-/// An operation is found by at most nine comparisons of names: it is looked up among two rows, and
-/// then, as its first letter tells, by halving a table of 44 or one of 72. Then the operand is
-/// compared with its rows alone, in the order of the definitions. One that is refused is looked up
-/// once more for its letter.
+/// An operation is looked up among two rows, and then, as its first letter tells, by halving a table
+/// of 44 rows or one of 72: six or seven comparisons of names, and one for each of its rows and one
+/// more, which is over twenty where an operation has 14 rows. Then the operand is compared with these
+/// rows alone, in the order of the definitions. One that is refused is looked up once more for its
+/// letter.
 pub fn find<'a>(operation: &[u8], operand: &Operand<'a>) -> Result<Shape<'a>, Letter>
     ensures found { IfOk result (λ shape. (base : NumberBase) (subfields : List (List Piece)) → IsOperand base subfields operand.now →
         central_of base operation.now subfields ≡ instruction_as shape) }
