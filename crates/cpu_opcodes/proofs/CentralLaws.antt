@@ -8,10 +8,10 @@ use Rattle.definitions.specs.Matching.{is_octal_digit, is_operation}
 use Rattle.opcode_rows.specs.declared.row.Row.{Row}
 use Rattle.opcode_rows.specs.SortedNames.{name_number, has_number}
 use Rattle.opcode_rows.proofs.TableLaws.{same_filters, filter-map}
-use Rattle.cpu_opcodes.specs.declared.operand_table.TheConstants.{OPERAND_ROWS, IGNORING_ROWS}
+use Rattle.cpu_opcodes.specs.declared.operand_table.TheConstants.{OPERAND_ROWS}
 use Rattle.cpu_opcodes.specs.declared.sum_table.TheConstants.{SUM_ROWS}
 use Rattle.cpu_opcodes.specs.OperationNames.{name_of, padded, rows_with, rows_named}
-use Rattle.cpu_opcodes.specs.CentralTables.{operand_row, code_row, sum_row, padded_row, padded_sum_row, ignoring_rows_of, operand_rows_of, sum_rows_of, is_some_of}
+use Rattle.cpu_opcodes.specs.CentralTables.{operand_row, sum_row, padded_row, padded_sum_row, operand_rows_of, sum_rows_of, is_some_of}
 use Rattle.cpu_opcodes.proofs.OperationLaws.{is_shaped, operation-two, operation-three, operation-other, operation-long, operation-short, operation-none}
 
 -- tests that agree on all elements keep the same
@@ -70,12 +70,6 @@ same_operand_rows k =
     ∙ same_filters row_number (map operand_row OPERAND_ROWS) (map padded_row table.central_rows) (map row_number (map padded_row table.central_rows)) k refl refl refl
     ∙ filter-map padded_row (λ (row : table.Row). eqb (row_number row) k) table.central_rows
 
-same_ignoring_rows : (k : ℕ) → map code_row (filter (has_number k) IGNORING_ROWS) ≡ map padded_row (filter (λ (row : table.Row). eqb (name_number (padded row.operation)) k) table.ignoring_rows)
-same_ignoring_rows k =
-    sym (filter-map code_row (λ (row : table.Row). eqb (row_number row) k) IGNORING_ROWS)
-    ∙ same_filters row_number (map code_row IGNORING_ROWS) (map padded_row table.ignoring_rows) (map row_number (map padded_row table.ignoring_rows)) k refl refl refl
-    ∙ filter-map padded_row (λ (row : table.Row). eqb (row_number row) k) table.ignoring_rows
-
 same_sum_rows : (k : ℕ) → map sum_row (filter (has_number k) SUM_ROWS) ≡ map padded_sum_row (filter (λ (row : SumRow). eqb (name_number (padded row.operation)) k) table.sum_rows)
 same_sum_rows k =
     sym (filter-map sum_row (λ (row : SumRow). eqb (sum_number row) k) SUM_ROWS)
@@ -85,10 +79,6 @@ same_sum_rows k =
 pub operand_rows-named : (operation : List ℕ) → Fits w8 (get_or operation 1 0) → map operand_row (rows_named OPERAND_ROWS operation) ≡ operand_rows_of operation
 operand_rows-named operation byte =
     named_rows (λ (row : table.Row). row.operation) padded_row operand_row table.central_rows OPERAND_ROWS same_operand_rows refl operation (omega arith)
-
-pub ignoring_rows-named : (operation : List ℕ) → Fits w8 (get_or operation 1 0) → map code_row (rows_named IGNORING_ROWS operation) ≡ ignoring_rows_of operation
-ignoring_rows-named operation byte =
-    named_rows (λ (row : table.Row). row.operation) padded_row code_row table.ignoring_rows IGNORING_ROWS same_ignoring_rows refl operation (omega arith)
 
 pub sum_rows-named : (operation : List ℕ) → Fits w8 (get_or operation 1 0) → map sum_row (rows_named SUM_ROWS operation) ≡ sum_rows_of operation
 sum_rows-named operation byte =

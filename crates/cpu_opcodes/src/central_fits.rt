@@ -10,7 +10,7 @@ ghost use Rattle.expr_forms.specs.Operands.{IsOperand};
 ghost use Rattle.expr_forms.specs.Shapes.{instruction_as};
 ghost use Rattle.cpu_opcodes.specs.declared.code.OperandForm.{OperandForm};
 ghost use Rattle.cpu_opcodes.specs.RegistersFound.{digits_as};
-ghost use Rattle.cpu_opcodes.specs.CentralTables.{operand_row};
+ghost use Rattle.cpu_opcodes.specs.CentralTables.{operand_row, operand_rows_of};
 ghost use Rattle.cpu_opcodes.specs.LawfulCodes.{has_lawful_code};
 ghost use Rattle.cpu_opcodes.specs.Found.{shape_as};
 ghost use Rattle.cpu_opcodes.specs.Fits.{row_fit_with};
@@ -19,7 +19,6 @@ use crate::code::OperandForm;
 use crate::operand_fits::operand_fit;
 use crate::registers_found::RegistersFound;
 use crate::shapes::shape_of;
-use crate::tables::central_rows;
 use crate::text_match::named_registers;
 use expr_forms::{Operand, Shape};
 use opcode_rows::Row;
@@ -69,13 +68,19 @@ fn first_fit<'a>(
     }
 }
 
-/// The instruction of an operation whose operand is read subfield by subfield: of BX the eighth row
-/// at most decides.
-pub(crate) fn central_fit<'a>(operation: &[u8], operand: &Operand<'a>) -> Option<Shape<'a>>
+/// The instruction of an operation by its rows whose operand is read subfield by subfield: of BX the
+/// eighth row at most decides.
+pub(crate) fn central_fit<'a>(
+    operation: &[u8],
+    rows: &[Row<OperandForm>],
+    operand: &Operand<'a>,
+) -> Option<Shape<'a>>
+    requires rows { map operand_row rows.now ≡ operand_rows_of operation.now }
+    requires lawful { IsTrue (list_all has_lawful_code rows.now) }
     ensures instruction { (base : NumberBase) (subfields : List (List Piece)) → IsOperand base subfields operand.now →
         shape_as result ≡ first_fit (map (row_fit base operation.now subfields) (rows_for operation.now table.central_rows)) }
     ensures central { IfSome result (λ shape. IsTrue (is_some (instruction_as shape))) }
     ensures short { IfSome result (λ shape. shape.digit_count ≤ 10) }
 {
-    first_fit(central_rows(operation), operand, named_registers(operation))
+    first_fit(rows, operand, named_registers(operation))
 }

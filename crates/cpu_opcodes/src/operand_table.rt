@@ -90,14 +90,17 @@ pub(crate) const OPERAND_ROWS: [Row<OperandForm>; 72] = operand_rows![
     b"ZXi" Xk Short b"25i0k",
 ];
 
-/// Those whose operand is ignored.
-pub(crate) const IGNORING_ROWS: [Row<Code>; 2] = [
-    Row {
-        name: *b"NO ",
-        form: Code::Short(*b"46000"),
-    },
-    Row {
-        name: *b"PS ",
-        form: Code::Long(*b"0000000000"),
-    },
-];
+/// No operation has more of these rows; BX has as many.
+pub(crate) const MOST_OPERAND_ROWS: usize = 8;
+
+/// The row of NO, whose operand is ignored.
+pub(crate) const NO_ROWS: [Row<Code>; 1] = [Row {
+    name: *b"NO ",
+    form: Code::Short(*b"46000"),
+}];
+
+/// The row of PS, whose operand is ignored.
+pub(crate) const PS_ROWS: [Row<Code>; 1] = [Row {
+    name: *b"PS ",
+    form: Code::Long(*b"0000000000"),
+}];

@@ -1,6 +1,6 @@
 //! The name under which a table has an operation: its two letters, and i in place of a digit.
 ghost use Rattle.std.specs.Prelude.{◌≡◌, IsTrue};
-ghost use Rattle.opcode_rows.specs.SortedNames.{is_sorted};
+ghost use Rattle.opcode_rows.specs.SortedNames.{is_sorted, has_at_most};
 ghost use Rattle.cpu_opcodes.specs.OperationNames.{name_of, rows_named};
 
 use opcode_rows::{Row, rows_of};
@@ -16,13 +16,14 @@ fn name_of(operation: &[u8]) -> Option<[u8; 3]>
     }
 }
 
-/// The rows of an operation.
-pub(crate) fn rows_named<'a, F>(table: &'a [Row<F>], operation: &[u8]) -> &'a [Row<F>]
-    requires { IsTrue (is_sorted table.now) }
+/// The rows of an operation in a table that has at most so many of each name.
+pub(crate) fn rows_named<'a, F>(table: &'a [Row<F>], most: usize, operation: &[u8]) -> &'a [Row<F>]
+    requires sorted { IsTrue (is_sorted table.now) }
+    requires few { IsTrue (has_at_most most table.now) }
     ensures { result.now ≡ rows_named table.now operation.now }
 {
     match name_of(operation) {
-        Some(name) => rows_of(table, name),
+        Some(name) => rows_of(table, most, name),
         None => table.split_at(0).0,
     }
 }

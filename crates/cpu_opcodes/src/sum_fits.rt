@@ -13,7 +13,7 @@ ghost use Rattle.expr_forms.specs.Sums.{IsSum, AreRegisters, field_of};
 ghost use Rattle.cpu_opcodes.specs.declared.code.SumForm.{SumForm};
 ghost use Rattle.cpu_opcodes.specs.RegistersFound.{digits_as};
 ghost use Rattle.cpu_opcodes.specs.CodeTexts.{registers_text, code_text_or_none};
-ghost use Rattle.cpu_opcodes.specs.CentralTables.{sum_row};
+ghost use Rattle.cpu_opcodes.specs.CentralTables.{sum_row, sum_rows_of};
 ghost use Rattle.cpu_opcodes.specs.LawfulCodes.{is_lawful_or_none, has_lawful_codes};
 ghost use Rattle.cpu_opcodes.specs.Found.{shape_as};
 ghost use Rattle.cpu_opcodes.specs.Fits.{sum_fit_with, form_fit};
@@ -23,7 +23,7 @@ use crate::found::{CentralField, Found};
 use crate::patterns::SumPattern;
 use crate::registers_found::RegistersFound;
 use crate::shapes::shape_with;
-use crate::tables::{has_rows, sum_rows};
+use crate::tables::has_rows;
 use crate::text_match::{matched, named_registers};
 use expr_forms::{Expr, Operand, Shape, Sum, SumRegisters};
 use opcode_rows::Row;
@@ -118,13 +118,14 @@ fn first_fit<'a>(
     }
 }
 
-/// The instruction of an operation whose operand is one sum.
-fn one_fit<'a>(operation: &[u8], expression: &Expr<'a>) -> Option<Shape<'a>>
+/// The instruction of an operation with these rows whose operand is one sum.
+fn one_fit<'a>(operation: &[u8], rows: &[Row<SumForm>], expression: &Expr<'a>) -> Option<Shape<'a>>
+    requires rows { map sum_row rows.now ≡ sum_rows_of operation.now }
+    requires lawful { IsTrue (list_all has_lawful_codes rows.now) }
     ensures instruction { shape_as result ≡ matching.first_fit (map (matching.sum_fit operation.now (sum_read (Some expression.now))) (sum_rows_for operation.now table.sum_rows)) }
     ensures central { IfSome result (λ shape. IsTrue (is_some (instruction_as shape))) }
     ensures short { IfSome result (λ shape. shape.digit_count ≤ 10) }
 {
-    let rows = sum_rows(operation);
     if has_rows(rows) {
         first_fit(rows, &expression.take_apart(), named_registers(operation))
     } else {
@@ -132,16 +133,22 @@ fn one_fit<'a>(operation: &[u8], expression: &Expr<'a>) -> Option<Shape<'a>>
     }
 }
 
-/// The instruction of an operation whose operand is a sum: only JP, and what sets a register, asks
-/// for the sum, and of the set instructions the fourteenth row at most decides.
-pub(crate) fn sum_fit<'a>(operation: &[u8], operand: &Operand<'a>) -> Option<Shape<'a>>
+/// The instruction of an operation by its rows whose operand is a sum: only JP, and what sets a
+/// register, asks for the sum, and of the set instructions the fourteenth row at most decides.
+pub(crate) fn sum_fit<'a>(
+    operation: &[u8],
+    rows: &[Row<SumForm>],
+    operand: &Operand<'a>,
+) -> Option<Shape<'a>>
+    requires rows { map sum_row rows.now ≡ sum_rows_of operation.now }
+    requires lawful { IsTrue (list_all has_lawful_codes rows.now) }
     ensures instruction { (base : NumberBase) (subfields : List (List Piece)) → IsOperand base subfields operand.now →
         shape_as result ≡ matching.first_fit (map (matching.sum_fit operation.now (sum_read (single base subfields))) (sum_rows_for operation.now table.sum_rows)) }
     ensures central { IfSome result (λ shape. IsTrue (is_some (instruction_as shape))) }
     ensures short { IfSome result (λ shape. shape.digit_count ≤ 10) }
 {
     match operand {
-        Operand::One(subfield) => one_fit(operation, &subfield.expression),
+        Operand::One(subfield) => one_fit(operation, rows, &subfield.expression),
         Operand::Two(_, _) => None,
         Operand::Three(_, _, _) => None,
     }

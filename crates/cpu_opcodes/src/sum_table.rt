@@ -74,3 +74,6 @@ pub(crate) const SUM_ROWS: [Row<SumForm>; 44] = sum_rows![
     b"SXi" BjMinusBk () (Short b"77ijk"),
     b"SXi" MinusBkPlusBj () (Short b"77ijk"),
 ];
+
+/// No operation has more of these rows; SA, SB and SX have as many.
+pub(crate) const MOST_SUM_ROWS: usize = 14;

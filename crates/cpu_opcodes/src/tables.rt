@@ -9,17 +9,23 @@ ghost use Rattle.cpu_opcodes.specs.FirstLetters.{begins_sum};
 ghost use Rattle.cpu_opcodes.specs.LawfulCodes.{is_lawful_row, has_lawful_code, has_lawful_codes};
 
 use crate::code::{Code, OperandForm, SumForm};
-use crate::operand_table::{IGNORING_ROWS, OPERAND_ROWS};
+use crate::operand_table::{MOST_OPERAND_ROWS, NO_ROWS, OPERAND_ROWS, PS_ROWS};
 use crate::operation_name::rows_named;
-use crate::sum_table::SUM_ROWS;
+use crate::sum_table::{MOST_SUM_ROWS, SUM_ROWS};
 use opcode_rows::Row;
 
-/// The rows of an operation whose operand is ignored, in the order in which they count: PS and NO.
+/// The rows of an operation whose operand is ignored, in the order in which they count: one of NO and
+/// one of PS. Two letters that begin with N or P are compared with one of these names, and nothing else
+/// with either.
 pub fn ignoring_rows(operation: &[u8]) -> &'static [Row<Code>]
     ensures rows { map code_row result.now ≡ ignoring_rows_of operation.now }
     ensures lawful { IsTrue (list_all is_lawful_row result.now) }
 {
-    rows_named(&IGNORING_ROWS, operation)
+    match operation {
+        [b'N', b'O'] => &NO_ROWS,
+        [b'P', b'S'] => &PS_ROWS,
+        _ => &[],
+    }
 }
 
 /// Whether an operation begins with J or S, as JP and what sets a register do. These alone take a
@@ -34,21 +40,21 @@ fn begins_sum(operation: &[u8]) -> bool
 }
 
 /// The rows of an operation whose operand is a sum, in the order in which they count: of the 44 rows
-/// six are looked at, those of the operation, and one more; none where its first letter is another.
+/// six are looked at, and four of the 14 behind the first; none where its first letter is another.
 pub fn sum_rows(operation: &[u8]) -> &'static [Row<SumForm>]
     ensures rows { map sum_row result.now ≡ sum_rows_of operation.now }
     ensures lawful { IsTrue (list_all has_lawful_codes result.now) }
 {
     if begins_sum(operation) {
-        rows_named(&SUM_ROWS, operation)
+        rows_named(&SUM_ROWS, MOST_SUM_ROWS, operation)
     } else {
         &[]
     }
 }
 
 /// The rows of an operation whose operand is read subfield by subfield, in the order in which they
-/// count: of the 72 rows seven are looked at, those of the operation, and one more; none where its
-/// first letter is that of a sum.
+/// count: of the 72 rows seven are looked at, and four of the 8 behind the first; none where its first
+/// letter is that of a sum.
 pub fn central_rows(operation: &[u8]) -> &'static [Row<OperandForm>]
     ensures rows { map operand_row result.now ≡ operand_rows_of operation.now }
     ensures lawful { IsTrue (list_all has_lawful_code result.now) }
@@ -56,11 +62,11 @@ pub fn central_rows(operation: &[u8]) -> &'static [Row<OperandForm>]
     if begins_sum(operation) {
         &[]
     } else {
-        rows_named(&OPERAND_ROWS, operation)
+        rows_named(&OPERAND_ROWS, MOST_OPERAND_ROWS, operation)
     }
 }
 
-/// Whether a table has an operation.
+/// Whether a table has an operation, by at most twelve comparisons of names, as `find` has them.
 pub fn is_central(operation: &[u8]) -> bool
     ensures { result ≡ is_central operation.now }
 {

@@ -81,14 +81,16 @@ pub(crate) const ROWS: [Row<Code>; 62] = rows![
     b"ZJN" 0o04 ShortJump,
 ];
 
-/// The code of an operation, if the table has it: six of its rows are looked at, and one more.
+/// The code of an operation, if the table has it. Each name has one row, so an operation of three
+/// characters is compared with at most seven names: with six to halve the 62 rows, and with the one
+/// that is left. No other operation is compared with any.
 pub fn row_of(operation: &[u8]) -> Option<Code>
     ensures { found_row operation.now result ≡ peripheral_row operation.now }
 {
     let [first, second, third] = operation else {
         return None;
     };
-    code_in(rows_of(&ROWS, [*first, *second, *third]))
+    code_in(rows_of(&ROWS, 1, [*first, *second, *third]))
 }
 
 /// The code of the first row, if there is one.
@@ -101,7 +103,7 @@ fn code_in(rows: &[Row<Code>]) -> Option<Code>
     }
 }
 
-/// Whether the table has an operation.
+/// Whether the table has an operation, by at most seven comparisons of names.
 pub fn is_peripheral(operation: &[u8]) -> bool
     ensures { result ≡ is_peripheral operation.now }
 {

@@ -7,4 +7,4 @@ use Rattle.cpu_opcodes.proofs.central_fits.central_fit.Goals as goal
 pub returns-clause-instruction : goal.returns-clause-instruction
 returns-clause-instruction c base subfields h =
     c.first_fit.ensures.instruction base subfields h
-    ∙ ap first_fit (central-fits base c.args.operation.now subfields c.central_rows.result.now (digits_as c.named_registers.result) c.named_registers.ensures c.central_rows.ensures.rows)
+    ∙ ap first_fit (central-fits base c.args.operation.now subfields c.args.rows.now (digits_as c.named_registers.result) c.named_registers.ensures c.requires.rows)

@@ -10,9 +10,9 @@ pub returns-then-has_rows-clause-instruction : goal.returns-then-has_rows-clause
 returns-then-has_rows-clause-instruction c =
     let of : Sum = sum_of c.args.expression.now.terms (sum_from c.args.expression.now.sign) in
     c.first_fit.ensures.instruction of c.take_apart.ensures
-    ∙ ap first_fit (sum-fits c.args.operation.now (Some of) c.sum_rows-rows.result.now (digits_as c.named_registers.result) c.named_registers.ensures c.sum_rows-rows.ensures.rows)
+    ∙ ap first_fit (sum-fits c.args.operation.now (Some of) c.args.rows.now (digits_as c.named_registers.result) c.named_registers.ensures c.requires.rows)
 
 pub returns-else-has_rows-clause-instruction : goal.returns-else-has_rows-clause-instruction
 returns-else-has_rows-clause-instruction c =
     let of : Sum = sum_of c.args.expression.now.terms (sum_from c.args.expression.now.sign) in
-    no_rows-fit c.args.operation.now (Some of) c.sum_rows-rows.result.now (sym c.has_rows.ensures ∙ c.if-has_rows.false) c.sum_rows-rows.ensures.rows
+    no_rows-fit c.args.operation.now (Some of) c.args.rows.now (sym c.has_rows.ensures ∙ c.if-has_rows.false) c.requires.rows

@@ -1,17 +1,27 @@
-use Rattle.std.proofs.Common.{ltb, sym, rules}
+use Rattle.std.proofs.Common.{◌+◌, drop, ◌≤◌, length, min, sym, ◌∙◌, arith}
+use Rattle.std.specs.List.{prefix_len}
 use Rattle.std.proofs.lemmas.List.Sums.{prefix_len-le-length}
-use Rattle.std.proofs.lemmas.List.Sorted.{IsPartitionPoint-from_clause, IsPartitionedBy-ltb}
-use Rattle.opcode_rows.specs.SortedNames.{has_number, name_number}
-use Rattle.opcode_rows.proofs.SortedLaws.{number_in, rising, filter-parted}
+use Rattle.opcode_rows.specs.SortedNames.{name_number, is_below}
+use Rattle.opcode_rows.proofs.SortedLaws.{sorted_drop, sorted_take, filter-between, count-few, taken-window}
 use Rattle.opcode_rows.proofs.row_search.rows_of.Goals as goal
 
-pub split_at-requires-2 : goal.split_at-requires-2
-split_at-requires-2 g c = rw c.count_of.ensures (prefix_len-le-length (has_number c.number_of-number.result) c.split_at.result.1.now)
+pub split_at-requires : goal.split_at-requires
+split_at-requires g c = rw c.count_below-first.ensures (prefix_len-le-length (is_below c.number_of-number.result) c.args.table.now)
+
+pub count_below-count-requires : goal.count_below-count-requires
+count_below-count-requires g c =
+    rw (c.split_at-2.ensures.front, c.split_at.ensures.back) (sorted_take 0 c.min.result (drop c.count_below-first.result c.args.table.now) (sorted_drop 0 c.count_below-first.result c.args.table.now c.requires.sorted))
+
+pub split_at-requires-3 : goal.split_at-requires-3
+split_at-requires-3 g c = rw c.count_below-count.ensures (prefix_len-le-length (is_below (c.number_of-number.result + 1)) c.split_at-2.result.0.now)
 
 pub returns : goal.returns
 returns g c =
-    let sorted = c.requires in
-    let parted = IsPartitionedBy-ltb number_in c.args.table.now (name_number c.args.name) (rising 0 c.args.table.now sorted) in
-    let point = IsPartitionPoint-from_clause (λ row. ltb (number_in row) (name_number c.args.name)) c.args.table.now c.partition_point-first.result c.partition_point-first.ensures.partitioned parted (λ a r q k. search rules) in
-    let whole = filter-parted (name_number c.args.name) c.partition_point-first.result c.args.table.now sorted point in
-    rw (c.split_at-2.ensures.front, c.count_of.ensures, c.number_of-number.ensures, c.split_at.ensures.back) (sym whole)
+    let x = name_number c.args.name in
+    let table = c.args.table.now in
+    let behind = drop (prefix_len (is_below x) table) table in
+    let few = count-few x c.args.most table c.requires.sorted c.requires.few in
+    let within = prefix_len-le-length (is_below (x + 1)) behind in
+    let long : prefix_len (is_below (x + 1)) behind ≤ min c.args.most (length behind) = omega arith in
+    rw (c.split_at-3.ensures.front, c.count_below-count.ensures, c.split_at-2.ensures.front, c.min.ensures, c.split_at.ensures.back, c.count_below-first.ensures, c.number_of-number.ensures.number)
+    (taken-window (is_below (x + 1)) (min c.args.most (length behind)) behind long ∙ sym (filter-between x 0 table c.requires.sorted))
