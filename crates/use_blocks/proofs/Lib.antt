@@ -5,3 +5,4 @@ pub mod SizeLaws
 pub mod SameLaws
 pub mod BlockLaws
 pub mod StackLaws
+pub mod NameLaws

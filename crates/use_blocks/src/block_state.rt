@@ -1,5 +1,5 @@
 //! The state between statements: what those before a statement leave of blocks, number base and kind.
-ghost use Rattle.std.specs.Prelude.{◌≡◌, ◌<◌, ◌≤◌, [], false, Ok, length, IfOk, OnOk, OnErr};
+ghost use Rattle.std.specs.Prelude.{◌≡◌, ◌<◌, ◌≤◌, [], false, Ok, Some, length, slice_get, IfOk, OnOk, OnErr};
 ghost use Rattle.std.specs.Bool.{Decides};
 ghost use Rattle.definitions.specs.Operands.{UseName};
 ghost use Rattle.definitions.specs.Blocks.{nominal, block_in_use, change_of};
@@ -79,6 +79,13 @@ impl BlockState {
     {
         let at = index_in_use(self.stack.as_slice());
         self.blocks.as_slice()[at]
+    }
+
+    /// The index of the block in use among the blocks.
+    pub(crate) fn block_index(&self) -> usize
+        ensures { slice_get (names_of_blocks self.now.blocks) result ≡ Some (block_in_use self.now.open_names) }
+    {
+        index_in_use(self.stack.as_slice())
     }
 
     /// What a USE of this name makes: it is accepted where the name is used or fewer than 64 blocks

@@ -5,7 +5,7 @@ ghost use Rattle.definitions.specs.Blocks.{is_accepted};
 ghost use Rattle.definitions.specs.Lengths as definitions;
 ghost use Rattle.definitions.specs.Lengths.{lengths_of};
 ghost use Rattle.definitions.specs.Settled.{Opens};
-ghost use Rattle.definitions.specs.States.{Effect, lengths_advanced, lengths_behind};
+ghost use Rattle.definitions.specs.States.{Effect, state_after, names_of_blocks, lengths_advanced, lengths_behind};
 ghost use Rattle.definitions.specs.declared.marks.DeckKind.{DeckKind};
 ghost use Rattle.use_blocks.specs.BlockLengths.{block_names, has_name, opened_by, reaching};
 
@@ -75,7 +75,8 @@ impl Model for Lengths {
 impl Lengths {
     /// The nominal block, in which nothing stands yet: the lengths before the first statement.
     pub fn new(alloc: Global) -> Result<Lengths, AllocError>
-        ensures { IfOk result (λ lengths. (kind : DeckKind) → lengths ≡ lengths_of kind []) }
+        ensures lengths { IfOk result (λ lengths. (kind : DeckKind) → lengths ≡ lengths_of kind []) }
+        ensures same_blocks { IfOk result (λ lengths. block_names lengths ≡ names_of_blocks (state_after []).blocks) }
     {
         let mut blocks = Vec::with_capacity(alloc, 1)?;
         blocks.push(BlockLength {

@@ -13,6 +13,7 @@ mod used_block;
 // Literals, and the lengths and bases of blocks.
 mod bases;
 mod laws;
+mod length_steps;
 mod lengths;
 mod literals;
 

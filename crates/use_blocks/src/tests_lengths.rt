@@ -1,4 +1,10 @@
 //! What no clause says: literals, lengths and bases of a small deck, worked by hand.
+ghost use Rattle.std.specs.Prelude.{◌≡◌};
+ghost use Rattle.definitions.specs.States.{names_of_blocks};
+ghost use Rattle.use_blocks.specs.BlockLengths.{block_names};
+ghost use Rattle.use_blocks.specs.Changes.{IsAccepted};
+ghost use Rattle.use_blocks.specs.EffectsAs.{change_as};
+
 use super::*;
 use expr_forms::Name;
 use std::alloc::Global;
@@ -92,4 +98,44 @@ fn a_deck_without_literals(rt: HostRuntime) {
     }
     blocks_are_few();
     blocks_are_bounded();
+}
+
+/// A statement with this effect on both.
+fn step(
+    rt: &impl Abort,
+    state: &mut BlockState,
+    lengths: &mut Lengths,
+    change: BlockChange,
+    reached: u32,
+)
+    requires accepted { IsAccepted (change_as change) state.old }
+    requires same_blocks { block_names lengths.old ≡ names_of_blocks state.old.blocks }
+    ensures { block_names lengths.new ≡ names_of_blocks state.new.blocks }
+{
+    let effect = Effect {
+        change,
+        position: None,
+        setting: LocationSetting::Unchanged,
+        number_base: None,
+        neutral: false,
+        reached,
+    };
+    lengths.follow(state, &effect).expect(rt, "memory");
+    state.advance(&effect).expect(rt, "memory");
+}
+
+#[test]
+fn lengths_beside_the_state(rt: HostRuntime) {
+    let mut state = BlockState::new(rt.alloc()).expect(&rt, "memory");
+    let mut lengths = Lengths::new(rt.alloc()).expect(&rt, "memory");
+    step(&rt, &mut state, &mut lengths, BlockChange::Nothing, 3);
+    let opened = state.use_name(&Name::new(b"A"));
+    step(&rt, &mut state, &mut lengths, opened, 0);
+    step(&rt, &mut state, &mut lengths, BlockChange::Closes, 5);
+    step(&rt, &mut state, &mut lengths, BlockChange::Nothing, 4);
+    let words: [u32; 2] = [4, 5];
+    assert_eq!(rt; lengths.blocks().len(), 2);
+    for (block, want) in lengths.blocks().iter().zip(words.iter()) {
+        assert_eq!(rt; block.words(), *want);
+    }
 }

@@ -1,0 +1,13 @@
+use Rattle.std.proofs.Common.{◌∙◌, ℕ, ap}
+use Rattle.std.specs.Prelude.{slice_get}
+use Rattle.definitions.specs.States.{names_of_blocks}
+use Rattle.use_blocks.specs.StateInside.{latest}
+use Rattle.use_blocks.proofs.NameLaws.{in_use-at}
+use Rattle.use_blocks.proofs.block_state.BlockState.block_index.Goals as goal
+
+pub returns : goal.returns
+returns c =
+    let inside = c.self.inside in
+    let at = c.index_in_use.ensures ∙ ap latest c.as_slice.ensures.value in
+    rw (← c.self.view_is)
+    (ap (λ (n : ℕ). slice_get (names_of_blocks inside.blocks.items) n) at ∙ in_use-at inside.blocks.items inside.stack.items c.self.invariant)
