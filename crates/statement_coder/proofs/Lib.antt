@@ -1,3 +1,14 @@
 pub mod ExternalLaws
 pub mod PeripheralLaws
 pub mod ReadLaws
+pub mod ListLaws
+pub mod TextLaws
+pub mod WordItemLaws
+pub mod WidthLaws
+pub mod DatumLaws
+pub mod BitLaws
+pub mod NameLaws
+pub mod ToldLaws
+pub mod OperandLaws
+pub mod CodingLaws
+pub mod JoinLaws

@@ -5,3 +5,6 @@ pub mod StatementsRead
 pub mod Outcomes
 pub mod Definitions
 pub mod Sizings
+pub mod WordItems
+pub mod CodedItems
+pub mod FieldLetters

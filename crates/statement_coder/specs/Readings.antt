@@ -1,6 +1,8 @@
 -- What was read in a variable field, in the words of the definitions.
-use Rattle.std.specs.Prelude.{◌≡◌, Some}
+use Rattle.std.specs.Prelude.{◌≡◌, ◌*◌, ◌/◌, Some, length}
+use Rattle.definitions.specs.Kinds.{word_bits}
 use Rattle.definitions.specs.Operands as definitions
+use Rattle.definitions.specs.declared.marks.DeckKind.{DeckKind}
 use Rattle.expr_forms.specs.Readings.{use_as}
 use Rattle.expr_forms.specs.Shapes.{instruction_as, IsPeripheral}
 use Rattle.expr_forms.specs.declared.shapes.Shape.{Shape}
@@ -25,3 +27,8 @@ IsReading (reading.Text text) operand = operand ≡ definitions.TextOperand text
 IsReading (reading.Value e) operand = operand ≡ definitions.ValueOperand e
 IsReading (reading.Names names) operand = operand ≡ definitions.NamesOperand names
 IsReading (reading.Use field) operand = operand ≡ use_as field
+
+-- the text of a DIS fills its words
+abbrev pub IsWhole : DeckKind → code.Reading → Type 0
+IsWhole kind (reading.Text text) = length text.characters ≡ text.words * (word_bits kind / 6)
+IsWhole kind _ = Unit {0}

@@ -1,7 +1,7 @@
 -- What a statement is once the state before it is known, in the words of the definitions.
-use Rattle.std.specs.Prelude.{ℕ, ◌≡◌, List, Option, map}
-use Rattle.definitions.specs.Statements.{Statement, is_stray}
-use Rattle.definitions.specs.Operands.{Operand}
+use Rattle.std.specs.Prelude.{◌≡◌}
+use Rattle.definitions.specs.Statements.{Statement}
+use Rattle.definitions.specs.Operands.{Operand, operand_of}
 use Rattle.definitions.specs.Settled.{ReadStatement, Settled}
 use Rattle.definitions.specs.Counters.{counters_at}
 use Rattle.definitions.specs.EarlyValues.{early_names, early_value}
@@ -44,3 +44,8 @@ pub record IsSizing (view : View) (settled : Settled) (sizing : Sizing) : Type 0
   pub origin : sizing.origin ≡ settled.origin
   pub definitions : defined_by view settled.read.fields.location settled.read.operand sizing.defines ≡ settled.definitions
   pub letters : sizing.letters ≡ in_order settled.letters
+
+-- a settled statement with the operation of a statement, and the operand that it has under the base that its sizing keeps
+pub record IsCodable (statement : statements.Statement) (sizing : Sizing) (settled : Settled) : Type 0 where
+  pub operation : settled.read.operation ≡ operation_as statement.operation
+  pub operand : settled.read.operand ≡ operand_of statement.kind sizing.number_base (operation_as statement.operation) statement.name.now statement.variable.now

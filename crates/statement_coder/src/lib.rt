@@ -1,4 +1,5 @@
-//! One statement: what it is once the state before it is known, exactly as the definitions settle it.
+//! One statement: what it is once the state before it is known, and its fields and letters once all
+//! names have their values, exactly as the definitions have them.
 #![tactic(auto)]
 
 // A statement, and what its variable field is to its operation.
@@ -19,18 +20,38 @@ mod block_changes;
 mod definitions_made;
 mod size_letters;
 
-// All of it.
+// All of it, and what it does to the state.
+mod effects;
 mod meter;
 mod sized;
 mod sizing;
 
+// Its fields, once all names have their values.
+mod coded;
+mod coding;
+mod data_items;
+mod entry_letters;
+mod final_names;
+mod item_letters;
+mod laws;
+mod listing;
+mod operand_fields;
+
+pub use coded::{Coded, CodedItems};
+pub use coding::code;
 pub use definitions_made::Defines;
 pub use early_values::EarlySymbols;
+pub use final_names::FinalSymbols;
+pub use laws::lists_keep_bits;
 pub use meter::Meter;
 pub use readings::{Reading, read_operand};
 pub use sized::size;
 pub use sizing::Sizing;
 pub use statement::Statement;
 
+#[cfg(test)]
+mod tests_codes;
+#[cfg(test)]
+mod tests_effects;
 #[cfg(test)]
 mod tests_sizes;

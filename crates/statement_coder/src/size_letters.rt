@@ -24,8 +24,8 @@ use definitions::{DeckKind, Letter};
 use operations::{Letters, Operation};
 use use_blocks::BlockState;
 
-/// The letters of a list behind those of a set.
-fn with_letter(letters: &Letters, letter: Option<Letter>) -> Letters
+/// The letters of a set and one more, if there is one.
+pub(crate) fn with_letter(letters: &Letters, letter: Option<Letter>) -> Letters
     ensures { (so_far : List marks.Letter) → letters.now ≡ in_order so_far → result ≡ in_order (so_far ++ letters_as letter) }
 {
     match letter {

@@ -9,7 +9,8 @@ ghost use Rattle.definitions.specs.Settling.{is_run, settled_from};
 ghost use Rattle.definitions.specs.States.{seen_from};
 ghost use Rattle.definitions.specs.declared.marks.DeckKind as kinds;
 ghost use Rattle.operations.specs.OperationsAs.{operation_as};
-ghost use Rattle.use_blocks.specs.EffectsAs.{setting_as};
+ghost use Rattle.use_blocks.specs.Changes.{IsAccepted};
+ghost use Rattle.use_blocks.specs.EffectsAs.{change_as, setting_as};
 ghost use Rattle.statement_coder.specs.Readings.{IsReading};
 ghost use Rattle.statement_coder.specs.StatementsRead.{IsRead};
 ghost use Rattle.statement_coder.specs.Sizings.{read_as, settled_read, IsSizing};
@@ -89,8 +90,10 @@ fn settle<S: EarlySymbols>(
     state: &BlockState,
     symbols: &S,
 ) -> Sizing
-    ensures { (given : statements.Statement) (operand : operands.Operand) → is_stray given.cards ≡ statement.now.is_stray → IsReading reading.now operand →
+    ensures sizing { (given : statements.Statement) (operand : operands.Operand) → is_stray given.cards ≡ statement.now.is_stray → IsReading reading.now operand →
         IsSizing (S.view symbols.now) (settled_read statement.now.kind (seen_from state.now (S.view symbols.now)) (read_as statement.now given operand)) result }
+    ensures accepted { IsAccepted (change_as result.change) state.now }
+    ensures number_base { result.number_base ≡ state.now.number_base }
 {
     let kind = statement.kind;
     let operation = statement.operation;
@@ -149,11 +152,12 @@ fn settle<S: EarlySymbols>(
         origin,
         defines,
         letters,
+        number_base: state.number_base(),
     }
 }
 
 /// What a statement is once the state before it and the early values of symbols are known, counted in
-/// the meter: exactly what the definitions settle from these.
+/// the meter: exactly what the definitions settle from these. The state accepts its change.
 pub fn size<S: EarlySymbols>(
     statement: &Statement<'_>,
     state: &BlockState,
@@ -162,6 +166,8 @@ pub fn size<S: EarlySymbols>(
 ) -> Sizing
     ensures sizing { (kind : kinds.DeckKind) (given : statements.Statement) → IsRead kind given.cards statement.now →
         IsSizing (S.view symbols.now) (settled_from kind (seen_from state.now (S.view symbols.now)) given) result }
+    ensures accepted { IsAccepted (change_as result.change) state.now }
+    ensures number_base { result.number_base ≡ state.now.number_base }
     ensures sized { meter.new.sized ≡ min (meter.old.sized + 1) (2 ^ 64 - 1) }
     ensures coded { meter.new.coded ≡ meter.old.coded }
 {

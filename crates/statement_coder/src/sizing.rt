@@ -1,11 +1,14 @@
 //! What a statement is once the state before it is known.
+ghost use Rattle.std.specs.Prelude.{◌≤◌};
+
 use crate::definitions_made::Defines;
+use definitions::NumberBase;
 use expr_forms::{Form, Name};
 use operations::Letters;
 use use_blocks::{BlockChange, LocationSetting};
 
 /// A statement with all that it and the state before it decide. Place and end are in units of its
-/// block.
+/// block, which has at most 524,288.
 #[derive(Drop)]
 pub struct Sizing {
     /// The block in use.
@@ -27,4 +30,7 @@ pub struct Sizing {
     pub defines: Defines,
     /// The letters that are known without later statements.
     pub letters: Letters,
+    /// The number base under which its operand was read.
+    pub number_base: NumberBase,
+    ghost within: { end ≤ 524288 },
 }

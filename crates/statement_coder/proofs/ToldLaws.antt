@@ -1,0 +1,96 @@
+-- What is told of fields: behind the old end of a list stand the fields of an operand, and their letters.
+use Rattle.std.proofs.Common.{◌≡◌, ◌∙◌, ℕ, ◌-◌, ◌*◌, ◌/◌, ◌^◌, ◌<◌, ◌≤◌, Bool, true, false, List, [], ◌∷◌, ◌++◌, length, map, flat_map, drop, refl, ap, ap₂, sym, subst, arith, append-nil, if◌then◌else◌}
+use Rattle.std.proofs.lemmas.List.{drop-map, drop_at, length-map}
+use Rattle.std.proofs.lemmas.List.Concat.{flat_map-append}
+use Rattle.definitions.specs.Forms.{characters_number}
+use Rattle.definitions.specs.Kinds.{word_bits}
+use Rattle.definitions.specs.Letters.{in_order}
+use Rattle.definitions.specs.Operands as operands
+use Rattle.definitions.specs.Operands.{Operand, WordsOperand, TextOperand}
+use Rattle.definitions.specs.StatementItems.{Item, Content, Known, Linked, known}
+use Rattle.definitions.specs.Words.{cut}
+use Rattle.definitions.specs.declared.marks.DeckKind.{DeckKind}
+use Rattle.definitions.specs.declared.marks.Letter.{Letter}
+use Rattle.definitions.proofs.LiteralLaws.{characters_number-below}
+use Rattle.expr_forms.proofs.CodedLaws.{word_bits-characters}
+use Rattle.field_items.specs.Items.{item_as}
+use Rattle.field_items.specs.declared.items.Item as code
+use Rattle.statement_coder.specs.CodedItems.{IsKept, AreListed, AreTold}
+use Rattle.statement_coder.specs.FieldLetters.{field_letters}
+use Rattle.statement_coder.specs.WordItems.{is_several, known_words, words_of, in_words, listed_fields}
+use Rattle.statement_coder.specs.declared.coded.CodedItems.{CodedItems}
+use Rattle.statement_coder.specs.declared.coded.CodedItems.TheVariants as items
+use Rattle.statement_coder.specs.declared.sizing.Sizing.{Sizing}
+use Rattle.statement_coder.proofs.ListLaws.{kept-length}
+use Rattle.statement_coder.proofs.DatumLaws.{word_bits-some}
+use Rattle.statement_coder.proofs.WordItemLaws.{in_words-known}
+
+-- what was put behind a list
+pub listed_told : (kind : DeckKind) (operand : Operand) (sizing : Sizing) (told : CodedItems) (size : ℕ) (before after : List code.Item) (fields : List Item) →
+    told ≡ items.Listed (length after - size) → size ≡ length before → IsKept before after → map item_as after ≡ map item_as before ++ listed_fields kind operand fields →
+    AreTold kind operand sizing told before after fields
+listed_told kind operand sizing told size before after fields e s kept pushed =
+    subst (λ (t : CodedItems). AreTold kind operand sizing t before after fields) (sym e) listed
+  where
+    listed : AreListed kind operand (length after - size) before after fields
+    listed = record {
+      kept = kept;
+      size = let long = kept-length before after kept in omega arith;
+      told = sym (drop-map item_as (length before) after) ∙ ap (drop (length before)) pushed
+          ∙ drop_at (map item_as before) (listed_fields kind operand fields) (length before) (length-map before item_as);
+    }
+
+-- the words of a DIS are its field word by word
+pub text-words : (kind : DeckKind) (words : ℕ) (cs : List ℕ) → 1 ≤ words → length cs ≡ words * (word_bits kind / 6) →
+    known_words (word_bits kind) (cut (word_bits kind) words (characters_number cs)) ≡ in_words (word_bits kind) (known (words * word_bits kind) (characters_number cs)) ++ []
+text-words kind words cs some whole =
+    let bits : 6 * length cs ≡ words * word_bits kind =
+    ap (λ n. 6 * n) whole ∙ (let e : 6 * (words * (word_bits kind / 6)) ≡ words * (6 * (word_bits kind / 6)) = omega arith in e) ∙ ap (λ n. words * n) (sym (word_bits-characters kind)) in
+    let fits : characters_number cs < 2 ^ (words * word_bits kind) = let b = characters_number-below cs in rw bits at b in
+    sym (append-nil (in_words (word_bits kind) (known (words * word_bits kind) (characters_number cs))) ∙ in_words-known (word_bits kind) words (characters_number cs) (word_bits-some kind) some fits)
+
+-- words of known bits have no letters
+letters-known_words : (word : ℕ) (words : List ℕ) → field_letters (known_words word words) ≡ []
+letters-known_words word [] = refl
+letters-known_words word (n ∷ words) = letters-known_words word words
+
+letters-cond : (b : Bool) (xs ys : List Item) (letters : List Letter) → field_letters xs ≡ letters → field_letters ys ≡ letters → field_letters (if b then xs else ys) ≡ letters
+letters-cond true xs ys letters e f = e
+letters-cond false xs ys letters e f = f
+
+letters-words_of : (word : ℕ) (field : Item) (letters : List Letter) (content : Content) → field.letters ≡ letters → field_letters (words_of word field letters content) ≡ letters
+letters-words_of word field [] (Known bits) e =
+    letters-cond (is_several word field.width bits) (known_words word (cut word (field.width / word) bits)) (field ∷ []) []
+    (letters-known_words word (cut word (field.width / word) bits)) (append-nil field.letters ∙ e)
+letters-words_of word field [] (Linked form) e = append-nil field.letters ∙ e
+letters-words_of word field (letter ∷ letters) content e = append-nil field.letters ∙ e
+
+-- fields told word by word have the letters of the fields
+letters-in_words : (word : ℕ) (fields : List Item) → field_letters (flat_map (in_words word) fields) ≡ field_letters fields
+letters-in_words word [] = refl
+letters-in_words word (field ∷ fields) =
+    flat_map-append (λ (bits : Item). bits.letters) (in_words word field) (flat_map (in_words word) fields)
+    ∙ ap₂ (λ (xs ys : List Letter). xs ++ ys) (letters-words_of word field field.letters field.content refl) (letters-in_words word fields)
+
+pub letters-listed : (kind : DeckKind) (operand : Operand) (fields : List Item) → field_letters (listed_fields kind operand fields) ≡ field_letters fields
+letters-listed kind (WordsOperand data') fields = letters-in_words (word_bits kind) fields
+letters-listed kind (TextOperand count characters) fields = letters-in_words (word_bits kind) fields
+letters-listed kind operands.Unread fields = refl
+letters-listed kind operands.BadOperand fields = refl
+letters-listed kind (operands.CentralOperand instruction) fields = refl
+letters-listed kind (operands.PeripheralOperand row values) fields = refl
+letters-listed kind (operands.BitsOperand bits) fields = refl
+letters-listed kind (operands.ValueOperand e) fields = refl
+letters-listed kind (operands.NamesOperand names) fields = refl
+letters-listed kind (operands.UseName name) fields = refl
+letters-listed kind operands.UseBefore fields = refl
+letters-listed kind operands.UseRefused fields = refl
+
+-- the letters of what is told are those of the fields
+pub told-letters : (kind : DeckKind) (operand : Operand) (count : ℕ) (before after : List code.Item) (fields : List Item) (text : List ℕ) →
+    AreListed kind operand count before after fields → text ≡ in_order (field_letters (map item_as (drop (length after - count) after))) → text ≡ in_order (field_letters fields)
+told-letters kind operand count before after fields text h e =
+    let from : length after - count ≡ length before = let s = h.size in omega arith in
+    e ∙ ap (λ (n : ℕ). in_order (field_letters (map item_as (drop n after)))) from
+    ∙ ap (λ (l : List Item). in_order (field_letters l)) h.told
+    ∙ ap in_order (letters-listed kind operand fields)

@@ -1,0 +1,18 @@
+use Rattle.std.proofs.Common.{◌≡◌, ◌*◌, ◌++◌, map, take}
+use Rattle.definitions.specs.Coding.{counted_item_bits, words_needed}
+use Rattle.definitions.specs.Kinds.{word_bits}
+use Rattle.definitions.specs.Words.{cut}
+use Rattle.field_items.specs.Items.{item_as}
+use Rattle.statement_coder.specs.CodedItems.{IsKept}
+use Rattle.statement_coder.specs.WordItems.{known_words}
+use Rattle.statement_coder.proofs.listing.push_item.Given as goal
+
+-- the words so far stand behind the list
+abbrev pub invariant-loop-index : goal.invariant-loop-index
+invariant-loop-index l =
+    let word = word_bits l.kind in
+    let words = words_needed word l.item in
+    record {
+      kept : IsKept l.initial.list.items l.list.items;
+      told : map item_as l.list.items ≡ map item_as l.initial.list.items ++ known_words word (take l.index (cut word words (counted_item_bits (words * word) l.item)));
+    }

@@ -1,0 +1,32 @@
+use Rattle.std.proofs.Common.{◌∙◌, ◌++◌, ◌∷◌, [], map, ap, ap₂, arith}
+use Rattle.std.proofs.lemmas.List.{take_all}
+use Rattle.definitions.specs.Forms.{characters_number}
+use Rattle.definitions.specs.Kinds.{word_bits}
+use Rattle.definitions.specs.StatementItems.{known}
+use Rattle.definitions.specs.Words.{cut}
+use Rattle.field_items.specs.Items.{item_as}
+use Rattle.statement_coder.specs.WordItems.{known_words}
+use Rattle.statement_coder.proofs.ListLaws.{kept-trans, words_more, length-cut}
+use Rattle.statement_coder.proofs.listing.push_text.Goals as goal
+
+pub loop-index-preserved : goal.loop-index-preserved
+loop-index-preserved c =
+    let word = word_bits c.args.kind in
+    let text = c.args.text.now in
+    let number = characters_number text.characters in
+    let before = map item_as c.args.list.now.items in
+    record {
+      kept = kept-trans c.args.list.now.items c.loop-index.list.items c.push.new.list.items c.loop-index.invariant.kept c.push.ensures.kept;
+      told = c.in_ok-push.ensures.pushed
+          ∙ ap₂ (λ front item. front ++ item ∷ []) c.loop-index.invariant.told (c.known_word.ensures ∙ ap (known word) c.text_word.ensures)
+          ∙ words_more before word (cut word text.words number) c.loop-index.index (omega (arith, length-cut word text.words number));
+    }
+
+pub returns-clause-pushed : goal.returns-clause-pushed
+returns-clause-pushed c =
+    let word = word_bits c.args.kind in
+    let text = c.args.text.now in
+    let number = characters_number text.characters in
+    c.loop-index.invariant.told
+    ∙ ap (λ words. map item_as c.args.list.now.items ++ known_words word words)
+    (take_all c.loop-index.index (cut word text.words number) (omega (arith, length-cut word text.words number)))

@@ -1,0 +1,33 @@
+-- What is told of the fields of a statement.
+use Rattle.std.specs.Prelude.{ℕ, ◌≡◌, ◌+◌, ◌-◌, ◌*◌, ◌/◌, List, [], ◌∷◌, map, length, take, drop}
+use Rattle.definitions.specs.Kinds.{word_bits, units}
+use Rattle.definitions.specs.Operands.{Operand}
+use Rattle.definitions.specs.StatementItems.{Item, known}
+use Rattle.definitions.specs.declared.marks.DeckKind.{DeckKind}
+use Rattle.field_items.specs.Items.{item_as, items_as}
+use Rattle.field_items.specs.declared.items.Item as code
+use Rattle.statement_coder.specs.WordItems.{listed_fields}
+use Rattle.statement_coder.specs.declared.coded.CodedItems as told
+use Rattle.statement_coder.specs.declared.coded.CodedItems.TheVariants as items
+use Rattle.statement_coder.specs.declared.sizing.Sizing.{Sizing}
+
+-- a list of which nothing before its old end is changed
+abbrev pub IsKept : List code.Item → List code.Item → Type 0
+IsKept before after = take (length before) after ≡ before
+
+-- so many at the end of a list are these fields of an operand
+pub record AreListed (kind : DeckKind) (operand : Operand) (count : ℕ) (before after : List code.Item) (fields : List Item) : Type 0 where
+  pub kept : IsKept before after
+  pub size : length after ≡ length before + count
+  pub told : map item_as (drop (length before) after) ≡ listed_fields kind operand fields
+
+-- zeros from the place of a statement to its end
+abbrev pub zeros_of : DeckKind → Sizing → Item
+zeros_of kind sizing = known ((sizing.end - sizing.place) / units kind * word_bits kind) 0
+
+-- what is told of the fields of a statement with this operand, with the list before and after it, are these
+abbrev pub AreTold : DeckKind → Operand → Sizing → told.CodedItems → List code.Item → List code.Item → List Item → Type 0
+AreTold kind operand sizing items.Absent before after fields = (fields ≡ []) × (after ≡ before)
+AreTold kind operand sizing (items.Instruction instruction) before after fields = (items_as instruction ≡ fields) × (after ≡ before)
+AreTold kind operand sizing (items.Listed count) before after fields = AreListed kind operand count before after fields
+AreTold kind operand sizing items.Zeros before after fields = (fields ≡ zeros_of kind sizing ∷ []) × (after ≡ before)

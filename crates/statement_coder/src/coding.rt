@@ -1,0 +1,160 @@
+//! What a sized statement is once all names have their values: its fields, and all its letters.
+ghost use Rattle.std.specs.Prelude.{◌≡◌, ◌≤◌, ◌+◌, ◌-◌, ◌^◌, [], List, ℕ, IfOk, OnErr, min, nat_le, if◌then◌else◌};
+ghost use Rattle.definitions.specs.Operands as operands;
+ghost use Rattle.definitions.specs.Letters.{in_order, letters_of};
+ghost use Rattle.definitions.specs.Literals.{literal_form};
+ghost use Rattle.definitions.specs.Settled.{Settled, defined, read_of};
+ghost use Rattle.definitions.specs.Settling.{View};
+ghost use Rattle.definitions.specs.StatementItems as definitions;
+ghost use Rattle.definitions.specs.StatementItems.{items_of, operand_items};
+ghost use Rattle.definitions.specs.Statements as statements;
+ghost use Rattle.definitions.specs.declared.marks.DeckKind as kinds;
+ghost use Rattle.field_items.specs.Items.{deck_with};
+ghost use Rattle.field_items.specs.declared.items.Item as fields;
+ghost use Rattle.operations.specs.OperationsAs.{operation_as};
+ghost use Rattle.statement_coder.specs.CodedItems.{AreTold};
+ghost use Rattle.statement_coder.specs.Sizings.{IsSizing, IsCodable};
+ghost use Rattle.statement_coder.specs.StatementsRead.{IsRead};
+ghost use Rattle.statement_coder.specs.declared.sizing.Sizing as sizings;
+
+use crate::coded::{Coded, CodedItems};
+use crate::entry_letters::entry_letters;
+use crate::final_names::{FinalNames, FinalSymbols};
+use crate::meter::Meter;
+use crate::operand_fields::{fields_told, take_back, told_letters};
+use crate::readings::read_operand;
+use crate::sizing::Sizing;
+use crate::statement::Statement;
+use field_items::{BlockBases, Item};
+use operations::Operation;
+use std::alloc::AllocError;
+
+/// The fields of a statement that stores those of its operand: none where it ends at its place.
+fn within(sizing: &Sizing, items: CodedItems, list: &mut Vec<Item>) -> CodedItems
+    ensures { (kind : kinds.DeckKind) (operand : operands.Operand) (before : List fields.Item) (told : List definitions.Item) →
+        AreTold kind operand sizing.now items before list.old.items told →
+        AreTold kind operand sizing.now result before list.new.items (if nat_le sizing.now.end sizing.now.place then [] else told) }
+{
+    if sizing.end <= sizing.place {
+        take_back(items, list);
+        CodedItems::Absent
+    } else {
+        items
+    }
+}
+
+/// The zeros of a BSSZ.
+fn zeros(items: CodedItems, list: &mut Vec<Item>) -> CodedItems
+    ensures zeros { result ≡ CodedItems.Zeros }
+    ensures list { (kind : kinds.DeckKind) (operand : operands.Operand) (sizing : sizings.Sizing) (before : List fields.Item) (told : List definitions.Item) →
+        AreTold kind operand sizing items before list.old.items told → list.new.items ≡ before }
+{
+    take_back(items, list);
+    CodedItems::Zeros
+}
+
+/// The fields of a statement, where those of its operand are told: BSSZ has zeros, and a statement
+/// that ends at its place has none.
+fn placed(
+    operation: Operation,
+    sizing: &Sizing,
+    items: CodedItems,
+    list: &mut Vec<Item>,
+) -> CodedItems
+    ensures { (kind : kinds.DeckKind) (view : View) (context : definitions.Context) (settled : Settled) (before : List fields.Item) → context.kind ≡ kind → IsSizing view settled sizing.now →
+        AreTold kind settled.read.operand sizing.now items before list.old.items (operand_items context settled settled.read.operand) →
+        AreTold kind settled.read.operand sizing.now result before list.new.items (items_of context settled (operation_as operation)) }
+{
+    match operation {
+        Operation::Bssz => zeros(items, list),
+        Operation::EmptyField => within(sizing, items, list),
+        Operation::Listed => within(sizing, items, list),
+        Operation::End => within(sizing, items, list),
+        Operation::Kind(_) => within(sizing, items, list),
+        Operation::Base => within(sizing, items, list),
+        Operation::Use => within(sizing, items, list),
+        Operation::Org => within(sizing, items, list),
+        Operation::Loc => within(sizing, items, list),
+        Operation::Equ => within(sizing, items, list),
+        Operation::Bss => within(sizing, items, list),
+        Operation::Data => within(sizing, items, list),
+        Operation::Con => within(sizing, items, list),
+        Operation::Vfd => within(sizing, items, list),
+        Operation::Dis => within(sizing, items, list),
+        Operation::Entry => within(sizing, items, list),
+        Operation::Ext => within(sizing, items, list),
+        Operation::Instruction => within(sizing, items, list),
+        Operation::Unknown => within(sizing, items, list),
+    }
+}
+
+/// A statement with its operand read again, coded.
+fn coded<S: FinalSymbols, B: BlockBases>(
+    statement: &Statement<'_>,
+    sizing: &Sizing,
+    symbols: &S,
+    bases: &B,
+    list: &mut Vec<Item>,
+) -> Result<Coded, AllocError>
+    ensures items { IfOk result (λ coded. (view : View) (settled : Settled) (all : List Settled) (literals : List ℕ) →
+        S.symbols symbols.now ≡ (λ name. defined name all) → S.literals symbols.now ≡ (λ literal. literal_form literals literal) →
+        IsSizing view settled sizing.now → IsCodable statement.now sizing.now settled →
+        AreTold statement.now.kind settled.read.operand sizing.now coded.items list.old.items list.new.items
+        (items_of (deck_with statement.now.kind (B.rows bases.now) all literals) settled settled.read.operation)) }
+    ensures letters { IfOk result (λ coded. (view : View) (settled : Settled) (all : List Settled) (literals : List ℕ) →
+        S.symbols symbols.now ≡ (λ name. defined name all) → S.literals symbols.now ≡ (λ literal. literal_form literals literal) →
+        IsSizing view settled sizing.now → IsCodable statement.now sizing.now settled →
+        coded.letters ≡ in_order (letters_of (deck_with statement.now.kind (B.rows bases.now) all literals) settled)) }
+    ensures unchanged { OnErr result (list.new.items ≡ list.old.items) }
+{
+    let kind = statement.kind;
+    let operation = statement.operation;
+    let reading = read_operand(
+        kind,
+        sizing.number_base,
+        operation,
+        statement.name,
+        statement.variable,
+    );
+    let names = FinalNames {
+        symbols,
+        location: sizing.location,
+        origin: sizing.origin,
+    };
+    let told = fields_told(kind, bases, &names, &reading, list)?;
+    let entries = entry_letters(kind, operation, symbols, &reading);
+    let fields = told_letters(&told, list);
+    let letters = sizing.letters.union(&entries.union(&fields));
+    Ok(Coded {
+        items: placed(operation, sizing, told, list),
+        letters,
+    })
+}
+
+/// The fields of a sized statement, and all its letters, once all symbols and literals have their
+/// values and all blocks their places, counted in the meter: exactly those of the definitions. The
+/// fields of data are put at the end of the list; where memory runs out the list is as it was.
+pub fn code<S: FinalSymbols, B: BlockBases>(
+    statement: &Statement<'_>,
+    sizing: &Sizing,
+    symbols: &S,
+    bases: &B,
+    list: &mut Vec<Item>,
+    meter: &mut Meter,
+) -> Result<Coded, AllocError>
+    ensures items { IfOk result (λ coded. (kind : kinds.DeckKind) (given : statements.Statement) (view : View) (settled : Settled) (all : List Settled) (literals : List ℕ) →
+        IsRead kind given.cards statement.now → settled.read ≡ read_of kind sizing.now.number_base given → IsSizing view settled sizing.now →
+        S.symbols symbols.now ≡ (λ name. defined name all) → S.literals symbols.now ≡ (λ literal. literal_form literals literal) →
+        AreTold kind settled.read.operand sizing.now coded.items list.old.items list.new.items
+        (items_of (deck_with kind (B.rows bases.now) all literals) settled settled.read.operation)) }
+    ensures letters { IfOk result (λ coded. (kind : kinds.DeckKind) (given : statements.Statement) (view : View) (settled : Settled) (all : List Settled) (literals : List ℕ) →
+        IsRead kind given.cards statement.now → settled.read ≡ read_of kind sizing.now.number_base given → IsSizing view settled sizing.now →
+        S.symbols symbols.now ≡ (λ name. defined name all) → S.literals symbols.now ≡ (λ literal. literal_form literals literal) →
+        coded.letters ≡ in_order (letters_of (deck_with kind (B.rows bases.now) all literals) settled)) }
+    ensures unchanged { OnErr result (list.new.items ≡ list.old.items) }
+    ensures coded { meter.new.coded ≡ min (meter.old.coded + 1) (2 ^ 64 - 1) }
+    ensures sized { meter.new.sized ≡ meter.old.sized }
+{
+    meter.coded = meter.coded.saturating_add(1);
+    coded(statement, sizing, symbols, bases, list)
+}

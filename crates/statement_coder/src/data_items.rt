@@ -1,0 +1,116 @@
+//! The fields of DATA, CON and VFD, put behind a list (COMPASS 60492600, data generation).
+ghost use Rattle.std.specs.Prelude.{◌≡◌, ◌++◌, List, ℕ, OnOk, flat_map, map};
+ghost use Rattle.definitions.specs.Kinds.{word_bits};
+ghost use Rattle.definitions.specs.Operands.{WordsOperand, BitsOperand};
+ghost use Rattle.definitions.specs.Settled.{Settled};
+ghost use Rattle.definitions.specs.StatementItems.{datum_item, operand_items};
+ghost use Rattle.expr_forms.specs.Readings.{datum_as};
+ghost use Rattle.field_items.specs.Items.{AreSeen, deck_with, item_as};
+ghost use Rattle.statement_coder.specs.CodedItems.{IsKept};
+ghost use Rattle.statement_coder.specs.WordItems.{in_words};
+
+use crate::listing::{known_word, push, push_item, word_bits};
+use definitions::DeckKind;
+use expr_forms::{BitFields, ConWords, CountedItem, DataWords, Datum, Names};
+use field_items::{BlockBases, Item, bit_field_item, expression_item, number_item, zeros_to_word};
+use std::alloc::AllocError;
+
+/// Puts the words of a subfield of DATA or CON at the end of a list.
+fn push_datum<B: BlockBases, N: Names>(
+    kind: DeckKind,
+    bases: &B,
+    names: &N,
+    datum: &Datum<'_>,
+    list: &mut Vec<Item>,
+) -> Result<(), AllocError>
+    ensures kept { IsKept list.old.items list.new.items }
+    ensures pushed { OnOk result ((settled : List Settled) (literals : List ℕ) (statement : Settled) →
+        let context = deck_with kind (B.rows bases.now) settled literals in
+        AreSeen (N.names names.now) context statement →
+        map item_as list.new.items ≡ map item_as list.old.items ++ in_words (word_bits kind) (datum_item context statement (datum_as datum.now))) }
+{
+    let word = word_bits(kind);
+    match datum {
+        Datum::Zero => push(list, known_word(kind, 0)),
+        Datum::Number(sign, number) => push(list, number_item(word, *sign, *number)),
+        Datum::Item(item) => push_item(kind, &CountedItem::of_text(*item), list),
+        Datum::Expression(expression) => {
+            push(list, expression_item(kind, bases, names, word, expression))
+        }
+    }
+}
+
+/// Puts the words of a DATA at the end of a list.
+pub(crate) fn push_data<B: BlockBases, N: Names>(
+    kind: DeckKind,
+    bases: &B,
+    names: &N,
+    words: DataWords<'_>,
+    list: &mut Vec<Item>,
+) -> Result<(), AllocError>
+    ensures kept { IsKept list.old.items list.new.items }
+    ensures pushed { OnOk result ((settled : List Settled) (literals : List ℕ) (statement : Settled) →
+        let context = deck_with kind (B.rows bases.now) settled literals in
+        AreSeen (N.names names.now) context statement →
+        map item_as list.new.items ≡ map item_as list.old.items ++ flat_map (in_words (word_bits kind)) (operand_items context statement (WordsOperand words.entry))) }
+{
+    let mut rest = words;
+    'words: loop {
+        match rest.next() {
+            None => return Ok(()),
+            Some(datum) => push_datum(kind, bases, names, &datum, list)?,
+        }
+    }
+}
+
+/// Puts the words of a CON at the end of a list.
+pub(crate) fn push_con<B: BlockBases, N: Names>(
+    kind: DeckKind,
+    bases: &B,
+    names: &N,
+    words: ConWords<'_>,
+    list: &mut Vec<Item>,
+) -> Result<(), AllocError>
+    ensures kept { IsKept list.old.items list.new.items }
+    ensures pushed { OnOk result ((settled : List Settled) (literals : List ℕ) (statement : Settled) →
+        let context = deck_with kind (B.rows bases.now) settled literals in
+        AreSeen (N.names names.now) context statement →
+        map item_as list.new.items ≡ map item_as list.old.items ++ flat_map (in_words (word_bits kind)) (operand_items context statement (WordsOperand words.entry))) }
+{
+    let mut rest = words;
+    'words: loop {
+        match rest.next() {
+            None => return Ok(()),
+            Some(datum) => push_datum(kind, bases, names, &datum, list)?,
+        }
+    }
+}
+
+/// Puts the fields of a VFD at the end of a list, and behind them the zeros that fill its last word.
+pub(crate) fn push_bits<B: BlockBases, N: Names>(
+    kind: DeckKind,
+    bases: &B,
+    names: &N,
+    fields: BitFields<'_>,
+    list: &mut Vec<Item>,
+) -> Result<(), AllocError>
+    ensures kept { IsKept list.old.items list.new.items }
+    ensures pushed { OnOk result ((settled : List Settled) (literals : List ℕ) (statement : Settled) →
+        let context = deck_with kind (B.rows bases.now) settled literals in
+        AreSeen (N.names names.now) context statement →
+        map item_as list.new.items ≡ map item_as list.old.items ++ operand_items context statement (BitsOperand fields.entry)) }
+{
+    let mut rest = fields;
+    let mut filled = 0;
+    'fields: loop {
+        match rest.next() {
+            None => return push(list, zeros_to_word(kind, filled)),
+            Some(field) => {
+                let width = u32::from(field.width);
+                let item = bit_field_item(kind, bases, names, width, &field.value);
+                push(list, item)?;
+                filled = (filled + width) % word_bits(kind);
+            }
+        }
+    }
+}

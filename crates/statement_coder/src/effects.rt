@@ -1,0 +1,73 @@
+//! What a sized statement does to the state between statements, and how many words of its block it
+//! reaches (COMPASS 60492600, USE, BASE, LOC, ORG, blocks).
+ghost use Rattle.std.specs.Prelude.{◌≡◌, ◌≤◌, ◌+◌, ◌-◌, ◌/◌, Some, None, if◌then◌else◌};
+ghost use Rattle.definitions.specs.Kinds.{units};
+ghost use Rattle.definitions.specs.Lengths.{reached};
+ghost use Rattle.definitions.specs.Settled.{Settled, read_of};
+ghost use Rattle.definitions.specs.Settling.{View};
+ghost use Rattle.definitions.specs.States.{effect_of};
+ghost use Rattle.definitions.specs.Statements as statements;
+ghost use Rattle.definitions.specs.declared.marks.DeckKind as kinds;
+ghost use Rattle.definitions.specs.declared.marks.NumberBase as bases;
+ghost use Rattle.use_blocks.specs.EffectsAs.{effect_as};
+ghost use Rattle.statement_coder.specs.Sizings.{IsSizing};
+ghost use Rattle.statement_coder.specs.StatementsRead.{IsRead};
+
+use crate::placing::units;
+use crate::sizing::Sizing;
+use crate::statement::Statement;
+use definitions::DeckKind;
+use operations::number_base_set;
+use use_blocks::{Effect, Position};
+
+/// How many words reach to the end of a statement.
+fn words_to(kind: DeckKind, end: u32) -> u32
+    requires { end ≤ 524288 }
+    ensures { result ≡ (end + units kind - 1) / units kind }
+{
+    (end + units(kind) - 1) / units(kind)
+}
+
+impl Sizing {
+    /// The new position of its block, where the statement has a place.
+    fn position(&self) -> Option<Position>
+        ensures { (view : View) (settled : Settled) → IsSizing view settled self.now →
+            result ≡ (if settled.is_placed then Some (record { end = settled.end; asks = settled.asks }) else None) }
+    {
+        if self.is_placed {
+            Some(Position::new(self.end, self.asks))
+        } else {
+            None
+        }
+    }
+
+    /// How many words of its block the statement reaches; an ORG reaches none.
+    fn reached(&self, kind: DeckKind) -> u32
+        ensures { (view : View) (settled : Settled) → IsSizing view settled self.now → result ≡ reached kind settled }
+    {
+        if self.is_placed && self.place < self.end && !self.begins_run {
+            words_to(kind, self.end)
+        } else {
+            0
+        }
+    }
+
+    /// What the statement that was sized does to the state before it: exactly the definitions' effect.
+    /// Its position is in units of the block, what it reaches in words. The state that it was sized
+    /// from accepts its change.
+    pub fn effect(&self, statement: &Statement<'_>) -> Effect
+        ensures effect { (kind : kinds.DeckKind) (given : statements.Statement) (base : bases.NumberBase) (view : View) (settled : Settled) →
+            IsRead kind given.cards statement.now → settled.read ≡ read_of kind base given → IsSizing view settled self.now →
+            effect_as result ≡ effect_of kind settled }
+        ensures change { result.change ≡ self.now.change }
+    {
+        Effect {
+            change: self.change,
+            position: self.position(),
+            setting: self.setting,
+            number_base: number_base_set(statement.name, statement.variable),
+            neutral: statement.operation.is_neutral(),
+            reached: self.reached(statement.kind),
+        }
+    }
+}

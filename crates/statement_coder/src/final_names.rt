@@ -1,0 +1,54 @@
+//! What the operand of a statement sees once all symbols and literals have their values (COMPASS
+//! 60492600, evaluation of expressions).
+ghost use Rattle.std.specs.Prelude.{◌≡◌, Result};
+ghost use Rattle.definitions.specs.Expressions as expressions;
+ghost use Rattle.definitions.specs.Forms as forms;
+ghost use Rattle.definitions.specs.Settling.{View};
+ghost use Rattle.definitions.specs.declared.marks.Letter as marks;
+ghost use Rattle.expr_forms.specs.Elements.{literal_as};
+
+use definitions::Letter;
+use expr_forms::{Form, Literal, Names};
+
+/// The values of all symbols and literals of a deck.
+pub trait FinalSymbols {
+    ghost symbols: { Self → View };
+
+    ghost literals: { Self → expressions.Literal → Result forms.Form marks.Letter };
+
+    /// The value of a symbol's first definition, if a statement of the deck has it.
+    fn symbol(&self, name: &[u8]) -> Option<Form>
+        ensures { result ≡ symbols self.now name.now };
+
+    /// Where the word of a literal stands, or its letter.
+    fn literal(&self, literal: Literal<'_>) -> Result<Form, Letter>
+        ensures { result ≡ literals self.now (literal_as literal.entry) };
+}
+
+/// What a statement sees: those symbols and literals, and its two counters.
+#[derive(Drop)]
+pub(crate) struct FinalNames<'a, S: FinalSymbols> {
+    pub(crate) symbols: &'a S,
+    pub(crate) location: Form,
+    pub(crate) origin: Form,
+}
+
+impl<'a, S: FinalSymbols> Names for FinalNames<'a, S> {
+    ghost names = { λ n. record { symbol = S.symbols n.symbols.now; literal = S.literals n.symbols.now; location = n.location; origin = n.origin } };
+
+    fn symbol(&self, name: &[u8]) -> Option<Form> {
+        self.symbols.symbol(name)
+    }
+
+    fn literal(&self, literal: Literal<'_>) -> Result<Form, Letter> {
+        self.symbols.literal(literal)
+    }
+
+    fn location(&self) -> Form {
+        self.location
+    }
+
+    fn origin(&self) -> Form {
+        self.origin
+    }
+}
