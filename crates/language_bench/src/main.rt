@@ -1,17 +1,20 @@
 //! How long the layers of the language take: expressions read and valued, instructions found, words
-//! put into a block, and names defined and found. With the name of a layer it runs that layer a
-//! hundred times, for bench/language to measure; with no word it runs each once. It prints checksums.
+//! put into a block, names defined and found, and cards read, sized and coded. With the name of a layer it
+//! runs that layer a hundred times, for bench/language to measure; with no word it runs each once. It
+//! prints checksums.
 #![tactic(auto)]
 
 mod expressions;
 mod instructions;
 mod names;
 mod packing;
+mod statements;
 
 use expressions::{parse_all, value_all};
 use instructions::find_all;
 use names::define_and_find;
 use packing::pack;
+use statements::{code_all, read_all, size_all};
 use std::alloc::{AllocGlobal, Global};
 use std::rt::Env;
 use std::{env, io};
@@ -32,6 +35,12 @@ enum Layer {
     Words,
     /// 20,000 names are defined and found.
     Names,
+    /// 20,000 cards are read as statements.
+    Cards,
+    /// 20,000 cards are read as statements, and sized.
+    Sizes,
+    /// 20,000 cards are read as statements, sized and coded.
+    Codes,
 }
 
 fn layer_named(word: &str) -> Option<Layer> {
@@ -41,6 +50,9 @@ fn layer_named(word: &str) -> Option<Layer> {
         "find" => Some(Layer::Find),
         "words" => Some(Layer::Words),
         "names" => Some(Layer::Names),
+        "cards" => Some(Layer::Cards),
+        "sizes" => Some(Layer::Sizes),
+        "codes" => Some(Layer::Codes),
         _ => None,
     }
 }
@@ -53,6 +65,9 @@ fn run_once(alloc: Global, layer: Layer) -> io::Result<u64> {
         Layer::Find => Ok(find_all()),
         Layer::Words => pack(alloc),
         Layer::Names => define_and_find(alloc),
+        Layer::Cards => Ok(read_all()),
+        Layer::Sizes => size_all(alloc),
+        Layer::Codes => code_all(alloc),
     }
 }
 
@@ -73,6 +88,9 @@ fn try_out<R: AllocGlobal + Print>(rt: &R) -> io::Result<()> {
         Layer::Find,
         Layer::Words,
         Layer::Names,
+        Layer::Cards,
+        Layer::Sizes,
+        Layer::Codes,
     ] {
         println!(rt; "{}", run(rt.alloc(), layer, 1)?)?;
     }

@@ -1,0 +1,218 @@
+//! Cards as decks often have them, read as statements, sized one behind the other, and coded.
+ghost use Rattle.std.specs.Prelude.{◌≡◌};
+ghost use Rattle.definitions.specs.Characters.{same_text};
+
+use cards::{Card, StatementRoom};
+use definitions::{DeckKind, Letter};
+use expr_forms::{Form, Literal, Name};
+use field_items::{BlockBases, Item};
+use statement_coder::{
+    CodedItems, EarlySymbols, FinalSymbols, Meter, Sizing, Statement, code, size,
+};
+use std::alloc::Global;
+use std::io;
+use use_blocks::BlockState;
+
+/// One deck has them 2,500 times: 20,000 statements in 30,000 words.
+const CARDS: [&[u8]; 8] = [
+    b"LOOP      SA1    TABLE+2             NEXT ENTRY",
+    b"          BX6    X1+X2",
+    b"          SB1    B1+1                COUNT",
+    b"          NZ     X1,LOOP",
+    b"          RJ     SUB",
+    b"TABLE     DATA   1,2,100B",
+    b"BUFFER    BSS    N*2",
+    b"* THE NEXT PART BEGINS HERE",
+];
+
+/// How often each card is read in a run.
+const TIMES: u32 = 2500;
+
+/// Of the symbols, the one that reserves words is defined before.
+struct Known;
+
+/// Whether both texts are the same.
+fn is_same(text: &[u8], other: &[u8]) -> bool
+    ensures { result ≡ same_text text.now other.now }
+{
+    text == other
+}
+
+impl EarlySymbols for Known {
+    ghost use Rattle.std.specs.Prelude.{Some, None, pos, codes, if◌then◌else◌};
+    ghost use Rattle.definitions.specs.Characters.{same_text};
+    ghost use Rattle.definitions.specs.Forms.{absolute};
+
+    ghost view = { λ _ name. if same_text name (codes "N") then Some (absolute (pos 3)) else None };
+
+    fn symbol(&self, name: &[u8]) -> Option<Form> {
+        if is_same(name, b"N") {
+            Some(Form::absolute(3))
+        } else {
+            None
+        }
+    }
+}
+
+/// All symbols have values, and each literal stands at 0.
+struct AllKnown;
+
+impl FinalSymbols for AllKnown {
+    ghost use Rattle.std.specs.Prelude.{Some, Ok, pos};
+    ghost use Rattle.definitions.specs.Forms.{absolute};
+
+    ghost symbols = { λ _ _. Some (absolute (pos 64)) };
+
+    ghost literals = { λ _ _. Ok (absolute (pos 0)) };
+
+    fn symbol(&self, _name: &[u8]) -> Option<Form> {
+        Some(Form::absolute(64))
+    }
+
+    fn literal(&self, _literal: Literal<'_>) -> Result<Form, Letter> {
+        Ok(Form::absolute(0))
+    }
+}
+
+/// Every block stands at 0.
+struct AllAtZero;
+
+impl BlockBases for AllAtZero {
+    ghost use Rattle.std.specs.Prelude.{[]};
+
+    ghost rows = { λ _. [] };
+
+    fn base(&self, _name: &Name) -> u32 {
+        0
+    }
+}
+
+/// How many characters the fields of a card have.
+fn characters(text: &[u8], room: &mut StatementRoom) -> u64 {
+    let Ok(card) = Card::read(text) else {
+        return 0;
+    };
+    let cards = [card];
+    let statement = Statement::read(DeckKind::Rel, &cards, room);
+    let sum = (statement.location.len() as u64).wrapping_add(statement.name.len() as u64);
+    sum.wrapping_add(statement.variable.len() as u64)
+}
+
+/// The end of a card's statement behind the others.
+fn end_of(
+    text: &[u8],
+    room: &mut StatementRoom,
+    state: &mut BlockState,
+    meter: &mut Meter,
+) -> io::Result<u64> {
+    let Ok(card) = Card::read(text) else {
+        return Ok(0);
+    };
+    let cards = [card];
+    let statement = Statement::read(DeckKind::Rel, &cards, room);
+    let sizing = size(&statement, state, &Known, meter);
+    state.advance(&sizing.effect(&statement))?;
+    Ok(u64::from(sizing.end))
+}
+
+/// How many fields are told of a sized statement.
+fn fields_of(
+    statement: &Statement<'_>,
+    sizing: &Sizing,
+    list: &mut Vec<Item>,
+    meter: &mut Meter,
+) -> io::Result<u64> {
+    list.truncate(0);
+    match code(statement, sizing, &AllKnown, &AllAtZero, list, meter)?.items {
+        CodedItems::Absent => Ok(0),
+        CodedItems::Instruction(_) => Ok(1),
+        CodedItems::Listed(count) => Ok(count as u64),
+        CodedItems::Zeros => Ok(1),
+    }
+}
+
+/// How many fields are told of a card's statement behind the others.
+fn fields_behind(
+    text: &[u8],
+    room: &mut StatementRoom,
+    state: &mut BlockState,
+    list: &mut Vec<Item>,
+    meter: &mut Meter,
+) -> io::Result<u64> {
+    let Ok(card) = Card::read(text) else {
+        return Ok(0);
+    };
+    let cards = [card];
+    let statement = Statement::read(DeckKind::Rel, &cards, room);
+    let sizing = size(&statement, state, &Known, meter);
+    state.advance(&sizing.effect(&statement))?;
+    fields_of(&statement, &sizing, list, meter)
+}
+
+fn code_each(
+    room: &mut StatementRoom,
+    state: &mut BlockState,
+    list: &mut Vec<Item>,
+    meter: &mut Meter,
+) -> io::Result<u64> {
+    let mut sum: u64 = 0;
+    for text in CARDS {
+        sum = sum.wrapping_add(fields_behind(text, room, state, list, meter)?);
+    }
+    Ok(sum)
+}
+
+fn read_each(room: &mut StatementRoom) -> u64 {
+    let mut sum: u64 = 0;
+    for text in CARDS {
+        sum = sum.wrapping_add(characters(text, room));
+    }
+    sum
+}
+
+fn size_each(
+    room: &mut StatementRoom,
+    state: &mut BlockState,
+    meter: &mut Meter,
+) -> io::Result<u64> {
+    let mut sum: u64 = 0;
+    for text in CARDS {
+        sum = sum.wrapping_add(end_of(text, room, state, meter)?);
+    }
+    Ok(sum)
+}
+
+/// Reads 20,000 cards as statements, and counts the characters of their fields.
+pub fn read_all() -> u64 {
+    let mut room = StatementRoom::new();
+    let mut sum: u64 = 0;
+    for _ in 0..TIMES {
+        sum = sum.wrapping_add(read_each(&mut room));
+    }
+    sum
+}
+
+/// Reads the same cards and sizes each behind the others, and adds up where they end.
+pub fn size_all(alloc: Global) -> io::Result<u64> {
+    let mut room = StatementRoom::new();
+    let mut state = BlockState::new(alloc)?;
+    let mut meter = Meter { sized: 0, coded: 0 };
+    let mut sum: u64 = 0;
+    for _ in 0..TIMES {
+        sum = sum.wrapping_add(size_each(&mut room, &mut state, &mut meter)?);
+    }
+    Ok(sum.wrapping_add(meter.sized))
+}
+
+/// Reads the same cards, sizes each behind the others and codes it, and counts their fields.
+pub fn code_all(alloc: Global) -> io::Result<u64> {
+    let mut room = StatementRoom::new();
+    let mut state = BlockState::new(alloc)?;
+    let mut list = Vec::new(alloc);
+    let mut meter = Meter { sized: 0, coded: 0 };
+    let mut sum: u64 = 0;
+    for _ in 0..TIMES {
+        sum = sum.wrapping_add(code_each(&mut room, &mut state, &mut list, &mut meter)?);
+    }
+    Ok(sum.wrapping_add(meter.coded))
+}
