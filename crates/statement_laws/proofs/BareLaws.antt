@@ -42,7 +42,7 @@ unplaced_bare op.Bssz e = cc
 unplaced_bare _ e = refl
 
 -- an operand that has no fields
-abbrev IsBare : Operand → Type 0
+abbrev pub IsBare : Operand → Type 0
 IsBare (CentralOperand instruction) = ⊥
 IsBare (PeripheralOperand row values) = ⊥
 IsBare (WordsOperand data') = ⊥
@@ -55,7 +55,7 @@ value-bare BadOperand h = tt
 value-bare (ValueOperand e) h = tt
 value-bare _ h = absurd h
 
-one_value-bare : (base : NumberBase) (subfields : List (List Piece)) → IsBare (one_value base subfields)
+pub one_value-bare : (base : NumberBase) (subfields : List (List Piece)) → IsBare (one_value base subfields)
 one_value-bare base subfields = value-bare (one_value base subfields) (one_value-value base subfields)
 
 common_operand-bare : (kind : DeckKind) (text : List ℕ) → IsBare (common_operand kind text)
@@ -73,7 +73,7 @@ use_operand-bare kind (c ∷ cs) =
 base_operand-bare : (text : List ℕ) → IsBare (base_operand text)
 base_operand-bare text = picked_cond IsBare (same_text text (79 ∷ [])) Unread _ tt (picked_cond IsBare (same_text text (68 ∷ [])) Unread BadOperand tt tt)
 
-operand_of-bare : (kind : DeckKind) (base : NumberBase) (operation : Operation) (name text : List ℕ) → has_fields operation ≡ false → IsBare (operand_of kind base operation name text)
+pub operand_of-bare : (kind : DeckKind) (base : NumberBase) (operation : Operation) (name text : List ℕ) → has_fields operation ≡ false → IsBare (operand_of kind base operation name text)
 operand_of-bare kind base op.Base name text e = base_operand-bare text
 operand_of-bare kind base op.Use name text e = use_operand-bare kind text
 operand_of-bare kind base op.Org name text e = one_value-bare base (subfields_of (pieces_of text))
@@ -98,7 +98,7 @@ operand_items-none context settled (BitsOperand fields) h = absurd h
 operand_items-none context settled (TextOperand count characters) h = absurd h
 operand_items-none context settled _ h = refl
 
-items_of-none : (context : Context) (settled : Settled) (operation : Operation) → has_fields operation ≡ false → IsBare settled.read.operand → items_of context settled operation ≡ []
+pub items_of-none : (context : Context) (settled : Settled) (operation : Operation) → has_fields operation ≡ false → IsBare settled.read.operand → items_of context settled operation ≡ []
 items_of-none context settled op.Bssz e h = cc
 items_of-none context settled _ e h =
     picked_cond (λ (items : List Item). items ≡ []) (nat_le settled.end settled.place) [] (operand_items context settled settled.read.operand) refl (operand_items-none context settled settled.read.operand h)

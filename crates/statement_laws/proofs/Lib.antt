@@ -13,3 +13,8 @@ pub mod FillLaws
 pub mod EndLaws
 pub mod BareLaws
 pub mod RiseLaws
+-- The words that statements reach.
+pub mod ReachLaws
+-- The objects of decks.
+pub mod ObjectLaws
+pub mod BlockLaws
