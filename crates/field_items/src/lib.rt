@@ -10,7 +10,7 @@ mod values;
 
 pub use instruction_fields::{InstructionItems, instruction_items};
 pub use items::{Content, Item, number_item, zeros_to_word};
-pub use numbers::BlockBases;
+pub use numbers::{BlockBases, number_coded, number_in};
 pub use six_bits::{count_item, displacement_item, shift_item};
 pub use values::{bit_field_item, expression_item, value_item};
 

@@ -17,25 +17,25 @@ pub trait BlockBases {
     ghost rows: { Self → List BlockRow };
 
     /// The base of a block, in words; 0 of one that the deck does not have.
-    fn base(&self, name: &Name) -> u32
+    fn base(&self, name: &Name) -> u64
         ensures { result ≡ base_in name.now (rows self.now) };
 }
 
 /// What a block or an external is worth: its base, or 0.
-fn relocation_number<B: BlockBases>(bases: &B, relocation: Relocation) -> i64
+fn relocation_number<B: BlockBases>(bases: &B, relocation: Relocation) -> i128
     ensures number { result ≡ relocation_number (B.rows bases.now) (relocation_as relocation) }
-    ensures small { unsigned_abs result < 2 ^ 32 }
+    ensures small { unsigned_abs result < 2 ^ 64 }
 {
     match relocation {
-        Relocation::Block(name) => i64::from(bases.base(&name)),
+        Relocation::Block(name) => i128::from(bases.base(&name)),
         Relocation::External(_) => 0,
     }
 }
 
 /// What the block or external of a form is worth.
-fn part_number<B: BlockBases>(bases: &B, part: Option<Part>) -> i64
+fn part_number<B: BlockBases>(bases: &B, part: Option<Part>) -> i128
     ensures number { result ≡ part_number (B.rows bases.now) (option_map part_as part) }
-    ensures small { unsigned_abs result < 2 ^ 32 }
+    ensures small { unsigned_abs result < 2 ^ 64 }
 {
     match part {
         None => 0,
@@ -45,16 +45,16 @@ fn part_number<B: BlockBases>(bases: &B, part: Option<Part>) -> i64
 }
 
 /// The number that a form is once all blocks have their places.
-pub(crate) fn number_in<B: BlockBases>(bases: &B, form: Form) -> i128
+pub fn number_in<B: BlockBases>(bases: &B, form: Form) -> i128
     ensures number { (kind : DeckKind) (settled : List Settled) (literals : List ℕ) →
         result ≡ number_in (deck_with kind (B.rows bases.now) settled literals) form }
-    ensures small { unsigned_abs result < 2 ^ 64 }
+    ensures small { unsigned_abs result < 2 ^ 65 }
 {
-    i128::from(form.number()) + i128::from(part_number(bases, form.part()))
+    i128::from(form.number()) + part_number(bases, form.part())
 }
 
-/// A number in a field of 1 to 60 bits, if it fits.
-pub(crate) fn number_coded(width: u32, number: i128) -> Option<u64>
+/// A number in a field of 1 to 60 bits, if it fits: a negative one is the complement of its size.
+pub fn number_coded(width: u32, number: i128) -> Option<u64>
     requires some { 1 ≤ width }
     requires most { width ≤ 60 }
     ensures { result ≡ coded_in width number }

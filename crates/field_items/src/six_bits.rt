@@ -109,8 +109,8 @@ fn short_item(number: i128) -> Item
 
 /// How far one number is from another, in 6 bits, or 0 with A.
 fn difference_item(number: i128, from: i128) -> Item
-    requires number { unsigned_abs number < 2 ^ 64 }
-    requires from { unsigned_abs from < 2 ^ 64 }
+    requires number { unsigned_abs number < 2 ^ 65 }
+    requires from { unsigned_abs from < 2 ^ 65 }
     ensures { item_as result ≡ short_item (number -ℤ from) }
 {
     short_item(number - from)

@@ -44,7 +44,7 @@ struct OneBlock;
 impl BlockBases for OneBlock {
     ghost rows = { λ one. record { name = codes "A"; base = 64; words = 8 } ∷ [] };
 
-    fn base(&self, name: &Name) -> u32 {
+    fn base(&self, name: &Name) -> u64 {
         if name.is_same(&Name::new(b"A")) {
             0o100
         } else {

@@ -68,7 +68,7 @@ impl BlockRow {
 }
 
 /// Whether a block is a common one, which is named with its slashes.
-fn is_common(name: &Name) -> bool
+pub fn is_common(name: &Name) -> bool
     ensures { result ≡ is_common name.now }
 {
     match name.as_slice().first() {

@@ -17,7 +17,7 @@ mod length_steps;
 mod lengths;
 mod literals;
 
-pub use bases::{Bases, BlockRow};
+pub use bases::{Bases, BlockRow, is_common};
 pub use block_state::BlockState;
 pub use counters::{location, origin};
 pub use effects::{BlockChange, Effect, LocationSetting};
