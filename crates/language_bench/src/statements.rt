@@ -82,7 +82,7 @@ impl BlockBases for AllAtZero {
 
     ghost rows = { λ _. [] };
 
-    fn base(&self, _name: &Name) -> u32 {
+    fn base(&self, _name: &Name) -> u64 {
         0
     }
 }

@@ -14,7 +14,7 @@ use Rattle.definitions.specs.declared.marks.Letter.{Letter}
 use Rattle.statement_coder.specs.WordItems.{is_several, known_words, words_of, in_words, listed_fields}
 use Rattle.statement_coder.proofs.ListLaws.{length-cut}
 
-width-append : (xs ys : List Item) → width_of (xs ++ ys) ≡ width_of xs + width_of ys
+pub width-append : (xs ys : List Item) → width_of (xs ++ ys) ≡ width_of xs + width_of ys
 width-append [] ys = omega arith
 width-append (x ∷ xs) ys = let rest = width-append xs ys in omega arith
 
@@ -23,7 +23,7 @@ moved-up : (a w v j k : ℕ) → a * 2 ^ (w + v) + (j * 2 ^ v + k) ≡ (a * 2 ^ 
 moved-up a w v j k =
     ap (λ n. a * n + (j * 2 ^ v + k)) (pow-add 2 w v) ∙ omega arith
 
-joined-append : (linking : Linking) (xs ys : List Item) → joined linking (xs ++ ys) ≡ joined linking xs * 2 ^ width_of ys + joined linking ys
+pub joined-append : (linking : Linking) (xs ys : List Item) → joined linking (xs ++ ys) ≡ joined linking xs * 2 ^ width_of ys + joined linking ys
 joined-append linking [] ys = omega arith
 joined-append linking (x ∷ xs) ys =
     let bits = content_bits linking x.width x.content in
@@ -80,7 +80,7 @@ same-by linking field word bits true c e =
     record { width_is = same.width_is; bits_are = same.bits_are ∙ sym (ap (content_bits linking field.width) c) }
 same-by linking field word bits false c e = one-same linking field
 
-same-words_of : (linking : Linking) (word : ℕ) (field : Item) (letters : List Letter) (content : Content) → field.content ≡ content →
+pub same-words_of : (linking : Linking) (word : ℕ) (field : Item) (letters : List Letter) (content : Content) → field.content ≡ content →
     AreSame linking (words_of word field letters content) field.width (content_bits linking field.width field.content)
 same-words_of linking word field [] (Known bits) c = same-by linking field word bits (is_several word field.width bits) c refl
 same-words_of linking word field [] (Linked form) c = one-same linking field

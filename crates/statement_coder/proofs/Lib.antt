@@ -1,6 +1,7 @@
 pub mod ExternalLaws
 pub mod PeripheralLaws
 pub mod ReadLaws
+pub mod LawfulLaws
 pub mod ListLaws
 pub mod TextLaws
 pub mod WordItemLaws

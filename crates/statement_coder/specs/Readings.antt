@@ -1,7 +1,10 @@
 -- What was read in a variable field, in the words of the definitions.
-use Rattle.std.specs.Prelude.{◌≡◌, ◌*◌, ◌/◌, Some, length}
+use Rattle.std.specs.Prelude.{ℕ, ◌≡◌, ◌*◌, ◌/◌, ⊤, true, List, [], Option, Some, None, flat_map, length}
+use Rattle.std.specs.List.{AllByRecursion}
 use Rattle.definitions.specs.Kinds.{word_bits}
+use Rattle.definitions.specs.Literals.{datum_literals}
 use Rattle.definitions.specs.Operands as definitions
+use Rattle.definitions.specs.Symbols.{is_linked_name}
 use Rattle.definitions.specs.declared.marks.DeckKind.{DeckKind}
 use Rattle.expr_forms.specs.Readings.{use_as}
 use Rattle.expr_forms.specs.Shapes.{instruction_as, IsPeripheral}
@@ -32,3 +35,14 @@ IsReading (reading.Use field) operand = operand ≡ use_as field
 abbrev pub IsWhole : DeckKind → code.Reading → Type 0
 IsWhole kind (reading.Text text) = length text.characters ≡ text.words * (word_bits kind / 6)
 IsWhole kind _ = Unit {0}
+
+-- a name of ENTRY or EXT, where there is one, is lawful
+abbrev pub IsLawfulName : Option (List ℕ) → Type 0
+IsLawfulName None = ⊤
+IsLawfulName (Some name) = is_linked_name name ≡ true
+
+-- DATA has no literals, and the names of ENTRY and EXT are lawful
+abbrev pub IsLawful : code.Reading → Type 0
+IsLawful (reading.Data words) = flat_map datum_literals words ≡ []
+IsLawful (reading.Names names) = AllByRecursion IsLawfulName names
+IsLawful _ = ⊤

@@ -1,5 +1,5 @@
 //! What a sized statement is once all names have their values: its fields, and all its letters.
-ghost use Rattle.std.specs.Prelude.{◌≡◌, ◌≤◌, ◌+◌, ◌-◌, ◌^◌, [], List, ℕ, IfOk, OnErr, min, nat_le, if◌then◌else◌};
+ghost use Rattle.std.specs.Prelude.{◌≡◌, ◌≤◌, ◌+◌, ◌-◌, ◌^◌, [], List, ℕ, IfOk, OnErr, false, min, nat_le, if◌then◌else◌};
 ghost use Rattle.definitions.specs.Operands as operands;
 ghost use Rattle.definitions.specs.Letters.{in_order, letters_of};
 ghost use Rattle.definitions.specs.Literals.{literal_form};
@@ -12,7 +12,7 @@ ghost use Rattle.definitions.specs.declared.marks.DeckKind as kinds;
 ghost use Rattle.field_items.specs.Items.{deck_with};
 ghost use Rattle.field_items.specs.declared.items.Item as fields;
 ghost use Rattle.operations.specs.OperationsAs.{operation_as};
-ghost use Rattle.statement_coder.specs.CodedItems.{AreTold};
+ghost use Rattle.statement_coder.specs.CodedItems.{AreTold, is_zeros, stores_zeros};
 ghost use Rattle.statement_coder.specs.Sizings.{IsSizing, IsCodable};
 ghost use Rattle.statement_coder.specs.StatementsRead.{IsRead};
 ghost use Rattle.statement_coder.specs.declared.sizing.Sizing as sizings;
@@ -31,7 +31,8 @@ use std::alloc::AllocError;
 
 /// The fields of a statement that stores those of its operand: none where it ends at its place.
 fn within(sizing: &Sizing, items: CodedItems, list: &mut Vec<Item>) -> CodedItems
-    ensures { (kind : kinds.DeckKind) (operand : operands.Operand) (before : List fields.Item) (told : List definitions.Item) →
+    ensures some { is_zeros items ≡ false → is_zeros result ≡ false }
+    ensures told { (kind : kinds.DeckKind) (operand : operands.Operand) (before : List fields.Item) (told : List definitions.Item) →
         AreTold kind operand sizing.now items before list.old.items told →
         AreTold kind operand sizing.now result before list.new.items (if nat_le sizing.now.end sizing.now.place then [] else told) }
 {
@@ -61,7 +62,8 @@ fn placed(
     items: CodedItems,
     list: &mut Vec<Item>,
 ) -> CodedItems
-    ensures { (kind : kinds.DeckKind) (view : View) (context : definitions.Context) (settled : Settled) (before : List fields.Item) → context.kind ≡ kind → IsSizing view settled sizing.now →
+    ensures zeros { is_zeros items ≡ false → is_zeros result ≡ stores_zeros (operation_as operation) }
+    ensures told { (kind : kinds.DeckKind) (view : View) (context : definitions.Context) (settled : Settled) (before : List fields.Item) → context.kind ≡ kind → IsSizing view settled sizing.now →
         AreTold kind settled.read.operand sizing.now items before list.old.items (operand_items context settled settled.read.operand) →
         AreTold kind settled.read.operand sizing.now result before list.new.items (items_of context settled (operation_as operation)) }
 {
@@ -105,6 +107,7 @@ fn coded<S: FinalSymbols, B: BlockBases>(
         S.symbols symbols.now ≡ (λ name. defined name all) → S.literals symbols.now ≡ (λ literal. literal_form literals literal) →
         IsSizing view settled sizing.now → IsCodable statement.now sizing.now settled →
         coded.letters ≡ in_order (letters_of (deck_with statement.now.kind (B.rows bases.now) all literals) settled)) }
+    ensures zeros { IfOk result (λ coded. is_zeros coded.items ≡ stores_zeros (operation_as statement.now.operation)) }
     ensures unchanged { OnErr result (list.new.items ≡ list.old.items) }
 {
     let kind = statement.kind;
@@ -151,6 +154,7 @@ pub fn code<S: FinalSymbols, B: BlockBases>(
         IsRead kind given.cards statement.now → settled.read ≡ read_of kind sizing.now.number_base given → IsSizing view settled sizing.now →
         S.symbols symbols.now ≡ (λ name. defined name all) → S.literals symbols.now ≡ (λ literal. literal_form literals literal) →
         coded.letters ≡ in_order (letters_of (deck_with kind (B.rows bases.now) all literals) settled)) }
+    ensures zeros { IfOk result (λ coded. is_zeros coded.items ≡ stores_zeros (operation_as statement.now.operation)) }
     ensures unchanged { OnErr result (list.new.items ≡ list.old.items) }
     ensures coded { meter.new.coded ≡ min (meter.old.coded + 1) (2 ^ 64 - 1) }
     ensures sized { meter.new.sized ≡ meter.old.sized }

@@ -45,7 +45,7 @@ pub use final_names::FinalSymbols;
 pub use laws::lists_keep_bits;
 pub use meter::Meter;
 pub use readings::{Reading, read_operand};
-pub use sized::size;
+pub use sized::{size, size_reading};
 pub use sizing::Sizing;
 pub use statement::Statement;
 

@@ -7,7 +7,7 @@ ghost use Rattle.definitions.specs.Operands.{operand_of, central_operand, periph
 ghost use Rattle.definitions.specs.Matching.{central_of};
 ghost use Rattle.definitions.specs.Kinds.{allows_literals};
 ghost use Rattle.operations.specs.OperationsAs.{operation_as};
-ghost use Rattle.statement_coder.specs.Readings.{IsReading};
+ghost use Rattle.statement_coder.specs.Readings.{IsReading, IsLawful};
 
 use definitions::{DeckKind, NumberBase};
 use expr_forms::{
@@ -38,7 +38,8 @@ pub enum Reading<'a> {
 /// The operand of a central instruction.
 fn read_central<'a>(base: NumberBase, name: &[u8], text: &'a [u8]) -> Reading<'a>
     requires { length text.now ≤ 711 }
-    ensures { IsReading result (central_operand (central_of base name.now (subfields_of (pieces_of text.now)))) }
+    ensures reading { IsReading result (central_operand (central_of base name.now (subfields_of (pieces_of text.now)))) }
+    ensures lawful { IsLawful result }
 {
     match cpu_opcodes::ignoring(name) {
         Some(shape) => Reading::Instruction(shape),
@@ -55,7 +56,8 @@ fn read_central<'a>(base: NumberBase, name: &[u8], text: &'a [u8]) -> Reading<'a
 /// The operand of a peripheral instruction.
 fn read_peripheral<'a>(base: NumberBase, name: &[u8], text: &'a [u8]) -> Reading<'a>
     requires { length text.now ≤ 711 }
-    ensures { IsReading result (peripheral_operand base (peripheral_row name.now) (subfields_of (pieces_of text.now))) }
+    ensures reading { IsReading result (peripheral_operand base (peripheral_row name.now) (subfields_of (pieces_of text.now))) }
+    ensures lawful { IsLawful result }
 {
     match ppu_opcodes::ignoring(name) {
         Some(shape) => Reading::Instruction(shape),
@@ -82,7 +84,8 @@ fn allows_literals(kind: DeckKind) -> bool
 /// The operand of DATA.
 fn read_data(base: NumberBase, text: &[u8]) -> Reading<'_>
     requires { length text.now ≤ 711 }
-    ensures { IsReading result (words_operand (all_words (data_word base) (subfields_of (pieces_of text.now)))) }
+    ensures reading { IsReading result (words_operand (all_words (data_word base) (subfields_of (pieces_of text.now)))) }
+    ensures lawful { IsLawful result }
 {
     match DataWords::read(text, base) {
         Ok(words) => Reading::Data(words),
@@ -93,7 +96,8 @@ fn read_data(base: NumberBase, text: &[u8]) -> Reading<'_>
 /// The operand of CON.
 fn read_con(kind: DeckKind, base: NumberBase, text: &[u8]) -> Reading<'_>
     requires { length text.now ≤ 711 }
-    ensures { IsReading result (words_operand (all_words (con_word (allows_literals kind) base) (subfields_of (pieces_of text.now)))) }
+    ensures reading { IsReading result (words_operand (all_words (con_word (allows_literals kind) base) (subfields_of (pieces_of text.now)))) }
+    ensures lawful { IsLawful result }
 {
     match ConWords::read(text, allows_literals(kind), base) {
         Ok(words) => Reading::Con(words),
@@ -104,7 +108,8 @@ fn read_con(kind: DeckKind, base: NumberBase, text: &[u8]) -> Reading<'_>
 /// The operand of VFD.
 fn read_vfd(kind: DeckKind, base: NumberBase, text: &[u8]) -> Reading<'_>
     requires { length text.now ≤ 711 }
-    ensures { IsReading result (bits_operand (all_fields (vfd_field (allows_literals kind) base) (subfields_of (pieces_of text.now)))) }
+    ensures reading { IsReading result (bits_operand (all_fields (vfd_field (allows_literals kind) base) (subfields_of (pieces_of text.now)))) }
+    ensures lawful { IsLawful result }
 {
     match BitFields::read(text, allows_literals(kind), base) {
         Ok(fields) => Reading::Vfd(fields),
@@ -114,7 +119,8 @@ fn read_vfd(kind: DeckKind, base: NumberBase, text: &[u8]) -> Reading<'_>
 
 /// The operand of DIS.
 fn read_dis(kind: DeckKind, base: NumberBase, text: &[u8]) -> Reading<'_>
-    ensures { IsReading result (dis_operand kind base text.now) }
+    ensures reading { IsReading result (dis_operand kind base text.now) }
+    ensures lawful { IsLawful result }
 {
     match dis_text(text, base, kind) {
         Ok(dis) => Reading::Text(dis),
@@ -125,7 +131,8 @@ fn read_dis(kind: DeckKind, base: NumberBase, text: &[u8]) -> Reading<'_>
 /// The operand of BSS, BSSZ, ORG, LOC and EQU.
 fn read_value(base: NumberBase, text: &[u8]) -> Reading<'_>
     requires { length text.now ≤ 711 }
-    ensures { IsReading result (one_value base (subfields_of (pieces_of text.now))) }
+    ensures reading { IsReading result (one_value base (subfields_of (pieces_of text.now))) }
+    ensures lawful { IsLawful result }
 {
     match one_value(text, base) {
         Ok(expression) => Reading::Value(expression),
@@ -135,7 +142,8 @@ fn read_value(base: NumberBase, text: &[u8]) -> Reading<'_>
 
 /// The operand of BASE.
 fn read_base(text: &[u8]) -> Reading<'_>
-    ensures { IsReading result (base_operand text.now) }
+    ensures reading { IsReading result (base_operand text.now) }
+    ensures lawful { IsLawful result }
 {
     match number_base(text) {
         Ok(_) => Reading::Unread,
@@ -145,7 +153,8 @@ fn read_base(text: &[u8]) -> Reading<'_>
 
 /// The operand of USE.
 fn read_use(kind: DeckKind, text: &[u8]) -> Reading<'_>
-    ensures { IsReading result (use_operand kind text.now) }
+    ensures reading { IsReading result (use_operand kind text.now) }
+    ensures lawful { IsLawful result }
 {
     Reading::Use(use_field(text, kind))
 }
@@ -160,7 +169,8 @@ pub fn read_operand<'a>(
     text: &'a [u8],
 ) -> Reading<'a>
     requires { length text.now ≤ 711 }
-    ensures { IsReading result (operand_of kind base (operation_as operation) name.now text.now) }
+    ensures reading { IsReading result (operand_of kind base (operation_as operation) name.now text.now) }
+    ensures lawful { IsLawful result }
 {
     match operation {
         Operation::Base => read_base(text),

@@ -156,6 +156,26 @@ fn settle<S: EarlySymbols>(
     }
 }
 
+/// What a statement is whose operand was read, once the state before it and the early values of
+/// symbols are known, counted in the meter. The state accepts its change.
+pub fn size_reading<S: EarlySymbols>(
+    statement: &Statement<'_>,
+    reading: &Reading<'_>,
+    state: &BlockState,
+    symbols: &S,
+    meter: &mut Meter,
+) -> Sizing
+    ensures sizing { (given : statements.Statement) (operand : operands.Operand) → is_stray given.cards ≡ statement.now.is_stray → IsReading reading.now operand →
+        IsSizing (S.view symbols.now) (settled_read statement.now.kind (seen_from state.now (S.view symbols.now)) (read_as statement.now given operand)) result }
+    ensures accepted { IsAccepted (change_as result.change) state.now }
+    ensures number_base { result.number_base ≡ state.now.number_base }
+    ensures sized { meter.new.sized ≡ min (meter.old.sized + 1) (2 ^ 64 - 1) }
+    ensures coded { meter.new.coded ≡ meter.old.coded }
+{
+    meter.sized = meter.sized.saturating_add(1);
+    settle(statement, reading, state, symbols)
+}
+
 /// What a statement is once the state before it and the early values of symbols are known, counted in
 /// the meter: exactly what the definitions settle from these. The state accepts its change.
 pub fn size<S: EarlySymbols>(
@@ -171,7 +191,6 @@ pub fn size<S: EarlySymbols>(
     ensures sized { meter.new.sized ≡ min (meter.old.sized + 1) (2 ^ 64 - 1) }
     ensures coded { meter.new.coded ≡ meter.old.coded }
 {
-    meter.sized = meter.sized.saturating_add(1);
     let reading = read_operand(
         statement.kind,
         state.number_base(),
@@ -179,5 +198,5 @@ pub fn size<S: EarlySymbols>(
         statement.name,
         statement.variable,
     );
-    settle(statement, &reading, state, symbols)
+    size_reading(statement, &reading, state, symbols, meter)
 }

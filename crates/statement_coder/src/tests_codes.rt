@@ -44,7 +44,7 @@ struct NoBases;
 impl BlockBases for NoBases {
     ghost rows = { λ b. [] };
 
-    fn base(&self, _name: &Name) -> u32 {
+    fn base(&self, _name: &Name) -> u64 {
         0
     }
 }

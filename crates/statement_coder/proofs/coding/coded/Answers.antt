@@ -16,7 +16,7 @@ pub fields_told-requires : goal.fields_told-requires
 fields_told-requires g c =
     let code = c.args.statement.now in
     let base = c.args.sizing.now.number_base in
-    read_whole code.kind c.read_operand-reading.result (operand_of code.kind base (operation_as code.operation) code.name.now code.variable.now) c.read_operand-reading.ensures
+    read_whole code.kind c.read_operand-reading.result (operand_of code.kind base (operation_as code.operation) code.name.now code.variable.now) c.read_operand-reading.ensures.reading
     (operand_of-fills code.kind base (operation_as code.operation) code.name.now code.variable.now)
 
 pub returns-clause-items : goal.returns-clause-items
@@ -27,10 +27,10 @@ returns-clause-items g c =
     let before = c.args.list.now.items in
     let context = deck_with code.kind (g.B.BlockBases.rows c.args.bases.now) all literals in
     let seen = are_seen (g.S.FinalSymbols.symbols c.args.symbols.now) (g.S.FinalSymbols.literals c.args.symbols.now) sizing.location sizing.origin context settled symbols words is.location is.origin in
-    let reading = subst (IsReading c.read_operand-reading.result) (sym codable.operand) c.read_operand-reading.ensures in
+    let reading = subst (IsReading c.read_operand-reading.result) (sym codable.operand) c.read_operand-reading.ensures.reading in
     let told = c.in_ok-told.ensures.told all literals settled settled.read.operand sizing seen reading in
     subst (λ operation. AreTold code.kind settled.read.operand sizing c.placed.result before c.placed.new.list.items (items_of context settled operation)) (sym codable.operation)
-    (c.placed.ensures code.kind view context settled before refl is told)
+    (c.placed.ensures.told code.kind view context settled before refl is told)
 
 pub returns-clause-letters : goal.returns-clause-letters
 returns-clause-letters g c =
@@ -42,7 +42,7 @@ returns-clause-letters g c =
     let operand = settled.read.operand in
     let fields = operand_items context settled operand in
     let seen = are_seen (g.S.FinalSymbols.symbols c.args.symbols.now) (g.S.FinalSymbols.literals c.args.symbols.now) sizing.location sizing.origin context settled symbols words is.location is.origin in
-    let reading = subst (IsReading c.read_operand-reading.result) (sym codable.operand) c.read_operand-reading.ensures in
+    let reading = subst (IsReading c.read_operand-reading.result) (sym codable.operand) c.read_operand-reading.ensures.reading in
     let told = c.in_ok-told.ensures.told all literals settled operand sizing seen reading in
     let in_list = subst (λ l. AreTold code.kind operand sizing c.in_ok-told.told before l fields) (sym c.deref.ensures.value) told in
     let entries : List Letter = entry_letters code.kind all settled.read.operation operand in

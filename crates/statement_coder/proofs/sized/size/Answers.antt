@@ -1,4 +1,4 @@
-use Rattle.std.proofs.Common.{◌≡◌, sym, subst}
+use Rattle.std.proofs.Common.{sym, subst}
 use Rattle.definitions.specs.States.{seen_from}
 use Rattle.definitions.specs.Operands.{operand_of}
 use Rattle.operations.specs.OperationsAs.{operation_as}
@@ -13,5 +13,5 @@ returns-clause-sizing g c kind given read =
     let state = c.args.state.now in
     let operand = operand_of code.kind state.number_base (operation_as code.operation) code.name.now code.variable.now in
     let reading : IsReading c.read_operand-reading.result operand =
-    subst (λ base. IsReading c.read_operand-reading.result (operand_of code.kind base (operation_as code.operation) code.name.now code.variable.now)) c.number_base.ensures c.read_operand-reading.ensures in
-    settled-sizing view (seen_from state view) kind given code c.settle.result read (c.settle.ensures.sizing given operand (sym read.stray) reading)
+    subst (λ base. IsReading c.read_operand-reading.result (operand_of code.kind base (operation_as code.operation) code.name.now code.variable.now)) c.number_base.ensures c.read_operand-reading.ensures.reading in
+    settled-sizing view (seen_from state view) kind given code c.size_reading.result read (c.size_reading.ensures.sizing given operand (sym read.stray) reading)
