@@ -1,0 +1,2 @@
+-- The steps of writing digits from the last one on.
+pub mod DigitSteps
