@@ -1,10 +1,10 @@
 mod PlaceMatch
-mod PackingLaws
+pub mod PackingLaws
 mod FieldSteps
 mod RiseLaws
 mod GatherLaws
 mod MergeLaws
 mod FillLaws
 mod RunSteps
-mod PutLaws
+pub mod PutLaws
 mod WordLaws

@@ -1,0 +1,6 @@
+mod PutSteps
+mod FieldSteps
+mod LiteralSteps
+mod LineSteps
+mod RunSteps
+mod WalkSteps
