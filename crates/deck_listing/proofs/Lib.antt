@@ -1,0 +1,6 @@
+mod PushLaws
+mod CutLaws
+mod WordLaws
+mod FieldTexts
+mod ListableLaws
+mod ListingLaws

@@ -1,0 +1,161 @@
+//! The lines of one statement: its cards, its letters, and what it stores.
+ghost use Rattle.std.specs.Prelude.{◌≡◌, ◌≢◌, ◌≤◌, ◌<◌, ◌+◌, ◌-◌, ◌*◌, ◌/◌, ◌%◌, ◌^◌, ◌++◌, List, map, length, take, drop, true, false, OnOk};
+ghost use Rattle.definitions.specs.Kinds.{unit_bits, units, word_bits};
+ghost use Rattle.definitions.specs.Listing.{central_lines, unlinked};
+ghost use Rattle.definitions.specs.Operations as op;
+ghost use Rattle.definitions.specs.StatementItems.{known};
+ghost use Rattle.definitions.specs.Words.{width_of};
+ghost use Rattle.deck_listing.specs.ListedParts.{AreListable, IsListable, IsListableLine, line_text, lines_text, stored_text};
+ghost use Rattle.deck_listing.specs.WordLines.{fields_text, has_one_line};
+ghost use Rattle.deck_objects.specs.LineItems.{AreShort};
+ghost use Rattle.field_items.specs.Items.{item_as};
+ghost use Rattle.operations.specs.OperationsAs.{operation_as};
+
+use crate::lines::{push_card_lines, push_central_line, push_letters_line};
+use crate::words::{joined_fields, push_word_lines};
+use cards::Card;
+use deck_kinds::{unit_bits, units};
+use deck_objects::{CodedLine, Line, LineFields, ObjectParts};
+use definitions::DeckKind;
+use field_items::{Content, Item};
+use operations::Operation;
+use std::alloc::AllocError;
+use text_buffers::Text;
+use use_blocks::Bases;
+
+/// Whether the fields of a statement have one line together: an instruction's, in a deck of central
+/// words.
+fn has_one_line(kind: DeckKind, operation: Operation) -> bool
+    ensures { result ≡ has_one_line kind (operation_as operation) }
+{
+    match kind {
+        DeckKind::Periph => false,
+        DeckKind::Rel | DeckKind::Abs => operation.is_instruction(),
+    }
+}
+
+/// The line of the fields of an instruction, at most 60 bits together.
+fn push_instruction(
+    text: &mut Text,
+    bases: &Bases,
+    place: u32,
+    items: &[Item],
+) -> Result<(), AllocError>
+    requires fields { AreShort (map item_as items.now) }
+    requires short { width_of (map item_as items.now) ≤ 60 }
+    ensures { OnOk result (text.new ≡ text.old ++ central_lines (unlinked bases.now) op.Instruction place (map item_as items.now)) }
+{
+    if items.is_empty() {
+        return Ok(());
+    }
+    let (width, bits) = joined_fields(bases, items);
+    let place = place as u64;
+    push_central_line(text, place / 4, place % 4, width, bits)
+}
+
+/// The lines of the fields of a statement.
+fn push_fields(
+    text: &mut Text,
+    parts: &ObjectParts,
+    stored: &CodedLine,
+    items: &[Item],
+) -> Result<(), AllocError>
+    requires stored { operation_as stored.now.operation ≢ op.Bssz }
+    requires fields { AreShort (map item_as items.now) }
+    requires short { has_one_line parts.now.kind (operation_as stored.now.operation) ≡ true → width_of (map item_as items.now) ≤ 60 }
+    requires whole { has_one_line parts.now.kind (operation_as stored.now.operation) ≡ false → width_of (map item_as items.now) % word_bits parts.now.kind ≡ 0 }
+    requires few { width_of (map item_as items.now) < 2 ^ 40 }
+    ensures { OnOk result (text.new ≡ text.old
+        ++ fields_text parts.now.kind (unlinked parts.now.bases) (operation_as stored.now.operation) stored.now.place (map item_as items.now)) }
+{
+    let kind = parts.kind;
+    if has_one_line(kind, stored.operation) {
+        return push_instruction(text, &parts.bases, stored.place, items);
+    }
+    let word = stored.place / units(kind);
+    push_word_lines(text, kind, &parts.bases, word as u64, items)
+}
+
+/// Bits that reach from the place of a statement to its end, as a field.
+fn known_field(kind: DeckKind, stored: &CodedLine, bits: u64) -> Item
+    requires { (stored.now.end - stored.now.place) * unit_bits kind ≤ 60 }
+    ensures { item_as result ≡ known ((stored.now.end - stored.now.place) * unit_bits kind) bits }
+{
+    Item {
+        width: stored.end.saturating_sub(stored.place) * unit_bits(kind),
+        content: Content::Known(bits),
+        letter: None,
+    }
+}
+
+/// The lines of what a statement stores; the zeros of a BSSZ have none.
+fn push_stored(text: &mut Text, parts: &ObjectParts, stored: &CodedLine) -> Result<(), AllocError>
+    requires { IsListable parts.now.kind parts.now.items.items stored.now }
+    ensures { OnOk result (text.new ≡ text.old ++ stored_text parts.now.kind parts.now.bases parts.now.items.items (Some stored.now)) }
+{
+    match stored.fields {
+        LineFields::Absent | LineFields::Zeros => Ok(()),
+        LineFields::Known(bits) => {
+            push_fields(
+                text,
+                parts,
+                stored,
+                &[known_field(parts.kind, stored, bits)],
+            )
+        }
+        LineFields::Listed { first, count } => {
+            let first = first as usize;
+            let listed = &parts.items[first..first + count as usize];
+            push_fields(text, parts, stored, listed)
+        }
+    }
+}
+
+/// The lines of a statement that has these cards, where so many stand before it.
+fn push_statement(
+    text: &mut Text,
+    parts: &ObjectParts,
+    before: usize,
+    cards: &[Card],
+    shown: &Line,
+) -> Result<(), AllocError>
+    requires few { before + length cards.now < 2 ^ 60 }
+    requires listable { IsListableLine parts.now.kind parts.now.items.items shown.now.coded }
+    ensures { OnOk result (text.new ≡ text.old ++ line_text parts.now.kind parts.now.bases parts.now.items.items before cards.now shown.now) }
+{
+    push_card_lines(text, before, cards)?;
+    push_letters_line(text, &shown.letters)?;
+    match &shown.coded {
+        None => Ok(()),
+        Some(stored) => push_stored(text, parts, stored),
+    }
+}
+
+/// The first cards of some, at most so many, and those behind them.
+fn split_cards(cards: &[Card], count: u32) -> (&[Card], &[Card])
+    ensures first { result.0.now ≡ take count cards.now }
+    ensures behind { result.1.now ≡ drop count cards.now }
+{
+    cards.split_at(cards.len().min(count as usize))
+}
+
+/// The lines of all statements of a deck with these cards.
+pub(crate) fn push_statements(
+    text: &mut Text,
+    cards: &[Card],
+    parts: &ObjectParts,
+) -> Result<(), AllocError>
+    requires few { length cards.now < 2 ^ 60 }
+    requires listable { AreListable parts.now.kind parts.now.items.items parts.now.lines.items }
+    ensures { OnOk result (text.new ≡ text.old ++ lines_text parts.now.kind parts.now.bases parts.now.items.items 0 cards.now parts.now.lines.items) }
+{
+    let mut before = 0;
+    let mut ahead = cards;
+    for shown in &parts.lines {
+        let (own, behind) = split_cards(ahead, shown.cards);
+        push_statement(text, parts, before, own, shown)?;
+        before += own.len();
+        ahead = behind;
+    }
+    Ok(())
+}

@@ -1,0 +1,79 @@
+//! The listing of a deck.
+ghost use Rattle.std.specs.Prelude.{◌≡◌, ◌<◌, ◌^◌, ◌++◌, length, OnOk, OnErr, IfOk};
+ghost use Rattle.definitions.specs.Listing.{deck_listing, errors_of};
+ghost use Rattle.definitions.specs.Objects.{object_of};
+ghost use Rattle.deck_listing.specs.ListedParts.{AreListable, flagged_lines, has_letters, parts_text};
+
+use crate::lines::{push_block_lines, push_deck_line, push_errors_line};
+use crate::statements::push_statements;
+use cards::{Card, DeckName};
+use deck_objects::{Line, Object, ObjectParts};
+use std::alloc::{AllocError, Global};
+use text_buffers::Text;
+
+/// How many bytes of room are asked for at first for each card. A card has a line of at most 87 bytes,
+/// but seldom one of more than 40, and a word has one of 32.
+const CARD_ROOM: usize = 80;
+
+/// The same for what a listing has beside its statements.
+const DECK_ROOM: usize = 256;
+
+/// Whether a statement has a letter.
+fn has_letters(shown: &Line) -> bool
+    ensures { result ≡ has_letters shown.now }
+{
+    !shown.letters.text().as_slice().is_empty()
+}
+
+/// How many statements have a letter.
+fn flagged_lines(lines: &[Line]) -> u64
+    ensures { result ≡ flagged_lines lines.now }
+{
+    lines.iter().filter(|shown| has_letters(shown)).count() as u64
+}
+
+/// How many statements of a deck are flagged, as the last line of its listing says.
+pub fn errors(object: &Object) -> u64
+    ensures { result ≡ errors_of (object_of object.now) }
+{
+    flagged_lines(object.parts().lines.as_slice())
+}
+
+/// Appends the listing of a deck with this name and these cards, from what its object keeps.
+fn push_parts(
+    text: &mut Text,
+    name: &DeckName,
+    cards: &[Card],
+    parts: &ObjectParts,
+) -> Result<(), AllocError>
+    requires few { length cards.now < 2 ^ 60 }
+    requires listable { AreListable parts.now.kind parts.now.items.items parts.now.lines.items }
+    ensures { OnOk result (text.new ≡ text.old ++ parts_text name.now cards.now parts.now) }
+{
+    push_deck_line(text, name, parts.kind)?;
+    push_statements(text, cards, parts)?;
+    push_block_lines(text, parts.bases.rows())?;
+    push_errors_line(text, flagged_lines(parts.lines.as_slice()))
+}
+
+/// The listing of a deck alone, not linked: the deck stands at 0, and so does each external.
+pub fn listing(alloc: Global, object: &Object) -> Result<Text, AllocError>
+    ensures { IfOk result (λ text. text ≡ deck_listing (object_of object.now)) }
+{
+    let cards = object.cards();
+    let room = cards
+        .len()
+        .saturating_mul(CARD_ROOM)
+        .saturating_add(DECK_ROOM);
+    let mut text = Text::with_room(alloc, room)?;
+    push_parts(&mut text, object.name(), cards, object.parts())?;
+    Ok(text)
+}
+
+/// Appends the listing of a deck alone. Without memory the text is as it was.
+pub fn push_listing(alloc: Global, text: &mut Text, object: &Object) -> Result<(), AllocError>
+    ensures ok { OnOk result (text.new ≡ text.old ++ deck_listing (object_of object.now)) }
+    ensures err { OnErr result (text.new ≡ text.old) }
+{
+    text.push_bytes(listing(alloc, object)?.as_slice())
+}
