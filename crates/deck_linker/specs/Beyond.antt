@@ -1,0 +1,65 @@
+-- Whether statements store words at or behind the end of their memory, by the places that their fields reach.
+use Rattle.std.specs.Prelude.{ℕ, ◌+◌, ◌-◌, ◌/◌, List, [], ◌∷◌, Some, None, Bool, true, false, not, ◌&&◌, nat_lt, nat_le, length, slice_get}
+use Rattle.std.specs.List.{list_any}
+use Rattle.definitions.specs.Blocks.{is_common, literals_block}
+use Rattle.definitions.specs.Characters.{same_text}
+use Rattle.definitions.specs.Kinds.{memory_end, units}
+use Rattle.definitions.specs.Lengths.{BlockRow}
+use Rattle.definitions.specs.StatementItems.{Item}
+use Rattle.definitions.specs.Words.{Coded}
+use Rattle.definitions.specs.declared.marks.DeckKind.{DeckKind}
+use Rattle.deck_objects.specs.declared.lines.CodedLine.{CodedLine}
+use Rattle.deck_objects.specs.declared.lines.Line.{Line}
+use Rattle.deck_objects.specs.declared.lines.LineFields.{LineFields}
+use Rattle.deck_objects.specs.declared.lines.LineFields.TheVariants as fields
+use Rattle.deck_objects.specs.declared.object.ObjectParts.{ObjectParts}
+
+-- whether the word before an end lies at or behind the end of memory, in a block that stands at a base
+abbrev pub reaches_beyond : DeckKind → ℕ → ℕ → Bool
+reaches_beyond kind base end = nat_le (memory_end kind) (base + (end - 1) / units kind)
+
+-- whether fields from a place to an end store a word there
+abbrev pub stores_beyond : DeckKind → ℕ → ℕ → ℕ → Bool
+stores_beyond kind base place end = nat_lt place end && reaches_beyond kind base end
+
+-- whether there are fields
+abbrev pub has_items : List Item → Bool
+has_items [] = false
+has_items (item ∷ items) = true
+
+-- whether a statement stores a word of this block there
+abbrev pub coded_beyond : DeckKind → BlockRow → Coded → Bool
+coded_beyond kind row coded =
+    same_text coded.settled.block row.name && (not coded.settled.begins_run && (has_items coded.fields && stores_beyond kind row.base coded.settled.place coded.settled.end))
+
+-- whether a line keeps fields
+abbrev pub keeps_fields : LineFields → Bool
+keeps_fields fields.Absent = false
+keeps_fields (fields.Known bits) = true
+keeps_fields (fields.Listed first count) = nat_lt 0 count
+keeps_fields fields.Zeros = true
+
+-- whether the block at an index has this name
+abbrev pub is_named_at : List BlockRow → ℕ → List ℕ → Bool
+is_named_at rows index name = elim (slice_get rows index) [ None ↦ false | Some row ↦ same_text row.name name ]
+
+-- whether a line stores a word of this block there
+abbrev pub line_beyond : DeckKind → List BlockRow → BlockRow → CodedLine → Bool
+line_beyond kind rows row line =
+    stores_beyond kind row.base line.place line.end && (not line.begins_run && (keeps_fields line.fields && is_named_at rows line.block row.name))
+
+-- whether a line of the listing does; one behind END stores nothing
+abbrev pub listed_beyond : DeckKind → List BlockRow → BlockRow → Line → Bool
+listed_beyond kind rows row line = elim line.coded [ None ↦ false | Some coded ↦ line_beyond kind rows row coded ]
+
+-- whether so many literals reach there
+abbrev pub literals_beyond : DeckKind → ℕ → ℕ → Bool
+literals_beyond kind base count = nat_lt 0 count && nat_lt (memory_end kind) (base + count)
+
+-- whether a block of an object stores a word there, by its lines and literals; a common block is not the object's
+abbrev pub row_beyond : ObjectParts → BlockRow → Bool
+row_beyond parts row =
+    not (is_common row.name) && elim (same_text row.name literals_block) [
+      | true ↦ literals_beyond parts.kind row.base (length parts.literals.items)
+      | false ↦ list_any (listed_beyond parts.kind parts.bases row) parts.lines.items
+    ]

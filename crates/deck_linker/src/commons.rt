@@ -1,0 +1,131 @@
+//! The common blocks of a link (COMPASS 60492600, labelled common; where they stand is ours).
+ghost use Rattle.std.specs.Prelude.{◌≡◌, ◌≤◌, [], map, IfOk};
+ghost use Rattle.definitions.specs.Link.{commons_from, common_base, common_lengths};
+ghost use Rattle.deck_linker.specs.Placing.{base_at, end_with_common, placed_common};
+
+use crate::based::{Based, MEMORY_END};
+use crate::common_table::CommonTable;
+use expr_forms::Name;
+use std::alloc::{AllocError, Global};
+use std::marker::Model;
+
+/// A common block of a link: its length in words, its base, and whether it passes the end of memory.
+/// Contracts see the definitions' record.
+#[derive(Drop)]
+pub struct Common {
+    name: Name,
+    words: u32,
+    base: u32,
+    is_past: bool,
+}
+
+impl Model for Common {
+    ghost use Rattle.definitions.specs.Link as definitions;
+
+    ghost Value = { definitions.Common };
+
+    ghost view = { λ c. record { name = c.name; words = c.words; base = c.base; is_past = c.is_past } };
+}
+
+impl Common {
+    pub fn name(&self) -> &Name
+        ensures { result.now ≡ self.now.name }
+    {
+        &self.name
+    }
+
+    pub fn words(&self) -> u32
+        ensures { result ≡ self.now.words }
+    {
+        self.words
+    }
+
+    /// The address of its first word; 0 where it passes the end of memory.
+    pub fn base(&self) -> u32
+        ensures { result ≡ self.now.base }
+    {
+        self.base
+    }
+
+    pub fn is_past(&self) -> bool
+        ensures { result ≡ self.now.is_past }
+    {
+        self.is_past
+    }
+}
+
+/// A common block where those before it end at a base, and where they end with it. One that would pass
+/// the end of memory has base 0 and moves no other.
+pub(crate) fn place_common(base: u32, name: &Name, words: u32) -> (Common, u32)
+    requires { base ≤ 0o400000 }
+    ensures common { result.0 ≡ placed_common base (record { name = name.now; words = words }) }
+    ensures end { result.1 ≡ end_with_common base (record { name = name.now; words = words }) }
+    ensures within { result.1 ≤ 0o400000 }
+{
+    let is_past = words > MEMORY_END - base;
+    let common = Common {
+        name: *name,
+        words,
+        base: if is_past { 0 } else { base },
+        is_past,
+    };
+    (common, if is_past { base } else { base + words })
+}
+
+/// The common blocks of a link. Contracts see the list of them, in order of first use.
+#[derive(Drop)]
+pub(crate) struct Commons {
+    list: Vec<Common>,
+    table: CommonTable,
+}
+
+impl Model for Commons {
+    ghost use Rattle.std.specs.Prelude.{◌≡◌, List};
+    ghost use Rattle.definitions.specs.Link as definitions;
+    ghost use Rattle.deck_linker.specs.Placing.{names_of_commons, names_of_lengths};
+
+    ghost Value = { List definitions.Common };
+
+    ghost view = { λ c. c.list.items };
+
+    ghost invariant = { λ c. names_of_commons c.list.items ≡ names_of_lengths c.table };
+}
+
+impl Commons {
+    /// The common blocks of these decks, from a base on.
+    pub(crate) fn new(alloc: Global, base: u32, decks: &[Based]) -> Result<Commons, AllocError>
+        requires { base ≤ 0o400000 }
+        ensures { IfOk result (λ commons. commons ≡ commons_from base (common_lengths (map (λ based. based.object) decks.now) [])) }
+    {
+        let table = CommonTable::of_decks(alloc, decks)?;
+        let list = table.placed(alloc, base)?;
+        Ok(Commons { list, table })
+    }
+
+    /// The common blocks in order of first use.
+    pub(crate) fn as_slice(&self) -> &[Common]
+        ensures { result.now ≡ self.now }
+    {
+        self.list.as_slice()
+    }
+
+    /// The base of a common block; 0 of one that is not there.
+    pub(crate) fn base(&self, name: &Name) -> u32
+        ensures { result ≡ common_base name.now self.now }
+    {
+        match self.table.index_of(name) {
+            Some(index) => base_at(self.list.as_slice(), index),
+            None => 0,
+        }
+    }
+}
+
+/// The base of the common block at an index, or 0 where there is none.
+fn base_at(commons: &[Common], index: usize) -> u32
+    ensures { result ≡ base_at index commons.now }
+{
+    match commons.get(index) {
+        Some(common) => common.base(),
+        None => 0,
+    }
+}
