@@ -1,0 +1,23 @@
+-- Names, each once.
+use Rattle.std.specs.Prelude.{ℕ, ◌≡◌, List, [], ◌∷◌, ◌++◌, if◌then◌else◌}
+use Rattle.definitions.specs.Blocks.{is_named}
+use Rattle.definitions.specs.Settled.{Definition}
+use Rattle.definitions.specs.Link.{Based}
+
+-- names with one more, where it is not among them
+abbrev pub with_name : List ℕ → List (List ℕ) → List (List ℕ)
+with_name name names = if is_named name names then names else names ++ name ∷ []
+
+-- names with those of entries, each where it is not among them
+abbrev pub with_entries : List Definition → List (List ℕ) → List (List ℕ)
+with_entries [] names = names
+with_entries (entry ∷ entries) names = with_entries entries (with_name entry.name names)
+
+-- names with those that decks enter
+abbrev pub with_decks : List Based → List (List ℕ) → List (List ℕ)
+with_decks [] names = names
+with_decks (based ∷ others) names = with_decks others (with_entries based.object.entries names)
+
+-- these are the names that are among others
+abbrev pub HaveNames : List (List ℕ) → List (List ℕ) → Type 0
+HaveNames set names = (name : List ℕ) → is_named name set ≡ is_named name names

@@ -1,0 +1,22 @@
+-- What is published of decks.
+use Rattle.std.specs.Prelude.{ℕ, ◌≡◌, List, flat_map, map}
+use Rattle.definitions.specs.Build.{build_of, image_of, listing_of}
+use Rattle.definitions.specs.DeckInput.{Deck}
+use Rattle.definitions.specs.Listing.{deck_listing}
+use Rattle.definitions.specs.Objects.{object_of}
+
+-- decks under a version
+pub record Published : Type 0 where
+  pub version : ℕ
+  pub decks : List Deck
+
+-- the listings of decks, one behind the other
+abbrev pub listings : List Deck → List ℕ
+listings decks = flat_map deck_listing (map object_of decks)
+
+-- these are the texts and the counts of decks
+pub record IsPublished (decks : List Deck) (listing image : List ℕ) (errors links : ℕ) : Type 0 where
+  pub listing_is : listing ≡ listing_of decks
+  pub image_is : image ≡ image_of decks
+  pub errors_are : errors ≡ (build_of decks).errors
+  pub links_are : links ≡ (build_of decks).links
