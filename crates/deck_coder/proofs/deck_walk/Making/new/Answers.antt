@@ -1,0 +1,9 @@
+use Rattle.deck_coder.specs.Walks.{whole_of}
+use Rattle.deck_coder.proofs.DeckWalkLaws.{walk-begin}
+use Rattle.deck_coder.proofs.deck_walk.Making.new.Goals as goal
+
+pub returns : goal.returns
+returns c =
+    λ known others is.
+    let whole = whole_of c.args.view.now known others in
+    walk-begin whole (record { lines = c.new.result; names = c.new-2.result }) is c.new.ensures.stood (c.new.ensures.lined whole) (c.new-2.ensures whole)

@@ -1,0 +1,56 @@
+//! The line of one statement of a deck.
+ghost use Rattle.std.specs.Prelude.{ℕ, ◌≡◌, ◌+◌, ◌-◌, ◌^◌, List, IfOk, min, slice_get};
+ghost use Rattle.definitions.specs.Cards.{Card};
+ghost use Rattle.definitions.specs.Objects.{shown_of};
+ghost use Rattle.definitions.specs.Settling.{settle, settled_all};
+ghost use Rattle.definitions.specs.Statements as statements;
+ghost use Rattle.statement_coder.specs.CodedItems.{IsKept};
+ghost use Rattle.statement_coder.specs.StatementsRead.{IsRead};
+ghost use Rattle.deck_objects.specs.CodedLines.{IsNamed, IsShown};
+ghost use Rattle.deck_pieces.specs.SizedDecks.{IsSizedStatement};
+ghost use Rattle.deck_coder.specs.Walks.{IsWhole, context_in, whole_of};
+
+use crate::deck_view::DeckView;
+use crate::statement_lines::coded_line;
+use deck_objects::{Line, Unlinked};
+use deck_pieces::SizedStatement;
+use field_items::Item;
+use statement_coder::{Meter, Statement, code};
+use std::alloc::AllocError;
+
+/// The line of a statement, whose block has this index. Its fields are put behind those of the lines
+/// before it, if they are listed; where memory runs
+/// out the list is of no use.
+pub(crate) fn statement_line(
+    view: &DeckView<'_>,
+    statement: &Statement<'_>,
+    sized: &SizedStatement,
+    block: u32,
+    items: &mut Vec<Item>,
+    meter: &mut Meter,
+) -> Result<Line, AllocError>
+    ensures line { IfOk result (λ line. (known others earlier : List statements.Statement) (given : statements.Statement) (stood : ℕ) (ahead : List Card) →
+        let whole = whole_of view.now known others in
+        let kind = whole.deck.kind in
+        let settled = settle kind (settled_all kind earlier) given in
+        IsWhole whole → IsRead kind given.cards statement.now → IsSizedStatement kind earlier stood ahead sized.now given → IsNamed (slice_get whole.rows block) settled.block →
+        IsShown kind whole.rows items.new.items stood ahead line (shown_of (context_in whole) settled) × IsKept items.old.items items.new.items) }
+    ensures cards { IfOk result (λ line. line.cards ≡ sized.now.cards) }
+    ensures coded { meter.new.coded ≡ min (meter.old.coded + 1) (2 ^ 64 - 1) }
+    ensures sized { meter.new.sized ≡ meter.old.sized }
+{
+    let bases = Unlinked { bases: view.bases };
+    let coded = code(statement, &sized.sizing, view, &bases, items, meter)?;
+    let line = coded_line(
+        statement.operation,
+        block,
+        &sized.sizing,
+        coded.items,
+        items,
+    )?;
+    Ok(Line {
+        cards: sized.cards,
+        letters: coded.letters,
+        coded: Some(line),
+    })
+}
