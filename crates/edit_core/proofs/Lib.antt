@@ -1,0 +1,2 @@
+-- The pieces of a record, by the number of their statements.
+pub mod PieceLaws

@@ -1,0 +1,38 @@
+-- The pieces of a record have all its statements.
+use Rattle.std.proofs.Common.{ℕ, ◌≡◌, ◌+◌, ◌-◌, ◌≤◌, List, [], ◌∷◌, ◌++◌, length, drop, suc, refl, sym, ap, ◌∙◌, arith, length-append, reverse}
+use Rattle.std.proofs.lemmas.List.{length-reverse}
+use Rattle.definitions.specs.Cards.{Card}
+use Rattle.definitions.specs.DeckKinds.{up_to_end}
+use Rattle.definitions.specs.Statements.{Statement, statements_of}
+use Rattle.definitions.specs.declared.marks.DeckKind.{DeckKind}
+use Rattle.deck_pieces.specs.DeckParts.{DeckPiece, DeckParts, sized_in}
+use Rattle.deck_pieces.specs.SizedDecks.{AreSizedFrom, AreFilled, IsSizedDeck}
+use Rattle.deck_pieces.specs.declared.sized_statement.SizedStatement.{SizedStatement}
+use Rattle.edit_core.specs.Records.{piece_counts, ArePieces}
+
+-- as many are sized as there are statements
+sized-length : (kind : DeckKind) (earlier : List Statement) (stood : ℕ) (ahead : List Card) (sized : List SizedStatement) (statements : List Statement) (behind : List ℕ) (others : List Statement) →
+    AreSizedFrom kind earlier stood ahead sized statements behind others → length sized ≡ length statements
+sized-length kind earlier stood ahead [] [] behind others are = refl
+sized-length kind earlier stood ahead [] (statement ∷ statements) behind others are = absurd are
+sized-length kind earlier stood ahead (one ∷ later) [] behind others are = absurd are
+sized-length kind earlier stood ahead (one ∷ later) (statement ∷ statements) behind others are = ap suc (sized-length kind (statement ∷ earlier) (stood + one.cards) (drop one.cards ahead) later statements behind others are.1)
+
+-- the statements of a piece and of those behind it
+two-lengths : (piece : DeckPiece) (pieces : List DeckPiece) → length (sized_in (piece ∷ pieces)) ≡ length piece.statements + length (sized_in pieces)
+two-lengths piece pieces = length-append piece.statements (sized_in pieces)
+
+-- filled pieces, by their numbers
+pieces-are : (pieces : List DeckPiece) (count : ℕ) → AreFilled pieces → length (sized_in pieces) ≡ count → ArePieces count (piece_counts pieces)
+pieces-are [] count filled all = sym all
+pieces-are (piece ∷ []) count filled all = let both = two-lengths piece [] in (omega (arith, both, all), filled)
+pieces-are (piece ∷ next ∷ pieces) count filled all =
+    let both = two-lengths piece (next ∷ pieces) in
+    let whole = filled.0 in
+    (whole, (omega (arith, both, whole, all), pieces-are (next ∷ pieces) (count - 128) filled.1 (omega (arith, both, whole, all))))
+
+-- the pieces of a deck that is sized
+pub deck-pieces : (cards : List Card) (deck : DeckParts) → IsSizedDeck cards deck → ArePieces (length (up_to_end (statements_of (reverse cards)))) (piece_counts deck.pieces)
+deck-pieces cards deck is =
+    let statements = up_to_end (statements_of (reverse cards)) in
+    pieces-are deck.pieces (length statements) is.filled (sized-length _ _ _ _ (sized_in deck.pieces) (reverse statements) _ _ is.sized ∙ length-reverse statements)

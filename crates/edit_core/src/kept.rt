@@ -1,0 +1,119 @@
+//! What is kept of a deck from one edit to the next.
+ghost use Rattle.std.specs.Prelude.{◌≡◌, ◌≤◌, ◌+◌, true, false, length, reverse, Err, IfOk, ◌↔◌};
+ghost use Rattle.definitions.specs.DeckKinds.{up_to_end};
+ghost use Rattle.definitions.specs.Statements.{statements_of};
+ghost use Rattle.edit_core.specs.Records.{ArePieces};
+
+use crate::assembling::assembled;
+use crate::piece_counts::piece_counts;
+use cards::{Card, DeckName};
+use deck_objects::SharedObject;
+use deck_pieces::SizedDeck;
+use statement_coder::Meter;
+use std::alloc::{AllocError, Global};
+use std::marker::Model;
+
+/// The record of a deck of at most 20,000 cards: its statements up to END in pieces of at most 128,
+/// each with the state before it, and its object. Contracts see its name, its cards, whether it is
+/// spent, and how many statements each piece has; all else of it is, by its type, what the
+/// definitions have of those cards, unless it is spent.
+#[derive(Drop)]
+pub struct Kept {
+    object: SharedObject,
+    sized: SizedDeck,
+    pieces: Vec<u32>,
+    spent: bool,
+}
+
+/// Why a record gives no object.
+#[derive(Clone, Copy, Debug, PartialEq, Eq)]
+pub enum FinishFault {
+    /// The record is spent.
+    Spent,
+    /// No memory was left.
+    OutOfMemory,
+}
+
+impl Model for Kept {
+    ghost use Rattle.std.specs.Prelude.{◌≡◌, ◌≤◌, false, length};
+    ghost use Rattle.deck_pieces.specs.SizedDecks.{IsSizedDeck};
+    ghost use Rattle.edit_core.specs.Records.{Record, piece_counts};
+
+    ghost Value = { Record };
+
+    ghost view = { λ k. record { name = k.object.name; cards = k.object.cards; is_spent = k.spent; pieces = k.pieces.items } };
+
+    ghost invariant = { λ k. (length k.object.cards ≤ 20000) × (k.spent ≡ false → IsSizedDeck k.object.cards k.sized × (k.pieces.items ≡ piece_counts k.sized.pieces)) };
+}
+
+impl Kept {
+    /// The record of the deck of this name and these cards, of which there are at most 20,000. The
+    /// meter counts at most one statement sized, and one coded, for each up to END, also where memory
+    /// runs out.
+    pub fn new(
+        alloc: Global,
+        name: DeckName,
+        cards: Vec<Card>,
+        meter: &mut Meter,
+    ) -> Result<Kept, AllocError>
+        requires { length cards.items ≤ 20000 }
+        ensures name { IfOk result (λ kept. kept.name ≡ name) }
+        ensures cards { IfOk result (λ kept. kept.cards ≡ cards.items) }
+        ensures unspent { IfOk result (λ kept. kept.is_spent ≡ false) }
+        ensures pieces { IfOk result (λ kept. ArePieces (length (up_to_end (statements_of (reverse cards.items)))) kept.pieces) }
+        ensures sized { meter.new.sized ≤ meter.old.sized + length (up_to_end (statements_of (reverse cards.items))) }
+        ensures coded { meter.new.coded ≤ meter.old.coded + length (up_to_end (statements_of (reverse cards.items))) }
+    {
+        let deck = assembled(alloc, name, cards, meter)?;
+        let pieces = piece_counts(alloc, deck.sized.pieces())?;
+        Ok(Kept {
+            object: deck.object,
+            sized: deck.sized,
+            pieces,
+            spent: false,
+        })
+    }
+
+    pub fn name(&self) -> &DeckName
+        ensures { result.now ≡ self.now.name }
+    {
+        self.object.object().name()
+    }
+
+    /// Its cards in order, at most 20,000.
+    pub fn cards(&self) -> &[Card]
+        ensures cards { result.now ≡ self.now.cards }
+        ensures few { length self.now.cards ≤ 20000 }
+    {
+        self.object.object().cards()
+    }
+
+    /// Whether an edit ran out of memory, so that nothing is kept any more.
+    pub fn is_spent(&self) -> bool
+        ensures { result ≡ self.now.is_spent }
+    {
+        self.spent
+    }
+
+    /// The object of its deck, which is at hand: nothing is sized or coded. `Spent` where the record
+    /// is spent, and else nothing but want of memory keeps it.
+    pub fn finish(&self) -> Result<SharedObject, FinishFault>
+        ensures object { IfOk result (λ object. object ≡ record { name = self.now.name; cards = self.now.cards }) }
+        ensures spent { (result ≡ Err FinishFault.Spent) ↔ (self.now.is_spent ≡ true) }
+    {
+        if self.spent {
+            return Err(FinishFault::Spent);
+        }
+        match self.object.share() {
+            Ok(object) => Ok(object),
+            Err(_) => Err(FinishFault::OutOfMemory),
+        }
+    }
+
+    /// How many statements each piece has, in order: 1 to 128, and together all up to END.
+    pub fn pieces(&self) -> &[u32]
+        ensures { result.now ≡ self.now.pieces }
+    {
+        self.pieces.as_slice()
+    }
+}
