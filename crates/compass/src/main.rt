@@ -19,7 +19,7 @@ const COMMAND_LINE_STATUS: u8 = 2;
 /// The command line: its one command is `asm`, and `clap` writes its texts.
 fn read_words<'a>(alloc: Global, words: &'a [String]) -> Result<ArgMatches<'a>, Error> {
     let asm = Command::new(alloc, "asm").about(
-        "Assembles one deck from standard input: listing, link map and octal image",
+        "Assembles decks from standard input: listing, link map and octal image",
     );
     Command::new(alloc, "compass")
         .version("0.1.0")

@@ -97,3 +97,7 @@ few_lines lines decks e =
     let few = h.few in
     let counted = h.counted in
     omega (arith, few, counted, card_count-few decks h.short)
+
+-- there are at most 64 decks
+pub few_decks : (lines : List InputLine) (decks : List Deck) → input_of lines ≡ Decks decks → length decks ≤ 64
+few_decks lines decks e = let h : AreWithin (length lines) decks = subst (IsWithin (length lines)) e (input_of-within lines) in h.few

@@ -3,3 +3,4 @@ pub mod DeckLaws
 pub mod CutSteps
 pub mod FaultLaws
 pub mod ReadSteps
+pub mod AnswerLaws

@@ -15,8 +15,8 @@ use Rattle.text_ports.specs.declared.lines.LineIs.TheVariants as is
 use Rattle.service_main.specs.declared.asm_fault.AsmFault.{AsmFault}
 use Rattle.service_main.specs.Inputs.{input_in, newest_first, AreDecksOf, IsSound, input_fault, IsFaultOf, TellsFaultOf, ReadsToFault}
 use Rattle.text_ports.proofs.LineLaws.{lines_of-line, lines_of-cut, lines_of-few, lines_of-long}
-use Rattle.service_main.proofs.InputLaws.{input_in-faulty, few_lines}
-use Rattle.service_main.proofs.DeckLaws.{in_input_order-newest_first}
+use Rattle.service_main.proofs.InputLaws.{input_in-faulty, few_lines, few_decks}
+use Rattle.service_main.proofs.DeckLaws.{in_input_order-newest_first, length-newest_first}
 
 -- the reader lost the bytes of these lines, newest first
 pub record IsReadAs (old new : Option (List ℕ)) (lines : List InputLine) : Type 0 where
@@ -83,6 +83,13 @@ IsReadSoFar-line old new next decks more count line s q e = record {
 -- no more lines than the cards of full decks
 pub IsReadSoFar-few : (old new : Option (List ℕ)) (decks : List Deck) (count : ℕ) → IsReadSoFar old new decks count → count ≤ 1280000
 IsReadSoFar-few old new decks count s = let n = s.count_is in omega (arith, n, few_lines s.lines (newest_first decks) s.input)
+
+-- at most 64 decks
+pub IsReadSoFar-decks : (old new : Option (List ℕ)) (decks : List Deck) (count : ℕ) → IsReadSoFar old new decks count → length decks ≤ 64
+IsReadSoFar-decks old new decks count s =
+    let few = few_decks s.lines (newest_first decks) s.input in
+    let same = length-newest_first decks in
+    omega (arith, few, same)
 
 one_line : (answer : LineIs) (taken line : List ℕ) → IsTakenAs answer taken line → length (lines_of taken) ≤ 1
 one_line is.Line taken line h =

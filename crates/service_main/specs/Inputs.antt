@@ -1,5 +1,5 @@
 -- What a run makes of its input, in the words of the definitions (ours).
-use Rattle.std.specs.Prelude.{ℕ, ◌≡◌, ◌<◌, ◌≤◌, ◌⊎◌, ⊤, List, ◌++◌, Option, Some, None, length, map, reverse, IfSome, MatchOption}
+use Rattle.std.specs.Prelude.{ℕ, ◌≡◌, ◌<◌, ◌≤◌, ◌^◌, ⊤, List, ◌++◌, Option, Some, None, length, map, reverse, IfSome, MatchOption}
 use Rattle.std.specs.Io.KnownBytes.{Consumes}
 use Rattle.definitions.specs.DeckInput.{Deck}
 use Rattle.definitions.specs.InputLines.{lines_of}
@@ -61,18 +61,13 @@ pub record ReadsToFault (old new : Option (List ℕ)) : Type 0 where
   pub sound : IsSound (input_in front)
   pub one : length (lines_of line) ≤ 1
 
--- the input is one deck, or none
-abbrev pub HasOneDeckAtMost : Input → Type 0
-HasOneDeckAtMost (Decks found) = length found ≤ 1
-HasOneDeckAtMost (Faulty fault) = ⊥
+-- the numbers that a fault of a card tells can be written
+abbrev pub IsSmallColumn : CardFault → Type 0
+IsSmallColumn card.TooWide = ⊤
+IsSmallColumn (card.BadCharacter column) = column < 2 ^ 64
 
--- the input is more decks than one
-abbrev pub HasMoreDecks : Input → Type 0
-HasMoreDecks (Decks found) = 1 < length found
-HasMoreDecks (Faulty fault) = ⊥
-
--- what a run that failed tells of its input: the fault that it has; until decks are linked, a second deck is one too many
-abbrev pub IsRefusedAs : Input → AsmFault → Type 0
-IsRefusedAs found TooManyDecks = (found ≡ Faulty input.TooManyDecks) ⊎ HasMoreDecks found
-IsRefusedAs found (WriteFault sent) = HasOneDeckAtMost found
-IsRefusedAs found fault = TellsFaultOf found fault
+-- the numbers that a fault tells can be written
+abbrev pub AreSmall : AsmFault → Type 0
+AreSmall (BadLine number fault) = (number < 2 ^ 64) × IsSmallColumn fault
+AreSmall (BadName number) = number < 2 ^ 64
+AreSmall fault = ⊤

@@ -1,5 +1,5 @@
 pub mod CardRoles
 pub mod Inputs
-pub mod Parcels
 pub mod Faults
 pub mod Runs
+pub mod Builds

@@ -1,6 +1,6 @@
 -- What a run does to its ports, and its status (ours).
-use Rattle.std.specs.Prelude.{ℕ, ◌==◌, ◌&&◌, if◌then◌else◌, ◌<◌, List, Option, Result, Ok, Err, length, take, ⊤}
-use Rattle.std.specs.Io.KnownBytes.{Appends, IsAtEnd, Keeps}
+use Rattle.std.specs.Prelude.{ℕ, ◌==◌, ◌&&◌, if◌then◌else◌, List, Option, Result, Ok, Err, ⊤}
+use Rattle.std.specs.Io.KnownBytes.{IsAtEnd}
 use Rattle.text_ports.specs.Faults.{count_up}
 use Rattle.service_main.specs.declared.asm_fault.AsmFault.{AsmFault}
 use Rattle.service_main.specs.declared.asm_fault.AsmFault.TheVariants.{OutOfMemory, DeckFull, NameTaken, TooManyDecks, ReadFault, BadLine, LastLineCut, WriteFault, BadName}
@@ -34,26 +34,6 @@ IsReadBeforeFault (BadName line) left = ⊤
 abbrev pub IsReadBefore : Result Tally AsmFault → Option (List ℕ) → Type 0
 IsReadBefore (Ok tally) left = IsAtEnd left
 IsReadBefore (Err fault) left = IsReadBeforeFault fault left
-
--- a whole text went out
-abbrev pub AppendsWhole : Option (List ℕ) → Option (List ℕ) → Type 0
-AppendsWhole old new = (text : List ℕ) × Appends old new text
-
--- the front of a text went out, `sent` bytes of it, and the text is longer
-abbrev pub AppendsFront : ℕ → Option (List ℕ) → Option (List ℕ) → Type 0
-AppendsFront sent old new = (text : List ℕ) × (sent < length text) × Appends old new (take sent text)
-
--- what went out before the fault: the front of a text where the writer failed, else nothing
-abbrev pub IsOutputAfter : Option (List ℕ) → Option (List ℕ) → AsmFault → Type 0
-IsOutputAfter old new OutOfMemory = Keeps old new
-IsOutputAfter old new DeckFull = Keeps old new
-IsOutputAfter old new NameTaken = Keeps old new
-IsOutputAfter old new TooManyDecks = Keeps old new
-IsOutputAfter old new ReadFault = Keeps old new
-IsOutputAfter old new (BadLine line fault) = Keeps old new
-IsOutputAfter old new LastLineCut = Keeps old new
-IsOutputAfter old new (WriteFault sent) = AppendsFront sent old new
-IsOutputAfter old new (BadName line) = Keeps old new
 
 -- the reader's count of faults after the fault: one more where the reader failed
 abbrev pub input_count_after : AsmFault → ℕ → ℕ

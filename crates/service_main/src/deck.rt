@@ -1,12 +1,12 @@
 //! A deck: its name, and its cards in order.
-ghost use Rattle.std.specs.Prelude.{◌≡◌, [], ◌∷◌, ◌++◌, OnOk, OnErr};
+ghost use Rattle.std.specs.Prelude.{◌≡◌, ◌<◌, ◌≤◌, [], ◌∷◌, ◌++◌, length, OnOk, OnErr};
 
 use cards::{Card, DeckName};
 use std::alloc::{AllocError, Global};
 use std::marker::Model;
 
-/// A deck: its name, and its cards with the IDENT card first. Contracts see the deck of the
-/// definitions.
+/// A deck: its name, and its cards with the IDENT card first, at most 20,000. Contracts see the deck
+/// of the definitions.
 #[derive(Drop)]
 pub struct Deck {
     name: DeckName,
@@ -18,7 +18,11 @@ impl Model for Deck {
 
     ghost Value = { Deck };
 
+    ghost use Rattle.std.specs.Prelude.{◌≤◌, length};
+
     ghost view = { λ d. record { name = d.name; cards = d.cards.items } };
+
+    ghost invariant = { λ d. length d.cards.items ≤ 20000 };
 }
 
 impl Deck {
@@ -41,18 +45,29 @@ impl Deck {
 
     /// Its cards in order.
     pub fn cards(&self) -> &[Card]
-        ensures { result.now ≡ self.now.cards }
+        ensures cards { result.now ≡ self.now.cards }
+        ensures few { length self.now.cards ≤ 20000 }
     {
         self.cards.as_slice()
     }
 
-    /// Puts a card behind the others. Without memory the deck stays as it was.
+    /// Puts a card behind the others, which leave room for it. Without memory the deck stays as it was.
     pub fn push(&mut self, card: Card) -> Result<(), AllocError>
+        requires { length self.old.cards < 20000 }
         ensures ok { OnOk result
             (self.new ≡ record { name = self.old.name; cards = self.old.cards ++ card ∷ [] }) }
         ensures err { OnErr result (self.new ≡ self.old) }
     {
         self.cards.push(card)?;
         Ok(())
+    }
+
+    /// Its name and its cards.
+    pub fn into_parts(self) -> (DeckName, Vec<Card>)
+        ensures name { result.0 ≡ self.name }
+        ensures cards { result.1.items ≡ self.cards }
+        ensures few { length result.1.items ≤ 20000 }
+    {
+        (self.name, self.cards)
     }
 }

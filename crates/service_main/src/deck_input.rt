@@ -1,8 +1,8 @@
 //! Reads the lines of a run as decks, or tells the first fault among them.
-ghost use Rattle.std.specs.Prelude.{◌≡◌, OnOk, IfOk, IfErr, IfSome};
+ghost use Rattle.std.specs.Prelude.{◌≡◌, ◌≤◌, length, OnOk, IfOk, IfErr, IfSome};
 ghost use Rattle.std.specs.Io.KnownBytes.{IsAtEnd};
 ghost use Rattle.service_main.specs.Runs.{IsBeforeWriting, input_count_after};
-ghost use Rattle.service_main.specs.Inputs.{input_in, AreDecksOf, TellsFaultOf, ReadsToFault};
+ghost use Rattle.service_main.specs.Inputs.{input_in, AreDecksOf, TellsFaultOf, ReadsToFault, AreSmall};
 
 use crate::asm_fault::AsmFault;
 use crate::deck::Deck;
@@ -29,6 +29,8 @@ pub fn read_decks<R: Read>(alloc: Global, input: &mut Counted<R>) -> Result<Vec<
     ensures fault { IfErr result (λ fault.
         IfSome (R.remaining input.old.0) (λ bytes. TellsFaultOf (input_in bytes) fault)) }
 
+    ensures small { IfErr result AreSmall }
+    ensures few { IfOk result (λ decks. length decks.items ≤ 64) }
     ensures no_fault { OnOk result (input.new.1 ≡ input.old.1) }
     ensures count { IfErr result (λ fault. input.new.1 ≡ input_count_after fault input.old.1) }
     ensures before_writing { IfErr result IsBeforeWriting }

@@ -7,23 +7,17 @@ mod deck;
 mod deck_cut;
 mod deck_input;
 
-// From cards to words, in the first, plain form.
-mod coder;
-mod cpu_opcodes;
-mod expr_forms;
-mod letter_sets;
-mod parcel_packer;
-
-// The texts.
-mod deck_linker;
-mod deck_listing;
-mod output_text;
+// From decks to texts, and out.
+mod publishing;
+mod writing;
 
 // A run.
 mod asm_fault;
+mod laws;
 mod running;
 
 pub use asm_fault::AsmFault;
+pub use laws::answers_are_builds;
 pub use running::{Tally, asm_run, asm_status};
 
 #[cfg(test)]

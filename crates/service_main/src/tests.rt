@@ -128,112 +128,12 @@ fn writes_listing_map_and_image(rt: HostRuntime) {
     assert_eq!(rt; asm_status(&ran.outcome), 0);
 }
 
-/// A card behind the IDENT card, and the line that stands under it in the listing.
-const CARDS: [(&[u8], &[u8]); 43] = [
-    (b"          BX6    X1", b"  000000 0 10611"),
-    (b"          BX1    -X3", b"  000000 0 14133"),
-    (b"          BX2    X3*X4", b"  000000 0 11234"),
-    (b"          BX2    X3+X4", b"  000000 0 12234"),
-    (b"          BX2    X3-X4", b"  000000 0 13234"),
-    (b"          BX2    -X4*X3", b"  000000 0 15234"),
-    (b"          BX2    -X4+X3", b"  000000 0 16234"),
-    (b"          BX2    -X4-X3", b"  000000 0 17234"),
-    (b"          SB1    1", b"  000000 0 6110000001"),
-    (b"          SX6    -1", b"  000000 0 7160777776"),
-    (b"          SX6    -0", b"  000000 0 7160000000"),
-    (b"          SX6    777777B", b"  000000 0 7160777777"),
-    (b"          SX0    7BS3", b"  000000 0 7100000070"),
-    (b"          SX0    1S17", b"  000000 0 7100400000"),
-    (b"          SX1    A2+5B", b"  000000 0 7012000005"),
-    (b"          SX1    B2-1", b"  000000 0 7112777776"),
-    (b"          SX1    10-2+X2", b"  000000 0 7212000010"),
-    (b"          SB1    X2", b"  000000 0 63120"),
-    (b"          SB1    +A2", b"  000000 0 64120"),
-    (b"          SB1    B2", b"  000000 0 66120"),
-    (b"          SB1    -B3", b"  000000 0 67103"),
-    (b"          SB1    B3+X2", b"  000000 0 63123"),
-    (b"          SB1    A2+B3", b"  000000 0 64123"),
-    (b"          SB1    -B3+A2", b"  000000 0 65123"),
-    (b"          SB1    B2+B3", b"  000000 0 66123"),
-    (b"          SB1    B2-B3", b"  000000 0 67123"),
-    (b"          EQ     100B", b"  000000 0 0400000100"),
-    (b"  SB1 2", b"  000000 0 6110000002"),
-    (b"+         BX6    X1", b"  000000 0 10611"),
-    (b"          SX6    1000000B", b"  ERR A"),
-    (b"          SX6    1S60-1S60", b"  ERR A"),
-    (b",", b"  ERR C"),
-    (b"L         BX6    X1", b"  ERR L"),
-    (b"12.5      FOO    X1", b"  ERR LO"),
-    (b"L", b"  ERR O"),
-    (b"          ABS", b"  ERR O"),
-    (b"          BX6    B1", b"  ERR V"),
-    (b"          BX6    +X1", b"  ERR V"),
-    (b"          SB1    X1*X2", b"  ERR V"),
-    (b"          SB1    8B", b"  ERR V"),
-    (b"          SB1", b"  ERR V"),
-    (b"          EQ     B1,B2,5", b"  ERR V"),
-    (
-        b"                              SB1    1",
-        b"BLOCK 0 00000000 00000000",
-    ),
-];
-
-#[test]
-fn codes_cards(rt: HostRuntime) -> Result<(), Fail> {
-    for (card, line) in CARDS {
-        let mut deck = Vec::from_slice(rt.alloc(), b"          IDENT  T\n")?;
-        deck.extend_from_slice(b"*\n")?;
-        deck.extend_from_slice(card)?;
-        deck.extend_from_slice(b"\n")?;
-        let ran = run(rt.alloc(), &deck, PLENTY, PLENTY);
-        assert!(rt; has_line(&ran.written, line), "{card:?}");
-        let flags = usize::from(line.starts_with(b"  ERR"));
-        assert_eq!(rt;
-            ran.outcome,
-            Ok(Tally {
-                errors: flags,
-                links: 0
-            }),
-            "{card:?}"
-        );
-    }
-    Ok(())
-}
-
-/// Decks, and all words of their images.
-const PLACES: [(&[u8], &[u8]); 3] = [
-    // A long instruction does not begin in the last parcel.
-    (
-        b"          IDENT  T\n          BX6    X1\n          BX7    X2\n          BX1    X3\n          SB1    1\n",
-        b"000100 10611107221013346000\n000101 61100000014600046000\nEND\n",
-    ),
-    // What follows a jump, and what has `+`, stands at the first parcel; `-` lets it stay.
-    (
-        b"          IDENT  T\n          EQ     100B\n          BX6    X1\n+         BX7    X1\n          EQ     100B\n-         BX1    X2\n",
-        b"000100 04000001004600046000\n000101 10611460004600046000\n000102 10711040000010010122\nEND\n",
-    ),
-    // A faulty instruction takes no parcel, and ends what the jump asks for.
-    (
-        b"          IDENT  T\n          EQ     100B\n-         FOO\n          BX6    X1\n",
-        b"000100 04000001001061146000\nEND\n",
-    ),
-];
-
-#[test]
-fn places_instructions(rt: HostRuntime) {
-    for (deck, words) in PLACES {
-        let ran = run(rt.alloc(), deck, PLENTY, PLENTY);
-        assert!(rt; ran.written.ends_with(words), "{deck:?}");
-    }
-}
-
-/// An input for each fault of the input but `DeckFull`, and the text of the fault. Which fault an
+/// An input for each fault of the input but `DeckFull` and `TooManyDecks`, and the text of the fault. Which fault an
 /// input has the contract says; here each is reached, and not want of memory.
-const FAULTS: [(&[u8], &str); 7] = [
+const FAULTS: [(&[u8], &str); 6] = [
     (b"*A\n", "BadName 1"),
     (b"          IDENT  T\n          IDENT  U+\n", "BadName 2"),
     (b"          IDENT  T\n          IDENT  T\n", "NameTaken"),
-    (b"          IDENT  T\n          IDENT  U\n", "TooManyDecks"),
     (b"          IDENT  T\n*12345a\n", "BadLine 2 BadCharacter 7"),
     (
         b"          IDENT  T\n12345678901234567890123456789012345678901234567890123456789012345678901234567890a\n",
@@ -270,6 +170,27 @@ fn refuses_card_20001(rt: HostRuntime) -> Result<(), Fail> {
     deck.extend_from_slice(b"*\n")?;
     let ran = run(rt.alloc(), &deck, PLENTY, PLENTY);
     fails(&rt, rt.alloc(), &ran, "DeckFull")?;
+    Ok(())
+}
+
+#[test]
+fn refuses_deck_65(rt: HostRuntime) -> Result<(), Fail> {
+    let mut decks = Vec::new(rt.alloc());
+    for number in 0..64_u8 {
+        decks.extend_from_slice(b"          IDENT  D")?;
+        decks.extend_from_slice(&[b'A' + number / 8, b'A' + number % 8, b'\n'])?;
+    }
+    let ran = run(rt.alloc(), &decks, PLENTY, PLENTY);
+    assert_eq!(rt;
+        ran.outcome,
+        Ok(Tally {
+            errors: 0,
+            links: 0
+        })
+    );
+    decks.extend_from_slice(b"          IDENT  LAST\n")?;
+    let ran = run(rt.alloc(), &decks, PLENTY, PLENTY);
+    fails(&rt, rt.alloc(), &ran, "TooManyDecks")?;
     Ok(())
 }
 

@@ -3,7 +3,7 @@ use Rattle.definitions.specs.InputLines.{Line}
 use Rattle.definitions.specs.DeckInput.{Decks, with_line}
 use Rattle.service_main.specs.Inputs.{newest_first, IsFaultOf}
 use Rattle.service_main.proofs.FaultLaws.{IfErr-passed, IsFaultOf-count, IsFaultOf-before_writing}
-use Rattle.service_main.proofs.ReadSteps.{IsReadSoFar-none, IsReadSoFar-line, IsReadSoFar-few, ReadsToFault-so_far, AreDecksOf-so_far, too_long-so_far, cut-so_far, refused-so_far}
+use Rattle.service_main.proofs.ReadSteps.{IsReadSoFar-none, IsReadSoFar-line, IsReadSoFar-few, IsReadSoFar-decks, ReadsToFault-so_far, AreDecksOf-so_far, too_long-so_far, cut-so_far, refused-so_far}
 use Rattle.service_main.proofs.deck_input.read_decks.Goals as goal
 
 pub loop-before-init : goal.loop-before-init
@@ -24,6 +24,9 @@ returns-in-End-clause-read g c = ReadsToFault-so_far _ _ _ _ _ _ _ c.loop-before
 
 pub returns-in-End-clause-decks : goal.returns-in-End-clause-decks
 returns-in-End-clause-decks g c = AreDecksOf-so_far _ _ _ _ _ _ c.loop-before.invariant.read c.in-End.ensures.reads
+
+pub returns-in-End-clause-few : goal.returns-in-End-clause-few
+returns-in-End-clause-few g c = IsReadSoFar-decks _ _ _ _ c.loop-before.invariant.read
 
 pub returns-in-Cut-clause-read : goal.returns-in-Cut-clause-read
 returns-in-Cut-clause-read g c = ReadsToFault-so_far _ _ _ _ _ _ _ c.loop-before.invariant.read c.next_line.ensures.reads
