@@ -1,0 +1,29 @@
+//! What a run answers to a deck.
+
+use service_main::{asm_run, asm_status};
+use std::alloc::Global;
+use std::io;
+use text_ports::Counted;
+
+/// What a run gives: its output, its text on standard error, and its status.
+#[derive(Drop)]
+pub struct Answer {
+    pub output: Vec<u8>,
+    pub message: Vec<u8>,
+    pub status: u8,
+}
+
+/// What a run answers to a deck, with the text that `compass` writes at a fault.
+pub fn answer_to(alloc: Global, deck: &[u8]) -> io::Result<Answer> {
+    let mut output = Counted::new(Vec::new(alloc));
+    let outcome = asm_run(alloc, &mut Counted::new(deck), &mut output);
+    let message = match outcome {
+        Ok(_) => Vec::new(alloc),
+        Err(fault) => format!(in alloc; "compass: {fault}\n")?.into_bytes(),
+    };
+    Ok(Answer {
+        output: output.into_inner(),
+        message,
+        status: asm_status(&outcome),
+    })
+}

@@ -1,0 +1,47 @@
+//! How many cases are as wanted.
+ghost use Rattle.std.specs.Prelude.{◌≡◌, ◌+◌, ◌<◌, ◌^◌, if◌then◌else◌};
+ghost use Rattle.asm_cases.specs.Scores.{score_text, score_status, with_case};
+
+use std::fmt;
+
+/// How many cases ran, and how many of them were as wanted.
+#[derive(Clone, Copy)]
+pub struct Score {
+    pub ran: u64,
+    pub as_wanted: u64,
+}
+
+impl Score {
+    /// The score with a case more. A count stays at its greatest value.
+    pub fn with(self, is_as_wanted: bool) -> Score
+        ensures { result ≡ with_case self is_as_wanted }
+    {
+        Score {
+            ran: self.ran.saturating_add(1),
+            as_wanted: self.as_wanted.saturating_add(u64::from(is_as_wanted)),
+        }
+    }
+
+    /// The status of the program: 0 where all cases are as wanted, else 1.
+    pub fn status(self) -> u8
+        ensures { result ≡ score_status self }
+    {
+        u8::from(self.ran != self.as_wanted)
+    }
+}
+
+impl fmt::Display for Score {
+    ghost use Rattle.std.specs.Prelude.{Some};
+    ghost use Rattle.asm_cases.specs.Scores.{score_text};
+
+    ghost output = { λ score. Some (score_text score) };
+
+    fn fmt<W: fmt::Write>(&self, f: &mut fmt::Formatter<W>) -> fmt::Result {
+        let Score { ran, as_wanted } = self;
+        if ran == as_wanted {
+            write!(f, "{ran} cases are as wanted")
+        } else {
+            write!(f, "{as_wanted} of {ran} cases are as wanted")
+        }
+    }
+}
