@@ -1,8 +1,8 @@
 -- A walk over the statements of a deck: how it begins, one step of it, and its end.
-use Rattle.std.proofs.Common.{◌≡◌, ◌∙◌, ℕ, ◌+◌, Bool, true, List, [], ◌∷◌, ◌++◌, map, take, drop, length, reverse, refl, ap, sym, subst, append-nil, append_assoc}
+use Rattle.std.proofs.Common.{◌≡◌, ◌∙◌, ℕ, ◌+◌, true, List, [], ◌∷◌, ◌++◌, map, drop, reverse, refl, ap, sym, subst, append-nil, append_assoc}
 use Rattle.std.proofs.lemmas.List.{drop-drop, reverse-reverse, map-append, reverse-append}
 use Rattle.definitions.specs.Cards.{Card}
-use Rattle.definitions.specs.Lengths.{BlockRow, block_rows}
+use Rattle.definitions.specs.Lengths.{block_rows}
 use Rattle.definitions.specs.Objects.{Shown, shown_of, only_listed}
 use Rattle.definitions.specs.Settling.{settle, settled_all}
 use Rattle.definitions.specs.Statements.{Statement}
@@ -10,7 +10,7 @@ use Rattle.deck_pieces.specs.DeckParts.{sized_in}
 use Rattle.deck_pieces.specs.SizedDecks.{AreSizedFrom, AreListedFrom, IsSizedStatement, IsListedStatement}
 use Rattle.deck_pieces.specs.declared.sized_statement.SizedStatement.{SizedStatement}
 use Rattle.deck_coder.specs.Walks.{Whole, IsWhole, has_row, all_settled, context_in, AreLined, AreLinedAs, AreNoted}
-use Rattle.deck_coder.specs.DeckWalks.{IsWalked, IsListing, IsDone, shown_with}
+use Rattle.deck_coder.specs.DeckWalks.{IsWalked, IsListing}
 use Rattle.deck_coder.specs.declared.deck_lines.DeckLines.{DeckLines}
 use Rattle.deck_coder.specs.declared.deck_walk.Making.{Making}
 use Rattle.deck_coder.proofs.UsedLaws.{block-there}

@@ -1,25 +1,14 @@
 -- Entries, and the table of the names that are seen.
-use Rattle.std.proofs.Common.{◌≡◌, ◌∙◌, ℕ, ◌&&◌, Bool, true, false, true≢false, List, [], ◌∷◌, ◌++◌, Option, Some, None, refl, ap, sym, subst, if◌then◌else◌}
+use Rattle.std.proofs.Common.{◌≡◌, ◌∙◌, ℕ, ◌&&◌, Bool, true, false, true≢false, List, [], ◌∷◌, ◌++◌, Option, Some, None, refl, ap, sym, if◌then◌else◌}
 use Rattle.std.specs.Prelude.{is_some}
 use Rattle.definitions.specs.Characters.{same_text}
 use Rattle.definitions.specs.Entries.{entry_fault, with_entry}
 use Rattle.definitions.specs.Forms.{Form}
 use Rattle.definitions.specs.Settled.{Settled, Definition, defined_in, defined, or_form}
-use Rattle.definitions.specs.declared.marks.Letter.{Letter}
 use Rattle.definitions.specs.declared.marks.Letter.TheVariants as letter
+use Rattle.deck_pieces.proofs.DefinitionLaws.{defined_in-push}
 use Rattle.deck_pieces.specs.FirstSymbols.{is_known_name, symbol_in, with_symbol}
 use Rattle.deck_coder.specs.SharedNames.{AreSeen}
-
--- the value of a name among definitions and one behind them
-defined_in-cond : (t : Bool) (form : Form) (rest front last : Option Form) → rest ≡ or_form front last → (if t then Some form else rest) ≡ or_form (if t then Some form else front) last
-defined_in-cond true form rest front last e = refl
-defined_in-cond false form rest front last e = e
-
-defined_in-push : (other : List ℕ) (entries : List Definition) (last : Definition) →
-    defined_in other (entries ++ last ∷ []) ≡ or_form (defined_in other entries) (if same_text other last.name then Some last.form else None)
-defined_in-push other [] last = refl
-defined_in-push other (entry ∷ entries) last =
-    defined_in-cond (same_text other entry.name) entry.form (defined_in other (entries ++ last ∷ [])) (defined_in other entries) (if same_text other last.name then Some last.form else None) (defined_in-push other entries last)
 
 -- what is worth something is a known name
 pub symbol_in-known : (seen : List (ℕ × Form)) (name : List ℕ) (form : Form) → symbol_in seen name ≡ Some form → is_known_name name ≡ true

@@ -1,17 +1,16 @@
 -- What statements define, and the externals among it.
-use Rattle.std.proofs.Common.{◌≡◌, ◌∙◌, ℕ, ◌&&◌, ◌||◌, Bool, true, false, true≢false, List, [], ◌∷◌, ◌++◌, Option, Some, None, is_some, refl, ap, sym, subst, append-nil, append_assoc, if◌then◌else◌}
+use Rattle.std.proofs.Common.{◌≡◌, ◌∙◌, ℕ, Bool, true, false, true≢false, List, [], ◌∷◌, ◌++◌, Option, Some, None, is_some, refl, ap, sym, subst, append-nil, append_assoc, if◌then◌else◌}
 use Rattle.std.specs.Prelude.{filter_map}
 use Rattle.std.specs.List.{AllByRecursion}
 use Rattle.std.proofs.lemmas.List.Elements.{filter_map-append}
-use Rattle.definitions.specs.Characters.{same_text}
-use Rattle.definitions.specs.Entries.{external_name, externals_by, externals_of}
+use Rattle.definitions.specs.Entries.{external_name, externals_by}
 use Rattle.definitions.specs.Forms.{Form}
 use Rattle.definitions.specs.Kinds.{is_absolute_deck}
 use Rattle.definitions.specs.Operands as operands
 use Rattle.definitions.specs.Operands.{Operand, NamesOperand}
 use Rattle.definitions.specs.Operations as op
 use Rattle.definitions.specs.Operations.{Operation}
-use Rattle.definitions.specs.Settled.{Settled, Definition, defined_in, defined, or_form}
+use Rattle.definitions.specs.Settled.{Settled, Definition, defined_in, defined}
 use Rattle.definitions.specs.Settling.{View, external, externals, is_known, definitions_of, settle}
 use Rattle.definitions.specs.Statements.{Statement}
 use Rattle.definitions.specs.declared.marks.DeckKind.{DeckKind}
@@ -47,17 +46,7 @@ joined-none v = λ i other. sym (or_form-none (v other)) i
 
 new-of : (v : View) (operand : Operand) (list : List (List ℕ)) → IsLawfulOperand operand → with_new_of operand v list ≡ list ++ filter_map external_name (made.externals_of v operand)
 new-of v (NamesOperand names) list lawful = ap (λ (w : View). with_new names w list) (joined-none v) ∙ ap (with_new names (joined v [])) (sym (append-nil list)) ∙ new-externals v names [] list lawful
-new-of v operands.Unread list lawful = sym (append-nil list)
-new-of v operands.BadOperand list lawful = sym (append-nil list)
-new-of v (operands.CentralOperand instruction) list lawful = sym (append-nil list)
-new-of v (operands.PeripheralOperand row values) list lawful = sym (append-nil list)
-new-of v (operands.WordsOperand data') list lawful = sym (append-nil list)
-new-of v (operands.BitsOperand fields) list lawful = sym (append-nil list)
-new-of v (operands.TextOperand count characters) list lawful = sym (append-nil list)
-new-of v (operands.ValueOperand e) list lawful = sym (append-nil list)
-new-of v (operands.UseName name) list lawful = sym (append-nil list)
-new-of v operands.UseBefore list lawful = sym (append-nil list)
-new-of v operands.UseRefused list lawful = sym (append-nil list)
+new-of v _ list lawful = sym (append-nil list)
 
 -- what an EXT defines
 ext-operation : (operation : Operation) → is_ext operation ≡ true → operation ≡ op.Ext
@@ -66,17 +55,7 @@ ext-operation _ e = absurd (true≢false (sym e))
 
 rel-definitions : (v : View) (operand : Operand) (location : List ℕ) (value counter : Form) → definitions_of Rel op.Ext operand location value counter v ≡ made.externals_of v operand
 rel-definitions v (NamesOperand names) location value counter = refl
-rel-definitions v operands.Unread location value counter = refl
-rel-definitions v operands.BadOperand location value counter = refl
-rel-definitions v (operands.CentralOperand instruction) location value counter = refl
-rel-definitions v (operands.PeripheralOperand row values) location value counter = refl
-rel-definitions v (operands.WordsOperand data') location value counter = refl
-rel-definitions v (operands.BitsOperand fields) location value counter = refl
-rel-definitions v (operands.TextOperand count characters) location value counter = refl
-rel-definitions v (operands.ValueOperand e) location value counter = refl
-rel-definitions v (operands.UseName name) location value counter = refl
-rel-definitions v operands.UseBefore location value counter = refl
-rel-definitions v operands.UseRefused location value counter = refl
+rel-definitions v _ location value counter = refl
 
 ext-definitions : (v : View) (kind : DeckKind) (operation : Operation) (operand : Operand) (location : List ℕ) (value counter : Form) → is_ext operation ≡ true → is_absolute_deck kind ≡ false →
     definitions_of kind operation operand location value counter v ≡ made.externals_of v operand

@@ -1,18 +1,17 @@
 -- What a line keeps of fields is those fields to whoever links.
-use Rattle.std.proofs.Common.{◌≡◌, ◌∙◌, ℕ, ◌+◌, ◌-◌, ◌*◌, ◌^◌, ◌<◌, ◌≤◌, Bool, true, false, List, [], ◌∷◌, ◌++◌, Option, length, take, drop, map, refl, ap, ap₂, sym, subst, arith}
-use Rattle.std.specs.Prelude.{◌↔◌, slice_get}
+use Rattle.std.proofs.Common.{◌≡◌, ◌∙◌, ℕ, ◌+◌, ◌-◌, ◌*◌, ◌≤◌, true, false, List, [], ◌∷◌, ◌++◌, length, take, drop, map, refl, ap, sym, subst, arith}
+use Rattle.std.specs.Prelude.{slice_get}
 use Rattle.std.proofs.lemmas.Bool.{true≢false}
 use Rattle.std.proofs.lemmas.List.{drop-map, drop_at, length-map, take_all, length-drop, take-take, drop-take}
 use Rattle.definitions.specs.Kinds.{unit_bits}
 use Rattle.definitions.specs.Lengths.{BlockRow}
-use Rattle.definitions.specs.Link.{Layout, Based, unfit_words}
 use Rattle.definitions.specs.Operands.{Operand}
 use Rattle.definitions.specs.Operations as op
 use Rattle.definitions.specs.Operations.{Operation}
 use Rattle.definitions.specs.Settled.{Settled}
 use Rattle.definitions.specs.Settling.{View}
 use Rattle.definitions.specs.StatementItems.{Item, known}
-use Rattle.definitions.specs.Words.{Linking, Coded, width_of, joined}
+use Rattle.definitions.specs.Words.{Coded, width_of}
 use Rattle.definitions.specs.declared.marks.DeckKind.{DeckKind}
 use Rattle.field_items.specs.Items.{item_as, items_as}
 use Rattle.field_items.specs.declared.items.Item as code

@@ -1,11 +1,11 @@
 -- Known fields as one number: fields more behind them.
-use Rattle.std.proofs.Common.{◌≡◌, ◌∙◌, ℕ, ◌+◌, ◌*◌, ◌/◌, ◌^◌, ◌<◌, ◌≤◌, Bool, true, false, List, [], ◌∷◌, ◌++◌, Option, Some, None, refl, ap, ap₂, sym, subst, arith, append-nil, append_assoc, if◌then◌else◌}
+use Rattle.std.proofs.Common.{◌≡◌, ◌∙◌, ℕ, ◌+◌, ◌*◌, ◌/◌, ◌^◌, ◌<◌, ◌≤◌, List, [], ◌∷◌, ◌++◌, ap, ap₂, sym, subst, arith, append_assoc, if◌then◌else◌}
 use Rattle.std.proofs.Math.Nat.{pow-le-pow_right}
-use Rattle.std.proofs.lemmas.Nat.{pow-add, mul-add-lt, shl_whole}
+use Rattle.std.proofs.lemmas.Nat.{pow-add, mul-add-lt}
 use Rattle.definitions.specs.Kinds.{word_bits}
 use Rattle.definitions.specs.Link.{Layout, Based, is_unfit, unfit_words}
-use Rattle.definitions.specs.StatementItems.{Item, Content, Known, Linked}
-use Rattle.definitions.specs.Words.{Linking, content_bits, width_of, joined}
+use Rattle.definitions.specs.StatementItems.{Item, Content, Known}
+use Rattle.definitions.specs.Words.{content_bits, width_of}
 use Rattle.statement_coder.proofs.JoinLaws.{width-append, joined-append}
 use Rattle.deck_coder.specs.KeptFields.{AreTogether}
 

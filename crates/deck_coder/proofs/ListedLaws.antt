@@ -1,17 +1,16 @@
 -- Fields told word by word are the same fields to whoever links.
-use Rattle.std.proofs.Common.{◌≡◌, ◌∙◌, ℕ, zero, suc, ◌+◌, ◌*◌, ◌/◌, ◌%◌, ◌^◌, ◌<◌, ◌≤◌, Bool, true, false, ◌&&◌, List, [], ◌∷◌, ◌++◌, Option, Some, None, flat_map, length, refl, ap, ap₂, sym, subst, arith, append-nil, if◌then◌else◌}
+use Rattle.std.proofs.Common.{◌≡◌, ◌∙◌, ℕ, ◌+◌, ◌/◌, ◌%◌, ◌^◌, ◌<◌, Bool, true, false, ◌&&◌, List, [], ◌∷◌, ◌++◌, flat_map, refl, ap, ap₂, sym, arith, if◌then◌else◌}
 use Rattle.std.specs.Prelude.{nat_lt, nat_eq}
 use Rattle.std.proofs.lemmas.Bool.{and_parts, ltb-true}
 use Rattle.definitions.specs.Kinds.{word_bits}
-use Rattle.definitions.specs.Link.{Layout, Based, is_unfit, unfit_words}
-use Rattle.definitions.specs.Operands as operands
+use Rattle.definitions.specs.Link.{Layout, Based, unfit_words}
 use Rattle.definitions.specs.Operands.{Operand, WordsOperand, TextOperand}
-use Rattle.definitions.specs.StatementItems.{Item, Content, Known, Linked, known}
-use Rattle.definitions.specs.Words.{Linking, width_of, joined, cut}
+use Rattle.definitions.specs.StatementItems.{Item, Content, Known, Linked}
+use Rattle.definitions.specs.Words.{width_of, cut}
 use Rattle.definitions.specs.declared.marks.DeckKind.{DeckKind}
 use Rattle.definitions.specs.declared.marks.Letter.{Letter}
 use Rattle.statement_coder.specs.WordItems.{is_several, known_words, words_of, in_words, listed_fields}
-use Rattle.statement_coder.proofs.JoinLaws.{AreSame, width-append, width-listed, joined-listed, same-words_of}
+use Rattle.statement_coder.proofs.JoinLaws.{width-listed, joined-listed, same-words_of}
 use Rattle.statement_laws.specs.Filling.{HasFields}
 use Rattle.deck_objects.specs.LineItems.{AreBitsOf}
 use Rattle.deck_coder.proofs.KnownLaws.{unfit-append, unfit-known}
@@ -73,49 +72,22 @@ has-in_words word [] h = absurd h
 has-in_words word (field ∷ fields) h =
     has-append (in_words word field) (flat_map (in_words word) fields) (has-words_of word field field.letters field.content (width-in_words word field))
 
--- what a list tells of the fields of an operand
+-- a list tells the words of fields, or the fields
+listed-by : (P : List Item → Type 0) (kind : DeckKind) (operand : Operand) (fields : List Item) → P (flat_map (in_words (word_bits kind)) fields) → P fields → P (listed_fields kind operand fields)
+listed-by P kind (WordsOperand data') fields words same = words
+listed-by P kind (TextOperand count characters) fields words same = words
+listed-by P kind _ fields words same = same
+
 has-listed : (kind : DeckKind) (operand : Operand) (fields : List Item) → HasFields fields → HasFields (listed_fields kind operand fields)
-has-listed kind (WordsOperand data') fields h = has-in_words (word_bits kind) fields h
-has-listed kind (TextOperand count characters) fields h = has-in_words (word_bits kind) fields h
-has-listed kind operands.Unread fields h = h
-has-listed kind operands.BadOperand fields h = h
-has-listed kind (operands.CentralOperand instruction) fields h = h
-has-listed kind (operands.PeripheralOperand row values) fields h = h
-has-listed kind (operands.BitsOperand bits) fields h = h
-has-listed kind (operands.ValueOperand e) fields h = h
-has-listed kind (operands.NamesOperand names) fields h = h
-has-listed kind (operands.UseName name) fields h = h
-has-listed kind operands.UseBefore fields h = h
-has-listed kind operands.UseRefused fields h = h
+has-listed kind operand fields h = listed-by HasFields kind operand fields (has-in_words (word_bits kind) fields h) h
 
 pub none-listed : (kind : DeckKind) (operand : Operand) (fields : List Item) → fields ≡ [] → listed_fields kind operand fields ≡ []
-none-listed kind (WordsOperand data') fields e = ap (flat_map (in_words (word_bits kind))) e
-none-listed kind (TextOperand count characters) fields e = ap (flat_map (in_words (word_bits kind))) e
-none-listed kind operands.Unread fields e = e
-none-listed kind operands.BadOperand fields e = e
-none-listed kind (operands.CentralOperand instruction) fields e = e
-none-listed kind (operands.PeripheralOperand row values) fields e = e
-none-listed kind (operands.BitsOperand bits) fields e = e
-none-listed kind (operands.ValueOperand e') fields e = e
-none-listed kind (operands.NamesOperand names) fields e = e
-none-listed kind (operands.UseName name) fields e = e
-none-listed kind operands.UseBefore fields e = e
-none-listed kind operands.UseRefused fields e = e
+none-listed kind operand fields e = listed-by (λ l. l ≡ []) kind operand fields (ap (flat_map (in_words (word_bits kind))) e) e
 
 unfit-listed : (layout : Layout) (based : Based) (from : ℕ) (kind : DeckKind) (operand : Operand) (fields : List Item) →
     unfit_words layout based from (listed_fields kind operand fields) ≡ unfit_words layout based from fields
-unfit-listed layout based from kind (WordsOperand data') fields = unfit-in_words layout based from (word_bits kind) fields
-unfit-listed layout based from kind (TextOperand count characters) fields = unfit-in_words layout based from (word_bits kind) fields
-unfit-listed layout based from kind operands.Unread fields = refl
-unfit-listed layout based from kind operands.BadOperand fields = refl
-unfit-listed layout based from kind (operands.CentralOperand instruction) fields = refl
-unfit-listed layout based from kind (operands.PeripheralOperand row values) fields = refl
-unfit-listed layout based from kind (operands.BitsOperand bits) fields = refl
-unfit-listed layout based from kind (operands.ValueOperand e) fields = refl
-unfit-listed layout based from kind (operands.NamesOperand names) fields = refl
-unfit-listed layout based from kind (operands.UseName name) fields = refl
-unfit-listed layout based from kind operands.UseBefore fields = refl
-unfit-listed layout based from kind operands.UseRefused fields = refl
+unfit-listed layout based from kind operand fields =
+    listed-by (λ l. unfit_words layout based from l ≡ unfit_words layout based from fields) kind operand fields (unfit-in_words layout based from (word_bits kind) fields) refl
 
 -- fields as a list tells them
 pub bits-listed : (kind : DeckKind) (operand : Operand) (fields : List Item) → AreBitsOf (listed_fields kind operand fields) fields

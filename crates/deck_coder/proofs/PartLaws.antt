@@ -1,16 +1,15 @@
 -- What a walk over a deck made are the parts of its object.
-use Rattle.std.proofs.Common.{◌≡◌, ◌∙◌, ℕ, ◌+◌, ◌≤◌, List, [], ◌∷◌, ◌++◌, Option, Some, None, map, drop, length, reverse, refl, ap, ap₂, sym, subst, append-nil}
+use Rattle.std.proofs.Common.{◌≡◌, ◌∙◌, ℕ, ◌+◌, List, [], ◌∷◌, ◌++◌, Option, Some, None, map, drop, reverse, refl, ap, ap₂, sym, subst, append-nil}
 use Rattle.std.specs.Prelude.{filter_map}
-use Rattle.std.proofs.lemmas.List.{reverse-append, reverse-reverse}
+use Rattle.std.proofs.lemmas.List.{reverse-append}
 use Rattle.std.proofs.lemmas.List.Elements.{filter_map-append}
 use Rattle.indexmap.proofs.ReorderLemmas.{map-reverse}
 use Rattle.definitions.specs.Cards.{Card}
 use Rattle.definitions.specs.DeckInput.{Deck}
 use Rattle.definitions.specs.DeckKinds.{up_to_end, behind_end, kind_of_statements}
 use Rattle.definitions.specs.Entries.{entries_of}
-use Rattle.definitions.specs.Lengths.{BlockRow, block_rows}
-use Rattle.definitions.specs.Literals.{literal_words}
-use Rattle.definitions.specs.Objects.{Shown, Object, shown_of, only_listed, coded_of, context_of, object_in, object_of}
+use Rattle.definitions.specs.Lengths.{BlockRow}
+use Rattle.definitions.specs.Objects.{Shown, shown_of, only_listed, coded_of, context_of, object_in, object_of}
 use Rattle.definitions.specs.Settled.{Settled}
 use Rattle.definitions.specs.Settling.{settled_all}
 use Rattle.definitions.specs.StatementItems.{Context}

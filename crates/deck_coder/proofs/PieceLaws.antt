@@ -1,5 +1,5 @@
 -- The statements of pieces, counted.
-use Rattle.std.proofs.Common.{◌≡◌, ◌∙◌, ℕ, zero, suc, ◌+◌, ◌<◌, ◌≤◌, List, [], ◌∷◌, ◌++◌, length, take, drop, reverse, get_or, ap, sym, arith, length-append}
+use Rattle.std.proofs.Common.{◌≡◌, ℕ, zero, suc, ◌+◌, ◌<◌, ◌≤◌, List, [], ◌∷◌, length, take, drop, get_or, ap, arith, length-append}
 use Rattle.definitions.specs.Cards.{Card}
 use Rattle.definitions.specs.Statements.{Statement}
 use Rattle.definitions.specs.declared.marks.DeckKind.{DeckKind}

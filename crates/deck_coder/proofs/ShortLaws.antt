@@ -1,6 +1,6 @@
 -- The fields of a statement, as a list tells them, are short; but for the zeros of a BSSZ.
 use Rattle.std.proofs.Common.{◌≡◌, ◌∙◌, ℕ, zero, suc, ◌+◌, ◌-◌, ◌*◌, ◌/◌, ◌%◌, ◌^◌, ◌<◌, ◌≤◌, Bool, true, false, ◌&&◌, List, [], ◌∷◌, ◌++◌, Option, Some, None, map, flat_map, refl, ap, ap₂, sym, subst, arith, if◌then◌else◌}
-use Rattle.std.specs.Prelude.{nat_le, nat_lt, nat_eq}
+use Rattle.std.specs.Prelude.{nat_le}
 use Rattle.std.proofs.Math.Nat.{mod-lt}
 use Rattle.std.proofs.lemmas.Bool.{lt-ltb, eq-eqb, leb-true, leb-false, true≢false}
 use Rattle.std.proofs.lemmas.Nat.{pow_pos}
@@ -14,7 +14,7 @@ use Rattle.definitions.specs.PeripheralTable.{PeripheralForm, Ignored, Short, Sh
 use Rattle.definitions.specs.Matching.{Field, NoField, OfK, OfN}
 use Rattle.definitions.specs.Settled.{Settled}
 use Rattle.definitions.specs.Settling.{settle, seen_of}
-use Rattle.definitions.specs.Sizes.{field_width, form_units, size_of, bits_of}
+use Rattle.definitions.specs.Sizes.{field_width, form_units, bits_of}
 use Rattle.definitions.specs.Statements.{Statement}
 use Rattle.definitions.specs.StatementItems.{Item, Content, Known, Linked, Context, known, datum_item, vfd_value, zeros_to_word, operand_items, items_of}
 use Rattle.definitions.specs.Words.{width_of, cut}
@@ -25,10 +25,10 @@ use Rattle.definitions.proofs.WordLaws.{pow_positive, picked_cond}
 use Rattle.statement_coder.specs.CodedItems.{stores_zeros}
 use Rattle.statement_coder.specs.WordItems.{is_several, known_words, words_of, in_words, listed_fields}
 use Rattle.statement_laws.specs.Filling.{HasRoom, DoFit, IsWholeWords, AreLongWhole}
-use Rattle.statement_laws.proofs.FieldLaws.{AreFields, operand-fields}
+use Rattle.statement_laws.proofs.FieldLaws.{operand-fields}
 use Rattle.statement_laws.proofs.ItemLaws.{IsField, expression_item-field, number_item-field}
 use Rattle.statement_laws.proofs.OperandLaws.{operand_of-made}
-use Rattle.statement_laws.proofs.OperandShapes.{IsWhole, HaveWidths, IsMade}
+use Rattle.statement_laws.proofs.OperandShapes.{HaveWidths, IsMade}
 use Rattle.deck_objects.specs.LineItems.{AreShort}
 use Rattle.deck_coder.proofs.ListedLaws.{none-listed}
 

@@ -1,12 +1,10 @@
 -- The block of a statement is among the blocks of its deck.
-use Rattle.std.proofs.Common.{◌≡◌, ◌∙◌, ℕ, ◌+◌, ◌||◌, Bool, true, false, true≢false, List, [], ◌∷◌, ◌++◌, map, drop, refl, ap, sym, subst, if◌then◌else◌}
-use Rattle.std.specs.List.{list_any}
+use Rattle.std.proofs.Common.{◌≡◌, ◌∙◌, ℕ, ◌||◌, Bool, true, false, true≢false, List, [], ◌∷◌, ◌++◌, map, drop, refl, ap, sym, if◌then◌else◌}
 use Rattle.std.proofs.lemmas.List.Folds.{list_any-append}
 use Rattle.definitions.specs.Blocks.{nominal, open_names, block_in_use, changes, is_named, with_opened, blocks_used}
 use Rattle.definitions.specs.Characters.{same_text}
-use Rattle.definitions.specs.Lengths.{BlockLength, BlockRow, placed_row, local_words, rows_from, block_rows, length_of}
-use Rattle.definitions.specs.Literals.{literal_words}
-use Rattle.definitions.specs.Settled.{Settled, BlockChange, NoChange, Opens, Closes}
+use Rattle.definitions.specs.Lengths.{BlockRow, rows_from, block_rows, length_of}
+use Rattle.definitions.specs.Settled.{BlockChange, NoChange, Opens, Closes}
 use Rattle.definitions.specs.Settling.{settle, settled_all}
 use Rattle.definitions.specs.Statements.{Statement}
 use Rattle.definitions.specs.declared.marks.DeckKind.{DeckKind}

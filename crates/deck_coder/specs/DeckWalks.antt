@@ -1,7 +1,6 @@
 -- How far a walk over the statements of a deck has come.
 use Rattle.std.specs.Prelude.{ℕ, ◌≡◌, ◌++◌, List, [], map, drop, reverse}
 use Rattle.definitions.specs.Objects.{Shown, shown_of, only_listed}
-use Rattle.definitions.specs.Settling.{settled_all}
 use Rattle.definitions.specs.Statements.{Statement}
 use Rattle.deck_pieces.specs.SizedDecks.{AreSizedFrom, AreListedFrom}
 use Rattle.deck_pieces.specs.declared.sized_statement.SizedStatement.{SizedStatement}

@@ -1,5 +1,5 @@
 -- The statements of a deck, one after the other, and the lines that show them.
-use Rattle.std.specs.Prelude.{ℕ, ◌≡◌, ◌≤◌, ◌+◌, ◌++◌, List, [], ◌∷◌, Bool, true, false, map, take, drop, length, reverse}
+use Rattle.std.specs.Prelude.{ℕ, ◌≡◌, ◌≤◌, ◌+◌, List, [], ◌∷◌, Bool, true, false, map, drop, length, reverse}
 use Rattle.std.specs.List.{list_any}
 use Rattle.definitions.specs.Cards.{Card}
 use Rattle.definitions.specs.Characters.{same_text}

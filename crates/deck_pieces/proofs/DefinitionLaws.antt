@@ -118,7 +118,7 @@ is_some-or None (Some form) = refl
 is_some-or (Some form) None = refl
 is_some-or (Some form) (Some other) = refl
 
-defined_in-push : (other : List ℕ) (definitions : List Definition) (definition : Definition) →
+pub defined_in-push : (other : List ℕ) (definitions : List Definition) (definition : Definition) →
     defined_in other (definitions ++ definition ∷ []) ≡ or_form (defined_in other definitions) (if same_text other definition.name then Some definition.form else None)
 defined_in-push other [] definition = refl
 defined_in-push other (first ∷ definitions) definition = by (same_text other first.name) (defined_in-push other definitions definition)

@@ -37,7 +37,7 @@ impl Model for SizedDeck {
 
 impl SizedDeck {
     /// What these cards make: each statement up to END is sized once, behind those before it, and
-    /// counted in the meter.
+    /// counted in the meter. An error where memory runs out: then some of them were counted.
     pub fn new(alloc: Global, cards: &[Card], meter: &mut Meter) -> Result<SizedDeck, AllocError>
         ensures deck { IfOk result (IsSizedDeck cards.now) }
         ensures sized { meter.new.sized ≤ meter.old.sized + length (up_to_end (statements_of (reverse cards.now))) }

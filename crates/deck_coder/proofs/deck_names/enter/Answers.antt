@@ -1,10 +1,8 @@
-use Rattle.std.proofs.Common.{◌≡◌, ◌∙◌, ap, ap₂, sym, subst}
+use Rattle.std.proofs.Common.{◌∙◌, ap, ap₂, sym, subst}
 use Rattle.std.proofs.lemmas.Result.{on_ok_weaker}
 use Rattle.definitions.specs.Entries.{entries_by}
 use Rattle.definitions.specs.Operations as op
 use Rattle.definitions.specs.Settling.{settle}
-use Rattle.definitions.specs.declared.marks.DeckKind.{DeckKind}
-use Rattle.operations.specs.OperationsAs.{operation_as}
 use Rattle.statement_coder.specs.Readings.{IsReading}
 use Rattle.deck_pieces.specs.FirstSymbols.{symbol_in}
 use Rattle.deck_coder.specs.SharedNames.{enters}

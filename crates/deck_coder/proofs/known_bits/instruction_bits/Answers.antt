@@ -1,4 +1,4 @@
-use Rattle.std.proofs.Common.{[], ◌∷◌, ◌++◌}
+use Rattle.std.proofs.Common.{[], ◌∷◌}
 use Rattle.std.proofs.lemmas.Option.{IfSome_then}
 use Rattle.field_items.specs.Items.{item_as, option_items}
 use Rattle.deck_coder.proofs.known_bits.instruction_bits.Goals as goal

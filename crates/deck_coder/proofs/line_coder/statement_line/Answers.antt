@@ -1,7 +1,7 @@
 use Rattle.std.proofs.Common.{◌∙◌, ap, sym, refl}
 use Rattle.definitions.specs.Settled.{defined, read_of}
 use Rattle.definitions.specs.Settling.{View, settle, settled_all}
-use Rattle.definitions.specs.StatementItems.{Context, items_of}
+use Rattle.definitions.specs.StatementItems.{items_of}
 use Rattle.definitions.specs.declared.marks.NumberBase.{NumberBase}
 use Rattle.statement_coder.specs.CodedItems.{stores_zeros}
 use Rattle.statement_coder.specs.Sizings.{IsCodable}

@@ -1,4 +1,4 @@
-use Rattle.std.proofs.Common.{List, sym, subst}
+use Rattle.std.proofs.Common.{subst}
 use Rattle.std.proofs.lemmas.Result.{on_ok_weaker}
 use Rattle.statement_coder.specs.CodedItems.{AreTold}
 use Rattle.statement_coder.specs.declared.coded.CodedItems.{CodedItems}

@@ -1,4 +1,4 @@
-use Rattle.std.proofs.Common.{◌≡◌, ◌∙◌, ◌≤◌, ◌+◌, length, reverse, refl, ap₂, arith}
+use Rattle.std.proofs.Common.{◌∙◌, reverse, refl, ap₂, arith}
 use Rattle.std.proofs.lemmas.List.{length-reverse}
 use Rattle.definitions.specs.DeckKinds.{up_to_end, behind_end}
 use Rattle.definitions.specs.Lengths.{rows_of}

@@ -1,4 +1,4 @@
-use Rattle.std.proofs.Common.{◌≡◌, length, ap, arith}
+use Rattle.std.proofs.Common.{length, ap, arith}
 use Rattle.deck_coder.proofs.PieceLaws.{pieces-within}
 use Rattle.deck_coder.proofs.deck_walk.Making.add_pieces.Goals as goal
 

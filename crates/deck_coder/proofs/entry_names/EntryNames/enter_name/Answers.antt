@@ -1,6 +1,6 @@
-use Rattle.std.proofs.Common.{◌≡◌, ◌∙◌, true, false, true≢false, refl, sym}
+use Rattle.std.proofs.Common.{◌∙◌, true≢false, refl, sym}
 use Rattle.std.proofs.lemmas.Result.{on_ok_weaker}
-use Rattle.deck_coder.proofs.EntryLaws.{entry-none, entry-some, symbol_in-known}
+use Rattle.deck_coder.proofs.EntryLaws.{entry-none, entry-some}
 use Rattle.deck_coder.proofs.entry_names.EntryNames.enter_name.Goals as goal
 
 pub returns-in-None-clause-entries : goal.returns-in-None-clause-entries

@@ -1,17 +1,15 @@
-use Rattle.std.proofs.Common.{◌≡◌, ◌∙◌, ℕ, List, [], ◌∷◌, true, false, refl, ap, sym, subst}
+use Rattle.std.proofs.Common.{◌≡◌, ◌∙◌, List, refl, ap, sym, subst}
 use Rattle.std.proofs.lemmas.Result.{on_ok_weaker}
 use Rattle.definitions.specs.Kinds.{is_absolute_deck}
-use Rattle.definitions.specs.Settled.{Settled, Definition, defined, read_of}
-use Rattle.definitions.specs.Settling.{View, number_base_of, settle}
+use Rattle.definitions.specs.Settled.{Settled, defined, read_of}
+use Rattle.definitions.specs.Settling.{number_base_of, settle}
 use Rattle.definitions.specs.Statements.{Statement}
 use Rattle.definitions.specs.declared.marks.DeckKind.{DeckKind}
 use Rattle.definitions.specs.declared.marks.NumberBase.{NumberBase}
-use Rattle.operations.specs.OperationsAs.{operation_as}
 use Rattle.statement_coder.specs.Definitions.{defined_by}
 use Rattle.statement_coder.specs.Readings.{IsReading}
-use Rattle.statement_coder.specs.Sizings.{IsSizing, IsCodable}
+use Rattle.statement_coder.specs.Sizings.{IsCodable}
 use Rattle.statement_coder.specs.StatementsRead.{IsRead}
-use Rattle.statement_coder.specs.declared.definitions_made.Defines.{Defines}
 use Rattle.statement_coder.specs.declared.sizing.Sizing.{Sizing}
 use Rattle.statement_coder.specs.declared.statement.Statement as code
 use Rattle.statement_coder.proofs.CodingLaws.{codable}

@@ -1,6 +1,5 @@
-use Rattle.std.proofs.Common.{◌≡◌, List, ◌∷◌, [], ◌++◌, ap, sym, subst}
+use Rattle.std.proofs.Common.{◌∷◌, [], ◌++◌, ap}
 use Rattle.field_items.specs.Items.{content_as, item_as}
-use Rattle.deck_coder.specs.KeptFields.{AreTogether}
 use Rattle.deck_coder.proofs.KnownLaws.{together-behind, together-same}
 use Rattle.deck_coder.proofs.known_bits.KnownBits.with.Goals as goal
 
