@@ -33,6 +33,7 @@ fn parts_of(rt: &impl Abort, alloc: Global) -> ObjectParts {
         let card = Card::read(line).ok().expect(rt, "a card");
         cards.push(card).ok().expect(rt, "memory");
     }
+    assert!(rt; cards.len() <= 20_000);
     let mut meter = Meter { sized: 0, coded: 0 };
     let deck = SizedDeck::new(alloc, cards.as_slice(), &mut meter).expect(rt, "memory");
     let parts = object_parts(alloc, cards.as_slice(), &deck, &mut meter).expect(rt, "memory");
