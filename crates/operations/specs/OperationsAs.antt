@@ -1,9 +1,7 @@
--- Operations and the table of their names, as the definitions have them (COMPASS 60492600, pseudo-instructions).
-use Rattle.std.specs.Prelude.{ℕ, List, map}
+-- Operations, as the definitions have them (COMPASS 60492600, pseudo-instructions).
 use Rattle.definitions.specs.Operations as op
 use Rattle.operations.specs.declared.operation.Operation as code
 use Rattle.operations.specs.declared.operation.Operation.TheVariants as operation
-use Rattle.operations.specs.declared.pseudo_table.PseudoRow.{PseudoRow}
 
 -- an operation, as the definitions name it
 abbrev pub operation_as : code.Operation → op.Operation
@@ -26,7 +24,3 @@ operation_as operation.Entry = op.Entry
 operation_as operation.Ext = op.Ext
 operation_as operation.Instruction = op.Instruction
 operation_as operation.Unknown = op.Unknown
-
--- the names of a table, each with its operation
-abbrev pub rows_as : List PseudoRow → List (List ℕ × op.Operation)
-rows_as rows = map (λ (row : PseudoRow). (row.name.now, operation_as row.operation)) rows
