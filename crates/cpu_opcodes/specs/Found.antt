@@ -13,8 +13,8 @@ use Rattle.cpu_opcodes.specs.declared.found.Found as founds
 -- the field
 abbrev pub central_field_as : fields.CentralField → Field
 central_field_as field.Absent = NoField
-central_field_as (field.Address e) = OfK e
-central_field_as (field.Count e) = OfN e
+central_field_as (field.Address e) = OfK e.now
+central_field_as (field.Count e) = OfN e.now
 
 -- the digits and the field
 abbrev pub found_as : founds.Found → Match

@@ -2,19 +2,19 @@
 use crate::registers_found::RegistersFound;
 use expr_forms::Expr;
 
-/// The field of a central instruction.
-#[derive(Drop)]
-pub(crate) enum CentralField<'a> {
+/// The field of a central instruction, whose expression is one of the operand's.
+#[derive(Clone, Copy)]
+pub(crate) enum CentralField<'e, 'a> {
     Absent,
     /// K in 18 bits.
-    Address(Expr<'a>),
+    Address(&'e Expr<'a>),
     /// n in 6 bits.
-    Count(Expr<'a>),
+    Count(&'e Expr<'a>),
 }
 
 /// The digits of the registers, and the field.
-#[derive(Drop)]
-pub(crate) struct Found<'a> {
+#[derive(Clone, Copy)]
+pub(crate) struct Found<'e, 'a> {
     pub(crate) registers: RegistersFound,
-    pub(crate) field: CentralField<'a>,
+    pub(crate) field: CentralField<'e, 'a>,
 }

@@ -33,13 +33,13 @@ fn ignoring_fit<'a>(operation: &[u8]) -> Option<Shape<'a>>
 {
     match ignoring_rows(operation) {
         [] => None,
-        [row, ..] => Some(shape_of(
-            row.form,
-            Found {
+        [row, ..] => {
+            let found: Found<'a, 'a> = Found {
                 registers: RegistersFound { i: 0, j: 0, k: 0 },
                 field: CentralField::Absent,
-            },
-        )),
+            };
+            Some(shape_of(row.form, found))
+        }
     }
 }
 

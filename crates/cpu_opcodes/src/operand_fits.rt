@@ -18,7 +18,11 @@ use crate::text_match::matched;
 use expr_forms::{Operand, Subfield};
 
 /// What a subfield gives beside what was found before, if it fits its pattern.
-fn subfield_fit<'a>(part: Part, subfield: &Subfield<'a>, found: Found<'a>) -> Option<Found<'a>>
+fn subfield_fit<'e, 'a>(
+    part: Part,
+    subfield: &'e Subfield<'a>,
+    found: Found<'e, 'a>,
+) -> Option<Found<'e, 'a>>
     requires { IsTrue (is_part part) }
     ensures { (base : NumberBase) (pieces : List Piece) → IsSubfield base pieces subfield.now →
         option_map found_as result ≡ subfield_matched base (part_text part) pieces (found_as found.entry) }
@@ -28,7 +32,7 @@ fn subfield_fit<'a>(part: Part, subfield: &Subfield<'a>, found: Found<'a>) -> Op
             if subfield.expression.is_plain(true) {
                 Some(Found {
                     registers: found.registers,
-                    field: CentralField::Address(subfield.expression.copied()),
+                    field: CentralField::Address(&subfield.expression),
                 })
             } else {
                 None
@@ -38,7 +42,7 @@ fn subfield_fit<'a>(part: Part, subfield: &Subfield<'a>, found: Found<'a>) -> Op
             if subfield.expression.is_plain(true) {
                 Some(Found {
                     registers: found.registers,
-                    field: CentralField::Count(subfield.expression.copied()),
+                    field: CentralField::Count(&subfield.expression),
                 })
             } else {
                 None
@@ -55,7 +59,11 @@ fn subfield_fit<'a>(part: Part, subfield: &Subfield<'a>, found: Found<'a>) -> Op
 }
 
 /// What a subfield gives beside what those before it gave, if they fit.
-fn next_fit<'a>(part: Part, subfield: &Subfield<'a>, found: Option<Found<'a>>) -> Option<Found<'a>>
+fn next_fit<'e, 'a>(
+    part: Part,
+    subfield: &'e Subfield<'a>,
+    found: Option<Found<'e, 'a>>,
+) -> Option<Found<'e, 'a>>
     requires { IsTrue (is_part part) }
     ensures { (base : NumberBase) (pieces : List Piece) → IsSubfield base pieces subfield.now →
         option_map found_as result ≡ next_found base (part_text part) pieces (option_map found_as found.entry) }
@@ -67,11 +75,11 @@ fn next_fit<'a>(part: Part, subfield: &Subfield<'a>, found: Option<Found<'a>>) -
 }
 
 /// What an operand gives beside the digits of its operation, if it fits a pattern.
-pub(crate) fn operand_fit<'a>(
+pub(crate) fn operand_fit<'e, 'a>(
     pattern: OperandPattern,
-    operand: &Operand<'a>,
+    operand: &'e Operand<'a>,
     registers: RegistersFound,
-) -> Option<Found<'a>>
+) -> Option<Found<'e, 'a>>
     ensures { (base : NumberBase) (subfields : List (List Piece)) → IsOperand base subfields operand.now →
         option_map found_as result
         ≡ subfields_matched base (slice_split (λ c. c == 44) (operand_text pattern)) subfields (Some (record { ijk = digits_as registers; field = NoField })) }

@@ -12,18 +12,18 @@ use crate::found::{CentralField, Found};
 use expr_forms::{Field, Shape};
 
 /// The field as an instruction has it.
-fn field_of<'a>(field: CentralField<'a>) -> Field<'a>
+fn field_of<'a>(field: CentralField<'_, 'a>) -> Field<'a>
     ensures { field_as result ≡ Some (central_field_as field.entry) }
 {
     match field {
         CentralField::Absent => Field::Absent,
-        CentralField::Address(expression) => Field::Address(expression),
-        CentralField::Count(expression) => Field::Count(expression),
+        CentralField::Address(expression) => Field::Address(expression.copied()),
+        CentralField::Count(expression) => Field::Count(expression.copied()),
     }
 }
 
 /// The instruction that a code makes with the digits and the field found.
-pub(crate) fn shape_of<'a>(code: Code, found: Found<'a>) -> Shape<'a>
+pub(crate) fn shape_of<'a>(code: Code, found: Found<'_, 'a>) -> Shape<'a>
     requires { IsTrue (is_lawful code) }
     ensures instruction { instruction_as result ≡ Some (instruction_of (code_text code) (found_as found.entry)) }
     ensures short { result.digit_count ≤ 10 }
@@ -37,7 +37,7 @@ pub(crate) fn shape_of<'a>(code: Code, found: Found<'a>) -> Shape<'a>
 }
 
 /// The same, if there is a code.
-pub(crate) fn shape_with<'a>(code: Option<Code>, found: Found<'a>) -> Option<Shape<'a>>
+pub(crate) fn shape_with<'a>(code: Option<Code>, found: Found<'_, 'a>) -> Option<Shape<'a>>
     requires { IsTrue (is_lawful_or_none code) }
     ensures instruction { shape_as result ≡ code_fit (code_text_or_none code) (found_as found.entry) }
     ensures central { IfSome result (λ shape. IsTrue (is_some (instruction_as shape))) }

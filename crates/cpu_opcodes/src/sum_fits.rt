@@ -55,20 +55,20 @@ fn form_fit<'a>(
     ensures short { IfSome result (λ shape. shape.digit_count ≤ 10) }
 {
     match others {
-        None => shape_with(
-            form.alone,
-            Found {
+        None => {
+            let found: Found<'a, 'a> = Found {
                 registers,
                 field: CentralField::Absent,
-            },
-        ),
+            };
+            shape_with(form.alone, found)
+        }
         Some(expression) => {
             if expression.is_plain(true) {
                 shape_with(
                     form.with_k,
                     Found {
                         registers,
-                        field: CentralField::Address(expression.copied()),
+                        field: CentralField::Address(expression),
                     },
                 )
             } else {
