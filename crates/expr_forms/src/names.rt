@@ -12,7 +12,7 @@ const MOST_CHARACTERS: usize = 9;
 #[derive(Clone, Copy, Debug, PartialEq, Eq)]
 pub struct Name {
     characters: [u8; MOST_CHARACTERS],
-    len: usize,
+    len: u8,
 }
 
 impl Model for Name {
@@ -43,7 +43,7 @@ impl Name {
         characters.split_at_mut(text.len()).0.copy_from_slice(text);
         Name {
             characters,
-            len: text.len(),
+            len: text.len() as u8,
         }
     }
 
@@ -51,7 +51,7 @@ impl Name {
         ensures name { result.now ≡ self.now }
         ensures short { length self.now ≤ 9 }
     {
-        self.characters.split_at(self.len).0
+        self.characters.split_at(usize::from(self.len)).0
     }
 
     /// Whether both have the same characters.
