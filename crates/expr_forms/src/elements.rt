@@ -50,6 +50,7 @@ pub(crate) struct ElementFound<'a> {
 }
 
 /// The register that a run of characters names, else the symbol, else the number.
+#[inline(always)]
 fn element_of_run(base: NumberBase, run: &[u8]) -> Option<Element<'_>>
     ensures { option_map element_as result ≡ element_of_text base run.now }
 {
@@ -66,6 +67,7 @@ fn element_of_run(base: NumberBase, run: &[u8]) -> Option<Element<'_>>
 }
 
 /// The counter that a run behind a star names: O or L.
+#[inline(always)]
 fn counter_of(run: &[u8]) -> Option<Element<'_>>
     ensures { option_map element_as result ≡ counter_of run.now }
 {
@@ -82,6 +84,7 @@ fn counter_of(run: &[u8]) -> Option<Element<'_>>
 }
 
 /// The counter that a star and the run behind it name, with the text behind them.
+#[inline(always)]
 fn counter_found<'a>(run: &'a [u8], rest: &'a [u8]) -> Option<ElementFound<'a>>
     ensures elements { (base : NumberBase) (o : Operator) → elements_found base o result ≡ onto_pairs o (counter_of run.now) (pairs_of base AnOperator (pieces_at Inside 0 rest.now)) }
     ensures rest { IfSome result (λ found. found.rest.now ≡ rest.now) }
@@ -93,6 +96,7 @@ fn counter_found<'a>(run: &'a [u8], rest: &'a [u8]) -> Option<ElementFound<'a>>
 }
 
 /// Whether a mark may stand behind an element: each but the equals sign, which begins another one.
+#[inline(always)]
 fn ends_element(mark: Mark) -> bool
     ensures { result ≡ ends_element (mark_as mark) }
 {
@@ -107,6 +111,7 @@ fn ends_element(mark: Mark) -> bool
 }
 
 /// The element that begins with a star, which this text follows.
+#[inline(always)]
 fn behind_star(text: &[u8]) -> Option<ElementFound<'_>>
     ensures elements { (base : NumberBase) (o : Operator) → pairs_of base (ElementOf o) (IsMark Star ∷ pieces_of text.now) ≡ elements_found base o result }
     ensures within { IfSome result (λ found. length found.rest.now ≤ length text.now) }
@@ -126,6 +131,7 @@ fn behind_star(text: &[u8]) -> Option<ElementFound<'_>>
 }
 
 /// The literal of the number that a run spells, and of its sign, with the text behind it.
+#[inline(always)]
 fn number_literal<'a>(
     base: NumberBase,
     sign: Sign,
@@ -145,6 +151,7 @@ fn number_literal<'a>(
 }
 
 /// The literal whose equals sign and sign this text follows.
+#[inline(always)]
 fn behind_sign(base: NumberBase, sign: Sign, text: &[u8]) -> Option<ElementFound<'_>>
     ensures elements { (o : Operator) → signed_literal base o (sign_as sign) (pieces_of text.now) ≡ elements_found base o result }
     ensures shorter { IfSome result (λ found. length found.rest.now < length text.now) }
@@ -160,6 +167,7 @@ fn behind_sign(base: NumberBase, sign: Sign, text: &[u8]) -> Option<ElementFound
 }
 
 /// The literal whose equals sign and a mark this text follows.
+#[inline(always)]
 fn behind_equals_mark(base: NumberBase, mark: Mark, text: &[u8]) -> Option<ElementFound<'_>>
     ensures elements { (o : Operator) → pairs_of base (ElementOf o) (IsMark Equals ∷ IsMark (mark_as mark) ∷ pieces_at (spot_behind (ByMark (mark_as mark))) 0 text.now) ≡ elements_found base o result }
     ensures shorter { IfSome result (λ found. length found.rest.now < length text.now) }
@@ -175,6 +183,7 @@ fn behind_equals_mark(base: NumberBase, mark: Mark, text: &[u8]) -> Option<Eleme
 }
 
 /// The literal whose equals sign this text follows.
+#[inline(always)]
 fn behind_equals(base: NumberBase, text: &[u8]) -> Option<ElementFound<'_>>
     ensures elements { (o : Operator) → pairs_of base (ElementOf o) (IsMark Equals ∷ pieces_at AtEquals 0 text.now) ≡ elements_found base o result }
     ensures shorter { IfSome result (λ found. length found.rest.now < length text.now) }
@@ -193,6 +202,7 @@ fn behind_equals(base: NumberBase, text: &[u8]) -> Option<ElementFound<'_>>
 }
 
 /// The element that begins with a mark, which this text follows.
+#[inline(always)]
 fn behind_mark(base: NumberBase, mark: Mark, text: &[u8]) -> Option<ElementFound<'_>>
     ensures elements { (o : Operator) → pairs_of base (ElementOf o) (IsMark (mark_as mark) ∷ pieces_at (spot_behind (ByMark (mark_as mark))) 0 text.now) ≡ elements_found base o result }
     ensures within { IfSome result (λ found. length found.rest.now ≤ length text.now) }
@@ -208,6 +218,7 @@ fn behind_mark(base: NumberBase, mark: Mark, text: &[u8]) -> Option<ElementFound
 }
 
 /// The element that a run of characters is, with the text behind it.
+#[inline(always)]
 fn run_found<'a>(base: NumberBase, run: &'a [u8], rest: &'a [u8]) -> Option<ElementFound<'a>>
     ensures elements { (o : Operator) → elements_found base o result ≡ onto_pairs o (element_of_text base run.now) (pairs_of base AnOperator (pieces_at Inside 0 rest.now)) }
     ensures rest { IfSome result (λ found. found.rest.now ≡ rest.now) }
@@ -220,6 +231,7 @@ fn run_found<'a>(base: NumberBase, run: &'a [u8], rest: &'a [u8]) -> Option<Elem
 
 /// The element that begins a text at the start of a field or behind one of the five marks, if one
 /// does.
+#[inline(always)]
 pub(crate) fn next_element(base: NumberBase, text: &[u8]) -> Option<ElementFound<'_>>
     ensures elements { (o : Operator) → pairs_of base (ElementOf o) (pieces_of text.now) ≡ elements_found base o result }
     ensures shorter { IfSome result (λ found. length found.rest.now < length text.now) }

@@ -42,6 +42,7 @@ pub(crate) enum LoneRegisters {
     LeftOut,
 }
 
+#[inline(always)]
 fn operator_of(c: u8) -> Option<Operator>
     ensures { option_map operator_as result ≡ operator_marked (mark_of c) }
 {
@@ -55,6 +56,7 @@ fn operator_of(c: u8) -> Option<Operator>
 }
 
 /// Plus and minus join terms.
+#[inline(always)]
 pub(crate) fn joins_terms(operator: Operator) -> bool
     ensures { result ≡ joins_terms (operator_as operator) }
 {
@@ -66,6 +68,7 @@ pub(crate) fn joins_terms(operator: Operator) -> bool
     }
 }
 
+#[inline(always)]
 fn is_register(element: Element<'_>) -> bool
     ensures { result ≡ is_register (element_as element.entry) }
 {
@@ -81,6 +84,7 @@ fn is_register(element: Element<'_>) -> bool
 }
 
 /// Whether no link, or one that begins a term, stands behind an element.
+#[inline(always)]
 fn term_begins(text: &[u8]) -> bool
     ensures { (base : NumberBase) → IsLawful base text.now → result ≡ begins_term (links_behind base text.now) }
 {
@@ -94,6 +98,7 @@ fn term_begins(text: &[u8]) -> bool
 }
 
 /// The link that begins a text behind an element, if one does.
+#[inline(always)]
 pub(crate) fn next_link(base: NumberBase, text: &[u8]) -> LinkFound<'_>
     ensures links { pairs_of base AnOperator (pieces_at Inside 0 text.now) ≡ links_found base result }
     ensures shorter { ForLink result (λ rest. length rest + 2 ≤ length text.now) }
@@ -139,6 +144,7 @@ impl<'a> Model for TextLinks<'a> {
 
 impl<'a> TextLinks<'a> {
     /// A first link, and those that a text spells behind its element.
+    #[inline(always)]
     pub(crate) fn new(base: NumberBase, first: Link<'a>, rest: &'a [u8]) -> TextLinks<'a>
         requires { IsLawful base rest.now }
         ensures { result ≡ link_as first.entry ∷ links_behind base rest.now }
@@ -151,6 +157,7 @@ impl<'a> TextLinks<'a> {
     }
 
     /// The next link, if one is left.
+    #[inline(always)]
     fn next(&mut self) -> Option<Link<'a>>
         ensures none { IfNone result ((self.old ≡ []) × (self.new ≡ [])) }
         ensures some { IfSome result (λ link. self.old ≡ link_as link ∷ self.new) }
@@ -173,6 +180,7 @@ impl<'a> TextLinks<'a> {
     }
 
     /// Whether nothing is left, or a link that begins a term.
+    #[inline(always)]
     fn begins_term(&self) -> bool
         ensures { result ≡ begins_term self.now }
     {
@@ -184,6 +192,7 @@ impl<'a> TextLinks<'a> {
 }
 
 /// The next link that is no term of one register, if one is left.
+#[inline(always)]
 fn next_other<'a>(all: &mut TextLinks<'a>) -> Option<Link<'a>>
     ensures none { IfNone result ((without_lone all.old ≡ []) × (all.new ≡ [])) }
     ensures some { IfSome result (λ link. without_lone all.old ≡ link_as link ∷ without_lone all.new) }
@@ -201,6 +210,7 @@ fn next_other<'a>(all: &mut TextLinks<'a>) -> Option<Link<'a>>
 }
 
 /// Whether a link is a term of one register, by the links behind it.
+#[inline(always)]
 fn is_lone(link: Link<'_>, behind: &TextLinks<'_>) -> bool
     ensures { result ≡ is_lone (link_as link.entry) behind.now }
 {
@@ -227,6 +237,7 @@ impl<'a> Model for Links<'a> {
 
 impl<'a> Links<'a> {
     /// Links with those that are terms of one register, or without them.
+    #[inline(always)]
     pub(crate) fn new(all: TextLinks<'a>, registers: LoneRegisters) -> Links<'a>
         ensures { result ≡ links_left_by registers all.entry }
     {
@@ -234,6 +245,7 @@ impl<'a> Links<'a> {
     }
 
     /// The next link, if one is left.
+    #[inline(always)]
     pub fn next(&mut self) -> Option<Link<'a>>
         ensures none { IfNone result ((self.old ≡ []) × (self.new ≡ [])) }
         ensures some { IfSome result (λ link. self.old ≡ link_as link ∷ self.new) }
@@ -245,6 +257,7 @@ impl<'a> Links<'a> {
     }
 
     /// Whether nothing is left, or a link that begins a term.
+    #[inline(always)]
     pub(crate) fn begins_term(&self) -> bool
         ensures { result ≡ begins_term self.now }
     {

@@ -49,6 +49,7 @@ pub(crate) struct PieceFound<'a> {
 }
 
 /// The five marks that separate.
+#[inline(always)]
 pub(crate) fn mark_of(c: u8) -> Option<Mark>
     ensures { option_map mark_as result ≡ mark_of c }
 {
@@ -63,6 +64,7 @@ pub(crate) fn mark_of(c: u8) -> Option<Mark>
 }
 
 /// How many characters begin a text that are no mark.
+#[inline(always)]
 pub(crate) fn run_len(text: &[u8]) -> usize
     ensures len { result ≡ prefix_len (λ c. is_none (mark_of c)) text.now }
     ensures within { result ≤ length text.now }
@@ -75,6 +77,7 @@ pub(crate) fn run_len(text: &[u8]) -> usize
     text.len()
 }
 
+#[inline(always)]
 fn is_item_letter(c: u8) -> bool
     ensures { result ≡ is_among c (codes "HALRC") }
 {
@@ -82,6 +85,7 @@ fn is_item_letter(c: u8) -> bool
 }
 
 /// The item whose count of so many digits this text follows.
+#[inline(always)]
 fn item_behind(digits: usize, count: u64, text: &[u8]) -> Option<ItemSpan<'_>>
     requires { digits + length text.now < 2 ^ 64 }
     ensures item { option_map span_as result ≡ counted_item_behind digits count text.now }
@@ -106,6 +110,7 @@ fn item_behind(digits: usize, count: u64, text: &[u8]) -> Option<ItemSpan<'_>>
 }
 
 /// The item that begins a text, if one does.
+#[inline(always)]
 pub(crate) fn item_at(text: &[u8]) -> Option<ItemSpan<'_>>
     ensures item { option_map span_as result ≡ counted_item_at text.now }
     ensures some { IfSome result (λ span. 0 < span.taken) }
@@ -120,6 +125,7 @@ pub(crate) fn item_at(text: &[u8]) -> Option<ItemSpan<'_>>
 }
 
 /// The run that begins a text with a character that is no mark, and what is behind it.
+#[inline(always)]
 fn run_at(text: &[u8]) -> PieceFound<'_>
     requires some { 0 < length text.now }
     requires run { mark_of (slice_index text.now 0) ≡ None }
@@ -135,6 +141,7 @@ fn run_at(text: &[u8]) -> PieceFound<'_>
 }
 
 /// The piece that begins a text where an item may begin, but no literal.
+#[inline(always)]
 pub(crate) fn piece_behind_equals(text: &[u8]) -> Option<PieceFound<'_>>
     ensures pieces { pieces_at AtEquals 0 text.now ≡ pieces_found result }
     ensures shorter { IfSome result (λ found. length found.rest.now < length text.now) }
@@ -156,6 +163,7 @@ pub(crate) fn piece_behind_equals(text: &[u8]) -> Option<PieceFound<'_>>
 }
 
 /// The piece that begins a text at the start of a field or behind one of the five marks.
+#[inline(always)]
 pub(crate) fn piece_at_start(text: &[u8]) -> Option<PieceFound<'_>>
     ensures pieces { pieces_at AtStart 0 text.now ≡ pieces_found result }
     ensures shorter { IfSome result (λ found. length found.rest.now < length text.now) }
