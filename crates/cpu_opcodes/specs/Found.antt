@@ -1,14 +1,16 @@
 -- What an operand gives while it is matched, in the words of the definitions.
 use Rattle.std.specs.Prelude.{ℕ, List, Option, Some, None}
 use Rattle.definitions.specs.Pieces.{Piece}
-use Rattle.definitions.specs.Matching.{Field, NoField, OfK, OfN, Match, Instruction, subfield_matched}
+use Rattle.definitions.specs.Matching.{Field, NoField, OfK, OfN, Match, Instruction, instruction_of, subfield_matched}
 use Rattle.definitions.specs.declared.marks.NumberBase.{NumberBase}
 use Rattle.expr_forms.specs.Shapes.{instruction_as}
 use Rattle.expr_forms.specs.declared.shapes.Shape.{Shape}
 use Rattle.cpu_opcodes.specs.RegistersFound.{digits_as}
 use Rattle.cpu_opcodes.specs.declared.found.CentralField as fields
 use Rattle.cpu_opcodes.specs.declared.found.CentralField.TheVariants as field
+use Rattle.cpu_opcodes.specs.CodeTexts.{code_text}
 use Rattle.cpu_opcodes.specs.declared.found.Found as founds
+use Rattle.cpu_opcodes.specs.declared.found.Fitted as fitteds
 
 -- the field
 abbrev pub central_field_as : fields.CentralField → Field
@@ -29,3 +31,8 @@ next_found base pattern pieces (Some so_far) = subfield_matched base pattern pie
 abbrev pub shape_as : Option Shape → Option Instruction
 shape_as None = None
 shape_as (Some shape) = instruction_as shape
+
+-- the instruction of a code with what was found, if there is one
+abbrev pub fitted_as : Option fitteds.Fitted → Option Instruction
+fitted_as None = None
+fitted_as (Some fitted) = Some (instruction_of (code_text fitted.code) (found_as fitted.found))

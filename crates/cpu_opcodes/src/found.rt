@@ -1,4 +1,8 @@
 //! What an operand gives while it is matched with a row.
+ghost use Rattle.std.specs.Prelude.{IsTrue};
+ghost use Rattle.cpu_opcodes.specs.LawfulCodes.{is_lawful};
+
+use crate::code::Code;
 use crate::registers_found::RegistersFound;
 use expr_forms::Expr;
 
@@ -17,4 +21,12 @@ pub(crate) enum CentralField<'e, 'a> {
 pub(crate) struct Found<'e, 'a> {
     pub(crate) registers: RegistersFound,
     pub(crate) field: CentralField<'e, 'a>,
+}
+
+/// The code of a row that an operand fits, and what the operand gives.
+#[derive(Clone, Copy)]
+pub(crate) struct Fitted<'e, 'a> {
+    pub(crate) code: Code,
+    pub(crate) found: Found<'e, 'a>,
+    ghost lawful: { IsTrue (is_lawful code) },
 }

@@ -51,10 +51,7 @@ pub fn ignoring<'a>(operation: &[u8]) -> Option<Shape<'a>>
     ensures central { IfSome result (λ shape. IsTrue (is_some (instruction_as shape))) }
     ensures short { IfSome result (λ shape. shape.digit_count ≤ 10) }
 {
-    match ignoring_fit(operation) {
-        Some(shape) => Some(shape),
-        None => None,
-    }
+    ignoring_fit(operation)
 }
 
 /// V of an operation that has rows, O of one that has none.
@@ -90,12 +87,12 @@ fn fit<'a>(
     ensures central { IfOk result (λ shape. IsTrue (is_some (instruction_as shape))) }
     ensures short { IfOk result (λ shape. shape.digit_count ≤ 10) }
 {
-    match sum_fit(operation, sums, operand) {
-        Some(shape) => Ok(shape),
-        None => match central_fit(operation, others, operand) {
-            Some(shape) => Ok(shape),
-            None => Err(letter_of(sums, others)),
-        },
+    if let Some(shape) = sum_fit(operation, sums, operand) {
+        return Ok(shape);
+    }
+    match central_fit(operation, others, operand) {
+        Some(fitted) => Ok(shape_of(fitted.code, fitted.found)),
+        None => Err(letter_of(sums, others)),
     }
 }
 
@@ -119,13 +116,13 @@ pub fn find<'a>(operation: &[u8], operand: &Operand<'a>) -> Result<Shape<'a>, Le
     ensures central { IfOk result (λ shape. IsTrue (is_some (instruction_as shape))) }
     ensures short { IfOk result (λ shape. shape.digit_count ≤ 10) }
 {
-    match ignoring_fit(operation) {
-        Some(shape) => Ok(shape),
-        None => fit(
-            operation,
-            sum_rows(operation),
-            central_rows(operation),
-            operand,
-        ),
+    if let Some(shape) = ignoring_fit(operation) {
+        return Ok(shape);
     }
+    fit(
+        operation,
+        sum_rows(operation),
+        central_rows(operation),
+        operand,
+    )
 }

@@ -4,11 +4,11 @@ ghost use Rattle.definitions.specs.Matching.{instruction_of};
 ghost use Rattle.expr_forms.specs.Shapes.{field_as, instruction_as};
 ghost use Rattle.cpu_opcodes.specs.CodeTexts.{code_text, code_text_or_none};
 ghost use Rattle.cpu_opcodes.specs.LawfulCodes.{is_lawful, is_lawful_or_none};
-ghost use Rattle.cpu_opcodes.specs.Found.{central_field_as, found_as, shape_as};
+ghost use Rattle.cpu_opcodes.specs.Found.{central_field_as, found_as, fitted_as};
 ghost use Rattle.cpu_opcodes.specs.Fits.{code_fit};
 
 use crate::code::Code;
-use crate::found::{CentralField, Found};
+use crate::found::{CentralField, Fitted, Found};
 use expr_forms::{Field, Shape};
 
 /// The field as an instruction has it.
@@ -36,15 +36,16 @@ pub(crate) fn shape_of<'a>(code: Code, found: Found<'_, 'a>) -> Shape<'a>
     }
 }
 
-/// The same, if there is a code.
-pub(crate) fn shape_with<'a>(code: Option<Code>, found: Found<'_, 'a>) -> Option<Shape<'a>>
+/// A code with what was found, if there is a code.
+pub(crate) fn fitted_with<'e, 'a>(
+    code: Option<Code>,
+    found: Found<'e, 'a>,
+) -> Option<Fitted<'e, 'a>>
     requires { IsTrue (is_lawful_or_none code) }
-    ensures instruction { shape_as result ≡ code_fit (code_text_or_none code) (found_as found.entry) }
-    ensures central { IfSome result (λ shape. IsTrue (is_some (instruction_as shape))) }
-    ensures short { IfSome result (λ shape. shape.digit_count ≤ 10) }
+    ensures { fitted_as result ≡ code_fit (code_text_or_none code) (found_as found.entry) }
 {
     match code {
-        Some(code) => Some(shape_of(code, found)),
+        Some(code) => Some(Fitted { code, found }),
         None => None,
     }
 }

@@ -15,14 +15,14 @@ ghost use Rattle.cpu_opcodes.specs.RegistersFound.{digits_as};
 ghost use Rattle.cpu_opcodes.specs.CodeTexts.{registers_text, code_text_or_none};
 ghost use Rattle.cpu_opcodes.specs.CentralTables.{sum_row, sum_rows_of};
 ghost use Rattle.cpu_opcodes.specs.LawfulCodes.{is_lawful_or_none, has_lawful_codes};
-ghost use Rattle.cpu_opcodes.specs.Found.{shape_as};
+ghost use Rattle.cpu_opcodes.specs.Found.{fitted_as, shape_as};
 ghost use Rattle.cpu_opcodes.specs.Fits.{sum_fit_with, form_fit};
 
 use crate::code::SumForm;
-use crate::found::{CentralField, Found};
+use crate::found::{CentralField, Fitted, Found};
 use crate::patterns::SumPattern;
 use crate::registers_found::RegistersFound;
-use crate::shapes::shape_with;
+use crate::shapes::{fitted_with, shape_of};
 use crate::tables::has_rows;
 use crate::text_match::{matched, named_registers};
 use expr_forms::{Expr, Operand, Shape, Sum, SumRegisters};
@@ -42,29 +42,27 @@ fn registers_fit(
     }
 }
 
-/// The instruction of a form with K, or without it where there are no other terms.
-fn form_fit<'a>(
+/// The code of a form with K, or without it where there are no other terms.
+fn form_fit<'e, 'a>(
     form: SumForm,
     registers: RegistersFound,
-    others: &Option<Expr<'a>>,
-) -> Option<Shape<'a>>
+    others: &'e Option<Expr<'a>>,
+) -> Option<Fitted<'e, 'a>>
     requires with_k { IsTrue (is_lawful_or_none form.with_k) }
     requires alone { IsTrue (is_lawful_or_none form.alone) }
-    ensures instruction { shape_as result ≡ form_fit (code_text_or_none form.with_k) (code_text_or_none form.alone) (digits_as registers) (field_of others.now) }
-    ensures central { IfSome result (λ shape. IsTrue (is_some (instruction_as shape))) }
-    ensures short { IfSome result (λ shape. shape.digit_count ≤ 10) }
+    ensures { fitted_as result ≡ form_fit (code_text_or_none form.with_k) (code_text_or_none form.alone) (digits_as registers) (field_of others.now) }
 {
     match others {
         None => {
-            let found: Found<'a, 'a> = Found {
+            let found = Found {
                 registers,
                 field: CentralField::Absent,
             };
-            shape_with(form.alone, found)
+            fitted_with(form.alone, found)
         }
         Some(expression) => {
             if expression.is_plain(true) {
-                shape_with(
+                fitted_with(
                     form.with_k,
                     Found {
                         registers,
@@ -78,12 +76,14 @@ fn form_fit<'a>(
     }
 }
 
-/// The instruction of a sum by a row, if the sum fits it.
-fn row_fit<'a>(row: &Row<SumForm>, sum: &Sum<'a>, registers: RegistersFound) -> Option<Shape<'a>>
+/// What a sum gives with a code of a row, if the sum fits it.
+fn row_fit<'e, 'a>(
+    row: &Row<SumForm>,
+    sum: &'e Sum<'a>,
+    registers: RegistersFound,
+) -> Option<Fitted<'e, 'a>>
     requires { IsTrue (has_lawful_codes row.now) }
-    ensures instruction { (of : matching.Sum) → IsSum sum.now of → shape_as result ≡ sum_fit_with (digits_as registers) (Some of) (sum_row row.now) }
-    ensures central { IfSome result (λ shape. IsTrue (is_some (instruction_as shape))) }
-    ensures short { IfSome result (λ shape. shape.digit_count ≤ 10) }
+    ensures { (of : matching.Sum) → IsSum sum.now of → fitted_as result ≡ sum_fit_with (digits_as registers) (Some of) (sum_row row.now) }
 {
     match registers_fit(row.form.registers, &sum.registers, registers) {
         Some(found) => form_fit(row.form, found, &sum.others),
@@ -91,17 +91,15 @@ fn row_fit<'a>(row: &Row<SumForm>, sum: &Sum<'a>, registers: RegistersFound) -> 
     }
 }
 
-/// The instruction of a sum by the first row that it fits.
-fn first_fit<'a>(
+/// What a sum gives with a code of the first row that it fits.
+fn first_fit<'e, 'a>(
     rows: &[Row<SumForm>],
-    sum: &Sum<'a>,
+    sum: &'e Sum<'a>,
     registers: RegistersFound,
-) -> Option<Shape<'a>>
+) -> Option<Fitted<'e, 'a>>
     requires { IsTrue (list_all has_lawful_codes rows.now) }
-    ensures instruction { (of : matching.Sum) → IsSum sum.now of →
-        shape_as result ≡ matching.first_fit (map (λ (row : Row SumForm). sum_fit_with (digits_as registers) (Some of) (sum_row row)) rows.now) }
-    ensures central { IfSome result (λ shape. IsTrue (is_some (instruction_as shape))) }
-    ensures short { IfSome result (λ shape. shape.digit_count ≤ 10) }
+    ensures { (of : matching.Sum) → IsSum sum.now of →
+        fitted_as result ≡ matching.first_fit (map (λ (row : Row SumForm). sum_fit_with (digits_as registers) (Some of) (sum_row row)) rows.now) }
 {
     let mut rest = rows;
     'rows: loop {
@@ -109,7 +107,7 @@ fn first_fit<'a>(
             None => return None,
             Some((row, behind)) => {
                 match row_fit(row, sum, registers) {
-                    Some(shape) => return Some(shape),
+                    Some(fitted) => return Some(fitted),
                     None => {}
                 }
                 rest = behind;
@@ -127,7 +125,11 @@ fn one_fit<'a>(operation: &[u8], rows: &[Row<SumForm>], expression: &Expr<'a>) -
     ensures short { IfSome result (λ shape. shape.digit_count ≤ 10) }
 {
     if has_rows(rows) {
-        first_fit(rows, &expression.take_apart(), named_registers(operation))
+        let sum = expression.take_apart();
+        match first_fit(rows, &sum, named_registers(operation)) {
+            Some(fitted) => Some(shape_of(fitted.code, fitted.found)),
+            None => None,
+        }
     } else {
         None
     }

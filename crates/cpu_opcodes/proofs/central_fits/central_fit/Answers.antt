@@ -4,7 +4,7 @@ use Rattle.cpu_opcodes.specs.RegistersFound.{digits_as}
 use Rattle.cpu_opcodes.proofs.RowLaws.{central-fits}
 use Rattle.cpu_opcodes.proofs.central_fits.central_fit.Goals as goal
 
-pub returns-clause-instruction : goal.returns-clause-instruction
-returns-clause-instruction c base subfields h =
-    c.first_fit.ensures.instruction base subfields h
+pub returns : goal.returns
+returns c base subfields h =
+    c.first_fit.ensures base subfields h
     ∙ ap first_fit (central-fits base c.args.operation.now subfields c.args.rows.now (digits_as c.named_registers.result) c.named_registers.ensures c.requires.rows)

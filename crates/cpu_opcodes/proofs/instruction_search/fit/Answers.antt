@@ -6,7 +6,7 @@ use Rattle.definitions.specs.Matching.{is_operation}
 use Rattle.definitions.specs.declared.marks.Letter.TheVariants as letters
 use Rattle.expr_forms.specs.Shapes.{instruction_as}
 use Rattle.cpu_opcodes.specs.CentralTables.{operand_row, sum_row, padded_row, padded_sum_row}
-use Rattle.cpu_opcodes.specs.Found.{shape_as}
+use Rattle.cpu_opcodes.specs.Found.{fitted_as}
 use Rattle.cpu_opcodes.proofs.CentralLaws.{any_row}
 use Rattle.cpu_opcodes.proofs.SearchLaws.{by_sum, by_central}
 use Rattle.cpu_opcodes.proofs.instruction_search.fit.Goals as goal
@@ -17,14 +17,14 @@ returns-in-Some-clause-found c base subfields h =
 
 pub returns-in-Some-central_fit-clause-found : goal.returns-in-Some-central_fit-clause-found
 returns-in-Some-central_fit-clause-found c base subfields h =
-    sym (by_central base c.args.operation.now subfields (instruction_as c.in-Some-central_fit.shape) c.requires.no_fit (c.in-None.ensures.instruction base subfields h) (c.in-Some-central_fit.ensures.instruction base subfields h))
+    sym (by_central base c.args.operation.now subfields (instruction_as c.shape_of.result) c.requires.no_fit (c.in_default.ensures.instruction base subfields h) (c.shape_of.ensures.instruction ∙ c.in-Some-central_fit.ensures base subfields h))
 
-pub returns-in-None-central_fit-clause-refused : goal.returns-in-None-central_fit-clause-refused
-returns-in-None-central_fit-clause-refused c base subfields h =
-    sym (by_central base c.args.operation.now subfields (shape_as c.central_fit.result) c.requires.no_fit (c.in-None.ensures.instruction base subfields h) (c.central_fit.ensures.instruction base subfields h)) ∙ ap shape_as c.in-None-central_fit.is
+pub returns-in-None-clause-refused : goal.returns-in-None-clause-refused
+returns-in-None-clause-refused c base subfields h =
+    sym (by_central base c.args.operation.now subfields (fitted_as c.central_fit.result) c.requires.no_fit (c.in_default.ensures.instruction base subfields h) (c.central_fit.ensures base subfields h)) ∙ ap fitted_as c.in-None.is
 
-pub returns-in-None-central_fit-clause-letter : goal.returns-in-None-central_fit-clause-letter
-returns-in-None-central_fit-clause-letter c =
+pub returns-in-None-clause-letter : goal.returns-in-None-clause-letter
+returns-in-None-clause-letter c =
     let operation = c.args.operation.now in
     let sums = list_any (λ (row : table.SumRow). is_operation row.operation operation) table.sum_rows in
     let others = list_any (λ (row : table.Row). is_operation row.operation operation) table.central_rows in
