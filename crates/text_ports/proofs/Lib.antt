@@ -3,3 +3,4 @@ pub mod OctalSteps
 pub mod WritingSteps
 pub mod CharacterLaws
 pub mod LineLaws
+pub mod HeldLines

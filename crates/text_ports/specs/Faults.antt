@@ -1,8 +1,11 @@
 -- Ports that count their faults (ours).
-use Rattle.std.specs.Prelude.{ℕ, ◌+◌, ◌-◌, ◌^◌, ◌<◌, ◌≤◌, min, List, [], ◌∷◌, Option, None, Some, length, take}
+use Rattle.std.specs.Prelude.{ℕ, ◌+◌, ◌-◌, ◌^◌, ◌<◌, ◌≤◌, min, List, [], ◌∷◌, ◌++◌, Option, None, Some, length, take}
 use Rattle.std.specs.Io.KnownBytes.{Appends, Consumes, IsAtEnd, Keeps}
 use Rattle.text_ports.specs.declared.counted.ByteIs.{ByteIs}
 use Rattle.text_ports.specs.declared.counted.ByteIs.TheVariants as byte
+use Rattle.text_ports.specs.Lines.{line_feed, IsUnbroken}
+use Rattle.text_ports.specs.declared.held_lines.HeldIs.{HeldIs}
+use Rattle.text_ports.specs.declared.held_lines.HeldIs.TheVariants as held
 use Rattle.text_ports.specs.declared.lines.LineIs.{LineIs}
 use Rattle.text_ports.specs.declared.lines.LineIs.TheVariants as line
 
@@ -32,6 +35,18 @@ abbrev pub GivesByte : Option (List ℕ) → Option (List ℕ) → ByteIs → Ty
 GivesByte old new (byte.Byte b) = Consumes old new (b ∷ [])
 GivesByte old new byte.End = Consumes old new [] × IsAtEnd new
 GivesByte old new byte.Fault = Consumes old new []
+
+-- what a reader loses of what it holds: a line with its line feed, or nothing
+abbrev pub TakesHeld : Option (List ℕ) → Option (List ℕ) → HeldIs → List ℕ → Type 0
+TakesHeld old new held.Line line = Consumes old new (line ++ line_feed ∷ []) × IsUnbroken line × (length line ≤ 256)
+TakesHeld old new held.Other line = Consumes old new []
+TakesHeld old new held.Fault line = Consumes old new []
+
+-- the count rises exactly at a fault
+abbrev pub count_after_held : HeldIs → ℕ → ℕ
+count_after_held held.Line faults = faults
+count_after_held held.Other faults = faults
+count_after_held held.Fault faults = count_up faults
 
 -- what a writer gains when it is offered bytes: at least one of them, or nothing at a fault
 abbrev pub Takes : Option (List ℕ) → Option (List ℕ) → Option ℕ → List ℕ → Type 0

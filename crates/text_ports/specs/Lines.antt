@@ -1,5 +1,5 @@
 -- What reading a line takes from a port, and leaves in the buffer (ours).
-use Rattle.std.specs.Prelude.{ℕ, ◌≡◌, ◌≢◌, ◌==◌, ◌-◌, ◌<◌, ◌≤◌, List, [], ◌∷◌, ◌++◌, Option, length, take, slice_index, if◌then◌else◌, All, ⊤}
+use Rattle.std.specs.Prelude.{ℕ, ◌≡◌, ◌≢◌, ◌+◌, ◌<◌, ◌≤◌, List, [], ◌∷◌, ◌++◌, Option, length, take, All, ⊤}
 use Rattle.std.specs.Io.KnownBytes.{Consumes, IsAtEnd}
 use Rattle.definitions.specs.InputLines.{without_cr}
 use Rattle.text_ports.specs.declared.lines.LineIs.{LineIs}
@@ -11,6 +11,10 @@ line_feed = 10
 -- no line feed is among the bytes
 abbrev pub IsUnbroken : List ℕ → Type 0
 IsUnbroken bytes = All (λ b. b ≢ line_feed) bytes
+
+-- some bytes begin with a line of this length, and its line feed
+abbrev pub IsFrontLine : ℕ → List ℕ → Type 0
+IsFrontLine len bytes = (len ≤ 256) × (len < length bytes) × (take (len + 1) bytes ≡ take len bytes ++ line_feed ∷ []) × IsUnbroken (take len bytes)
 
 -- the bytes that were taken, and the line in the buffer, at each answer
 abbrev pub IsTakenAs : LineIs → List ℕ → List ℕ → Type 0

@@ -1,8 +1,10 @@
 //! A reader or a writer with the count of its faults.
 ghost use Rattle.std.specs.Prelude.{◌≡◌, take};
-ghost use Rattle.text_ports.specs.Faults.{GivesByte, Takes, count_up, count_after_read, count_after_write};
+ghost use Rattle.text_ports.specs.Faults.{GivesByte, Takes, TakesHeld, count_up, count_after_read, count_after_write, count_after_held};
 
-use std::io::{Read, Write};
+use crate::held_lines::{HeldIs, take_held};
+use crate::lines::LineBuf;
+use std::io::{BufRead, Read, Write};
 use std::marker::Model;
 
 /// A port, and how many faults it passed on. A fault is an error of the port, an interrupted call
@@ -75,6 +77,22 @@ impl<R: Read> Counted<R> {
                 ByteIs::Fault
             }
         }
+    }
+}
+
+impl<R: BufRead> Counted<R> {
+    /// The line that begins what the port holds, if all of it is held.
+    pub(crate) fn take_held_line(&mut self, line: &mut LineBuf) -> HeldIs
+        ensures bytes { TakesHeld (R.remaining self.old.0) (R.remaining self.new.0) result line.new }
+        ensures count { self.new.1 ≡ count_after_held result self.old.1 }
+    {
+        let answer = take_held(&mut self.port, line);
+        match answer {
+            HeldIs::Line => {}
+            HeldIs::Other => {}
+            HeldIs::Fault => self.count_fault(),
+        }
+        answer
     }
 }
 

@@ -9,6 +9,7 @@ mod octal_text;
 
 // Ports, and what goes in and out.
 mod counted;
+mod held_lines;
 mod lines;
 mod writing;
 
@@ -21,6 +22,7 @@ pub use characters::{char_of, display_of, has_display_code};
 pub use counted::Counted;
 pub use faulty_reader::FaultyReader;
 pub use faulty_writer::FaultyWriter;
+pub use held_lines::next_held_line;
 pub use lines::{LineBuf, LineIs, next_line};
 pub use octal_text::{OctalText, octal};
 pub use writing::{Broken, put_all};

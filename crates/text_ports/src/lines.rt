@@ -9,7 +9,7 @@ use std::io::Read;
 use std::marker::Model;
 
 /// How many bytes a line may have before its line feed; a carriage return counts among them.
-const MOST_BYTES: usize = 256;
+pub(crate) const MOST_BYTES: usize = 256;
 
 /// The bytes of one line, at most 256. Contracts see it as their list.
 #[derive(Drop)]
@@ -58,7 +58,7 @@ impl LineBuf {
         self.len == MOST_BYTES
     }
 
-    fn clear(&mut self)
+    pub(crate) fn clear(&mut self)
         ensures { self.new ≡ [] }
     {
         self.len = 0;
@@ -72,7 +72,16 @@ impl LineBuf {
         self.len += 1;
     }
 
-    fn drop_cr(&mut self)
+    /// Puts these bytes in the place of its own.
+    pub(crate) fn set(&mut self, text: &[u8])
+        requires { length text.now ≤ 256 }
+        ensures { self.new ≡ text.now }
+    {
+        self.bytes.split_at_mut(text.len()).0.copy_from_slice(text);
+        self.len = text.len();
+    }
+
+    pub(crate) fn drop_cr(&mut self)
         ensures { self.new ≡ without_cr self.old }
     {
         if self.len > 0 && self.bytes[self.len - 1] == b'\r' {

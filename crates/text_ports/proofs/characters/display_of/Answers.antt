@@ -1,4 +1,4 @@
-use Rattle.std.proofs.Common.{◌≡◌, ◌-◌, ◌∙◌, sym, arith, Some, get_or, true}
+use Rattle.std.proofs.Common.{◌≡◌, ◌-◌, sym, arith, get_or, true}
 use Rattle.std.specs.Prelude.{is_some}
 use Rattle.definitions.specs.Characters.{display_code_of}
 use Rattle.text_ports.specs.declared.characters.TheConstants.{CODES}
