@@ -41,16 +41,17 @@ fn read_central<'a>(base: NumberBase, name: &[u8], text: &'a [u8]) -> Reading<'a
     ensures reading { IsReading result (central_operand (central_of base name.now (subfields_of (pieces_of text.now)))) }
     ensures lawful { IsLawful result }
 {
-    match cpu_opcodes::ignoring(name) {
-        Some(shape) => Reading::Instruction(shape),
-        None => match operand(text, base) {
-            Err(_) => Reading::Bad,
-            Ok(operand) => match cpu_opcodes::find(name, &operand) {
-                Ok(shape) => Reading::Instruction(shape),
-                Err(_) => Reading::Bad,
-            },
-        },
+    if let Some(shape) = cpu_opcodes::ignoring(name) {
+        return Reading::Instruction(shape);
     }
+    let read = operand(text, base);
+    let Ok(operand) = &read else {
+        return Reading::Bad;
+    };
+    let Ok(shape) = cpu_opcodes::find(name, operand) else {
+        return Reading::Bad;
+    };
+    Reading::Instruction(shape)
 }
 
 /// The operand of a peripheral instruction.

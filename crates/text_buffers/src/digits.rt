@@ -25,6 +25,7 @@ impl Model for Digits {
 }
 
 impl Digits {
+    #[inline(always)]
     pub(crate) fn as_slice(&self) -> &[u8]
         ensures { result.now ≡ self.now }
     {
@@ -33,6 +34,7 @@ impl Digits {
 }
 
 /// The last `count` digits of a value to a base up to 10, leading zeros among them.
+#[inline(always)]
 pub(crate) fn last_digits<const BASE: u64>(count: u32, value: u64) -> Digits
     requires some { 0 < BASE }
     requires digit { BASE ≤ 10 }

@@ -40,6 +40,7 @@ impl Text {
         })
     }
 
+    #[inline(always)]
     pub fn as_slice(&self) -> &[u8]
         ensures { result.now ≡ self.now }
     {
@@ -53,6 +54,7 @@ impl Text {
         self.bytes.len()
     }
 
+    #[inline(always)]
     pub fn push_byte(&mut self, byte: u8) -> Result<(), AllocError>
         ensures ok { OnOk result (self.new ≡ self.old ++ byte ∷ []) }
         ensures err { OnErr result (self.new ≡ self.old) }
@@ -60,6 +62,7 @@ impl Text {
         Ok(self.bytes.push(byte)?)
     }
 
+    #[inline(always)]
     pub fn push_bytes(&mut self, bytes: &[u8]) -> Result<(), AllocError>
         ensures ok { OnOk result (self.new ≡ self.old ++ bytes.now) }
         ensures err { OnErr result (self.new ≡ self.old) }
@@ -68,6 +71,7 @@ impl Text {
     }
 
     /// Appends the last `digits` octal digits of a value, leading zeros among them.
+    #[inline(always)]
     pub fn push_octal(&mut self, digits: u32, value: u64) -> Result<(), AllocError>
         requires few { digits ≤ 20 }
         ensures ok { OnOk result (self.new ≡ self.old ++ octal_of digits value) }
