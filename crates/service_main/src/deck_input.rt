@@ -9,8 +9,8 @@ use crate::deck::Deck;
 use crate::deck_cut::add_line;
 use cards::CardFault;
 use std::alloc::Global;
-use std::io::Read;
-use text_ports::{Counted, LineBuf, LineIs, next_line};
+use std::io::BufRead;
+use text_ports::{Counted, LineBuf, LineIs, next_held_line};
 
 /// How many lines a run reads at most: those of 64 decks of 20,000 cards, and the one that is too
 /// many.
@@ -18,7 +18,7 @@ const MOST_LINES: u64 = 1_280_001;
 
 /// Reads all lines as decks, in order and with their cards in order. The first fault ends it: what
 /// follows is not looked at.
-pub fn read_decks<R: Read>(alloc: Global, input: &mut Counted<R>) -> Result<Vec<Deck>, AsmFault>
+pub fn read_decks<R: BufRead>(alloc: Global, input: &mut Counted<R>) -> Result<Vec<Deck>, AsmFault>
     // What was read are lines that show no fault, and then one line at most.
     ensures read { ReadsToFault (R.remaining input.old.0) (R.remaining input.new.0) }
     ensures all_read { OnOk result (IsAtEnd (R.remaining input.new.0)) }
@@ -39,7 +39,7 @@ pub fn read_decks<R: Read>(alloc: Global, input: &mut Counted<R>) -> Result<Vec<
     let mut line = LineBuf::new();
     for before in 0..MOST_LINES {
         let number = before + 1;
-        match next_line(input, &mut line) {
+        match next_held_line(input, &mut line) {
             LineIs::Line => add_line(alloc, &mut decks, number, line.as_slice())?,
             LineIs::End => return Ok(decks),
             LineIs::Cut => return Err(AsmFault::LastLineCut),

@@ -10,7 +10,7 @@ use crate::deck_input::read_decks;
 use crate::publishing::publish;
 use crate::writing::write_texts;
 use std::alloc::Global;
-use std::io::{Read, Write};
+use std::io::{BufRead, Write};
 use text_ports::Counted;
 
 /// What a run counts: the flagged statements, and the LINK lines of the map.
@@ -23,7 +23,7 @@ pub struct Tally {
 /// Reads decks of cards, and writes their listing, the link map and the octal image: the answer of
 /// the definitions. All is read before anything is written, and what follows the first fault is not
 /// looked at.
-pub fn asm_run<R: Read, W: Write>(
+pub fn asm_run<R: BufRead, W: Write>(
     alloc: Global,
     input: &mut Counted<R>,
     output: &mut Counted<W>,

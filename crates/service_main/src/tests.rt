@@ -3,7 +3,7 @@
 use crate::{AsmFault, Tally, asm_run, asm_status};
 use std::alloc::{AllocError, Global};
 use std::io;
-use std::io::{ErrorKind, Read, Write};
+use std::io::{BufRead, ErrorKind, Read, Write};
 use std::process::Abort;
 use std::test::Fail;
 use text_ports::Counted;
@@ -35,7 +35,7 @@ END
 /// More calls or bytes than any test needs.
 const PLENTY: usize = 10_000_000;
 
-/// A reader of known bytes, seven at a time, that fails after so many calls.
+/// A reader of known bytes that gives and shows seven at a time, and fails after so many calls.
 #[derive(Drop)]
 struct FakeReader<'a> {
     bytes: &'a [u8],
@@ -53,6 +53,20 @@ impl<'a> Read for FakeReader<'a> {
         buf.split_at_mut(count).0.copy_from_slice(front);
         self.bytes = rest;
         Ok(count)
+    }
+}
+
+impl<'a> BufRead for FakeReader<'a> {
+    fn fill_buf(&mut self) -> io::Result<&[u8]> {
+        if self.calls == 0 {
+            return Err(io::Error::from(ErrorKind::Other));
+        }
+        self.calls -= 1;
+        Ok(self.bytes.split_at(self.bytes.len().min(7)).0)
+    }
+
+    fn consume(&mut self, amount: usize) {
+        self.bytes = self.bytes.split_at(amount.min(self.bytes.len())).1;
     }
 }
 

@@ -20,7 +20,7 @@ pub unreachable-requires : goal.unreachable-requires
 unreachable-requires g c = omega (arith, IsReadSoFar-few _ _ _ _ c.loop-before.invariant.read)
 
 pub returns-in-End-clause-read : goal.returns-in-End-clause-read
-returns-in-End-clause-read g c = ReadsToFault-so_far _ _ _ _ _ _ _ c.loop-before.invariant.read c.next_line.ensures.reads
+returns-in-End-clause-read g c = ReadsToFault-so_far _ _ _ _ _ _ _ c.loop-before.invariant.read c.next_held_line.ensures.reads
 
 pub returns-in-End-clause-decks : goal.returns-in-End-clause-decks
 returns-in-End-clause-decks g c = AreDecksOf-so_far _ _ _ _ _ _ c.loop-before.invariant.read c.in-End.ensures.reads
@@ -29,22 +29,22 @@ pub returns-in-End-clause-few : goal.returns-in-End-clause-few
 returns-in-End-clause-few g c = IsReadSoFar-decks _ _ _ _ c.loop-before.invariant.read
 
 pub returns-in-Cut-clause-read : goal.returns-in-Cut-clause-read
-returns-in-Cut-clause-read g c = ReadsToFault-so_far _ _ _ _ _ _ _ c.loop-before.invariant.read c.next_line.ensures.reads
+returns-in-Cut-clause-read g c = ReadsToFault-so_far _ _ _ _ _ _ _ c.loop-before.invariant.read c.next_held_line.ensures.reads
 
 pub returns-in-Cut-clause-fault : goal.returns-in-Cut-clause-fault
 returns-in-Cut-clause-fault g c = cut-so_far _ _ _ _ _ _ c.loop-before.invariant.read c.in-Cut.ensures.reads
 
 pub returns-in-TooLong-clause-read : goal.returns-in-TooLong-clause-read
-returns-in-TooLong-clause-read g c = ReadsToFault-so_far _ _ _ _ _ _ _ c.loop-before.invariant.read c.next_line.ensures.reads
+returns-in-TooLong-clause-read g c = ReadsToFault-so_far _ _ _ _ _ _ _ c.loop-before.invariant.read c.next_held_line.ensures.reads
 
 pub returns-in-TooLong-clause-fault : goal.returns-in-TooLong-clause-fault
 returns-in-TooLong-clause-fault g c = too_long-so_far _ _ _ _ _ _ c.loop-before.invariant.read c.in-TooLong.ensures.reads
 
 pub returns-in-Fault-clause-read : goal.returns-in-Fault-clause-read
-returns-in-Fault-clause-read g c = ReadsToFault-so_far _ _ _ _ _ _ _ c.loop-before.invariant.read c.next_line.ensures.reads
+returns-in-Fault-clause-read g c = ReadsToFault-so_far _ _ _ _ _ _ _ c.loop-before.invariant.read c.next_held_line.ensures.reads
 
 pub returns-in_err-add_line-in-Line-clause-read : goal.returns-in_err-add_line-in-Line-clause-read
-returns-in_err-add_line-in-Line-clause-read g c = ReadsToFault-so_far _ _ _ _ _ _ _ c.loop-before.invariant.read c.next_line.ensures.reads
+returns-in_err-add_line-in-Line-clause-read g c = ReadsToFault-so_far _ _ _ _ _ _ _ c.loop-before.invariant.read c.next_held_line.ensures.reads
 
 pub returns-in_err-add_line-in-Line-clause-fault : goal.returns-in_err-add_line-in-Line-clause-fault
 returns-in_err-add_line-in-Line-clause-fault g c =
