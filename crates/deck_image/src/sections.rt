@@ -56,8 +56,7 @@ pub fn push_section<L: Linking>(
         based.object ≡ object_of object.now → based.base ≡ base → text.new ≡ text.old ++ section layout based) }
     ensures without_memory { OnErr result (text.new ≡ text.old) }
 {
-    let section = section_text(alloc, object, linking, base)?;
-    text.push_bytes(section.as_slice())
+    text.append(section_text(alloc, object, linking, base)?)
 }
 
 /// The section of a deck alone at a base: externals and common blocks count as 0.

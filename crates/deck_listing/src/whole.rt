@@ -75,5 +75,5 @@ pub fn push_listing(alloc: Global, text: &mut Text, object: &Object) -> Result<(
     ensures ok { OnOk result (text.new ≡ text.old ++ deck_listing (object_of object.now)) }
     ensures err { OnErr result (text.new ≡ text.old) }
 {
-    text.push_bytes(listing(alloc, object)?.as_slice())
+    text.append(listing(alloc, object)?)
 }

@@ -70,6 +70,18 @@ impl Text {
         self.bytes.extend_from_slice(bytes)
     }
 
+    /// Appends a text. An empty one takes it over as it is, with its memory.
+    pub fn append(&mut self, text: Text) -> Result<(), AllocError>
+        ensures ok { OnOk result (self.new ≡ self.old ++ text) }
+        ensures err { OnErr result (self.new ≡ self.old) }
+    {
+        if self.bytes.is_empty() {
+            *self = text;
+            return Ok(());
+        }
+        self.push_bytes(text.as_slice())
+    }
+
     /// Appends the last `digits` octal digits of a value, leading zeros among them.
     #[inline(always)]
     pub fn push_octal(&mut self, digits: u32, value: u64) -> Result<(), AllocError>
