@@ -1,5 +1,5 @@
 //! The lines of the statements of a deck, one behind the other.
-ghost use Rattle.std.specs.Prelude.{ℕ, ◌≡◌, ◌+◌, ◌-◌, ◌^◌, ◌≤◌, ◌∷◌, ◌++◌, [], List, OnOk, true, length, take, drop, min};
+ghost use Rattle.std.specs.Prelude.{ℕ, ◌≡◌, ◌+◌, ◌-◌, ◌^◌, ◌≤◌, ◌∷◌, ◌++◌, [], List, IfOk, OnOk, true, length, take, drop, min};
 ghost use Rattle.definitions.specs.Objects.{Shown, only_listed};
 ghost use Rattle.definitions.specs.Settling.{settle, settled_all};
 ghost use Rattle.definitions.specs.Statements as statements;
@@ -40,17 +40,17 @@ pub(crate) fn next_cards(cards: &[Card], stood: usize, count: u32) -> &[Card]
 }
 
 impl DeckLines {
-    /// Those of no statement.
-    pub(crate) fn new(alloc: Global) -> DeckLines
-        ensures lined { (whole : Whole) → AreLined whole [] result }
-        ensures stood { result.stood ≡ 0 }
+    /// Those of no statement, with memory for so many lines.
+    pub(crate) fn new(alloc: Global, room: usize) -> Result<DeckLines, AllocError>
+        ensures lined { IfOk result (λ lines. (whole : Whole) → AreLined whole [] lines) }
+        ensures stood { IfOk result (λ lines. lines.stood ≡ 0) }
     {
-        DeckLines {
-            lines: Vec::new(alloc),
+        Ok(DeckLines {
+            lines: Vec::with_capacity(alloc, room)?,
             items: Vec::new(alloc),
             stood: 0,
             block: 0,
-        }
+        })
     }
 
     /// The line of one statement more. Where memory runs out the lines are of no use.

@@ -10,7 +10,7 @@ use crate::deck_lines::{DeckLines, next_cards};
 use crate::deck_names::DeckNames;
 use crate::deck_view::DeckView;
 use cards::StatementRoom;
-use deck_pieces::{Piece, SizedStatement};
+use deck_pieces::{Piece, SizedDeck, SizedStatement};
 use statement_coder::{Meter, Statement};
 use std::alloc::{AllocError, Global};
 
@@ -21,15 +21,21 @@ pub(crate) struct Making {
     pub(crate) names: DeckNames,
 }
 
+/// For how many lines there is to be memory: a piece has 128 statements at most.
+fn line_room(deck: &SizedDeck) -> usize {
+    let pieces = deck.pieces().len().saturating_mul(128);
+    pieces.saturating_add(deck.behind().len())
+}
+
 impl Making {
-    /// Those of no statement.
-    fn new(alloc: Global, view: &DeckView<'_>) -> Making
-        ensures { (known others : List statements.Statement) → let whole = whole_of view.now known others in IsWhole whole → IsWalked whole (sized_in whole.deck.pieces) result }
+    /// Those of no statement, with memory for the lines of all of them.
+    fn new(alloc: Global, view: &DeckView<'_>) -> Result<Making, AllocError>
+        ensures { IfOk result (λ made. (known others : List statements.Statement) → let whole = whole_of view.now known others in IsWhole whole → IsWalked whole (sized_in whole.deck.pieces) made) }
     {
-        Making {
-            lines: DeckLines::new(alloc),
+        Ok(Making {
+            lines: DeckLines::new(alloc, line_room(view.deck))?,
             names: DeckNames::new(alloc),
-        }
+        })
     }
 
     /// One statement more. Where memory runs out what was made is of no use.
@@ -111,7 +117,7 @@ pub(crate) fn walk(
     ensures coded { meter.new.coded ≤ meter.old.coded + length (sized_in view.now.deck.now.pieces) }
     ensures sized { meter.new.sized ≡ meter.old.sized }
 {
-    let mut made = Making::new(alloc, view);
+    let mut made = Making::new(alloc, view)?;
     let mut room = StatementRoom::new();
     made.add_pieces(view, &mut room, view.deck.pieces(), meter)?;
     list_all(&mut made.lines, view.deck.behind())?;

@@ -11,7 +11,7 @@ returns-clause-done c =
     let whole = whole_of c.args.view.now known others in
     let made = c.add_pieces.new.self in
     let walked = c.in_ok-add_pieces.ensures.walked known others is
-    (subst (λ (pieces : List DeckPiece). IsWalked whole (sized_in pieces) c.new-made.result) (sym c.pieces.ensures) (c.new-made.ensures known others is)) in
+    (subst (λ (pieces : List DeckPiece). IsWalked whole (sized_in pieces) c.in_ok-made.made) (sym c.pieces.ensures) (c.in_ok-made.ensures known others is)) in
     record {
       listing = c.in_ok-list_all.ensures whole is (subst (λ left. IsListing whole left made.lines) (sym c.behind.ensures) (walk-listing whole made walked));
       noted = walk-noted whole made walked;

@@ -6,4 +6,4 @@ pub returns : goal.returns
 returns c =
     λ known others is.
     let whole = whole_of c.args.view.now known others in
-    walk-begin whole (record { lines = c.new.result; names = c.new-2.result }) is c.new.ensures.stood (c.new.ensures.lined whole) (c.new-2.ensures whole)
+    walk-begin whole (record { lines = c.in_ok-new.field-0; names = c.new-2.result }) is c.in_ok-new.ensures.stood (c.in_ok-new.ensures.lined whole) (c.new-2.ensures whole)
