@@ -36,6 +36,7 @@ fn enters(kind: DeckKind, operation: Operation) -> bool
 }
 
 /// Enters the names of a statement, if it enters any.
+#[inline(never)]
 fn enter(
     entries: &mut EntryNames,
     view: &DeckView<'_>,

@@ -20,6 +20,7 @@ fn external(name: &[u8]) -> Form
 }
 
 /// Defines the names of an EXT that have no value yet. Some of them are defined where memory runs out.
+#[inline(never)]
 fn define_externals(symbols: &mut SymbolTable, names: LinkedNames<'_>) -> Result<(), AllocError>
     ensures { OnOk result (symbol_in symbols.new ≡ with_externals names.entry (symbol_in symbols.old)) }
 {

@@ -46,6 +46,7 @@ impl Piece {
     }
 
     /// A piece of one statement behind this state, with memory for all others.
+    #[inline(never)]
     fn begin(alloc: Global, state: &BlockState, sized: SizedStatement) -> Result<Piece, AllocError>
         ensures { IfOk result (λ piece. piece ≡ record { state = state.now; statements = sized ∷ [] }) }
     {

@@ -19,6 +19,7 @@ use operations::Operation;
 use use_blocks::{BlockChange, BlockState};
 
 /// What the field of a USE does.
+#[inline(never)]
 fn change_of_use(field: UseField, state: &BlockState) -> BlockChange
     ensures change { change_as result ≡ change_of (use_as field) (names_of_blocks state.now.blocks) }
     ensures accepted { IsAccepted (change_as result) state.now }

@@ -24,6 +24,7 @@ pub enum Defines {
 }
 
 /// The symbol of a location field, where it is one that is not defined before.
+#[inline(never)]
 fn first_definition(location: &[u8], form: Form, is_defined: bool) -> Defines
     ensures { (view : View) (operand : operands.Operand) → is_some (view location.now) ≡ is_defined →
         defined_by view location.now operand result ≡ first_definition location.now form (view location.now) }
@@ -54,6 +55,7 @@ fn has_names(reading: &Reading<'_>) -> bool
 }
 
 /// What an EXT defines.
+#[inline(never)]
 fn externals(kind: DeckKind, reading: &Reading<'_>) -> Defines
     ensures { (location : List ℕ) (value counter : forms.Form) (view : View) (operand : operands.Operand) → IsReading reading.now operand →
         defined_by view location operand result ≡ definitions_of kind op.Ext operand location value counter view }

@@ -180,6 +180,7 @@ fn stays_with(place: u32, letter: Letter) -> Outcome
 }
 
 /// ORG goes to its word.
+#[inline(never)]
 fn origin_outcome(kind: DeckKind, block: &Name, place: u32, value: Result<Form, Letter>) -> Outcome
     requires { place ≤ 524288 }
     ensures outcome { outcome_as result ≡ origin_outcome kind place (origin_word kind block.now value) }
@@ -196,6 +197,7 @@ fn origin_outcome(kind: DeckKind, block: &Name, place: u32, value: Result<Form, 
 }
 
 /// LOC sets the counter.
+#[inline(never)]
 fn location_outcome(kind: DeckKind, place: u32, value: Result<Form, Letter>) -> Outcome
     requires { place ≤ 524288 }
     ensures outcome { outcome_as result ≡ location_outcome place (location_value kind value) }
@@ -212,6 +214,7 @@ fn location_outcome(kind: DeckKind, place: u32, value: Result<Form, Letter>) -> 
 }
 
 /// BSS and BSSZ end behind their words.
+#[inline(never)]
 fn reserved_outcome(kind: DeckKind, place: u32, value: Result<Form, Letter>) -> Outcome
     requires { place ≤ 524288 }
     ensures outcome { outcome_as result ≡ reserved_outcome kind place (reserved kind place value) }
