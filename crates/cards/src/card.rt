@@ -84,6 +84,16 @@ impl Card {
         }
     }
 
+    /// The same card once more.
+    pub fn copied(&self) -> Card
+        ensures { result ≡ self.now }
+    {
+        Card {
+            columns: self.columns,
+            len: self.len,
+        }
+    }
+
     /// The columns up to the last that is not blank.
     pub fn as_slice(&self) -> &[u8]
         ensures columns { result.now ≡ self.now }

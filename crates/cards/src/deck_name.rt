@@ -55,6 +55,16 @@ impl DeckName {
         }
     }
 
+    /// The same name once more.
+    pub fn copied(&self) -> DeckName
+        ensures { result ≡ self.now }
+    {
+        DeckName {
+            characters: self.characters,
+            len: self.len,
+        }
+    }
+
     pub fn as_slice(&self) -> &[u8]
         ensures name { result.now ≡ self.now }
         ensures short { length self.now ≤ 7 }

@@ -1,0 +1,2 @@
+-- Edits by the number of cards.
+pub mod FaultLaws
