@@ -1,5 +1,5 @@
 -- The pieces of a record have all its statements.
-use Rattle.std.proofs.Common.{ℕ, ◌≡◌, ◌+◌, ◌-◌, ◌≤◌, List, [], ◌∷◌, ◌++◌, length, drop, suc, refl, sym, ap, ◌∙◌, arith, length-append, reverse}
+use Rattle.std.proofs.Common.{ℕ, ◌≡◌, ◌+◌, ◌-◌, List, [], ◌∷◌, length, drop, suc, refl, sym, ap, ◌∙◌, arith, length-append, reverse}
 use Rattle.std.proofs.lemmas.List.{length-reverse}
 use Rattle.definitions.specs.Cards.{Card}
 use Rattle.definitions.specs.DeckKinds.{up_to_end}

@@ -1,1 +1,3 @@
 pub mod Records
+pub mod Faults
+pub mod Edited

@@ -1,5 +1,5 @@
 -- What contracts see of the record of a deck (ours).
-use Rattle.std.specs.Prelude.{ℕ, ◌≡◌, ◌≤◌, ◌<◌, ◌+◌, ◌-◌, Bool, List, [], ◌∷◌, length, map}
+use Rattle.std.specs.Prelude.{ℕ, ◌≡◌, ◌≤◌, ◌<◌, ◌-◌, Bool, List, [], ◌∷◌, length, map}
 use Rattle.deck_pieces.specs.DeckParts.{DeckPiece}
 use Rattle.definitions.specs.Cards.{Card}
 

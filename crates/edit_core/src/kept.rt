@@ -1,11 +1,18 @@
 //! What is kept of a deck from one edit to the next.
-ghost use Rattle.std.specs.Prelude.{◌≡◌, ◌≤◌, ◌+◌, true, false, length, reverse, Err, IfOk, ◌↔◌};
+ghost use Rattle.std.specs.Prelude.{◌≡◌, ◌≤◌, ◌+◌, true, false, length, reverse, None, Err, IfOk, IfErr, ◌↔◌};
+ghost use Rattle.std.specs.Option.{ForSome};
 ghost use Rattle.definitions.specs.DeckKinds.{up_to_end};
 ghost use Rattle.definitions.specs.Statements.{statements_of};
+ghost use Rattle.card_edits.specs.Edits.{fault_of, edited};
+ghost use Rattle.edit_core.specs.Edited.{statement_count, IsRecordOf};
+ghost use Rattle.edit_core.specs.Faults.{against};
 ghost use Rattle.edit_core.specs.Records.{ArePieces};
 
 use crate::assembling::assembled;
+use crate::edited_cards::edited_cards;
+use crate::faults::{RecordFault, record_fault};
 use crate::piece_counts::piece_counts;
+use card_edits::{Edit, fault_of};
 use cards::{Card, DeckName};
 use deck_objects::SharedObject;
 use deck_pieces::SizedDeck;
@@ -72,6 +79,55 @@ impl Kept {
             pieces,
             spent: false,
         })
+    }
+
+    /// Makes an edit: the record is made anew of the edited cards. Where it is spent, or else where the
+    /// edit doesn't apply, it says so and changes nothing; where memory runs out it is spent. The meter
+    /// counts at most one statement sized, and one coded, for each up to END of the edited cards.
+    pub fn edit(&mut self, alloc: Global, edit: &Edit, meter: &mut Meter) -> Result<(), RecordFault>
+        ensures refused { ForSome (against edit.now self.old.is_spent self.old.cards) (λ fault. (result ≡ Err fault) × (self.new ≡ self.old) × (meter.new ≡ meter.old)) }
+        ensures accepted { against edit.now self.old.is_spent self.old.cards ≡ None → IfErr result (λ fault. fault ≡ RecordFault.OutOfMemory) }
+        ensures made { IfOk result (λ _. IsRecordOf self.old.name (edited self.old.cards edit.now) self.new) }
+        ensures lost { result ≡ Err RecordFault.OutOfMemory → self.new.is_spent ≡ true }
+        ensures sized { meter.new.sized ≤ meter.old.sized + statement_count (edited self.old.cards edit.now) }
+        ensures coded { meter.new.coded ≤ meter.old.coded + statement_count (edited self.old.cards edit.now) }
+    {
+        if let Some(fault) = self.fault_against(edit) {
+            return Err(fault);
+        }
+        match self.remade(alloc, edit, meter) {
+            Ok(made) => {
+                *self = made;
+                Ok(())
+            }
+            Err(_) => {
+                self.spent = true;
+                Err(RecordFault::OutOfMemory)
+            }
+        }
+    }
+
+    fn fault_against(&self, edit: &Edit) -> Option<RecordFault>
+        ensures { result ≡ against edit.now self.now.is_spent self.now.cards }
+    {
+        if self.is_spent() {
+            return Some(RecordFault::Spent);
+        }
+        match fault_of(edit, self.cards().len()) {
+            Some(fault) => Some(record_fault(fault)),
+            None => None,
+        }
+    }
+
+    /// The record of the edited cards.
+    fn remade(&self, alloc: Global, edit: &Edit, meter: &mut Meter) -> Result<Kept, AllocError>
+        requires { fault_of edit.now self.now.cards ≡ None }
+        ensures made { IfOk result (λ made. IsRecordOf self.now.name (edited self.now.cards edit.now) made) }
+        ensures sized { meter.new.sized ≤ meter.old.sized + statement_count (edited self.now.cards edit.now) }
+        ensures coded { meter.new.coded ≤ meter.old.coded + statement_count (edited self.now.cards edit.now) }
+    {
+        let cards = edited_cards(alloc, self.cards(), edit)?;
+        Kept::new(alloc, self.name().copied(), cards, meter)
     }
 
     pub fn name(&self) -> &DeckName

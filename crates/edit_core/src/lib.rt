@@ -3,10 +3,13 @@
 #![tactic(auto)]
 
 mod assembling;
+mod edited_cards;
+mod faults;
 mod kept;
 mod piece_counts;
 
 pub use assembling::assemble;
+pub use faults::RecordFault;
 pub use kept::{FinishFault, Kept};
 
 #[cfg(test)]

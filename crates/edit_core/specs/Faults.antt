@@ -1,0 +1,19 @@
+-- What keeps a record from being edited (ours).
+use Rattle.std.specs.Prelude.{Bool, true, false, List, Option, Some, option_map}
+use Rattle.definitions.specs.Cards.{Card}
+use Rattle.card_edits.specs.declared.edits.Edit.{Edit}
+use Rattle.card_edits.specs.declared.edits.EditFault.{EditFault}
+use Rattle.card_edits.specs.declared.edits.EditFault.TheVariants as edit_fault
+use Rattle.card_edits.specs.Edits.{fault_of}
+use Rattle.edit_core.specs.declared.faults.RecordFault.{RecordFault}
+use Rattle.edit_core.specs.declared.faults.RecordFault.TheVariants.{Spent, NoSuchCard, DeckFull}
+
+-- the fault of an edit, as one of a record
+abbrev pub record_fault : EditFault → RecordFault
+record_fault edit_fault.NoSuchCard = NoSuchCard
+record_fault edit_fault.DeckFull = DeckFull
+
+-- what keeps a record of these cards from this edit: it is spent; else what keeps the cards from it
+abbrev pub against : Edit → Bool → List Card → Option RecordFault
+against edit true cards = Some Spent
+against edit false cards = option_map record_fault (fault_of edit cards)

@@ -1,0 +1,27 @@
+//! Why a record is not edited.
+ghost use Rattle.std.specs.Prelude.{◌≡◌};
+ghost use Rattle.edit_core.specs.Faults.{record_fault};
+
+use card_edits::EditFault;
+
+/// Why a record is not edited, or is spent from then on.
+#[derive(Clone, Copy, Debug, PartialEq, Eq)]
+pub enum RecordFault {
+    /// The record is spent.
+    Spent,
+    /// The deck has no card at this place.
+    NoSuchCard,
+    /// The deck has 20,000 cards.
+    DeckFull,
+    /// No memory was left: the record is spent now.
+    OutOfMemory,
+}
+
+pub(crate) fn record_fault(fault: EditFault) -> RecordFault
+    ensures { result ≡ record_fault fault }
+{
+    match fault {
+        EditFault::NoSuchCard => RecordFault::NoSuchCard,
+        EditFault::DeckFull => RecordFault::DeckFull,
+    }
+}
