@@ -23,3 +23,9 @@ pub mod WorkedResults
 pub mod WorkedForeign
 pub mod WorkedLinks
 pub mod WorkedChanges
+pub mod PlaceLaws
+pub mod AnswerLaws
+pub mod ChangeDone
+pub mod ClaimDone
+pub mod DeliverDone
+pub mod CardCounts

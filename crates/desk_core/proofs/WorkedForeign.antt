@@ -1,6 +1,6 @@
--- A worked history: results that are not of the deck, and publications that are not of the desk.
-use Rattle.std.proofs.Common.{◌≡◌, ℕ, List, [], ◌∷◌, Some, None, refl}
-use Rattle.desk_core.specs.Language.{Card}
+-- Worked histories: results that are not of the deck, and publications that are not of the desk.
+use Rattle.std.proofs.Common.{◌≡◌, ℕ, List, [], ◌∷◌, codes, Some, None, refl}
+use Rattle.desk_core.specs.Language.{Card, Deck}
 use Rattle.desk_core.specs.Desks.{Publication, new_desk}
 use Rattle.desk_core.specs.Calls.{Call, AddDeck, Claim, DeliverDeck, DeliverLink, FromCards, Reply, Changed, DeckJob, LinkJob, Idle, Stored, Refused, UnknownJob, Foreign}
 use Rattle.desk_core.proofs.Worked.{replies_to, M, deck_m, A, B}
@@ -30,3 +30,18 @@ pub foreign_results : replies_to (
     ≡ Changed 1 ∷ job 1 ∷ Refused Foreign ∷ Refused UnknownJob ∷ job 2 ∷ Refused Foreign ∷ job 3 ∷ Refused Foreign ∷ job 4 ∷ Stored
     ∷ link 5 ∷ Refused Foreign ∷ link 6 ∷ Refused Foreign ∷ link 7 ∷ Stored ∷ Refused UnknownJob ∷ Idle 1 ∷ []
 foreign_results = refl
+
+-- the deck N, of M's card
+abbrev deck_n : Deck
+deck_n = record { name = codes "N"; cards = A }
+
+-- a result under a lease: the identity and the version that it names, the deck of its record, and that of its object
+abbrev result_for : ℕ → ℕ → ℕ → Deck → Deck → Call
+result_for lease deck version kept object = DeliverDeck (record { lease = lease; deck = deck; version = version; kept = Some (record { deck = kept }); object = object })
+
+-- a result is the deck's only where identity, version and both names are
+pub foreign_names : replies_to (
+    AddDeck (deck_m A) ∷ Claim ∷ result_for 1 2 1 (deck_m A) (deck_m A) ∷ Claim ∷ result_for 2 1 0 (deck_m A) (deck_m A)
+    ∷ Claim ∷ result_for 3 1 1 deck_n (deck_m A) ∷ Claim ∷ result_for 4 1 1 (deck_m A) deck_n ∷ Claim ∷ result_for 5 1 1 (deck_m A) (deck_m A) ∷ []) new_desk
+    ≡ Changed 1 ∷ job 1 ∷ Refused Foreign ∷ job 2 ∷ Refused Foreign ∷ job 3 ∷ Refused Foreign ∷ job 4 ∷ Refused Foreign ∷ job 5 ∷ Stored ∷ []
+foreign_names = refl

@@ -2,11 +2,7 @@
 use Rattle.std.specs.Prelude.{ℕ, ◌==◌, Bool, false, List, [], map, find, Option, Some, None, if◌then◌else◌}
 use Rattle.desk_core.specs.Language.{Card, Deck, same_text}
 use Rattle.desk_core.specs.Edits.{Edit}
-
--- a lease: its number, and the version at which it was given
-pub record Lease : Type 0 where
-  pub number : ℕ
-  pub version : ℕ
+pub use Rattle.desk_core.specs.declared.leases.Lease.{Lease}
 
 -- a record that an assembler keeps from edit to edit: the deck that it is of
 pub record Kept : Type 0 where

@@ -3,6 +3,7 @@ pub mod Causes
 pub mod Edits
 pub mod Changes
 pub mod Desks
+pub mod Held
 pub mod Calls
 pub mod Answers
 pub mod Changing
@@ -12,3 +13,7 @@ pub mod Delivering
 pub mod Steps
 pub mod Runs
 pub mod Jobs
+pub mod Stored
+pub mod OwnNames
+pub mod Turns
+pub mod Delivered

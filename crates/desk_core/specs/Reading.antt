@@ -30,6 +30,10 @@ state_of deck = if is_some deck.lease then Out else if deck.built then Ready els
 abbrev pub row_of : DeskDeck → Row
 row_of deck = record { name = deck.name; version = deck.version; cards = length deck.cards; state = state_of deck }
 
+-- the version of the publication
+abbrev pub published_version : Desk → Option ℕ
+published_version desk = option_map (λ (publication : Publication). publication.version) desk.publication
+
 -- Status
 abbrev pub status : Desk → Answer
-status desk = answers (StatusIs desk.version (option_map (λ (publication : Publication). publication.version) desk.publication) (map row_of desk.decks)) desk
+status desk = answers (StatusIs desk.version (published_version desk) (map row_of desk.decks)) desk

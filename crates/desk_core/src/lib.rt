@@ -1,7 +1,53 @@
 //! The desk: decks that several people edit, jobs for those who assemble and link them, and the
-//! publication that everybody sees. Here stand its definitions and the laws that hold over each run.
+//! publication that everybody sees. Its definitions, the laws that hold over each run, and the code
+//! that makes each step. Nothing here assembles, links, reads or writes.
 #![tactic(auto)]
 
+// What is asked and answered.
+mod calls;
+mod deck_cards;
+mod held;
+mod jobs;
+mod listed;
+mod new_deck;
+mod replies;
+mod shared_publication;
+
+// What the desk keeps.
+mod deck_list;
+mod desk;
+mod leases;
+mod stored_deck;
+
+// Calls.
+mod changing;
+mod claiming;
+mod comparing;
+mod delivering;
+mod edit_both;
+mod reading;
+mod sequence;
+
+// What holds in every run.
 mod laws;
 
+pub use calls::{Call, Done};
+pub use deck_cards::DeckCards;
+pub use desk::Desk;
+pub use held::Held;
+pub use jobs::{DeckWork, LinkWork, Start};
 pub use laws::{every_run, jobs_once};
+pub use leases::Lease;
+pub use listed::Listed;
+pub use new_deck::NewDeck;
+pub use replies::{Refusal, Reply, Row, State};
+pub use shared_publication::SharedPublication;
+
+#[cfg(test)]
+mod tests;
+#[cfg(test)]
+mod tests_batches;
+#[cfg(test)]
+mod tests_results;
+#[cfg(test)]
+mod tests_steps;

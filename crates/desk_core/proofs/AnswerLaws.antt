@@ -1,0 +1,33 @@
+-- Answers by what speaks against a call.
+use Rattle.std.proofs.Common.{◌≡◌, List, ◌∷◌, inr, Option, Some, None, option_map, refl, ap, IsTrue}
+use Rattle.desk_core.specs.Causes.{first_cause}
+use Rattle.desk_core.specs.Desks.{Desk}
+use Rattle.desk_core.specs.Calls.{Reply, Refused, Refusal, OutOfMemory}
+use Rattle.desk_core.specs.Answers.{Answer, unless}
+use Rattle.desk_core.specs.Steps.{is_made}
+use Rattle.desk_core.specs.Turns.{IsAnswer, MayAnswer}
+
+-- a cause that is told
+pub told : (against : Option Refusal) (refusal : Refusal) (desk : Desk) (a : Answer) → against ≡ Some refusal → IsAnswer (unless against desk a) (Refused refusal) desk
+told None refusal desk a e = cc
+told (Some other) refusal desk a e = let same : refusal ≡ other = cc in (ap (λ (r : Refusal). Refused r) same, refl)
+
+-- no cause
+pub done : (against : Option Refusal) (desk : Desk) (a : Answer) (reply : Reply) (next : Desk) → against ≡ None → IsAnswer a reply next → IsAnswer (unless against desk a) reply next
+done None desk a reply next e is = is
+done (Some other) desk a reply next e is = cc
+
+-- no cause but want of memory
+pub lacking : (against : Option Refusal) (desk : Desk) (a : Answer) → against ≡ None → IsTrue (is_made a.reply) → MayAnswer desk (unless against desk a) (Refused OutOfMemory) desk
+lacking None desk a e made = inr (made, refl, refl)
+lacking (Some other) desk a e made = cc
+
+module _ {A : Type 0} where
+  -- none of the causes is present
+  pub head-clear : (cause : Option A) (causes : List (Option A)) → first_cause (cause ∷ causes) ≡ None → (cause ≡ None) × (first_cause causes ≡ None)
+  head-clear None causes e = (refl, e)
+  head-clear (Some a) causes e = cc
+
+  pub map-clear : {B : Type 0} (f : A → B) (cause : Option A) → option_map f cause ≡ None → cause ≡ None
+  map-clear f None e = refl
+  map-clear f (Some a) e = cc

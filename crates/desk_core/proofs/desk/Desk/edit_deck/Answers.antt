@@ -1,0 +1,15 @@
+use Rattle.std.proofs.Common.{◌∙◌, ℕ, Option, inl, ap, subst, sym}
+use Rattle.desk_core.specs.Desks.{is_named}
+use Rattle.desk_core.specs.OwnNames.{IsPlaceOf}
+use Rattle.desk_core.specs.Calls.{Changed}
+use Rattle.desk_core.proofs.ChangeDone.{edit-done}
+use Rattle.desk_core.proofs.desk.Desk.edit_deck.Goals as goal
+
+pub against_edit-requires : goal.against_edit-requires
+against_edit-requires c = (c.place_of.ensures.some c.in-Some.place c.in-Some.is).1
+
+pub returns-in-Ok : goal.returns-in-Ok
+returns-in-Ok c =
+    let is = subst (λ (place : Option ℕ). IsPlaceOf (is_named c.args.name.now) place c.args.self.now.decks) c.in-Some.is c.place_of.ensures in
+    let both = edit-done c.args.name.now c.args.seen c.args.edit.now c.args.self.now c.in-Some.place is (sym c.against_edit.ensures ∙ c.in_default-against_edit.is) in
+    inl (ap (λ (version : ℕ). Changed version) c.in-Ok.ensures.version ∙ both.0, c.in-Ok.ensures.desk ∙ both.1)

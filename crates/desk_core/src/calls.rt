@@ -1,0 +1,61 @@
+//! What may be asked of a desk.
+
+use crate::held::Held;
+use crate::listed::Listed;
+use crate::new_deck::NewDeck;
+use crate::shared_publication::SharedPublication;
+use card_edits::Edit;
+use cards::DeckName;
+use deck_objects::SharedObject;
+
+/// The result of a deck job: the lease, the deck's identity and version as the job had them; the
+/// record, none where it is spent; and the object.
+#[derive(Drop)]
+pub struct Done {
+    pub lease: u64,
+    pub deck: u64,
+    pub version: u64,
+    pub kept: Option<Held>,
+    pub object: SharedObject,
+}
+
+/// What may be asked of a desk. Who changes a deck tells its name and the version of it that was seen.
+#[derive(Drop)]
+pub enum Call {
+    /// A new deck.
+    AddDeck(NewDeck),
+    /// The deck goes.
+    DropDeck {
+        name: DeckName,
+        seen: u64,
+    },
+    /// One edit of the deck.
+    EditDeck {
+        name: DeckName,
+        seen: u64,
+        edit: Edit,
+    },
+    /// Edits of the deck, 1 to 100, all or none.
+    Batch {
+        name: DeckName,
+        seen: u64,
+        edits: Listed<Edit>,
+    },
+    /// Version and cards of the deck.
+    Cards(DeckName),
+    /// The publication.
+    Show,
+    /// The versions and states of all decks.
+    Status,
+    /// What is due next.
+    Claim,
+    /// The result of a deck job.
+    DeliverDeck(Done),
+    /// The result of a link job.
+    DeliverLink {
+        lease: u64,
+        publication: SharedPublication,
+    },
+    /// The lease ends without a result, and the record is lost.
+    GiveUp(u64),
+}

@@ -1,0 +1,195 @@
+//! Calls that change decks.
+ghost use Rattle.std.specs.Prelude.{◌≡◌, ◌+◌, ◌<◌, [], ◌∷◌, length, is_ok, None, Some, slice_get, remove, IfOk, if◌then◌else◌};
+ghost use Rattle.std.specs.Option.{ForSome};
+ghost use Rattle.desk_core.specs.Desks.{is_named};
+ghost use Rattle.desk_core.specs.Edits.{fault_of, first_fault};
+ghost use Rattle.desk_core.specs.Answers.{against_next};
+ghost use Rattle.desk_core.specs.Changing.{add_deck, added, accepted, against_add, drop_deck, against_drop, edit_deck, edited_deck, against_edit, batch, against_batch};
+ghost use Rattle.desk_core.specs.OwnNames.{IsPlaceOf, changed_at};
+ghost use Rattle.desk_core.specs.Turns.{IsAnswer, MayAnswer};
+
+use crate::desk::{Desk, against_next};
+use crate::new_deck::NewDeck;
+use crate::replies::{Refusal, Reply};
+use crate::stored_deck::StoredDeck;
+use card_edits::{Edit, EditFault, fault_of, first_fault};
+use cards::DeckName;
+use std::alloc::AllocError;
+
+/// How many decks a desk has at most.
+const MOST_DECKS: usize = 64;
+
+/// How many cards a deck has at most.
+const MOST_CARDS: usize = 20_000;
+
+/// How many edits a batch has at most.
+const MOST_EDITS: usize = 100;
+
+impl Desk {
+    /// A deck more.
+    pub(crate) fn add_deck(&mut self, deck: NewDeck) -> Reply
+        ensures { MayAnswer self.old (add_deck deck self.old) result self.new }
+    {
+        match self.against_add(&deck) {
+            Some(refusal) => Reply::Refused(refusal),
+            None => self.add(deck),
+        }
+    }
+
+    fn against_add(&self, deck: &NewDeck) -> Option<Refusal>
+        ensures { result ≡ against_add deck.now self.now }
+    {
+        if self.has_name(&deck.name) {
+            return Some(Refusal::NameTaken);
+        }
+        if self.deck_count() >= MOST_DECKS {
+            return Some(Refusal::TooManyDecks);
+        }
+        if deck.cards.len() > MOST_CARDS {
+            return Some(Refusal::DeckFull);
+        }
+        against_next(self.version())
+    }
+
+    fn add(&mut self, deck: NewDeck) -> Reply
+        requires { against_add deck self.old ≡ None }
+        ensures { MayAnswer self.old (accepted (added deck self.old)) result self.new }
+    {
+        let version = self.version + 1;
+        let deck = StoredDeck::new(self.alloc, version, deck);
+        match self.decks.push(deck) {
+            Ok(()) => {
+                self.version = version;
+                Reply::Changed(version)
+            }
+            Err(_) => Reply::Refused(Refusal::OutOfMemory),
+        }
+    }
+
+    /// The deck goes, and its lease with it.
+    pub(crate) fn drop_deck(&mut self, name: &DeckName, seen: u64) -> Reply
+        ensures { IsAnswer (drop_deck name.now seen self.old) result self.new }
+    {
+        let Some(place) = self.place_of(name) else {
+            return Reply::Refused(Refusal::NoDeck);
+        };
+        match self.against_drop(place, seen) {
+            Some(refusal) => Reply::Refused(refusal),
+            None => Reply::Changed(self.drop_at(place)),
+        }
+    }
+
+    fn against_drop(&self, place: usize, seen: u64) -> Option<Refusal>
+        requires { place < length self.now.decks }
+        ensures { result ≡ against_drop seen self.now (slice_get self.now.decks place) }
+    {
+        let deck = self.decks.deck_at(place);
+        if seen != deck.version() {
+            return Some(Refusal::OldVersion(deck.version()));
+        }
+        against_next(self.version)
+    }
+
+    fn drop_at(&mut self, place: usize) -> u64
+        requires within { place < length self.old.decks }
+        requires room { against_next self.old.version ≡ None }
+        ensures desk { self.new ≡ record self.old { version = self.old.version + 1; decks = remove self.old.decks place } }
+        ensures version { result ≡ self.old.version + 1 }
+    {
+        self.version += 1;
+        self.decks.remove(place);
+        self.version
+    }
+
+    /// One edit of the deck.
+    pub(crate) fn edit_deck(&mut self, name: &DeckName, seen: u64, edit: &Edit) -> Reply
+        ensures { MayAnswer self.old (edit_deck name.now seen edit.now self.old) result self.new }
+    {
+        let Some(place) = self.place_of(name) else {
+            return Reply::Refused(Refusal::NoDeck);
+        };
+        if let Some(refusal) = self.against_edit(place, seen, edit) {
+            return Reply::Refused(refusal);
+        }
+        match self.edit_at(place, edit) {
+            Ok(version) => Reply::Changed(version),
+            Err(_) => Reply::Refused(Refusal::OutOfMemory),
+        }
+    }
+
+    fn against_edit(&self, place: usize, seen: u64, edit: &Edit) -> Option<Refusal>
+        requires { place < length self.now.decks }
+        ensures { result ≡ against_edit seen edit.now self.now (slice_get self.now.decks place) }
+    {
+        let deck = self.decks.deck_at(place);
+        if seen != deck.version() {
+            return Some(Refusal::OldVersion(deck.version()));
+        }
+        match fault_of(edit, deck.cards().len()) {
+            Some(EditFault::NoSuchCard) => Some(Refusal::NoSuchCard),
+            Some(EditFault::DeckFull) => Some(Refusal::DeckFull),
+            None => against_next(self.version),
+        }
+    }
+
+    /// Makes an edit that applies to the deck at a place, as the next change.
+    fn edit_at(&mut self, place: usize, edit: &Edit) -> Result<u64, AllocError>
+        requires within { place < length self.old.decks }
+        requires applies { ForSome (slice_get self.old.decks place) (λ deck. fault_of edit.now deck.cards ≡ None) }
+        requires room { against_next self.old.version ≡ None }
+        ensures desk { self.new ≡ (if is_ok result then changed_at place (edited_deck (self.old.version + 1) (edit.now ∷ [])) (record self.old { version = self.old.version + 1 }) else self.old) }
+        ensures version { IfOk result (λ version. version ≡ self.old.version + 1) }
+    {
+        let version = self.version + 1;
+        self.decks.edit_at(place, version, edit)?;
+        self.version = version;
+        Ok(version)
+    }
+
+    /// Edits of the deck, all or none, as one change.
+    pub(crate) fn batch(&mut self, name: &DeckName, seen: u64, edits: &[Edit]) -> Reply
+        ensures { MayAnswer self.old (batch name.now seen edits.now self.old) result self.new }
+    {
+        let Some(place) = self.place_of(name) else {
+            return Reply::Refused(Refusal::NoDeck);
+        };
+        if let Some(refusal) = self.against_batch(place, seen, edits) {
+            return Reply::Refused(refusal);
+        }
+        match self.edit_all_at(place, edits) {
+            Ok(version) => Reply::Changed(version),
+            Err(_) => Reply::Refused(Refusal::OutOfMemory),
+        }
+    }
+
+    fn against_batch(&self, place: usize, seen: u64, edits: &[Edit]) -> Option<Refusal>
+        requires { place < length self.now.decks }
+        ensures { result ≡ against_batch seen edits.now self.now (slice_get self.now.decks place) }
+    {
+        let deck = self.decks.deck_at(place);
+        if seen != deck.version() {
+            return Some(Refusal::OldVersion(deck.version()));
+        }
+        if edits.is_empty() || edits.len() > MOST_EDITS {
+            return Some(Refusal::BatchSize);
+        }
+        match first_fault(edits, deck.cards().len()) {
+            Some((number, fault)) => Some(Refusal::BadEdit(number, fault)),
+            None => against_next(self.version),
+        }
+    }
+
+    /// Makes edits of which each applies to the deck at a place, as the next change.
+    fn edit_all_at(&mut self, place: usize, edits: &[Edit]) -> Result<u64, AllocError>
+        requires within { place < length self.old.decks }
+        requires applies { ForSome (slice_get self.old.decks place) (λ deck. first_fault edits.now deck.cards ≡ None) }
+        requires room { against_next self.old.version ≡ None }
+        ensures desk { self.new ≡ (if is_ok result then changed_at place (edited_deck (self.old.version + 1) edits.now) (record self.old { version = self.old.version + 1 }) else self.old) }
+        ensures version { IfOk result (λ version. version ≡ self.old.version + 1) }
+    {
+        let version = self.version + 1;
+        self.decks.edit_all_at(self.alloc, place, version, edits)?;
+        self.version = version;
+        Ok(version)
+    }
+}

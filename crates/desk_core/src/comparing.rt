@@ -1,0 +1,65 @@
+//! Names, cards and decks compared by value.
+ghost use Rattle.std.specs.Prelude.{◌≡◌, length, map};
+ghost use Rattle.desk_core.specs.Language.{same_text};
+ghost use Rattle.desk_core.specs.Desks.{deck_of};
+ghost use Rattle.desk_core.specs.Delivering.{same_cards, same_decks};
+
+use crate::stored_deck::StoredDeck;
+use cards::{Card, DeckName};
+use deck_objects::SharedObject;
+
+pub(crate) fn same_name(name: &DeckName, other: &DeckName) -> bool
+    ensures { result ≡ same_text name.now other.now }
+{
+    same_bytes(name.as_slice(), other.as_slice())
+}
+
+fn same_card(card: &Card, other: &Card) -> bool
+    ensures { result ≡ same_text card.now other.now }
+{
+    same_bytes(card.as_slice(), other.as_slice())
+}
+
+fn same_bytes(text: &[u8], other: &[u8]) -> bool
+    ensures { result ≡ same_text text.now other.now }
+{
+    text == other
+}
+
+/// Whether cards are the same, one by one. Where their numbers differ none is looked at.
+pub(crate) fn same_cards(cards: &[Card], others: &[Card]) -> bool
+    ensures { result ≡ same_cards cards.now others.now }
+{
+    cards.len() == others.len() && all_cards_same(cards, others)
+}
+
+fn all_cards_same(cards: &[Card], others: &[Card]) -> bool
+    requires { length cards.now ≡ length others.now }
+    ensures { result ≡ same_cards cards.now others.now }
+{
+    for (place, card) in cards.iter().enumerate() {
+        if !same_card(card, &others[place]) {
+            return false;
+        }
+    }
+    true
+}
+
+/// Whether objects are of these decks, in the same order.
+pub(crate) fn same_decks(objects: &[SharedObject], decks: &[StoredDeck]) -> bool
+    ensures { result ≡ same_decks objects.now (map deck_of decks.now) }
+{
+    objects.len() == decks.len() && all_decks_same(objects, decks)
+}
+
+fn all_decks_same(objects: &[SharedObject], decks: &[StoredDeck]) -> bool
+    requires { length objects.now ≡ length decks.now }
+    ensures { result ≡ same_decks objects.now (map deck_of decks.now) }
+{
+    for (place, object) in objects.iter().enumerate() {
+        if !decks[place].is_of_object(object) {
+            return false;
+        }
+    }
+    true
+}

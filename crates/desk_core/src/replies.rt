@@ -1,0 +1,88 @@
+//! What a desk answers.
+
+use crate::jobs::{DeckWork, LinkWork};
+use crate::listed::Listed;
+use crate::shared_publication::SharedPublication;
+use card_edits::EditFault;
+use cards::{Card, DeckName};
+
+/// The state of a deck.
+#[derive(Clone, Copy, Debug, PartialEq, Eq)]
+pub enum State {
+    /// Its lease is out.
+    Out,
+    /// It has no object of its version.
+    Behind,
+    /// It has one.
+    Ready,
+}
+
+/// A deck in the status of a desk.
+#[derive(Drop)]
+pub struct Row {
+    pub name: DeckName,
+    pub version: u64,
+    /// How many cards it has.
+    pub cards: usize,
+    pub state: State,
+}
+
+/// Why a call is refused. No refusal changes a card, a version or the publication.
+#[derive(Clone, Copy, Debug, PartialEq, Eq)]
+pub enum Refusal {
+    /// No memory was left.
+    OutOfMemory,
+    /// The deck has no card at this place.
+    NoSuchCard,
+    /// A deck has 20,000 cards at most.
+    DeckFull,
+    /// There is a deck of this name.
+    NameTaken,
+    /// There is no deck of this name.
+    NoDeck,
+    /// The deck has another version than the one that was seen: this one.
+    OldVersion(u64),
+    /// There are 64 decks.
+    TooManyDecks,
+    /// No such job is out.
+    UnknownJob,
+    /// The deck or the desk has changed since the job was given: it has this version.
+    Stale(u64),
+    /// The result is not one of this job.
+    Foreign,
+    /// Nothing is published yet.
+    NoPublication,
+    /// Versions, or the numbers of leases, are used up.
+    VersionsSpent,
+    /// This edit of a batch, from 1, is the first that does not apply.
+    BadEdit(usize, EditFault),
+    /// A batch has no edit, or more than 100.
+    BatchSize,
+}
+
+/// What a desk answers.
+#[derive(Drop)]
+pub enum Reply {
+    /// The change is made: the desk's new version.
+    Changed(u64),
+    /// A deck's version and cards.
+    CardsAre(u64, Listed<Card>),
+    /// The publication.
+    Shown(SharedPublication),
+    /// The desk's version, the published one, and a row for each deck.
+    StatusIs(u64, Option<u64>, Listed<Row>),
+    /// A deck is to be assembled.
+    DeckJob(DeckWork),
+    /// The objects are to be linked.
+    LinkJob(LinkWork),
+    /// All of this version is published.
+    Idle(u64),
+    /// All that is due is out.
+    AllOut,
+    /// The result was taken.
+    Stored,
+    /// The lease is ended.
+    Cleared,
+    /// Nothing is done.
+    Refused(Refusal),
+}

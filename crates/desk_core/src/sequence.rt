@@ -1,0 +1,44 @@
+//! One step of the desk, and the desk as an object that callers take turns at.
+ghost use Rattle.desk_core.specs.Steps.{Steps};
+
+use crate::calls::Call;
+use crate::desk::Desk;
+use crate::replies::Reply;
+use turn_office::Sequential;
+
+impl Desk {
+    /// Answers a call. The refusals come in a fixed order, want of memory last, and a refused call
+    /// changes no card, version or publication. A drop, a delivery, a lease given up and a claim that
+    /// gives nothing out take no memory.
+    pub fn step(&mut self, call: Call) -> Reply
+        ensures { Steps self.old call result self.new }
+    {
+        match call {
+            Call::AddDeck(deck) => self.add_deck(deck),
+            Call::DropDeck { name, seen } => self.drop_deck(&name, seen),
+            Call::EditDeck { name, seen, edit } => self.edit_deck(&name, seen, &edit),
+            Call::Batch { name, seen, edits } => self.batch(&name, seen, edits.as_slice()),
+            Call::Cards(name) => self.cards(&name),
+            Call::Show => self.show(),
+            Call::Status => self.status(),
+            Call::Claim => self.claim(),
+            Call::DeliverDeck(done) => self.deliver_deck(done),
+            Call::DeliverLink { lease, publication } => self.deliver_link(lease, publication),
+            Call::GiveUp(lease) => self.give_up(lease),
+        }
+    }
+}
+
+impl Sequential for Desk {
+    ghost use Rattle.desk_core.specs.Steps.{Steps};
+
+    type Call = Call;
+
+    type Reply = Reply;
+
+    ghost allowed = { Steps };
+
+    fn step(&mut self, call: Call) -> Reply {
+        Desk::step(self, call)
+    }
+}

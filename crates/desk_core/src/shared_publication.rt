@@ -1,0 +1,49 @@
+//! A publication that several hold.
+ghost use Rattle.std.specs.Prelude.{◌≡◌, IfOk};
+
+use deck_publisher::Publication;
+use std::alloc::{AllocError, Global};
+use std::marker::Model;
+use std::sync::Arc;
+
+/// A publication that several hold, each as its own. Contracts see its version and its decks.
+#[derive(Drop)]
+pub struct SharedPublication {
+    publication: Arc<Publication>,
+}
+
+impl Model for SharedPublication {
+    ghost use Rattle.desk_core.specs.Desks.{Publication};
+    ghost use Rattle.desk_core.specs.Held.{published};
+
+    ghost Value = { Publication };
+
+    ghost view = { λ s. published s.publication.value };
+}
+
+impl SharedPublication {
+    /// The publication, to be shared.
+    pub fn new(alloc: Global, publication: Publication) -> Result<SharedPublication, AllocError>
+        ensures { IfOk result (λ shared. shared ≡ record { version = publication.version; decks = publication.decks }) }
+    {
+        Ok(SharedPublication {
+            publication: Arc::new(alloc, publication)?,
+        })
+    }
+
+    /// The same publication once more.
+    pub fn share(&self) -> Result<SharedPublication, AllocError>
+        ensures { IfOk result (λ shared. shared ≡ self.now) }
+    {
+        Ok(SharedPublication {
+            publication: Arc::clone(&self.publication)?,
+        })
+    }
+
+    /// The publication, to look at.
+    pub fn publication(&self) -> &Publication
+        ensures { self.now ≡ record { version = result.now.version; decks = result.now.decks } }
+    {
+        &self.publication
+    }
+}

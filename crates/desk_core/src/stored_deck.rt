@@ -1,0 +1,276 @@
+//! A deck as the desk keeps it.
+ghost use Rattle.std.specs.Prelude.{◌≡◌, ◌≤◌, ◌||◌, length, None, Some, [], ◌∷◌, is_ok, is_some, true, IfOk, if◌then◌else◌};
+ghost use Rattle.desk_core.specs.Desks.{is_named, is_leased, deck_of};
+ghost use Rattle.desk_core.specs.Edits.{fault_of, first_fault};
+ghost use Rattle.desk_core.specs.Changing.{added_deck, edited_deck};
+ghost use Rattle.desk_core.specs.Claiming.{is_behind, is_free, given, deck_work};
+ghost use Rattle.desk_core.specs.Delivering.{is_for, same_deck, lost, given_back, stored};
+ghost use Rattle.desk_core.specs.Reading.{row_of, state_of};
+
+use crate::calls::Done;
+use crate::comparing::{same_cards, same_name};
+use crate::deck_cards::DeckCards;
+use crate::edit_both::{edit_all, edit_both};
+use crate::held::Held;
+use crate::jobs::{DeckWork, Start};
+use crate::leases::{Lease, is_leased, is_leased_at};
+use crate::listed::Listed;
+use crate::new_deck::NewDeck;
+use crate::replies::{Row, State};
+use card_edits::{Edit, apply, copied_cards};
+use cards::{Card, DeckName};
+use deck_objects::SharedObject;
+use std::alloc::{AllocError, Global};
+use std::marker::Model;
+use std::mem::replace;
+
+/// A deck on the desk: its name and cards; its identity, which is the version that its addition made;
+/// the version of the last change of it; its object, if it has one of that version; its record, if it
+/// is here, and the edits that the record lacks; the lease, if one is out. It has at most 20,000 cards.
+#[derive(Drop)]
+pub(crate) struct StoredDeck {
+    name: DeckName,
+    cards: Vec<Card>,
+    identity: u64,
+    version: u64,
+    object: Option<SharedObject>,
+    kept: Option<Held>,
+    waiting: Vec<Edit>,
+    lease: Option<Lease>,
+}
+
+impl Model for StoredDeck {
+    ghost use Rattle.desk_core.specs.Desks.{DeskDeck};
+    ghost use Rattle.desk_core.specs.Stored.{stored_deck, IsStored};
+
+    ghost Value = { DeskDeck };
+
+    ghost view = { λ d. stored_deck d.name d.cards.items d.identity d.version d.object d.kept d.waiting.items d.lease };
+
+    ghost invariant = { λ d. IsStored d.name d.cards.items d.object };
+}
+
+impl StoredDeck {
+    /// The deck that an addition makes.
+    pub(crate) fn new(alloc: Global, version: u64, deck: NewDeck) -> StoredDeck
+        requires { length deck.cards ≤ 20000 }
+        ensures { result ≡ added_deck version deck }
+    {
+        StoredDeck {
+            name: deck.name,
+            cards: deck.cards,
+            identity: version,
+            version,
+            object: None,
+            kept: None,
+            waiting: Vec::new(alloc),
+            lease: None,
+        }
+    }
+
+    /// Whether it has this name.
+    pub(crate) fn is_named(&self, name: &DeckName) -> bool
+        ensures { result ≡ is_named name.now self.now }
+    {
+        same_name(name, &self.name)
+    }
+
+    /// Whether its lease has this number.
+    pub(crate) fn is_leased(&self, number: u64) -> bool
+        ensures { result ≡ is_leased number self.now.lease }
+    {
+        is_leased(number, self.lease)
+    }
+
+    pub(crate) fn name(&self) -> &DeckName
+        ensures { result.now ≡ self.now.name }
+    {
+        &self.name
+    }
+
+    pub(crate) fn cards(&self) -> &[Card]
+        ensures { result.now ≡ self.now.cards }
+    {
+        self.cards.as_slice()
+    }
+
+    pub(crate) fn version(&self) -> u64
+        ensures { result ≡ self.now.version }
+    {
+        self.version
+    }
+
+    /// Whether edits wait: it has a record, or its lease is out.
+    fn keeps_edits(&self) -> bool
+        ensures { result ≡ (is_some self.now.kept || is_some self.now.lease) }
+    {
+        self.kept.is_some() || self.lease.is_some()
+    }
+
+    /// Makes an edit that applies, as the change of this version. Without memory nothing changes.
+    pub(crate) fn edit(&mut self, version: u64, edit: &Edit) -> Result<(), AllocError>
+        requires { fault_of edit.now self.old.cards ≡ None }
+        ensures { self.new ≡ (if is_ok result then edited_deck version (edit.now ∷ []) self.old else self.old) }
+    {
+        if self.keeps_edits() {
+            edit_both(&mut self.cards, &mut self.waiting, edit)?;
+        } else {
+            apply(&mut self.cards, edit)?;
+        }
+        self.version = version;
+        self.object = None;
+        Ok(())
+    }
+
+    /// Makes edits of which each applies, as one change of this version. Without memory nothing changes.
+    pub(crate) fn edit_all(
+        &mut self,
+        alloc: Global,
+        version: u64,
+        edits: &[Edit],
+    ) -> Result<(), AllocError>
+        requires { first_fault edits.now self.old.cards ≡ None }
+        ensures { self.new ≡ (if is_ok result then edited_deck version edits.now self.old else self.old) }
+    {
+        let keeps = self.keeps_edits();
+        edit_all(alloc, &mut self.cards, &mut self.waiting, keeps, edits)?;
+        self.version = version;
+        self.object = None;
+        Ok(())
+    }
+
+    /// Its row in the status of the desk.
+    pub(crate) fn row(&self) -> Row
+        ensures { result ≡ row_of self.now }
+    {
+        Row {
+            name: self.name.copied(),
+            version: self.version,
+            cards: self.cards.len(),
+            state: self.state(),
+        }
+    }
+
+    fn state(&self) -> State
+        ensures { result ≡ state_of self.now }
+    {
+        if self.lease.is_some() {
+            State::Out
+        } else if self.object.is_some() {
+            State::Ready
+        } else {
+            State::Behind
+        }
+    }
+
+    /// Whether it has no object of its version.
+    pub(crate) fn is_behind(&self) -> bool
+        ensures { result ≡ is_behind self.now }
+    {
+        self.object.is_none()
+    }
+
+    /// Whether it has none, and nobody has it.
+    pub(crate) fn is_free(&self) -> bool
+        ensures { result ≡ is_free self.now }
+    {
+        self.is_behind() && self.lease.is_none()
+    }
+
+    /// Whether an object is of it, by name and cards.
+    pub(crate) fn is_of_object(&self, object: &SharedObject) -> bool
+        ensures { result ≡ same_deck object.now (deck_of self.now) }
+    {
+        let object = object.object();
+        same_name(object.name(), &self.name) && same_cards(object.cards(), &self.cards)
+    }
+
+    /// Whether a record is of it, by name and cards.
+    pub(crate) fn is_of_record(&self, held: &Held) -> bool
+        ensures { result ≡ same_deck held.now.deck (deck_of self.now) }
+    {
+        let kept = held.kept();
+        same_name(kept.name(), &self.name) && same_cards(kept.cards(), &self.cards)
+    }
+
+    /// Whether a result names it and the version of its lease.
+    pub(crate) fn is_for(&self, done: &Done) -> bool
+        ensures { result ≡ is_for done.now self.now }
+    {
+        done.deck == self.identity && is_leased_at(done.version, self.lease)
+    }
+
+    /// Its object once more.
+    pub(crate) fn share_object(&self) -> Result<SharedObject, AllocError>
+        requires { self.now.built ≡ true }
+        ensures { IfOk result (λ object. object ≡ deck_of self.now) }
+    {
+        match &self.object {
+            Some(object) => object.share(),
+            None => unreachable!(),
+        }
+    }
+
+    /// Its job under this lease: record and edits move into it, or a copy of the cards. Without memory
+    /// nothing changes.
+    pub(crate) fn give_out(&mut self, alloc: Global, number: u64) -> Result<DeckWork, AllocError>
+        ensures deck { self.new ≡ (if is_ok result then given number self.old else self.old) }
+        ensures work { IfOk result (λ work. work ≡ deck_work number self.old) }
+    {
+        let copies = self.copies_for_job(alloc)?;
+        let waiting = replace(&mut self.waiting, Vec::new(alloc));
+        let (start, edits) = match self.kept.take() {
+            Some(kept) => (Start::FromRecord(kept), waiting),
+            None => (Start::FromCards(copies), Vec::new(alloc)),
+        };
+        self.lease = Some(Lease {
+            number,
+            version: self.version,
+        });
+        Ok(DeckWork {
+            lease: number,
+            deck: self.identity,
+            version: self.version,
+            name: self.name.copied(),
+            start,
+            edits: Listed::new(edits),
+        })
+    }
+
+    /// A copy of the cards where a job begins with them.
+    fn copies_for_job(&self, alloc: Global) -> Result<DeckCards, AllocError>
+        ensures { IfOk result (λ copies. copies ≡ (if is_some self.now.kept then [] else self.now.cards)) }
+    {
+        if self.kept.is_some() {
+            return Ok(DeckCards::new(Vec::new(alloc)));
+        }
+        Ok(DeckCards::new(copied_cards(alloc, &self.cards)?))
+    }
+
+    /// The record is lost, and with it what waited for it; the lease ends.
+    pub(crate) fn lose(&mut self)
+        ensures { self.new ≡ lost self.old }
+    {
+        self.kept = None;
+        self.waiting.clear();
+        self.lease = None;
+    }
+
+    /// The record comes back, without an object of the present version; the lease ends.
+    pub(crate) fn give_back(&mut self, kept: Held)
+        ensures { self.new ≡ given_back (Some kept) self.old }
+    {
+        self.kept = Some(kept);
+        self.lease = None;
+    }
+
+    /// Record and object come in; the lease ends.
+    pub(crate) fn store(&mut self, kept: Held, object: SharedObject)
+        requires { object ≡ deck_of self.old }
+        ensures { self.new ≡ stored (Some kept) self.old }
+    {
+        self.kept = Some(kept);
+        self.object = Some(object);
+        self.lease = None;
+    }
+}
