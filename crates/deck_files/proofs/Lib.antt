@@ -1,3 +1,4 @@
 pub mod LoadSteps
 pub mod SaveSteps
 pub mod FileSteps
+pub mod SendSteps

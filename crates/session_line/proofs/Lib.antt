@@ -1,4 +1,3 @@
-pub mod SendSteps
 pub mod WorkedLines
 pub mod WorkedReplies
 pub mod ReadBack

@@ -2,10 +2,10 @@
 use Rattle.std.proofs.Common.{◌≡◌, None, Some, codes, refl}
 use Rattle.std.specs.Fmt.{digits}
 use Rattle.cards.specs.declared.card.CardFault.TheVariants as card
-use Rattle.session_line.specs.declared.refusals.EditFault.TheVariants as fault
+use Rattle.card_edits.specs.declared.edits.EditFault.TheVariants as fault
 use Rattle.session_line.specs.declared.refusals.Refusal.TheVariants as refusal
 use Rattle.session_line.specs.declared.replies.Reply.TheVariants as reply
-use Rattle.session_line.specs.declared.replies.DeckState.TheVariants as state
+use Rattle.desk_core.specs.declared.replies.State.TheVariants.{Behind}
 use Rattle.session_line.specs.Replies.{text_of_reply, row_text, published_text, counted_text, line_count}
 
 -- a version; names with their numbers
@@ -31,7 +31,7 @@ pub write_fault : text_of_reply (reply.Refused (refusal.WriteFault 3)) ≡ codes
 write_fault = unfold digits in refl
 
 -- the lines of a status
-pub row : row_text (record { name = codes "M"; version = 1; cards = 0; state = state.Behind }) ≡ codes "M 1 0 BEHIND"
+pub row : row_text (record { name = codes "M"; version = 1; cards = 0; state = Behind }) ≡ codes "M 1 0 BEHIND"
 row = unfold digits in refl
 
 pub published : published_text (Some 7) ≡ codes "PUBLISHED 7"

@@ -5,4 +5,3 @@ pub mod Commands
 pub mod Lines
 pub mod Refusals
 pub mod Replies
-pub mod Sending

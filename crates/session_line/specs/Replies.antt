@@ -3,9 +3,9 @@ use Rattle.std.specs.Prelude.{ℕ, ◌+◌, ◌≤◌, ◌==◌, ⊤, List, [], 
 use Rattle.definitions.specs.Characters.{line_feed}
 use Rattle.deck_files.specs.DeckFiles.{file_of}
 use Rattle.session_line.specs.Refusals.{refusal_text}
-use Rattle.session_line.specs.declared.replies.DeckState.{DeckState}
-use Rattle.session_line.specs.declared.replies.DeckState.TheVariants as state
-use Rattle.session_line.specs.declared.replies.DeckRow.{DeckRow}
+use Rattle.desk_core.specs.declared.replies.Row.{Row}
+use Rattle.desk_core.specs.declared.replies.State.{State}
+use Rattle.desk_core.specs.declared.replies.State.TheVariants.{Out, Behind, Ready}
 use Rattle.session_line.specs.declared.replies.Reply.{Reply}
 use Rattle.session_line.specs.declared.replies.Reply.TheVariants as reply
 
@@ -18,13 +18,13 @@ abbrev pub line_count : List ℕ → ℕ
 line_count text = length (filter (λ c. c == line_feed) text)
 
 -- the word for the state of a deck
-abbrev pub state_text : DeckState → List ℕ
-state_text state.Out = codes "OUT"
-state_text state.Behind = codes "BEHIND"
-state_text state.Ready = codes "READY"
+abbrev pub state_text : State → List ℕ
+state_text Out = codes "OUT"
+state_text Behind = codes "BEHIND"
+state_text Ready = codes "READY"
 
 -- name, version, number of cards and state of a deck
-abbrev pub row_text : DeckRow → List ℕ
+abbrev pub row_text : Row → List ℕ
 row_text row = row.name ++ (codes " " ++ (decimal row.version ++ (codes " " ++ (decimal row.cards ++ (codes " " ++ state_text row.state)))))
 
 -- the version that is published
@@ -50,7 +50,7 @@ head_text reply.Bye = codes "BYE"
 head_text (reply.Refused refusal) = codes "NO " ++ refusal_text refusal
 
 -- the lines of some decks in a status
-abbrev pub rows_text : List DeckRow → List ℕ
+abbrev pub rows_text : List Row → List ℕ
 rows_text rows = flat_map (λ row. line_of (row_text row)) rows
 
 -- the lines that follow the first

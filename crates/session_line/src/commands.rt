@@ -2,10 +2,11 @@
 ghost use Rattle.std.specs.Prelude.{◌≡◌};
 ghost use Rattle.session_line.specs.Commands.{name_in, alone, only_name, drop_in, edit_in, batch_in, command_by, command_of, is_batch_size};
 
-use crate::edits::{Edit, edit_at, fits_edit};
+use crate::edits::{edit_at, fits_edit};
 use crate::refusals::Refusal;
 use crate::verbs::{EditKind, Verb, verb_of};
 use crate::words::{behind_word, first_number, first_word, from_blank, to_blank};
+use card_edits::Edit;
 use cards::DeckName;
 
 /// How many edits a batch has at most.

@@ -1,22 +1,12 @@
-//! Edits of a deck's cards, and the lines of a batch.
+//! Edits of a deck's cards as lines show them, and the lines of a batch.
 ghost use Rattle.std.specs.Prelude.{◌≡◌};
 ghost use Rattle.session_line.specs.Edits.{card_behind, fits_edit, edit_at, edit_in_batch};
 
 use crate::refusals::Refusal;
 use crate::verbs::{EditKind, edit_kind_of};
 use crate::words::{behind_blank, behind_word, first_number, from_blank, to_blank};
+use card_edits::Edit;
 use cards::Card;
-
-/// An edit of a deck's cards. Places count from 1.
-#[derive(Drop)]
-pub enum Edit {
-    /// The card becomes the one at this place.
-    Insert { at: u64, card: Card },
-    /// The card takes the place of the one there.
-    Replace { at: u64, card: Card },
-    /// The card at this place goes.
-    Remove { at: u64 },
-}
 
 /// Whether what stands behind the place may stand there: behind that of a removed card nothing does.
 pub(crate) fn fits_edit(kind: EditKind, rest: &[u8]) -> bool

@@ -21,11 +21,13 @@ mod reply_line;
 mod reply_texts;
 mod writing;
 
+pub use card_edits::{Edit, EditFault};
 pub use commands::{BatchHead, Command, read_command};
-pub use edits::{Edit, read_batch_line};
+pub use desk_core::{Row, State};
+pub use edits::read_batch_line;
 pub use laws::lines_read_back;
-pub use refusals::{EditFault, Refusal};
-pub use replies::{DeckRow, DeckState, Reply};
+pub use refusals::Refusal;
+pub use replies::Reply;
 pub use writing::{reply_text, write_reply};
 
 #[cfg(test)]

@@ -3,8 +3,9 @@ ghost use Rattle.std.specs.Prelude.{◌≡◌, ◌+◌, ◌≤◌, ◌++◌, len
 ghost use Rattle.cards.specs.CardReads.{card_fault_text};
 ghost use Rattle.session_line.specs.Refusals.{edit_fault_text, refusal_text};
 
-use crate::refusals::{EditFault, Refusal};
+use crate::refusals::Refusal;
 use crate::reply_line::ReplyLine;
+use card_edits::EditFault;
 use cards::CardFault;
 
 /// A name, and a number behind it.

@@ -1,15 +1,7 @@
 //! Why something is refused.
 
+use card_edits::EditFault;
 use cards::CardFault;
-
-/// Why an edit of a batch does not apply.
-#[derive(Clone, Copy, Debug, PartialEq, Eq)]
-pub enum EditFault {
-    /// The deck has no card at this place.
-    NoSuchCard,
-    /// The deck has 20,000 cards.
-    DeckFull,
-}
 
 /// Why a command, a file or an input is refused. Lines, columns and edits count from 1.
 ///

@@ -1,28 +1,8 @@
 //! The replies of a session.
 
 use crate::refusals::Refusal;
-use cards::{Card, DeckName};
-
-/// The state of a deck.
-#[derive(Clone, Copy, Debug, PartialEq, Eq)]
-pub enum DeckState {
-    /// It is given to somebody who assembles it.
-    Out,
-    /// It is not assembled since its last change.
-    Behind,
-    /// It is assembled.
-    Ready,
-}
-
-/// A deck in the reply to `STATUS`.
-#[derive(Drop)]
-pub struct DeckRow {
-    pub name: DeckName,
-    pub version: u64,
-    /// How many cards it has.
-    pub cards: usize,
-    pub state: DeckState,
-}
+use cards::Card;
+use desk_core::Row;
 
 /// The reply to one command.
 #[derive(Clone, Copy)]
@@ -45,7 +25,7 @@ pub enum Reply<'a> {
     Status {
         version: u64,
         published: Option<u64>,
-        decks: &'a [DeckRow],
+        decks: &'a [Row],
     },
     /// `BYE`
     Bye,

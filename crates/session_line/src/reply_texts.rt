@@ -4,8 +4,9 @@ ghost use Rattle.session_line.specs.Replies.{line_of, line_count, counted_text, 
 
 use crate::refusal_texts::put_refusal;
 use crate::refusals::Refusal;
-use crate::replies::{DeckRow, DeckState, Reply};
+use crate::replies::Reply;
 use crate::reply_line::ReplyLine;
+use desk_core::{Row, State};
 
 /// `OK version`
 fn ok_line(version: u64) -> ReplyLine
@@ -87,19 +88,19 @@ pub(crate) fn published_line(published: Option<u64>) -> ReplyLine
     line
 }
 
-fn state_text(state: DeckState) -> &'static [u8]
+fn state_text(state: State) -> &'static [u8]
     ensures text { result.now ≡ state_text state }
     ensures short { length result.now ≤ 6 }
 {
     match state {
-        DeckState::Out => b"OUT",
-        DeckState::Behind => b"BEHIND",
-        DeckState::Ready => b"READY",
+        State::Out => b"OUT",
+        State::Behind => b"BEHIND",
+        State::Ready => b"READY",
     }
 }
 
 /// The line of a deck in a status.
-pub(crate) fn row_line(row: &DeckRow) -> ReplyLine
+pub(crate) fn row_line(row: &Row) -> ReplyLine
     ensures { result ≡ line_of (row_text row.now) }
 {
     let mut line = ReplyLine::new();

@@ -164,17 +164,17 @@ fn replies(rt: HostRuntime) {
         b"OK 0 2\nMAP\nEND\n",
     );
     let decks = [
-        DeckRow {
+        Row {
             name: name(&rt, b"M"),
             version: 1,
             cards: 0,
-            state: DeckState::Behind,
+            state: State::Behind,
         },
-        DeckRow {
+        Row {
             name: name(&rt, b"N"),
             version: 12,
             cards: 20_000,
-            state: DeckState::Ready,
+            state: State::Ready,
         },
     ];
     let none = Reply::Status {

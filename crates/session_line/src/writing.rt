@@ -1,17 +1,18 @@
 //! Replies as bytes: to a writer, or in memory.
 ghost use Rattle.std.specs.Prelude.{◌≡◌, ◌≤◌, ◌<◌, ◌*◌, ◌^◌, ◌++◌, length, IfOk, IfErr};
 ghost use Rattle.session_line.specs.Replies.{line_of, published_text, row_text, rows_text, body_text, text_of_reply, IsWithinLimits};
-ghost use Rattle.session_line.specs.Sending.{Sends, count_after_sending};
+ghost use Rattle.deck_files.specs.Sending.{Sends, count_after_sending};
 
-use crate::replies::{DeckRow, Reply};
+use crate::replies::Reply;
 use crate::reply_texts::{head_line, published_line, row_line};
 use deck_files::save;
+use desk_core::Row;
 use std::alloc::{AllocError, Global};
 use std::io::Write;
 use text_ports::{Broken, Counted, put_all};
 
 /// The lines of some decks in a status.
-fn write_rows<W: Write>(output: &mut Counted<W>, decks: &[DeckRow]) -> Result<(), Broken>
+fn write_rows<W: Write>(output: &mut Counted<W>, decks: &[Row]) -> Result<(), Broken>
     requires { length decks.now ≤ 64 }
     ensures sends { Sends (W.contents output.old.0) (W.contents output.new.0) (rows_text decks.now) result }
     ensures count { output.new.1 ≡ count_after_sending result output.old.1 }
@@ -35,7 +36,7 @@ fn write_rows<W: Write>(output: &mut Counted<W>, decks: &[DeckRow]) -> Result<()
 fn write_status<W: Write>(
     output: &mut Counted<W>,
     published: Option<u64>,
-    decks: &[DeckRow],
+    decks: &[Row],
 ) -> Result<(), Broken>
     requires { length decks.now ≤ 64 }
     ensures sends { Sends (W.contents output.old.0) (W.contents output.new.0) (line_of (published_text published) ++ rows_text decks.now) result }
