@@ -1,0 +1,3 @@
+pub mod TakingSteps
+pub mod SessionKinds
+pub mod WorkedSessions

@@ -1,0 +1,50 @@
+//! A desk that is called from a seat of its office.
+ghost use Rattle.std.specs.Prelude.{◌≡◌};
+
+use crate::calls::Calls;
+use desk_core::{Call, Desk, Reply};
+use std::sync::Wait;
+use turn_office::{Office, Seat};
+
+/// A seat, the office that it is of, and the runtime by which it waits for its turn.
+#[derive(Drop)]
+pub struct SeatCalls<'a, R> {
+    rt: &'a R,
+    office: &'a Office<Desk>,
+    seat: Seat<Desk>,
+    ghost seated: { seat.office ≡ office.now.id },
+}
+
+impl<'a, R> SeatCalls<'a, R> {
+    /// Calls from this seat of the office.
+    pub fn new(rt: &'a R, office: &'a Office<Desk>, seat: Seat<Desk>) -> SeatCalls<'a, R>
+        requires { seat.office ≡ office.now.id }
+        ensures office { result.office.now ≡ office.now }
+        ensures seat { result.seat ≡ seat }
+    {
+        SeatCalls { rt, office, seat }
+    }
+
+    /// The seat, when nothing more is called.
+    pub fn into_seat(self) -> Seat<Desk>
+        ensures seat { result ≡ self.entry.seat }
+        ensures office { result.office ≡ self.entry.office.now.id }
+    {
+        let SeatCalls { seat, .. } = self;
+        seat
+    }
+}
+
+/// Each reply is the desk's at one point of one legal history, which begins with all that the seat
+/// had seen and ends with the call.
+impl<R: Wait> Calls for SeatCalls<'_, R> {
+    ghost use Rattle.desk_core.specs.Steps.{Steps};
+    ghost use Rattle.turn_office.specs.Histories.{Answers};
+
+    ghost makes = { λ old call reply new. (new.office.now ≡ old.office.now) × (new.seat.office ≡ old.seat.office) × (new.seat.number ≡ old.seat.number)
+        × Answers Steps old.office.now.seats old.office.now.first old.seat.number call reply old.seat.seen new.seat.seen };
+
+    fn call(&mut self, call: Call) -> Reply {
+        self.seat.call(self.rt, self.office, call)
+    }
+}
