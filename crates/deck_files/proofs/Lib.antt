@@ -1,4 +1,5 @@
 pub mod LoadSteps
 pub mod SaveSteps
 pub mod FileSteps
+pub mod FolderSteps
 pub mod SendSteps

@@ -3,3 +3,4 @@ pub mod Loads
 pub mod FaultTexts
 pub mod Files
 pub mod Sending
+pub mod Folders

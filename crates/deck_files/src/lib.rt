@@ -10,9 +10,11 @@ mod saving;
 
 // Shelves of files.
 mod deck_shelf;
+mod folder_shelf;
 mod memory_shelf;
 
 pub use deck_shelf::{Shelf, ShelfLoadFault, ShelfSaveFault};
+pub use folder_shelf::FolderShelf;
 pub use load_fault::LoadFault;
 pub use loading::load;
 pub use memory_shelf::MemoryShelf;

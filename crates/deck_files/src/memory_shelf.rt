@@ -8,7 +8,7 @@ ghost use Rattle.deck_files.specs.Files.{file_named, with_file};
 use crate::deck_shelf::{Shelf, ShelfLoadFault, ShelfSaveFault};
 use crate::load_fault::LoadFault;
 use crate::loading::load;
-use crate::saving::save;
+use crate::saving::save_file;
 use cards::{Card, DeckName};
 use indexmap::IndexMap;
 use std::alloc::{AllocError, Global};
@@ -69,18 +69,6 @@ fn load_file(alloc: Global, file: &[u8]) -> Result<Vec<Card>, LoadFault>
     ensures fault { IfErr result (λ fault. FaultsSo fault file.now) }
 {
     load(alloc, &mut Counted::new(file))
-}
-
-/// The file of some cards in memory.
-fn save_file(alloc: Global, cards: &[Card]) -> Result<Vec<u8>, AllocError>
-    requires { length cards.now ≤ 20000 }
-    ensures { IfOk result (λ file. file.items ≡ file_of cards.now) }
-{
-    let mut output = Counted::new(Vec::new(alloc));
-    match save(&mut output, cards) {
-        Ok(()) => Ok(output.into_inner()),
-        Err(_) => Err(AllocError),
-    }
 }
 
 impl Shelf for MemoryShelf {

@@ -1,11 +1,12 @@
 //! Saves cards as a file.
-ghost use Rattle.std.specs.Prelude.{◌≡◌, ◌≤◌, ◌<◌, ◌*◌, length, take, OnOk, IfErr};
+ghost use Rattle.std.specs.Prelude.{◌≡◌, ◌≤◌, ◌<◌, ◌*◌, length, take, OnOk, IfOk, IfErr};
 ghost use Rattle.std.specs.Io.KnownBytes.{Appends};
 ghost use Rattle.text_ports.specs.Faults.{count_up};
 ghost use Rattle.deck_files.specs.DeckFiles.{file_of};
 
 use crate::card_line::CardLine;
 use cards::Card;
+use std::alloc::{AllocError, Global};
 use std::io::Write;
 use text_ports::{Broken, Counted, put_all};
 
@@ -32,4 +33,16 @@ pub fn save<W: Write>(writer: &mut Counted<W>, cards: &[Card]) -> Result<(), Bro
         sent += bytes.len();
     }
     Ok(())
+}
+
+/// The file of some cards in memory.
+pub(crate) fn save_file(alloc: Global, cards: &[Card]) -> Result<Vec<u8>, AllocError>
+    requires { length cards.now ≤ 20000 }
+    ensures { IfOk result (λ file. file.items ≡ file_of cards.now) }
+{
+    let mut output = Counted::new(Vec::new(alloc));
+    match save(&mut output, cards) {
+        Ok(()) => Ok(output.into_inner()),
+        Err(_) => Err(AllocError),
+    }
 }

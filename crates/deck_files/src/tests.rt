@@ -1,7 +1,9 @@
 //! What no clause says: files as a person reads them, and ports that fail at one call after another.
 use super::*;
 use cards::{Card, CardFault, DeckName};
+use std::fs;
 use std::process::Abort;
+use std::test::Fail;
 use text_ports::{Broken, Counted, FaultyReader, FaultyWriter};
 
 fn reader(file: &[u8], fails_at: u64) -> Counted<FaultyReader<'_>> {
@@ -160,4 +162,53 @@ fn a_shelf_in_memory(rt: HostRuntime) {
         shelf.load(&other).err(),
         Some(ShelfLoadFault::BadFile(LoadFault::LastLineCut))
     );
+}
+
+/// The folder that the test below makes, where the tests run.
+const FOLDER: &str = "deck_files_test";
+
+#[test]
+fn a_shelf_over_a_folder(rt: HostRuntime) -> Result<(), Fail> {
+    let _ = fs::remove_dir_all(&rt, FOLDER);
+    let name = DeckName::read(b"M").expect(&rt, "a name");
+    let cards = [
+        Card::read(b"*A").expect(&rt, "a card"),
+        Card::read(b"").expect(&rt, "a card"),
+    ];
+    let mut shelf = FolderShelf::new(&rt, rt.alloc(), FOLDER, 3);
+    assert_eq!(rt;
+        shelf.save(&name, &cards),
+        Err(ShelfSaveFault::CannotOpen),
+        "no folder"
+    );
+    fs::create_dir(&rt, FOLDER)?;
+    assert_eq!(rt; shelf.load(&name).err(), Some(ShelfLoadFault::CannotOpen));
+    saves_and_loads(&rt, &mut shelf, &name, &cards[..1]);
+    saves_and_loads(&rt, &mut shelf, &name, &cards);
+    let saved = fs::read_to_string(&rt, "deck_files_test/M.DECK")?;
+    assert_eq!(rt; saved.as_str(), "*A\n\n");
+    assert_eq!(rt; fs::exists(&rt, "deck_files_test/M.NEW3")?, false);
+    fs::write(&rt, "deck_files_test/M.DECK", "*A\n*B")?;
+    assert_eq!(rt;
+        shelf.load(&name).err(),
+        Some(ShelfLoadFault::BadFile(LoadFault::LastLineCut))
+    );
+    fs::remove_dir_all(&rt, FOLDER)?;
+    Ok(())
+}
+
+#[test]
+fn a_deck_that_can_not_be_replaced(rt: HostRuntime) -> Result<(), Fail> {
+    let name = DeckName::read(b"HELD").expect(&rt, "a name");
+    let _ = fs::remove_dir_all(&rt, "HELD.DECK");
+    fs::create_dir(&rt, "HELD.DECK")?;
+    let mut shelf = FolderShelf::new(&rt, rt.alloc(), "", 0);
+    assert_eq!(rt; shelf.save(&name, &[]), Err(ShelfSaveFault::CannotOpen));
+    assert_eq!(rt; fs::exists(&rt, "HELD.NEW0")?, false);
+    assert_eq!(rt;
+        shelf.load(&name).err(),
+        Some(ShelfLoadFault::BadFile(LoadFault::ReadFault))
+    );
+    fs::remove_dir(&rt, "HELD.DECK")?;
+    Ok(())
 }
