@@ -1,0 +1,4 @@
+pub mod Language
+pub mod Jobs
+pub mod Rounds
+pub mod Settling
