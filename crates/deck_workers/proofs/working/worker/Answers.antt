@@ -1,0 +1,19 @@
+use Rattle.std.proofs.Common.{refl, ◌∙◌}
+use Rattle.deck_workers.proofs.Seen.{no-calls, more-work}
+use Rattle.deck_workers.proofs.working.worker.Goals as goal
+
+pub loop-init : goal.loop-init
+loop-init g c = record { office = refl; number = refl; works = no-calls c.args.seat.number c.args.seat.seen }
+
+pub loop-preserved : goal.loop-preserved
+loop-preserved g c =
+    let round = c.make_round-delivered.ensures in
+    record {
+      office = round.same.0 ∙ c.loop.invariant.office;
+      number = round.same.1 ∙ c.loop.invariant.number;
+      works = more-work c.args.seat.number c.loop.seat.number c.args.seat.seen c.loop.seat.seen c.make_round-delivered.new.seat.seen c.loop.invariant.number c.loop.invariant.works round.round;
+    }
+
+pub returns-then-not-hears_of_work-clause-works : goal.returns-then-not-hears_of_work-clause-works
+returns-then-not-hears_of_work-clause-works g c =
+    more-work c.args.seat.number c.loop.seat.number c.args.seat.seen c.loop.seat.seen c.make_round-delivered.new.seat.seen c.loop.invariant.number c.loop.invariant.works c.make_round-delivered.ensures.round

@@ -1,0 +1,82 @@
+//! A worker at its seat.
+ghost use Rattle.std.specs.Prelude.{◌≡◌};
+ghost use Rattle.turn_office.specs.Histories.{IsLegal};
+ghost use Rattle.desk_core.specs.Steps.{Steps};
+ghost use Rattle.deck_jobs.specs.Jobs.{MayMake};
+ghost use Rattle.deck_workers.specs.Working.{MakesRound, Works};
+
+use crate::bells::{Bell, hears_of_work};
+use crate::gates::Gate;
+use crossbeam_channel::Receiver;
+use deck_jobs::{Job, Made, Runs, job_in};
+use desk_core::{Call, Desk};
+use statement_coder::Meter;
+use std::alloc::Global;
+use std::sync::Wait;
+use turn_office::{Office, Seat};
+
+/// Works at a seat of the office until it is told to stop, and hands the seat back. It claims; a job
+/// that it gets it runs between `enter` and `leave` of the gate, and then delivers what it made, or
+/// gives the lease up. After a delivery, refused or not, it claims again; after all else it sleeps
+/// until a bell comes. `Stop` ends it, and so does a channel that no bell can come from.
+///
+/// What the seat had seen begins what it has seen then, and its calls since are rounds: each is a
+/// claim, followed by one call that ends the job, where the claim gave one.
+pub fn worker<R: Wait, G: Gate>(
+    rt: &R,
+    alloc: Global,
+    office: &Office<Desk>,
+    mut seat: Seat<Desk>,
+    gate: &G,
+    bells: Receiver<Bell>,
+) -> Seat<Desk>
+    requires { seat.office ≡ office.now.id }
+    ensures same { (result.office ≡ seat.office) × (result.number ≡ seat.number) }
+    ensures works { Works seat.number seat.seen result.seen }
+    ensures legal { IsLegal Steps office.now.seats office.now.first result.seen }
+{
+    let mut meter = Meter { sized: 0, coded: 0 };
+    for _ in rt.forever() {
+        let delivered = make_round(rt, alloc, office, &mut seat, gate, &mut meter);
+        if !delivered && !hears_of_work(rt, &bells) {
+            return seat;
+        }
+    }
+    unreachable!()
+}
+
+/// Claims, and does the job that the claim gives, if it gives one. Tells whether it delivered something.
+fn make_round<R: Wait, G: Gate>(
+    rt: &R,
+    alloc: Global,
+    office: &Office<Desk>,
+    seat: &mut Seat<Desk>,
+    gate: &G,
+    meter: &mut Meter,
+) -> bool
+    requires { seat.old.office ≡ office.now.id }
+    ensures same { (seat.new.office ≡ seat.old.office) × (seat.new.number ≡ seat.old.number) }
+    ensures round { MakesRound seat.old.number seat.old.seen seat.new.seen }
+    ensures legal { IsLegal Steps office.now.seats office.now.first seat.new.seen }
+{
+    match job_in(seat.call(rt, office, Call::Claim)) {
+        Some(job) => {
+            let made = run(alloc, gate, job, meter);
+            let is_result = made.is_result();
+            seat.call(rt, office, made.into_call());
+            is_result
+        }
+        None => false,
+    }
+}
+
+/// Runs a job behind the gate.
+fn run<G: Gate>(alloc: Global, gate: &G, job: Job, meter: &mut Meter) -> Made
+    ensures { MayMake job result }
+{
+    let lease = job.lease();
+    gate.enter(lease);
+    let made = job.run(alloc, meter);
+    gate.leave(lease);
+    made
+}
