@@ -1,0 +1,9 @@
+-- The texts of the faults of a service (ours).
+use Rattle.std.specs.Prelude.{ℕ, List, codes}
+use Rattle.desk_service.specs.declared.faults.ServeFault.{ServeFault}
+use Rattle.desk_service.specs.declared.faults.ServeFault.TheVariants.{SocketFault, OutOfMemory}
+
+-- the name
+abbrev pub serve_fault_text : ServeFault → List ℕ
+serve_fault_text SocketFault = codes "SocketFault"
+serve_fault_text OutOfMemory = codes "OutOfMemory"

@@ -1,0 +1,4 @@
+pub mod Bells
+pub mod FaultTexts
+pub mod Sessions
+pub mod Services

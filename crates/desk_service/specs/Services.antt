@@ -1,0 +1,14 @@
+-- What a service is started with, and where it listens (ours).
+use Rattle.std.specs.Prelude.{ℕ, ◌≡◌, ◌≤◌, [], ◌∷◌}
+use Rattle.std.specs.declared.net.socket_addr.SocketAddr.{SocketAddr}
+use Rattle.std.specs.declared.net.ip_addr.IpAddr.TheVariants as Ip
+use Rattle.std.specs.Net.Socket.{socket_ip, socket_port}
+use Rattle.desk_service.specs.declared.settings.Settings.{Settings}
+
+-- 1 to 16 workers, and as many sessions
+abbrev pub AreInRange : Settings → Type 0
+AreInRange settings = (1 ≤ settings.workers) × (settings.workers ≤ 16) × (1 ≤ settings.sessions) × (settings.sessions ≤ 16)
+
+-- the address is 127.0.0.1, which no other machine reaches, with this port
+abbrev pub IsLocal : SocketAddr → ℕ → Type 0
+IsLocal address port = (socket_ip address ≡ Ip.V4 (record { octets = 127 ∷ 0 ∷ 0 ∷ 1 ∷ [] })) × (socket_port address ≡ port)

@@ -1,0 +1,88 @@
+//! A desk whose changes are told to those who work for it.
+ghost use Rattle.std.specs.Prelude.{◌≡◌};
+ghost use Rattle.desk_service.specs.Bells.{RingsAfter};
+
+use crossbeam_channel::Sender;
+use deck_workers::Bell;
+use desk_core::{Call, Reply};
+use session_service::Calls;
+use std::marker::Model;
+use std::sync::Wait;
+
+/// A bell. The member says what ringing makes of it.
+pub trait Ring {
+    ghost rings: { Self → Self → Type 0 };
+
+    /// Rings once.
+    fn ring(&mut self)
+        ensures { rings self.old self.new };
+}
+
+/// A desk with a bell that rings once after each change that the desk accepts, and after nothing else.
+/// Contracts see the two as a pair.
+#[derive(Drop)]
+pub struct Ringing<C, B> {
+    desk: C,
+    bell: B,
+}
+
+impl<C, B> Model for Ringing<C, B> {
+    ghost Value = { C × B };
+
+    ghost view = { λ r. (r.desk, r.bell) };
+}
+
+impl<C, B> Ringing<C, B> {
+    pub fn new(desk: C, bell: B) -> Ringing<C, B>
+        ensures { result ≡ (desk, bell) }
+    {
+        Ringing { desk, bell }
+    }
+}
+
+/// The calls are the desk's.
+impl<C: Calls, B: Ring> Calls for Ringing<C, B> {
+    ghost use Rattle.desk_service.specs.Bells.{RingsAfter};
+
+    ghost makes = { λ old call reply new. C.makes old.0 call reply new.0 × RingsAfter B.rings reply old.1 new.1 };
+
+    fn call(&mut self, call: Call) -> Reply {
+        let reply = self.desk.call(call);
+        ring_after(&mut self.bell, &reply);
+        reply
+    }
+}
+
+/// Rings where a reply tells of a change.
+fn ring_after<B: Ring>(bell: &mut B, reply: &Reply)
+    ensures { RingsAfter B.rings reply.now bell.old bell.new }
+{
+    if let Reply::Changed(_) = reply {
+        bell.ring();
+    }
+}
+
+/// The bell of the workers, and the runtime by which its channel is waited for. Contracts see nothing
+/// of a channel.
+#[derive(Drop)]
+pub(crate) struct WorkBell<'a, R> {
+    rt: &'a R,
+    bells: Sender<Bell>,
+}
+
+impl<'a, R> WorkBell<'a, R> {
+    pub(crate) fn new(rt: &'a R, bells: Sender<Bell>) -> WorkBell<'a, R> {
+        WorkBell { rt, bells }
+    }
+}
+
+impl<R: Wait> Ring for WorkBell<'_, R> {
+    ghost use Rattle.std.specs.Prelude.{◌≡◌};
+
+    ghost rings = { λ old new. new ≡ old };
+
+    /// A bell that finds no memory is not rung.
+    fn ring(&mut self) {
+        let _ = self.bells.send(self.rt, Bell::Work);
+    }
+}

@@ -1,0 +1,51 @@
+//! Why a service ends.
+
+use std::alloc::{AllocError, AllocFailed};
+use std::fmt;
+
+/// Why a service does not start. The text is the name.
+#[derive(Clone, Copy, Debug, PartialEq, Eq)]
+pub enum ServeFault {
+    /// The port can't be listened on.
+    SocketFault,
+    /// No memory was left, for a thread among others.
+    OutOfMemory,
+}
+
+impl fmt::Display for ServeFault {
+    ghost use Rattle.std.specs.Prelude.{Some};
+    ghost use Rattle.desk_service.specs.FaultTexts.{serve_fault_text};
+
+    ghost output = { λ fault. Some (serve_fault_text fault) };
+
+    fn fmt<W: fmt::Write>(&self, f: &mut fmt::Formatter<W>) -> fmt::Result {
+        match self {
+            ServeFault::SocketFault => write!(f, "SocketFault"),
+            ServeFault::OutOfMemory => write!(f, "OutOfMemory"),
+        }
+    }
+}
+
+impl std::error::Error for ServeFault {}
+
+impl From<AllocError> for ServeFault {
+    ghost use Rattle.std.specs.Prelude.{◌≡◌};
+    ghost use Rattle.desk_service.specs.declared.faults.ServeFault.TheVariants.{OutOfMemory};
+
+    ghost from_gives = { λ _ fault. fault ≡ OutOfMemory };
+
+    fn from(_: AllocError) -> ServeFault {
+        ServeFault::OutOfMemory
+    }
+}
+
+impl<T: Drop> From<AllocFailed<T>> for ServeFault {
+    ghost use Rattle.std.specs.Prelude.{◌≡◌};
+    ghost use Rattle.desk_service.specs.declared.faults.ServeFault.TheVariants.{OutOfMemory};
+
+    ghost from_gives = { λ _ fault. fault ≡ OutOfMemory };
+
+    fn from(_: AllocFailed<T>) -> ServeFault {
+        ServeFault::OutOfMemory
+    }
+}

@@ -1,0 +1,41 @@
+//! The service: clients edit decks over connections, workers assemble and link what changed, and all
+//! see one desk.
+//!
+//! | Thread | How many | What it does | Where it sleeps |
+//! |---|---|---|---|
+//! | session | 1 to 16 | accepts a connection, serves it to its end, accepts the next | in `accept`, in a read of the connection |
+//! | worker | 1 to 16 | claims what is due, runs it, delivers it | on the bell |
+//!
+//! Each has a seat of one office over the desk, and waits while others have their turn at it. The bell
+//! is one channel from all sessions to all workers. A session rings it once for each change that was
+//! accepted, after the change; a worker that hears it claims whatever is due then. It claims again after
+//! each delivery, so a deck that was out while it changed, and the link behind the last deck, need no
+//! bell of their own. When the last session has ended no bell can come any more, which ends the workers.
+//!
+//! A client that goes away, sends a line that is too long or never ends, or sends what is no command,
+//! ends its session or is told so, and nothing else. A bell that finds no memory is not rung; the change
+//! stands, and is assembled after the next one. So is a job that a worker gave up for want of memory.
+//!
+//! Not promised: that a connection is accepted, that a bell is heard, in which order sessions get their
+//! turns, or in what time. What sockets and files of the system take and give is known to no contract.
+#![tactic(auto)]
+
+// One session, over any ports.
+mod bells;
+mod sessions;
+
+// Threads and sockets.
+mod connections;
+mod faults;
+mod places;
+mod running;
+mod settings;
+
+pub use bells::{Ring, Ringing};
+pub use faults::ServeFault;
+pub use running::{serve, serve_on};
+pub use sessions::{Ending, serve_session};
+pub use settings::Settings;
+
+#[cfg(test)]
+mod tests;

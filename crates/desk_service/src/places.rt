@@ -1,0 +1,151 @@
+//! The places of a service's threads: what each works with, made before any thread starts.
+ghost use Rattle.std.specs.Prelude.{◌≡◌, ◌-◌, ◌≤◌, length, IfOk, OnOk};
+ghost use Rattle.turn_office.specs.Seats.{AreOf};
+
+use crate::bells::{Ringing, WorkBell};
+use crate::connections::serve_connections;
+use crate::settings::Settings;
+use crossbeam_channel::{Receiver, Sender};
+use deck_files::FolderShelf;
+use deck_workers::{Bell, OpenGate, worker};
+use desk_core::Desk;
+use session_service::SeatCalls;
+use std::alloc::{AllocError, Global};
+use std::net::TcpListener;
+use std::rt::Files;
+use std::sync::Wait;
+use std::time::Clock;
+use turn_office::{Office, Seat, SeatList};
+
+/// What a worker works with: a seat of the office, and the end of the bell that it hears.
+#[derive(Drop)]
+pub(crate) struct WorkerPlace<'a, R> {
+    rt: &'a R,
+    alloc: Global,
+    office: &'a Office<Desk>,
+    seat: Seat<Desk>,
+    bells: Receiver<Bell>,
+    ghost seated: { seat.office ≡ office.now.id },
+}
+
+impl<R: Wait> WorkerPlace<'_, R> {
+    /// Works until no bell can come any more.
+    pub(crate) fn work(self) {
+        worker(
+            self.rt,
+            self.alloc,
+            self.office,
+            self.seat,
+            &OpenGate,
+            self.bells,
+        );
+    }
+}
+
+/// The start of all sessions. Where it can't come any more, the service did not start.
+#[derive(Clone, Copy)]
+pub(crate) struct Start;
+
+/// What a session thread works with.
+#[derive(Drop)]
+pub(crate) struct SessionPlace<'a, R> {
+    rt: &'a R,
+    alloc: Global,
+    listener: &'a TcpListener,
+    once: bool,
+    start: Receiver<Start>,
+    desk: Ringing<SeatCalls<'a, R>, WorkBell<'a, R>>,
+    shelf: FolderShelf<'a, R>,
+}
+
+impl<R: Wait + Clock + Files> SessionPlace<'_, R> {
+    /// Waits for the start, and serves connections.
+    pub(crate) fn serve(self) {
+        let SessionPlace {
+            rt,
+            alloc,
+            listener,
+            once,
+            start,
+            mut desk,
+            mut shelf,
+        } = self;
+        if start.recv(rt).is_ok() {
+            serve_connections(rt, alloc, listener, once, &mut desk, &mut shelf);
+        }
+    }
+}
+
+/// A seat from the list.
+fn take_seat(office: &Office<Desk>, seats: &mut SeatList<Desk>) -> Seat<Desk>
+    requires own { AreOf office.now.id seats.old.items }
+    requires some { 1 ≤ length seats.old.items }
+    ensures seat { result.office ≡ office.now.id }
+    ensures own { AreOf office.now.id seats.new.items }
+    ensures left { length seats.new.items ≡ length seats.old.items - 1 }
+{
+    let Some(seat) = seats.pop() else {
+        unreachable!()
+    };
+    seat
+}
+
+/// Places for so many workers, with seats from the list.
+pub(crate) fn worker_places<'a, R>(
+    rt: &'a R,
+    alloc: Global,
+    office: &'a Office<Desk>,
+    seats: &mut SeatList<Desk>,
+    count: usize,
+    bells: &Receiver<Bell>,
+) -> Result<Vec<WorkerPlace<'a, R>>, AllocError>
+    requires own { AreOf office.now.id seats.old.items }
+    requires enough { count ≤ length seats.old.items }
+    ensures own { OnOk result (AreOf office.now.id seats.new.items) }
+    ensures left { OnOk result (length seats.new.items ≡ length seats.old.items - count) }
+    ensures all { IfOk result (λ places. length places.items ≡ count) }
+{
+    let mut places = Vec::new(alloc);
+    for _ in 0..count {
+        places.push(WorkerPlace {
+            rt,
+            alloc,
+            office,
+            seat: take_seat(office, seats),
+            bells: bells.clone()?,
+        })?;
+    }
+    Ok(places)
+}
+
+/// Places for the sessions of a service, with seats from the list; each has an end of the bell, waits
+/// for the start, and has a shelf of a number of its own over the folder.
+pub(crate) fn session_places<'a, R>(
+    rt: &'a R,
+    alloc: Global,
+    office: &'a Office<Desk>,
+    seats: &mut SeatList<Desk>,
+    listener: &'a TcpListener,
+    settings: &Settings<'a>,
+    bells: &Sender<Bell>,
+    start: &Receiver<Start>,
+) -> Result<Vec<SessionPlace<'a, R>>, AllocError>
+    requires own { AreOf office.now.id seats.old.items }
+    requires enough { settings.now.sessions ≤ length seats.old.items }
+    ensures { IfOk result (λ places. length places.items ≡ settings.now.sessions) }
+{
+    let mut places = Vec::new(alloc);
+    for number in 0..settings.sessions {
+        let seat = SeatCalls::new(rt, office, take_seat(office, seats));
+        places.push(SessionPlace {
+            rt,
+            alloc,
+            listener,
+            once: settings.once,
+            start: start.clone()?,
+            desk: Ringing::new(seat, WorkBell::new(rt, bells.clone()?)),
+            shelf: FolderShelf::new(rt, alloc, settings.root, number),
+        })?;
+    }
+    Ok(places)
+}
