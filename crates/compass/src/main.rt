@@ -2,21 +2,28 @@
 //! process, the line of a fault and the exit status.
 #![tactic(auto)]
 
+mod serving;
+
 ghost use Rattle.std.specs.Prelude.{◌≡◌, ◌≢◌, ℕ, ◌<◌, pos};
 
 use clap::{ArgMatches, Command, Error};
 use service_main::{AsmFault, Tally, asm_run, asm_status};
+use serving::{run_service, serve_words, settings_of};
 use std::alloc::Global;
 use std::env;
 use std::io::{self, BufReader, ErrorKind};
+use std::net::{Net, TcpListener, TcpStream};
 use std::process::ExitCode;
-use std::rt::Env;
+use std::rt::{Env, Files};
+use std::sync::Wait;
+use std::thread::Threads;
+use std::time::Clock;
 use text_ports::Counted;
 
 /// The status of a fault of the command line.
 const COMMAND_LINE_STATUS: u8 = 2;
 
-/// The command line: its one command is `asm`, and `clap` writes its texts.
+/// The command line: its commands are `asm` and `serve`, and `clap` writes its texts.
 fn read_words<'a>(alloc: Global, words: &'a [String]) -> Result<ArgMatches<'a>, Error> {
     let asm = Command::new(alloc, "asm").about(
         "Assembles decks from standard input: listing, link map and octal image",
@@ -26,6 +33,7 @@ fn read_words<'a>(alloc: Global, words: &'a [String]) -> Result<ArgMatches<'a>, 
         .about("COMPASS for the Control Data 6000 series, proved")
         .subcommand_required(true)
         .subcommand(asm)?
+        .subcommand(serve_words(alloc)?)?
         .try_get_matches_from(words)
 }
 
@@ -51,11 +59,41 @@ fn tell<R: Eprint>(rt: &R, outcome: &Result<Tally, AsmFault>) -> ExitCode {
 }
 
 /// Does what the words ask for.
-fn run<R: AllocGlobal + Input + Print + Eprint>(rt: &R, words: &[String]) -> ExitCode {
-    match read_words(rt.alloc(), words) {
-        Ok(_) => assemble(rt),
-        Err(error) => answer(rt, &error),
+fn run<R>(rt: &R, words: &[String]) -> ExitCode
+where
+    R: AllocGlobal
+        + Input
+        + Print
+        + Eprint
+        + Threads
+        + Wait
+        + Sync
+        + Files
+        + Drop
+        + Clock
+        + Net<Listener = TcpListener, Stream = TcpStream>,
+    R::File: Send,
+    R::Dir: Send,
+{
+    let matches = match read_words(rt.alloc(), words) {
+        Ok(matches) => matches,
+        Err(error) => return answer(rt, &error),
+    };
+    match matches.subcommand_matches("serve") {
+        Some(words) => match settings_of(words) {
+            Some(settings) => run_service(rt, &settings),
+            None => refuse_numbers(rt),
+        },
+        None => assemble(rt),
     }
+}
+
+/// Tells that a number of the command line is out of its range, with the status of such faults.
+fn refuse_numbers<R: Eprint>(rt: &R) -> ExitCode {
+    let _ = eprintln!(rt;
+        "compass: an option is missing or out of its range; see compass serve --help"
+    );
+    ExitCode::from(COMMAND_LINE_STATUS)
 }
 
 /// Tells what `clap` answers to words that ask for no run: help, version or a fault, with its
