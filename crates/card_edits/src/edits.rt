@@ -17,7 +17,7 @@ pub enum Edit {
 /// Why an edit does not apply.
 #[derive(Clone, Copy, Debug, PartialEq, Eq)]
 pub enum EditFault {
-    /// The deck has no card at this place.
+    /// The deck has no such place.
     NoSuchCard,
     /// The deck has 20,000 cards.
     DeckFull,

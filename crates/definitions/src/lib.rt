@@ -1,4 +1,5 @@
-//! What a program and its definitions name alike: letters, kinds of decks, number bases.
+//! What a program and its definitions name alike (letters, kinds of decks, number bases), and the laws
+//! of the definitions.
 #![tactic(auto)]
 
 // What code and definitions name alike.

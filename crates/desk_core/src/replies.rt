@@ -32,7 +32,7 @@ pub struct Row {
 pub enum Refusal {
     /// No memory was left.
     OutOfMemory,
-    /// The deck has no card at this place.
+    /// The deck has no such place.
     NoSuchCard,
     /// A deck has 20,000 cards at most.
     DeckFull,

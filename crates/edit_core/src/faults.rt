@@ -9,11 +9,11 @@ use card_edits::EditFault;
 pub enum RecordFault {
     /// The record is spent.
     Spent,
-    /// The deck has no card at this place.
+    /// The deck has no such place.
     NoSuchCard,
     /// The deck has 20,000 cards.
     DeckFull,
-    /// No memory was left: the record is spent now.
+    /// No memory was left: a record that was to be edited is spent from then on.
     OutOfMemory,
 }
 

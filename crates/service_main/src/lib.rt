@@ -1,5 +1,5 @@
-//! The programs' main work: `asm_run` takes decks from a reader to listing, link map and octal
-//! image.
+//! The main work of `compass asm`: `asm_run` takes decks from a reader to listing, link map and
+//! octal image.
 #![tactic(auto)]
 
 // From bytes to decks.

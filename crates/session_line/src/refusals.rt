@@ -12,7 +12,7 @@ pub enum Refusal {
     OutOfMemory,
     /// The text of a card is none: `TooWide`, or `BadCharacter` and the column.
     BadCard(CardFault),
-    /// The deck has no card at this place.
+    /// The deck has no such place.
     NoSuchCard,
     /// A deck has 20,000 cards at most.
     DeckFull,
