@@ -268,7 +268,7 @@ commons_005-status = refl
 -- common blocks at the end of memory
 abbrev commons_016 : List ℕ
 commons_016 = text (
-    codes "          IDENT  D0"
+    codes "          IDENT  K0"
     ∷ codes "          ZR     X1,=7-1"
     ∷ codes "          BSSZ   1"
     ∷ codes "          CON    -=5+1"
@@ -288,7 +288,7 @@ commons_016 = text (
     ∷ codes "Q1        EQU    M0+1"
     ∷ codes "          ENTRY  Q1"
     ∷ codes "          END"
-    ∷ codes "          IDENT  D2"
+    ∷ codes "          IDENT  K2"
     ∷ codes "          ABS"
     ∷ codes "          EXT    EC,EA"
     ∷ codes "          LOC    *O"
@@ -297,8 +297,8 @@ commons_016 = text (
     ∷ [])
 
 pub commons_016-output : (answer_of commons_016).output ≡ text (
-    codes "DECK D0 REL"
-    ∷ codes "00001           IDENT  D0"
+    codes "DECK K0 REL"
+    ∷ codes "00001           IDENT  K0"
     ∷ codes "00002           ZR     X1,=7-1"
     ∷ codes "  000000 0 0301000022"
     ∷ codes "00003           BSSZ   1"
@@ -329,8 +329,8 @@ pub commons_016-output : (answer_of commons_016).output ≡ text (
     ∷ codes "00006           END"
     ∷ codes "BLOCK 0 00000000 00000000"
     ∷ codes "ERRORS 1"
-    ∷ codes "DECK D2 ABS"
-    ∷ codes "00001           IDENT  D2"
+    ∷ codes "DECK K2 ABS"
+    ∷ codes "00001           IDENT  K2"
     ∷ codes "00002           ABS"
     ∷ codes "00003           EXT    EC,EA"
     ∷ codes "  ERR O"
@@ -340,15 +340,15 @@ pub commons_016-output : (answer_of commons_016).output ≡ text (
     ∷ codes "BLOCK 0 00000000 00000000"
     ∷ codes "ERRORS 1"
     ∷ codes "MAP"
-    ∷ codes "DECK D0 REL 000100 00000025"
+    ∷ codes "DECK K0 REL 000100 00000025"
     ∷ codes "DECK K1 REL 000125 00000000"
-    ∷ codes "DECK D2 ABS 000000 00000000"
+    ∷ codes "DECK K2 ABS 000000 00000000"
     ∷ codes "COMMON /A/ 000125 00000000"
     ∷ codes "ENTRY Q1 K1 00000000000000000000"
     ∷ codes "LINK U K1 EA"
     ∷ codes "LINK U K1 EC"
     ∷ codes "END"
-    ∷ codes "DECK D0 REL 000100"
+    ∷ codes "DECK K0 REL 000100"
     ∷ codes "000100 03010001224600046000"
     ∷ codes "000101 00000000000000000000"
     ∷ codes "000102 77777777777777777654"
@@ -362,7 +362,7 @@ pub commons_016-output : (answer_of commons_016).output ≡ text (
     ∷ codes "000123 00000000000000000007"
     ∷ codes "000124 00000000000000000005"
     ∷ codes "DECK K1 REL 000125"
-    ∷ codes "DECK D2 ABS 000000"
+    ∷ codes "DECK K2 ABS 000000"
     ∷ codes "END"
     ∷ [])
 commons_016-output = refl
