@@ -18,3 +18,4 @@ pub mod Operands
 pub mod Sums
 pub mod TextWords
 pub mod Readings
+pub mod Kept

@@ -130,9 +130,9 @@ fn are_fields(literals: bool, base: NumberBase, subfields: Subfields<'_>) -> boo
 /// The fields of a VFD, from left to right. Contracts see the list of those that are left.
 #[derive(Drop)]
 pub struct BitFields<'a> {
-    literals: bool,
-    base: NumberBase,
-    subfields: Subfields<'a>,
+    pub(crate) literals: bool,
+    pub(crate) base: NumberBase,
+    pub(crate) subfields: Subfields<'a>,
 }
 
 impl<'a> Model for BitFields<'a> {

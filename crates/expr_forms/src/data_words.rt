@@ -120,8 +120,8 @@ fn are_words(base: NumberBase, subfields: Subfields<'_>) -> bool
 /// What fills the words of a DATA, from left to right. Contracts see the list of what is left.
 #[derive(Drop)]
 pub struct DataWords<'a> {
-    base: NumberBase,
-    subfields: Subfields<'a>,
+    pub(crate) base: NumberBase,
+    pub(crate) subfields: Subfields<'a>,
 }
 
 impl<'a> Model for DataWords<'a> {

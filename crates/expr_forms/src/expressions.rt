@@ -21,11 +21,11 @@ use std::marker::Model;
 /// so that it is K of a sum. Contracts see the definitions' expression.
 #[derive(Drop)]
 pub struct Expr<'a> {
-    base: NumberBase,
-    sign: Sign,
-    first: Link<'a>,
-    rest: &'a [u8],
-    registers: LoneRegisters,
+    pub(crate) base: NumberBase,
+    pub(crate) sign: Sign,
+    pub(crate) first: Link<'a>,
+    pub(crate) rest: &'a [u8],
+    pub(crate) registers: LoneRegisters,
 }
 
 impl<'a> Model for Expr<'a> {

@@ -50,6 +50,12 @@ mod linked_names;
 mod use_fields;
 mod value_fields;
 
+// What was read, without the text that it borrows.
+mod kept_expressions;
+mod kept_fields;
+mod kept_shapes;
+mod kept_texts;
+
 pub use base_fields::number_base;
 pub use bit_fields::{BitField, BitFields};
 pub use coding::{
@@ -66,6 +72,9 @@ pub use expressions::Expr;
 pub use forms::{Form, Names, Part, Relocation};
 pub use item_letter::ItemLetter;
 pub use item_text::ItemText;
+pub use kept_expressions::KeptExpr;
+pub use kept_fields::{KeptBits, KeptData};
+pub use kept_shapes::{KeptField, KeptShape};
 pub use linked_names::LinkedNames;
 pub use links::{Link, Links, Operator};
 pub use magnitude::Magnitude;

@@ -11,7 +11,7 @@ use std::marker::Model;
 /// one subfield. Contracts see the list of the pieces of each.
 #[derive(Drop)]
 pub struct Subfields<'a> {
-    rest: Option<&'a [u8]>,
+    pub(crate) rest: Option<&'a [u8]>,
 }
 
 impl<'a> Model for Subfields<'a> {
