@@ -1,16 +1,16 @@
 -- One statement more: its line behind the others, and its names.
-use Rattle.std.proofs.Common.{◌≡◌, ℕ, ◌+◌, ◌-◌, ◌^◌, ◌<◌, ◌≤◌, true, true≢false, List, [], ◌∷◌, ◌++◌, Option, Some, None, min, drop, length, reverse, refl, ap, sym, subst, arith}
+use Rattle.std.proofs.Common.{◌≡◌, ◌∙◌, ℕ, ◌+◌, ◌-◌, ◌^◌, ◌<◌, ◌≤◌, true, false, true≢false, List, [], ◌∷◌, ◌++◌, Option, Some, None, min, drop, length, reverse, refl, ap, sym, subst, arith}
 use Rattle.std.specs.Prelude.{slice_get}
 use Rattle.std.proofs.lemmas.List.{drop-drop, length-drop, reverse-append}
 use Rattle.definitions.specs.Cards.{Card}
-use Rattle.definitions.specs.Entries.{entries_by}
+use Rattle.definitions.specs.Entries.{entries_by, entries_among}
 use Rattle.definitions.specs.Lengths.{BlockRow}
 use Rattle.definitions.specs.Objects.{Shown}
 use Rattle.definitions.specs.Operands.{Operand}
 use Rattle.definitions.specs.Operations as op
 use Rattle.definitions.specs.Operations.{Operation}
 use Rattle.definitions.specs.Settled.{Settled, Definition, read_of}
-use Rattle.definitions.specs.Settling.{number_base_of, settle}
+use Rattle.definitions.specs.Settling.{number_base_of, settle, settled_all}
 use Rattle.definitions.specs.Statements.{Statement}
 use Rattle.definitions.specs.Words.{Coded}
 use Rattle.definitions.specs.declared.marks.DeckKind.{DeckKind}
@@ -26,9 +26,11 @@ use Rattle.statement_coder.proofs.CodingLaws.{codable}
 use Rattle.deck_objects.specs.CodedLines.{IsNamed, IsShown, IsStored}
 use Rattle.deck_objects.specs.declared.lines.CodedLine.{CodedLine}
 use Rattle.deck_objects.specs.declared.lines.Line.{Line}
-use Rattle.deck_coder.specs.SharedNames.{enters, entries_to}
-use Rattle.deck_coder.specs.Walks.{Whole, has_row, AreShownTo, AreLinedAs}
+use Rattle.deck_coder.specs.SharedNames.{enters, entries_to, is_ext}
+use Rattle.deck_coder.specs.Walks.{Whole, all_settled, has_row, AreNoted, AreShownTo, AreLinedAs}
 use Rattle.deck_coder.specs.declared.deck_lines.DeckLines.{DeckLines}
+use Rattle.deck_coder.specs.declared.deck_names.DeckNames.{DeckNames}
+use Rattle.deck_coder.proofs.ExternalLaws.{nothing-followed}
 use Rattle.deck_coder.proofs.KeptLaws.{coded-longer}
 
 -- a statement that was read, as it is settled
@@ -49,6 +51,28 @@ pub enters-step : (kind : DeckKind) (all : List Settled) (settled : Settled) (be
 enters-step Periph all settled before e = absurd (true≢false (sym e))
 enters-step Rel all settled before e = sym (entered Rel all settled.read.operation settled.read.operand (entries_to Rel all before) e)
 enters-step Abs all settled before e = sym (entered Abs all settled.read.operation settled.read.operand (entries_to Abs all before) e)
+
+-- a statement that enters no names leaves the entries as they are
+passed-over : (all : List Settled) (operation : Operation) (operand : Operand) (entries : List Definition) → enters Rel operation ≡ false → entries ≡ entries_by all operation operand entries
+passed-over all op.Entry operand entries e = absurd (true≢false e)
+passed-over all _ operand entries e = refl
+
+not-entered : (kind : DeckKind) (all : List Settled) (settled : Settled) (before : List Settled) → enters kind settled.read.operation ≡ false → entries_to kind all before ≡ entries_to kind all (settled ∷ before)
+not-entered Periph all settled before e = refl
+not-entered Rel all settled before e = passed-over all settled.read.operation settled.read.operand (entries_among all before) e
+not-entered Abs all settled before e = passed-over all settled.read.operation settled.read.operand (entries_among all before) e
+
+-- and one that defines nothing either leaves the names as they are
+pub silent-noted : (whole : Whole) (earlier : List Statement) (given : Statement) (names : DeckNames) → let settled = settle whole.deck.kind (settled_all whole.deck.kind earlier) given in
+    enters whole.deck.kind settled.read.operation ≡ false → is_ext settled.read.operation ≡ false → [] ≡ settled.definitions → AreNoted whole earlier names → AreNoted whole (given ∷ earlier) names
+silent-noted whole earlier given names silent other defines noted =
+    let kind = whole.deck.kind in
+    let before = settled_all kind earlier in
+    record {
+      entries = noted.entries ∙ not-entered kind (all_settled whole) (settle kind before given) before silent;
+      seen = noted.seen;
+      externals = nothing-followed kind before given names.externals.seen names.externals.names.items other defines noted.externals;
+    }
 
 -- a line stays what it is where fields are put behind those that there are
 stored-longer : (kind : DeckKind) (rows : List BlockRow) (before after : List code.Item) (line : Option CodedLine) (coded : Option Coded) → IsKept before after → IsStored kind rows before line coded → IsStored kind rows after line coded

@@ -3,7 +3,7 @@ ghost use Rattle.std.specs.Prelude.{ℕ, ◌≡◌, ◌+◌, ◌-◌, ◌^◌, �
 ghost use Rattle.definitions.specs.Objects.{Shown, only_listed};
 ghost use Rattle.definitions.specs.Settling.{settle, settled_all};
 ghost use Rattle.definitions.specs.Statements as statements;
-ghost use Rattle.statement_coder.specs.StatementsRead.{IsRead};
+ghost use Rattle.statement_coder.specs.ReadOperands.{IsReadOperand};
 ghost use Rattle.deck_pieces.specs.SizedDecks.{IsListedStatement, IsSizedStatement};
 ghost use Rattle.deck_coder.specs.Walks.{AreLined, AreLinedAs, IsWhole, Whole, has_row, whole_of};
 
@@ -15,7 +15,7 @@ use deck_objects::Line;
 use deck_pieces::SizedStatement;
 use field_items::Item;
 use operations::Letters;
-use statement_coder::{Meter, Statement};
+use statement_coder::{Meter, ReadOperand};
 use std::alloc::{AllocError, Global};
 
 /// The lines so far with the fields that they list, how many cards they have, and the index of the
@@ -53,25 +53,25 @@ impl DeckLines {
         })
     }
 
-    /// The line of one statement more. Where memory runs out the lines are of no use.
+    /// The line of one statement more, whose operand was read. Where memory runs out the lines are of no use.
     pub(crate) fn add(
         &mut self,
         view: &DeckView<'_>,
-        statement: &Statement<'_>,
+        read: &ReadOperand<'_>,
         sized: &SizedStatement,
         meter: &mut Meter,
     ) -> Result<(), AllocError>
         ensures lined { OnOk result ((known others earlier : List statements.Statement) (given : statements.Statement) →
             let whole = whole_of view.now known others in
             let before = settled_all whole.deck.kind earlier in
-            IsWhole whole → IsRead whole.deck.kind given.cards statement.now → IsSizedStatement whole.deck.kind earlier self.old.stood (drop self.old.stood whole.cards) sized.now given →
+            IsWhole whole → read.now.kind ≡ whole.deck.kind → IsReadOperand read.now (settle whole.deck.kind before given) → IsSizedStatement whole.deck.kind earlier self.old.stood (drop self.old.stood whole.cards) sized.now given →
             has_row (settle whole.deck.kind before given).block whole.rows ≡ true → AreLined whole earlier self.old → AreLined whole (given ∷ earlier) self.new) }
         ensures stood { OnOk result (self.new.stood ≡ min (self.old.stood + sized.now.cards) (2 ^ 64 - 1)) }
         ensures coded { meter.new.coded ≡ min (meter.old.coded + 1) (2 ^ 64 - 1) }
         ensures sized { meter.new.sized ≡ meter.old.sized }
     {
         let block = block_index(view.bases.rows(), &sized.sizing.block, self.block);
-        let line = statement_line(view, statement, sized, block, &mut self.items, meter)?;
+        let line = statement_line(view, read, sized, block, &mut self.items, meter)?;
         self.lines.push(line)?;
         self.block = block;
         self.stood = self.stood.saturating_add(sized.cards as usize);

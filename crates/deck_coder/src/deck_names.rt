@@ -1,20 +1,21 @@
 //! The names that the statements of a deck give to others, and those that they take.
-ghost use Rattle.std.specs.Prelude.{◌≡◌, ◌∷◌, [], List, OnOk};
+ghost use Rattle.std.specs.Prelude.{◌≡◌, ◌∷◌, [], List, OnOk, true};
 ghost use Rattle.definitions.specs.Settled.{Settled, defined};
 ghost use Rattle.definitions.specs.Settling.{number_base_of, settle, settled_all};
 ghost use Rattle.definitions.specs.Statements as statements;
 ghost use Rattle.operations.specs.OperationsAs.{operation_as};
 ghost use Rattle.statement_coder.specs.Sizings.{IsSizing};
 ghost use Rattle.statement_coder.specs.StatementsRead.{IsRead};
+ghost use Rattle.deck_coder.specs.declared.deck_names.DeckNames as code;
 ghost use Rattle.deck_coder.specs.Walks.{AreNoted, all_settled, IsWhole, Whole, whole_of};
 ghost use Rattle.deck_coder.specs.SharedNames.{AreSeen, enters, entries_to};
 
 use crate::deck_view::DeckView;
 use crate::entry_names::EntryNames;
-use crate::external_names::{ExternalNames, operand};
+use crate::external_names::{ExternalNames, is_ext, operand};
 use definitions::DeckKind;
 use operations::Operation;
-use statement_coder::{Sizing, Statement};
+use statement_coder::{Defines, Sizing, Statement};
 use std::alloc::{AllocError, Global};
 
 /// The entries and the externals of the statements so far.
@@ -54,6 +55,27 @@ fn enter(
         entries.enter_operand(view.deck.symbols(), &operand(statement, sizing.number_base))
     } else {
         Ok(())
+    }
+}
+
+/// Whether a statement with this operation gives no names and takes none.
+pub(crate) fn is_silent(kind: DeckKind, operation: Operation, sizing: &Sizing) -> bool
+    ensures { result ≡ true → (whole : Whole) (earlier : List statements.Statement) (given : statements.Statement) (names : code.DeckNames) →
+        let before = settled_all whole.deck.kind earlier in
+        let settled = settle whole.deck.kind before given in
+        kind ≡ whole.deck.kind → settled.read.operation ≡ operation_as operation → IsSizing (λ name. defined name before) settled sizing.now →
+        AreNoted whole earlier names → AreNoted whole (given ∷ earlier) names }
+{
+    if enters(kind, operation) {
+        return false;
+    }
+    if is_ext(operation) {
+        return false;
+    }
+    match sizing.defines {
+        Defines::Nothing => true,
+        Defines::Symbol(_) => false,
+        Defines::Externals => false,
     }
 }
 

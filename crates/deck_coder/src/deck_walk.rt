@@ -7,11 +7,11 @@ ghost use Rattle.deck_coder.specs.Walks.{IsWhole, Whole, whole_of};
 ghost use Rattle.deck_coder.specs.DeckWalks.{IsDone, IsListing, IsWalked};
 
 use crate::deck_lines::{DeckLines, next_cards};
-use crate::deck_names::DeckNames;
+use crate::deck_names::{DeckNames, is_silent};
 use crate::deck_view::DeckView;
 use cards::StatementRoom;
 use deck_pieces::{Piece, SizedDeck, SizedStatement};
-use statement_coder::{Meter, Statement};
+use statement_coder::{Meter, Statement, kept_operand};
 use std::alloc::{AllocError, Global};
 
 /// The lines and the names of the statements so far.
@@ -38,8 +38,8 @@ impl Making {
         })
     }
 
-    /// One statement more. Where memory runs out what was made is of no use.
-    fn add(
+    /// One statement more, whose cards are read once more.
+    fn add_again(
         &mut self,
         view: &DeckView<'_>,
         room: &mut StatementRoom,
@@ -54,7 +54,31 @@ impl Making {
         let cards = next_cards(view.cards, self.lines.stood, sized.cards);
         let statement = Statement::read(view.deck.kind(), cards, room);
         self.names.note(view, &statement, &sized.sizing)?;
-        self.lines.add(view, &statement, sized, meter)
+        let read = statement.read_operand(sized.sizing.number_base);
+        self.lines.add(view, &read, sized, meter)
+    }
+
+    /// One statement more: its cards are read once more where it gives or takes names, or where its
+    /// operand was not kept. Where memory runs out what was made is of no use.
+    fn add(
+        &mut self,
+        view: &DeckView<'_>,
+        room: &mut StatementRoom,
+        sized: &SizedStatement,
+        meter: &mut Meter,
+    ) -> Result<(), AllocError>
+        ensures walked { OnOk result ((known others : List statements.Statement) (left : List code.SizedStatement) → let whole = whole_of view.now known others in
+            IsWhole whole → IsWalked whole (sized.now ∷ left) self.old → IsWalked whole left self.new) }
+        ensures coded { meter.new.coded ≤ meter.old.coded + 1 }
+        ensures sized { meter.new.sized ≡ meter.old.sized }
+    {
+        let kind = view.deck.kind();
+        if is_silent(kind, sized.operation, &sized.sizing) {
+            if let Some(read) = kept_operand(kind, sized.operation, &sized.kept) {
+                return self.lines.add(view, &read, sized, meter);
+            }
+        }
+        self.add_again(view, room, sized, meter)
     }
 
     /// Some statements more.

@@ -38,7 +38,7 @@ fn external(name: &[u8]) -> Form
 }
 
 /// Whether an operation is EXT.
-fn is_ext(operation: Operation) -> bool
+pub(crate) fn is_ext(operation: Operation) -> bool
     ensures { result ≡ is_ext (operation_as operation) }
 {
     matches!(operation, Operation::Ext)

@@ -14,6 +14,7 @@ use Rattle.definitions.specs.declared.marks.NumberBase.{NumberBase}
 use Rattle.definitions.proofs.StateSteps.{seen_of-state, state_after-step, lengths_of-step, settled_all-in_use}
 use Rattle.operations.specs.OperationsAs.{operation_as}
 use Rattle.use_blocks.specs.BlockLengths.{block_names}
+use Rattle.statement_coder.specs.KeptReadings.{IsKeptReading}
 use Rattle.statement_coder.specs.Readings.{IsReading, IsLawful}
 use Rattle.statement_coder.specs.Sizings.{read_as, settled_read, IsSizing}
 use Rattle.statement_coder.specs.StatementsRead.{IsRead}
@@ -58,6 +59,8 @@ pub record IsStep (kind : DeckKind) (earlier : List Statement) (given : Statemen
   pub operand : IsReading r (settle kind (settled_all kind earlier) given).read.operand
   pub sizing : IsSizing (λ name. defined name (settled_all kind earlier)) (settle kind (settled_all kind earlier) given) sized.sizing
   pub number_base : sized.sizing.number_base ≡ number_base_of (settled_all kind earlier)
+  pub operation : (settle kind (settled_all kind earlier) given).read.operation ≡ operation_as sized.operation
+  pub kept : IsKeptReading sized.kept (settle kind (settled_all kind earlier) given).read.operand
   pub made : effect ≡ effect_of kind (settle kind (settled_all kind earlier) given)
   pub literals : new.literals ≡ with_literals (operand_literals (settle kind (settled_all kind earlier) given).read.operand) old.literals
   pub symbols : symbol_in new.symbols ≡ with_defined (settle kind (settled_all kind earlier) given).read.fields.location (settle kind (settled_all kind earlier) given).read.operand sized.sizing.defines (symbol_in old.symbols)
@@ -81,6 +84,8 @@ sizer-step kind cards earlier given r effect sized old new next is step =
       within = next.within;
       sizing = step.sizing;
       number_base = step.number_base;
+      operation = step.operation;
+      kept = step.kept;
     } in
     record {
       state = step.state ∙ ap₂ advanced step.made is.state ∙ sym (state_after-step kind settled all in_use);

@@ -9,6 +9,8 @@ use Rattle.definitions.specs.Settling.{settle, settled_all, number_base_of}
 use Rattle.definitions.specs.Statements.{Statement, statements_of}
 use Rattle.definitions.specs.States.{state_after}
 use Rattle.definitions.specs.declared.marks.DeckKind.{DeckKind}
+use Rattle.operations.specs.OperationsAs.{operation_as}
+use Rattle.statement_coder.specs.KeptReadings.{IsKeptReading}
 use Rattle.statement_coder.specs.Sizings.{IsSizing}
 use Rattle.deck_pieces.specs.DeckParts.{DeckPiece, DeckParts, sized_in}
 use Rattle.deck_pieces.specs.FirstSymbols.{symbol_in}
@@ -23,6 +25,8 @@ pub record IsSizedStatement (deck_kind : DeckKind) (earlier : List Statement) (s
   pub within : sized.cards ≤ length ahead
   pub sizing : IsSizing (λ name. defined name (settled_all deck_kind earlier)) (settle deck_kind (settled_all deck_kind earlier) statement) sized.sizing
   pub number_base : sized.sizing.number_base ≡ number_base_of (settled_all deck_kind earlier)
+  pub operation : (settle deck_kind (settled_all deck_kind earlier) statement).read.operation ≡ operation_as sized.operation
+  pub kept : IsKeptReading sized.kept (settle deck_kind (settled_all deck_kind earlier) statement).read.operand
 
 -- a statement is the next so many cards of those ahead, and so many stood before them
 pub record IsListedStatement (stood : ℕ) (ahead : List Card) (count : ℕ) (statement : Statement) : Type 0 where

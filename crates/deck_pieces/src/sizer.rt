@@ -76,6 +76,8 @@ impl Sizer {
         self.lengths.follow(&self.state, &effect)?;
         let sized = SizedStatement {
             cards: count,
+            operation: statement.operation,
+            kept: reading.kept(),
             sizing,
         };
         add_statement(alloc, &mut self.pieces, &self.state, sized)?;

@@ -13,9 +13,11 @@ use Rattle.definitions.specs.declared.marks.DeckKind.{DeckKind}
 use Rattle.definitions.specs.declared.marks.Letter.{Letter}
 use Rattle.field_items.specs.Items.{AreSeen}
 use Rattle.operations.specs.OperationsAs.{operation_as}
+use Rattle.statement_coder.specs.ReadOperands.{IsReadOperand}
 use Rattle.statement_coder.specs.Readings.{IsReading, IsWhole}
 use Rattle.statement_coder.specs.Sizings.{IsCodable}
 use Rattle.statement_coder.specs.StatementsRead.{IsRead}
+use Rattle.statement_coder.specs.declared.read_operands.ReadOperand as operands
 use Rattle.statement_coder.specs.declared.readings.Reading.{Reading}
 use Rattle.statement_coder.specs.declared.readings.Reading.TheVariants as reading
 use Rattle.statement_coder.specs.declared.sizing.Sizing.{Sizing}
@@ -54,3 +56,12 @@ codable kind given code sizing settled read e =
           ∙ ap₂ (λ name text. operand_of kind base (operation_as code.operation) name text) (sym read.name) (sym read.variable)
           ∙ ap (λ k. operand_of k base (operation_as code.operation) code.name.now code.variable.now) (sym read.kind);
     }
+
+-- an operand that was read again is the settled one
+pub read_again : (code : statements.Statement) (sizing : Sizing) (settled : Settled) (again : operands.ReadOperand) → IsCodable code sizing settled →
+    again.operation ≡ code.operation → IsReading again.reading (operand_of code.kind sizing.number_base (operation_as code.operation) code.name.now code.variable.now) →
+    IsReadOperand again settled
+read_again code sizing settled again codes same is = record {
+  operation = codes.operation ∙ ap operation_as (sym same);
+  operand = subst (IsReading again.reading) (sym codes.operand) is;
+}

@@ -1,6 +1,8 @@
 pub mod Externals
 pub mod LettersAs
 pub mod Readings
+pub mod KeptReadings
+pub mod ReadOperands
 pub mod StatementsRead
 pub mod Outcomes
 pub mod Definitions

@@ -1,5 +1,5 @@
 -- What was read in a variable field, in the words of the definitions.
-use Rattle.std.specs.Prelude.{ℕ, ◌≡◌, ◌*◌, ◌/◌, ⊤, true, List, [], Option, Some, None, flat_map, length}
+use Rattle.std.specs.Prelude.{ℕ, ◌≡◌, ◌*◌, ◌/◌, ⊤, true, List, [], Option, Some, None, MatchOption, flat_map, length}
 use Rattle.std.specs.List.{AllByRecursion}
 use Rattle.definitions.specs.Kinds.{word_bits}
 use Rattle.definitions.specs.Literals.{datum_literals}
@@ -8,6 +8,7 @@ use Rattle.definitions.specs.Symbols.{is_linked_name}
 use Rattle.definitions.specs.declared.marks.DeckKind.{DeckKind}
 use Rattle.expr_forms.specs.Readings.{use_as}
 use Rattle.expr_forms.specs.Shapes.{instruction_as, IsPeripheral}
+use Rattle.expr_forms.specs.declared.dis_fields.DisText.{DisText}
 use Rattle.expr_forms.specs.declared.shapes.Shape.{Shape}
 use Rattle.statement_coder.specs.declared.readings.Reading as code
 use Rattle.statement_coder.specs.declared.readings.Reading.TheVariants as reading
@@ -31,10 +32,14 @@ IsReading (reading.Value e) operand = operand ≡ definitions.ValueOperand e
 IsReading (reading.Names names) operand = operand ≡ definitions.NamesOperand names
 IsReading (reading.Use field) operand = operand ≡ use_as field
 
--- the text of a DIS fills its words
+-- the text of a DIS
+abbrev pub text_in : code.Reading → Option DisText
+text_in (reading.Text text) = Some text
+text_in _ = None
+
+-- it fills its words
 abbrev pub IsWhole : DeckKind → code.Reading → Type 0
-IsWhole kind (reading.Text text) = length text.characters ≡ text.words * (word_bits kind / 6)
-IsWhole kind _ = Unit {0}
+IsWhole kind found = MatchOption (text_in found) ⊤ (λ (text : DisText). length text.characters ≡ text.words * (word_bits kind / 6))
 
 -- a name of ENTRY or EXT, where there is one, is lawful
 abbrev pub IsLawfulName : Option (List ℕ) → Type 0

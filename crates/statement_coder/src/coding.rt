@@ -13,7 +13,8 @@ ghost use Rattle.field_items.specs.Items.{deck_with};
 ghost use Rattle.field_items.specs.declared.items.Item as fields;
 ghost use Rattle.operations.specs.OperationsAs.{operation_as};
 ghost use Rattle.statement_coder.specs.CodedItems.{AreTold, is_zeros, stores_zeros};
-ghost use Rattle.statement_coder.specs.Sizings.{IsSizing, IsCodable};
+ghost use Rattle.statement_coder.specs.ReadOperands.{IsReadOperand};
+ghost use Rattle.statement_coder.specs.Sizings.{IsSizing};
 ghost use Rattle.statement_coder.specs.StatementsRead.{IsRead};
 ghost use Rattle.statement_coder.specs.declared.sizing.Sizing as sizings;
 
@@ -22,7 +23,7 @@ use crate::entry_letters::entry_letters;
 use crate::final_names::{FinalNames, FinalSymbols};
 use crate::meter::Meter;
 use crate::operand_fields::{fields_told, take_back, told_letters};
-use crate::readings::read_operand;
+use crate::read_operands::ReadOperand;
 use crate::sizing::Sizing;
 use crate::statement::Statement;
 use field_items::{BlockBases, Item};
@@ -90,9 +91,9 @@ fn placed(
     }
 }
 
-/// A statement with its operand read again, coded.
+/// An operand that was read, coded.
 fn coded<S: FinalSymbols, B: BlockBases>(
-    statement: &Statement<'_>,
+    read: &ReadOperand<'_>,
     sizing: &Sizing,
     symbols: &S,
     bases: &B,
@@ -100,32 +101,25 @@ fn coded<S: FinalSymbols, B: BlockBases>(
 ) -> Result<Coded, AllocError>
     ensures items { IfOk result (λ coded. (view : View) (settled : Settled) (all : List Settled) (literals : List ℕ) →
         S.symbols symbols.now ≡ (λ name. defined name all) → S.literals symbols.now ≡ (λ literal. literal_form literals literal) →
-        IsSizing view settled sizing.now → IsCodable statement.now sizing.now settled →
-        AreTold statement.now.kind settled.read.operand sizing.now coded.items list.old.items list.new.items
-        (items_of (deck_with statement.now.kind (B.rows bases.now) all literals) settled settled.read.operation)) }
+        IsSizing view settled sizing.now → IsReadOperand read.now settled →
+        AreTold read.now.kind settled.read.operand sizing.now coded.items list.old.items list.new.items
+        (items_of (deck_with read.now.kind (B.rows bases.now) all literals) settled settled.read.operation)) }
     ensures letters { IfOk result (λ coded. (view : View) (settled : Settled) (all : List Settled) (literals : List ℕ) →
         S.symbols symbols.now ≡ (λ name. defined name all) → S.literals symbols.now ≡ (λ literal. literal_form literals literal) →
-        IsSizing view settled sizing.now → IsCodable statement.now sizing.now settled →
-        coded.letters ≡ in_order (letters_of (deck_with statement.now.kind (B.rows bases.now) all literals) settled)) }
-    ensures zeros { IfOk result (λ coded. is_zeros coded.items ≡ stores_zeros (operation_as statement.now.operation)) }
+        IsSizing view settled sizing.now → IsReadOperand read.now settled →
+        coded.letters ≡ in_order (letters_of (deck_with read.now.kind (B.rows bases.now) all literals) settled)) }
+    ensures zeros { IfOk result (λ coded. is_zeros coded.items ≡ stores_zeros (operation_as read.now.operation)) }
     ensures unchanged { OnErr result (list.new.items ≡ list.old.items) }
 {
-    let kind = statement.kind;
-    let operation = statement.operation;
-    let reading = read_operand(
-        kind,
-        sizing.number_base,
-        operation,
-        statement.name,
-        statement.variable,
-    );
+    let kind = read.kind;
+    let operation = read.operation;
     let names = FinalNames {
         symbols,
         location: sizing.location,
         origin: sizing.origin,
     };
-    let told = fields_told(kind, bases, &names, &reading, list)?;
-    let entries = entry_letters(kind, operation, symbols, &reading);
+    let told = fields_told(kind, bases, &names, &read.reading, list)?;
+    let entries = entry_letters(kind, operation, symbols, &read.reading);
     let fields = told_letters(&told, list);
     let letters = sizing.letters.union(&entries.union(&fields));
     Ok(Coded {
@@ -134,9 +128,38 @@ fn coded<S: FinalSymbols, B: BlockBases>(
     })
 }
 
-/// The fields of a sized statement, and all its letters, once all symbols and literals have their
-/// values and all blocks their places, counted in the meter: exactly those of the definitions. The
-/// fields of data are put at the end of the list; where memory runs out the list is as it was.
+/// The fields of a sized statement whose operand was read, and all its letters, once all symbols and
+/// literals have their values and all blocks their places, counted in the meter: exactly those of the
+/// definitions. The fields of data are put at the end of the list; where memory runs out the list is
+/// as it was.
+pub fn code_read<S: FinalSymbols, B: BlockBases>(
+    read: &ReadOperand<'_>,
+    sizing: &Sizing,
+    symbols: &S,
+    bases: &B,
+    list: &mut Vec<Item>,
+    meter: &mut Meter,
+) -> Result<Coded, AllocError>
+    ensures items { IfOk result (λ coded. (view : View) (settled : Settled) (all : List Settled) (literals : List ℕ) →
+        S.symbols symbols.now ≡ (λ name. defined name all) → S.literals symbols.now ≡ (λ literal. literal_form literals literal) →
+        IsSizing view settled sizing.now → IsReadOperand read.now settled →
+        AreTold read.now.kind settled.read.operand sizing.now coded.items list.old.items list.new.items
+        (items_of (deck_with read.now.kind (B.rows bases.now) all literals) settled settled.read.operation)) }
+    ensures letters { IfOk result (λ coded. (view : View) (settled : Settled) (all : List Settled) (literals : List ℕ) →
+        S.symbols symbols.now ≡ (λ name. defined name all) → S.literals symbols.now ≡ (λ literal. literal_form literals literal) →
+        IsSizing view settled sizing.now → IsReadOperand read.now settled →
+        coded.letters ≡ in_order (letters_of (deck_with read.now.kind (B.rows bases.now) all literals) settled)) }
+    ensures zeros { IfOk result (λ coded. is_zeros coded.items ≡ stores_zeros (operation_as read.now.operation)) }
+    ensures unchanged { OnErr result (list.new.items ≡ list.old.items) }
+    ensures coded { meter.new.coded ≡ min (meter.old.coded + 1) (2 ^ 64 - 1) }
+    ensures sized { meter.new.sized ≡ meter.old.sized }
+{
+    meter.coded = meter.coded.saturating_add(1);
+    coded(read, sizing, symbols, bases, list)
+}
+
+/// The fields of a sized statement, and all its letters, as `code_read` has them; its operand is read
+/// again.
 pub fn code<S: FinalSymbols, B: BlockBases>(
     statement: &Statement<'_>,
     sizing: &Sizing,
@@ -159,6 +182,6 @@ pub fn code<S: FinalSymbols, B: BlockBases>(
     ensures coded { meter.new.coded ≡ min (meter.old.coded + 1) (2 ^ 64 - 1) }
     ensures sized { meter.new.sized ≡ meter.old.sized }
 {
-    meter.coded = meter.coded.saturating_add(1);
-    coded(statement, sizing, symbols, bases, list)
+    let read = statement.read_operand(sizing.number_base);
+    code_read(&read, sizing, symbols, bases, list, meter)
 }

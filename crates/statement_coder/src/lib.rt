@@ -5,9 +5,12 @@
 // A statement, and what its variable field is to its operation.
 mod early_values;
 mod externals;
+mod kept_readings;
 mod location_field;
+mod operand_sources;
 mod outcomes;
 mod placing;
+mod read_operands;
 mod readings;
 mod statement;
 mod statement_cards;
@@ -38,12 +41,15 @@ mod listing;
 mod operand_fields;
 
 pub use coded::{Coded, CodedItems};
-pub use coding::code;
+pub use coding::{code, code_read};
 pub use definitions_made::Defines;
 pub use early_values::EarlySymbols;
 pub use final_names::FinalSymbols;
+pub use kept_readings::KeptReading;
 pub use laws::lists_keep_bits;
 pub use meter::Meter;
+pub use operand_sources::kept_operand;
+pub use read_operands::ReadOperand;
 pub use readings::{Reading, read_operand};
 pub use sized::{size, size_reading};
 pub use sizing::Sizing;

@@ -1,52 +1,39 @@
 use Rattle.std.proofs.Common.{◌≡◌, ◌∙◌, List, ◌++◌, refl, ap, sym, subst}
 use Rattle.definitions.specs.Letters.{in_order, entry_letters}
-use Rattle.definitions.specs.Operands.{operand_of}
 use Rattle.definitions.specs.StatementItems.{operand_items, items_of}
 use Rattle.definitions.specs.declared.marks.Letter.{Letter}
 use Rattle.field_items.specs.Items.{deck_with}
-use Rattle.operations.specs.OperationsAs.{operation_as}
 use Rattle.statement_coder.specs.CodedItems.{AreTold}
 use Rattle.statement_coder.specs.FieldLetters.{field_letters}
-use Rattle.statement_coder.specs.Readings.{IsReading}
-use Rattle.statement_coder.proofs.OperandLaws.{operand_of-fills}
-use Rattle.statement_coder.proofs.CodingLaws.{are_seen, read_whole}
+use Rattle.statement_coder.proofs.CodingLaws.{are_seen}
 use Rattle.statement_coder.proofs.coding.coded.Goals as goal
-
-pub fields_told-requires : goal.fields_told-requires
-fields_told-requires g c =
-    let code = c.args.statement.now in
-    let base = c.args.sizing.now.number_base in
-    read_whole code.kind c.read_operand-reading.result (operand_of code.kind base (operation_as code.operation) code.name.now code.variable.now) c.read_operand-reading.ensures.reading
-    (operand_of-fills code.kind base (operation_as code.operation) code.name.now code.variable.now)
 
 pub returns-clause-items : goal.returns-clause-items
 returns-clause-items g c =
-    λ view settled all literals symbols words is codable.
-    let code = c.args.statement.now in
+    λ view settled all literals symbols words is taken.
+    let read = c.args.read.now in
     let sizing = c.args.sizing.now in
     let before = c.args.list.now.items in
-    let context = deck_with code.kind (g.B.BlockBases.rows c.args.bases.now) all literals in
+    let context = deck_with read.kind (g.B.BlockBases.rows c.args.bases.now) all literals in
     let seen = are_seen (g.S.FinalSymbols.symbols c.args.symbols.now) (g.S.FinalSymbols.literals c.args.symbols.now) sizing.location sizing.origin context settled symbols words is.location is.origin in
-    let reading = subst (IsReading c.read_operand-reading.result) (sym codable.operand) c.read_operand-reading.ensures.reading in
-    let told = c.in_ok-told.ensures.told all literals settled settled.read.operand sizing seen reading in
-    subst (λ operation. AreTold code.kind settled.read.operand sizing c.placed.result before c.placed.new.list.items (items_of context settled operation)) (sym codable.operation)
-    (c.placed.ensures.told code.kind view context settled before refl is told)
+    let told = c.in_ok-told.ensures.told all literals settled settled.read.operand sizing seen taken.operand in
+    subst (λ operation. AreTold read.kind settled.read.operand sizing c.placed.result before c.placed.new.list.items (items_of context settled operation)) (sym taken.operation)
+    (c.placed.ensures.told read.kind view context settled before refl is told)
 
 pub returns-clause-letters : goal.returns-clause-letters
 returns-clause-letters g c =
-    λ view settled all literals symbols words is codable.
-    let code = c.args.statement.now in
+    λ view settled all literals symbols words is taken.
+    let read = c.args.read.now in
     let sizing = c.args.sizing.now in
     let before = c.args.list.now.items in
-    let context = deck_with code.kind (g.B.BlockBases.rows c.args.bases.now) all literals in
+    let context = deck_with read.kind (g.B.BlockBases.rows c.args.bases.now) all literals in
     let operand = settled.read.operand in
     let fields = operand_items context settled operand in
     let seen = are_seen (g.S.FinalSymbols.symbols c.args.symbols.now) (g.S.FinalSymbols.literals c.args.symbols.now) sizing.location sizing.origin context settled symbols words is.location is.origin in
-    let reading = subst (IsReading c.read_operand-reading.result) (sym codable.operand) c.read_operand-reading.ensures.reading in
-    let told = c.in_ok-told.ensures.told all literals settled operand sizing seen reading in
-    let in_list = subst (λ l. AreTold code.kind operand sizing c.in_ok-told.told before l fields) (sym c.deref.ensures.value) told in
-    let entries : List Letter = entry_letters code.kind all settled.read.operation operand in
+    let told = c.in_ok-told.ensures.told all literals settled operand sizing seen taken.operand in
+    let in_list = subst (λ l. AreTold read.kind operand sizing c.in_ok-told.told before l fields) (sym c.deref.ensures.value) told in
+    let entries : List Letter = entry_letters read.kind all settled.read.operation operand in
     let entries_are : c.entry_letters-entries.result ≡ in_order entries =
-    c.entry_letters-entries.ensures all operand symbols reading ∙ ap (λ operation. in_order (entry_letters code.kind all operation operand)) (sym codable.operation) in
+    c.entry_letters-entries.ensures all operand symbols taken.operand ∙ ap (λ operation. in_order (entry_letters read.kind all operation operand)) (sym taken.operation) in
     c.union-letters.ensures settled.letters (entries ++ field_letters fields) is.letters
-    (c.union.ensures entries (field_letters fields) entries_are (c.told_letters-fields.ensures code.kind operand sizing before fields in_list))
+    (c.union.ensures entries (field_letters fields) entries_are (c.told_letters-fields.ensures read.kind operand sizing before fields in_list))

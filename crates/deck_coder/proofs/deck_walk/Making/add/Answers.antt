@@ -1,25 +1,21 @@
-use Rattle.std.proofs.Common.{◌∙◌, List, subst}
-use Rattle.definitions.specs.Cards.{Card}
-use Rattle.definitions.specs.declared.marks.DeckKind.{DeckKind}
-use Rattle.statement_coder.specs.StatementsRead.{IsRead}
+use Rattle.std.proofs.Common.{◌∙◌}
+use Rattle.definitions.specs.Settling.{settle, settled_all}
 use Rattle.deck_coder.specs.Walks.{whole_of}
 use Rattle.deck_coder.proofs.DeckWalkLaws.{walk-step}
 use Rattle.deck_coder.proofs.ResultLaws.{on_ok_both}
 use Rattle.deck_coder.proofs.WalkLaws.{stood-step}
 use Rattle.deck_coder.proofs.deck_walk.Making.add.Goals as goal
 
-pub returns-clause-walked : goal.returns-clause-walked
-returns-clause-walked c =
+pub returns-in-Some-clause-walked : goal.returns-in-Some-clause-walked
+returns-in-Some-clause-walked c =
     on_ok_both c.add.result (λ lined stood known others left is walked.
     let whole = whole_of c.args.view.now known others in
     let sized = c.args.sized.now in
     let old = c.args.self.now in
-    walk-step whole left sized old (record { lines = c.add.new.self; names = c.note.new.self }) is walked (λ earlier given next has so_far noted.
-    let read : IsRead whole.deck.kind given.cards c.read-statement.result =
-    subst (λ (cards : List Card). IsRead whole.deck.kind cards c.read-statement.result) (c.next_cards-cards.ensures.cards next.few next.within ∙ next.cards)
-    (subst (λ (kind : DeckKind). IsRead kind c.next_cards-cards.result.now c.read-statement.result) c.kind.ensures c.read-statement.ensures) in
+    walk-step whole left sized old (record { lines = c.add.new.self; names = old.names }) is walked (λ earlier given next has so_far noted.
+    let settled = settle whole.deck.kind (settled_all whole.deck.kind earlier) given in
     record {
-      lined = lined known others earlier given is read next has so_far;
-      noted = c.in_ok-note.ensures known others earlier given is read next.number_base next.sizing noted;
+      lined = lined known others earlier given is (c.in-Some.ensures.kind ∙ c.kind-kind.ensures) (c.in-Some.ensures.read settled next.operation next.kept) next has so_far;
+      noted = c.is_silent.ensures c.if-is_silent.true whole earlier given old.names c.kind-kind.ensures next.operation next.sizing noted;
       stood = stood ∙ stood-step old.lines.stood sized.cards whole.cards next.some next.within is.few;
     })) c.add.ensures.lined c.add.ensures.stood

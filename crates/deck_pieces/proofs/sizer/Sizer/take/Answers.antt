@@ -19,7 +19,7 @@ returns-clause-taken c = λ kind cards earlier given read next is.
     let r = c.read_operand-reading.result in
     let base = c.number_base.result in
     let sizing = c.size_reading-sizing.result in
-    let sized : SizedStatement = record { cards = c.args.count; sizing = sizing } in
+    let sized : SizedStatement = record { cards = c.args.count; operation = code.operation; kept = c.kept.result; sizing = sizing } in
     let based = c.number_base.ensures ∙ ap (λ (state : BlockState). state.number_base) is.state in
     let read_here = subst (λ b. operand_in code b r) c.number_base.ensures c.read_operand-reading.ensures.reading in
     let operand = settled-operand kind earlier given code base r read based c.read_operand-reading.ensures.reading in
@@ -32,6 +32,8 @@ returns-clause-taken c = λ kind cards earlier given read next is.
       operand = operand;
       sizing = is_sizing;
       number_base = number_base;
+      operation = sym read.operation;
+      kept = c.kept.ensures settled.read.operand operand;
       made = c.effect-effect.ensures.effect kind given (number_base_of all) _ settled read refl is_sizing;
       literals = c.in_ok-add_literals.ensures settled.read.operand operand;
       symbols = c.in_ok-define.ensures settled.read.operand operand ∙ located;

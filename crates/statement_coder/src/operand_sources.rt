@@ -1,0 +1,54 @@
+//! Where coding has the operand of a sized statement from: it is read again, or it was kept.
+ghost use Rattle.std.specs.Prelude.{◌≡◌, IfSome};
+ghost use Rattle.definitions.specs.Operands.{operand_of};
+ghost use Rattle.definitions.specs.Settled.{Settled};
+ghost use Rattle.operations.specs.OperationsAs.{operation_as};
+ghost use Rattle.statement_coder.specs.KeptReadings.{IsKeptReading};
+ghost use Rattle.statement_coder.specs.ReadOperands.{IsReadOperand};
+ghost use Rattle.statement_coder.specs.Readings.{IsReading, IsLawful};
+
+use crate::kept_readings::KeptReading;
+use crate::read_operands::ReadOperand;
+use crate::readings::read_operand;
+use crate::statement::Statement;
+use definitions::{DeckKind, NumberBase};
+use operations::Operation;
+
+impl<'a> Statement<'a> {
+    /// Its operand, read under a number base.
+    pub fn read_operand(&self, base: NumberBase) -> ReadOperand<'a>
+        ensures kind { result.kind ≡ self.now.kind }
+        ensures operation { result.operation ≡ self.now.operation }
+        ensures reading { IsReading result.reading (operand_of self.now.kind base (operation_as self.now.operation) self.now.name.now self.now.variable.now) }
+        ensures lawful { IsLawful result.reading }
+    {
+        let kind = self.kind;
+        let operation = self.operation;
+        let reading = read_operand(kind, base, operation, self.name, self.variable);
+        ReadOperand {
+            kind,
+            operation,
+            reading,
+        }
+    }
+}
+
+/// The operand of a statement that was kept, with its operation, in a deck of this kind; none where it
+/// is to be read again.
+pub fn kept_operand(
+    kind: DeckKind,
+    operation: Operation,
+    kept: &KeptReading,
+) -> Option<ReadOperand<'_>>
+    ensures kind { IfSome result (λ read. read.kind ≡ kind) }
+    ensures read { IfSome result (λ read. (settled : Settled) → settled.read.operation ≡ operation_as operation → IsKeptReading kept.now settled.read.operand → IsReadOperand read settled) }
+{
+    match kept.reading() {
+        Some(reading) => Some(ReadOperand {
+            kind,
+            operation,
+            reading,
+        }),
+        None => None,
+    }
+}
