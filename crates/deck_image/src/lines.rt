@@ -9,9 +9,10 @@ ghost use Rattle.deck_image.specs.Texts.{GoesOn};
 use deck_kinds::memory_end;
 use definitions::DeckKind;
 use std::alloc::AllocError;
-use text_buffers::Text;
+use text_buffers::{ShortText, Text};
 
 /// Appends a line of two numbers in octal, with so many digits each.
+#[inline(always)]
 fn push_octal_line(
     text: &mut Text,
     address_digits: u32,
@@ -24,10 +25,12 @@ fn push_octal_line(
     ensures line { OnOk result (text.new ≡ text.old ++ line (octal_of address_digits address ++ (codes " " ++ octal_of value_digits value))) }
     ensures without_memory { OnErr result (GoesOn text.old text.new) }
 {
-    text.push_octal(address_digits, address)?;
-    text.push_byte(b' ')?;
-    text.push_octal(value_digits, value)?;
-    text.push_byte(b'\n')
+    let mut line = ShortText::new();
+    line.put_byte(b'\n');
+    line.put_octal(value_digits, value);
+    line.put_byte(b' ');
+    line.put_octal(address_digits, address);
+    text.push_bytes(line.as_slice())
 }
 
 /// Appends the line of a stored word, its address and its value in octal. Without memory a part of the

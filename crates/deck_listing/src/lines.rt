@@ -9,7 +9,7 @@ use deck_kinds::kind_text;
 use definitions::DeckKind;
 use operations::Letters;
 use std::alloc::AllocError;
-use text_buffers::Text;
+use text_buffers::{ShortText, Text};
 use use_blocks::BlockRow;
 
 /// The first line: the name and the kind of the deck.
@@ -32,8 +32,10 @@ fn push_card_line(text: &mut Text, before: usize, card: &Card) -> Result<(), All
     requires { before < 2 ^ 60 }
     ensures { OnOk result (text.new ≡ text.old ++ card_lines before (card.now ∷ [])) }
 {
-    text.push_padded(5, before as u64 + 1)?;
-    text.push_byte(b' ')?;
+    let mut front = ShortText::new();
+    front.put_byte(b' ');
+    front.put_padded(5, before as u64 + 1);
+    text.push_bytes(front.as_slice())?;
     text.push_bytes(card.as_slice())?;
     text.push_byte(b'\n')
 }
@@ -68,6 +70,7 @@ pub(crate) fn push_letters_line(text: &mut Text, letters: &Letters) -> Result<()
 }
 
 /// Bits that stand at a parcel of a central word, an octal digit for each three of them.
+#[inline(always)]
 pub(crate) fn push_central_line(
     text: &mut Text,
     word: u64,
@@ -78,13 +81,16 @@ pub(crate) fn push_central_line(
     requires { width ≤ 60 }
     ensures { OnOk result (text.new ≡ text.old ++ central_line word parcel width bits) }
 {
-    text.push_bytes(b"  ")?;
-    text.push_octal(6, word)?;
-    text.push_byte(b' ')?;
-    text.push_octal(1, parcel)?;
-    text.push_byte(b' ')?;
-    text.push_octal(width / 3, bits)?;
-    text.push_byte(b'\n')
+    let mut line = ShortText::new();
+    line.put_byte(b'\n');
+    line.put_octal(width / 3, bits);
+    line.put_byte(b' ');
+    line.put_octal(1, parcel);
+    line.put_byte(b' ');
+    line.put_octal(6, word);
+    line.put_byte(b' ');
+    line.put_byte(b' ');
+    text.push_bytes(line.as_slice())
 }
 
 /// A peripheral word behind its offset.

@@ -2,6 +2,7 @@
 ghost use Rattle.std.specs.Prelude.{◌≡◌, ◌<◌, ◌≤◌};
 ghost use Rattle.definitions.specs.Numerals.{decimal_of, digits_of};
 
+use crate::short_text::ShortText;
 use std::marker::Model;
 
 /// How many digits a number has at most.
@@ -35,22 +36,15 @@ impl Digits {
 
 /// The last `count` digits of a value to a base up to 10, leading zeros among them.
 #[inline(always)]
-pub(crate) fn last_digits<const BASE: u64>(count: u32, value: u64) -> Digits
+pub(crate) fn last_digits<const BASE: u64>(count: u32, value: u64) -> ShortText
     requires some { 0 < BASE }
     requires digit { BASE ≤ 10 }
     requires few { count ≤ 20 }
     ensures { result ≡ digits_of BASE count value }
 {
-    let mut bytes = [b'0'; MOST_DIGITS];
-    let begin = MOST_DIGITS - count as usize;
-    let mut rest = value;
-    let mut left = MOST_DIGITS;
-    while left > begin {
-        left -= 1;
-        bytes[left] = b'0' + (rest % BASE) as u8;
-        rest /= BASE;
-    }
-    Digits { bytes, begin }
+    let mut text = ShortText::new();
+    text.put_digits::<BASE>(count, value);
+    text
 }
 
 /// The decimal digits of a value, without leading zeros.

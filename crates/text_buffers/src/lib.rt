@@ -3,8 +3,10 @@
 #![tactic(auto)]
 
 mod digits;
+mod short_text;
 mod text;
 
+pub use short_text::ShortText;
 pub use text::Text;
 
 #[cfg(test)]

@@ -52,3 +52,13 @@ fn last_digits_alone(rt: HostRuntime) {
     text.push_octal(0, 7).expect(&rt, "memory");
     assert_eq!(rt; text.as_slice(), b"6110000001106114600045".as_slice());
 }
+
+#[test]
+fn short_texts_grow_in_front(rt: HostRuntime) {
+    let mut line = ShortText::new();
+    line.put_byte(b'\n');
+    line.put_octal(20, 0o61100000011061146000);
+    line.put_byte(b' ');
+    line.put_padded(5, 1000);
+    assert_eq!(rt; line.as_slice(), b"01000 61100000011061146000\n".as_slice());
+}
