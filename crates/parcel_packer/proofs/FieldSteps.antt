@@ -1,5 +1,5 @@
 -- The steps of putting a field into a run.
-use Rattle.std.proofs.Common.{◌≡◌, ℕ, zero, suc, ◌+◌, ◌-◌, ◌*◌, ◌/◌, ◌%◌, ◌^◌, ◌<◌, ◌≤◌, Bool, List, [], ◌∷◌, ◌++◌, length, replicate, refl, sym, ap, ◌∙◌, arith, append_assoc, append-nil}
+use Rattle.std.proofs.Common.{◌≡◌, ℕ, zero, suc, ◌+◌, ◌-◌, ◌*◌, ◌/◌, ◌%◌, ◌^◌, ◌<◌, ◌≤◌, Bool, List, [], ◌∷◌, ◌++◌, length, replicate, refl, sym, ap, subst, ◌∙◌, arith, append_assoc, append-nil}
 use Rattle.std.proofs.Math.Nat.{mod-lt, pow-le-pow_right}
 use Rattle.std.proofs.lemmas.Nat.{pow-add, pow_pos, shr_below, shr_split, shl_whole, mul-add-lt}
 use Rattle.definitions.specs.Words.{Parcel}
@@ -98,3 +98,43 @@ put_both size old middle new next after end field first rest parts front back = 
     one_field =
         rw (parts.first_kind, parts.rest_kind, ← parts.width, parts.bits)
         (sym (put_bits-joined size field.is_instruction first.width rest.width first.bits rest.bits (run_of old next) parts.rest_fits))
+
+abbrev whole : ℕ → Field → Span
+whole place part = record { place = place; count = 1; bits = part.bits; is_instruction = part.is_instruction }
+
+abbrev open_at : ℕ → OpenParcel
+open_at place = record { place = place; filled = 0; bits = 0 }
+
+-- a part of 15 bits makes a parcel whole in which nothing lies yet
+part_alone : (old : List Span) (next : OpenParcel) (part : Field) → next.filled ≡ 0 → next.bits ≡ 0 → part.bits < 2 ^ part.width → part.width ≡ 15 →
+    IsPut 15 old next part (old ++ whole next.place part ∷ []) (open_at (next.place + 1))
+part_alone old next part empty none fits width =
+    part_closing 15 old (old ++ whole next.place part ∷ []) next part part.bits fits (omega arith) (omega arith) (rw none (let e : part.bits ≡ 0 * 2 ^ part.width + part.bits = omega arith in e)) refl
+
+same_place : (old new : List Span) (next : OpenParcel) (field : Field) (a b : ℕ) → a ≡ b → IsPut 15 old next field new (open_at a) → IsPut 15 old next field new (open_at b)
+same_place old new next field a b e put = subst (λ n. IsPut 15 old next field new (open_at n)) e put
+
+-- four parts of 15 bits, one behind the other
+pub four_alone : (old new : List Span) (next : OpenParcel) (field first behind second half third fourth : Field) → next.filled ≡ 0 → next.bits ≡ 0 → field.width ≡ 60 →
+    first.width ≡ 15 → second.width ≡ 15 → third.width ≡ 15 → IsSplit field first behind → IsSplit behind second half → IsSplit half third fourth →
+    new ≡ old ++ (whole next.place first ∷ whole (next.place + 1) second ∷ whole (next.place + 2) third ∷ whole (next.place + 3) fourth ∷ []) →
+    IsPut 15 old next field new (open_at (next.place + 4))
+four_alone old new next field first behind second half third fourth empty none width w1 w2 w3 s1 s2 s3 e =
+    let a = next.place in
+    let at1 = old ++ whole a first ∷ [] in
+    let at2 = at1 ++ whole (a + 1) second ∷ [] in
+    let at3 = at2 ++ whole (a + 2) third ∷ [] in
+    let at4 = at3 ++ whole (a + 3) fourth ∷ [] in
+    let w4 : fourth.width ≡ 15 = omega (arith, s1.width, s2.width, s3.width) in
+    let two : a + 1 + 1 ≡ a + 2 = omega arith in
+    let three : a + 2 + 1 ≡ a + 3 = omega arith in
+    let four : a + 3 + 1 ≡ a + 4 = omega arith in
+    let p1 = part_alone old next first empty none s1.first_fits w1 in
+    let p2 = same_place at1 at2 (open_at (a + 1)) second (a + 1 + 1) (a + 2) two (part_alone at1 (open_at (a + 1)) second refl refl s2.first_fits w2) in
+    let p3 = same_place at2 at3 (open_at (a + 2)) third (a + 2 + 1) (a + 3) three (part_alone at2 (open_at (a + 2)) third refl refl s3.first_fits w3) in
+    let p4 = same_place at3 at4 (open_at (a + 3)) fourth (a + 3 + 1) (a + 4) four (part_alone at3 (open_at (a + 3)) fourth refl refl s3.rest_fits w4) in
+    let p34 = put_both 15 at2 at3 at4 (open_at (a + 2)) (open_at (a + 3)) (open_at (a + 4)) half third fourth s3 p3 p4 in
+    let p234 = put_both 15 at1 at2 at4 (open_at (a + 1)) (open_at (a + 2)) (open_at (a + 4)) behind second half s2 p2 p34 in
+    let all = put_both 15 old at1 at4 next (open_at (a + 1)) (open_at (a + 4)) field first behind s1 p1 p234 in
+    let grouped : at4 ≡ old ++ (whole a first ∷ whole (a + 1) second ∷ whole (a + 2) third ∷ whole (a + 3) fourth ∷ []) = simp append_assoc in
+    subst (λ ss. IsPut 15 old next field ss (open_at (a + 4))) (grouped ∙ sym e) all

@@ -19,6 +19,7 @@ pub struct Field {
 
 impl Field {
     /// The first bits, so many, and the rest.
+    #[inline(always)]
     fn split(self, width: u32) -> (Field, Field)
         requires field { IsField self }
         requires within { width < self.width }
@@ -94,6 +95,49 @@ fn put_part(
     })
 }
 
+/// A whole parcel with the bits of a part.
+#[inline(always)]
+fn whole(place: u32, part: Field) -> Span
+    requires { part.bits < 2 ^ 15 }
+    ensures { result ≡ record { place = place; count = 1; bits = part.bits; is_instruction = part.is_instruction } }
+{
+    Span {
+        place,
+        count: 1,
+        bits: part.bits as u16,
+        is_instruction: part.is_instruction,
+    }
+}
+
+/// Puts a field that fills a central word as its four parcels at once; where no memory is found, the
+/// spans are as before.
+fn put_word(spans: &mut Vec<Span>, next: OpenParcel, field: Field) -> Result<OpenParcel, AllocError>
+    requires open { IsOpen 15 next }
+    requires begins { next.filled ≡ 0 }
+    requires field { IsField field }
+    requires width { field.width ≡ 60 }
+    requires place { next.place + 4 ≤ 524288 }
+    ensures put { IfOk result (λ after. IsPut 15 spans.old.items next field spans.new.items after) }
+    ensures unchanged { OnErr result (spans.new.items ≡ spans.old.items) }
+{
+    let place = next.place;
+    let (first, behind) = field.split(15);
+    let (second, half) = behind.split(15);
+    let (third, fourth) = half.split(15);
+    let parcels = [
+        whole(place, first),
+        whole(place + 1, second),
+        whole(place + 2, third),
+        whole(place + 3, fourth),
+    ];
+    spans.extend_from_slice(&parcels)?;
+    Ok(OpenParcel {
+        place: place + 4,
+        filled: 0,
+        bits: 0,
+    })
+}
+
 /// Puts a field into a run; where no memory is found, the spans are as before.
 pub(crate) fn put_field(
     spans: &mut Vec<Span>,
@@ -112,6 +156,9 @@ pub(crate) fn put_field(
     let room = size - next.filled;
     if field.width <= room {
         return put_part(spans, next, size, field);
+    }
+    if size == 15 && next.filled == 0 && field.width == 60 {
+        return put_word(spans, next, field);
     }
     let (first, rest) = field.split(room);
     let before = spans.len();
