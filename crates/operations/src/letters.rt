@@ -151,6 +151,9 @@ impl Letters {
         ensures { result ≡ self.now }
     {
         let mut text = LetterText::new();
+        if self.bits == 0 {
+            return text;
+        }
         let mut left = LETTERS.as_slice();
         'letters: loop {
             match left.split_first() {
