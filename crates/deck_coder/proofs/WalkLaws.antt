@@ -4,6 +4,7 @@ use Rattle.std.specs.Prelude.{slice_get}
 use Rattle.std.proofs.lemmas.List.{drop-drop, length-drop, reverse-append}
 use Rattle.definitions.specs.Cards.{Card}
 use Rattle.definitions.specs.Entries.{entries_by, entries_among}
+use Rattle.definitions.specs.Forms.{Form}
 use Rattle.definitions.specs.Lengths.{BlockRow}
 use Rattle.definitions.specs.Objects.{Shown}
 use Rattle.definitions.specs.Operands.{Operand}
@@ -23,6 +24,7 @@ use Rattle.statement_coder.specs.StatementsRead.{IsRead}
 use Rattle.statement_coder.specs.declared.sizing.Sizing.{Sizing}
 use Rattle.statement_coder.specs.declared.statement.Statement as statements
 use Rattle.statement_coder.proofs.CodingLaws.{codable}
+use Rattle.deck_pieces.specs.FirstSymbols.{symbol_in, with_symbol}
 use Rattle.deck_objects.specs.CodedLines.{IsNamed, IsShown, IsStored}
 use Rattle.deck_objects.specs.declared.lines.CodedLine.{CodedLine}
 use Rattle.deck_objects.specs.declared.lines.Line.{Line}
@@ -30,7 +32,7 @@ use Rattle.deck_coder.specs.SharedNames.{enters, entries_to, is_ext}
 use Rattle.deck_coder.specs.Walks.{Whole, all_settled, has_row, AreNoted, AreShownTo, AreLinedAs}
 use Rattle.deck_coder.specs.declared.deck_lines.DeckLines.{DeckLines}
 use Rattle.deck_coder.specs.declared.deck_names.DeckNames.{DeckNames}
-use Rattle.deck_coder.proofs.ExternalLaws.{nothing-followed}
+use Rattle.deck_coder.proofs.ExternalLaws.{nothing-followed, symbol-followed}
 use Rattle.deck_coder.proofs.KeptLaws.{coded-longer}
 
 -- a statement that was read, as it is settled
@@ -72,6 +74,21 @@ silent-noted whole earlier given names silent other defines noted =
       entries = noted.entries ∙ not-entered kind (all_settled whole) (settle kind before given) before silent;
       seen = noted.seen;
       externals = nothing-followed kind before given names.externals.seen names.externals.names.items other defines noted.externals;
+    }
+
+-- one that defines the symbol of its location field alone leaves the entries as they are
+pub symbol-noted : (whole : Whole) (earlier : List Statement) (given : Statement) (names : DeckNames) (new : List (ℕ × Form)) (form : Form) → let settled = settle whole.deck.kind (settled_all whole.deck.kind earlier) given in
+    enters whole.deck.kind settled.read.operation ≡ false → is_ext settled.read.operation ≡ false → record { name = settled.read.fields.location; form = form } ∷ [] ≡ settled.definitions →
+    symbol_in new ≡ with_symbol settled.read.fields.location form (symbol_in names.externals.seen) → AreNoted whole earlier names →
+    AreNoted whole (given ∷ earlier) (record { entries = names.entries; externals = record { seen = new; names = names.externals.names } })
+symbol-noted whole earlier given names new form silent other defines symbols noted =
+    let kind = whole.deck.kind in
+    let before = settled_all kind earlier in
+    let settled = settle kind before given in
+    record {
+      entries = noted.entries ∙ not-entered kind (all_settled whole) settled before silent;
+      seen = noted.seen;
+      externals = symbol-followed kind before given names.externals.seen new names.externals.names.items settled.read.fields.location form other defines symbols noted.externals;
     }
 
 -- a line stays what it is where fields are put behind those that there are

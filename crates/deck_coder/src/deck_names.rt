@@ -1,18 +1,20 @@
 //! The names that the statements of a deck give to others, and those that they take.
-ghost use Rattle.std.specs.Prelude.{◌≡◌, ◌∷◌, [], List, OnOk, true};
+ghost use Rattle.std.specs.Prelude.{ℕ, ◌≡◌, ◌∷◌, [], List, IfOk, OnOk, true, false};
+ghost use Rattle.definitions.specs.Cards.{Card};
 ghost use Rattle.definitions.specs.Settled.{Settled, defined};
 ghost use Rattle.definitions.specs.Settling.{number_base_of, settle, settled_all};
 ghost use Rattle.definitions.specs.Statements as statements;
 ghost use Rattle.operations.specs.OperationsAs.{operation_as};
 ghost use Rattle.statement_coder.specs.Sizings.{IsSizing};
 ghost use Rattle.statement_coder.specs.StatementsRead.{IsRead};
-ghost use Rattle.deck_coder.specs.declared.deck_names.DeckNames as code;
 ghost use Rattle.deck_coder.specs.Walks.{AreNoted, all_settled, IsWhole, Whole, whole_of};
+ghost use Rattle.deck_pieces.specs.SizedDecks.{IsSizedStatement};
 ghost use Rattle.deck_coder.specs.SharedNames.{AreSeen, enters, entries_to};
 
 use crate::deck_view::DeckView;
 use crate::entry_names::EntryNames;
 use crate::external_names::{ExternalNames, is_ext, operand};
+use deck_pieces::SizedStatement;
 use definitions::DeckKind;
 use operations::Operation;
 use statement_coder::{Defines, Sizing, Statement};
@@ -58,27 +60,6 @@ fn enter(
     }
 }
 
-/// Whether a statement with this operation gives no names and takes none.
-pub(crate) fn is_silent(kind: DeckKind, operation: Operation, sizing: &Sizing) -> bool
-    ensures { result ≡ true → (whole : Whole) (earlier : List statements.Statement) (given : statements.Statement) (names : code.DeckNames) →
-        let before = settled_all whole.deck.kind earlier in
-        let settled = settle whole.deck.kind before given in
-        kind ≡ whole.deck.kind → settled.read.operation ≡ operation_as operation → IsSizing (λ name. defined name before) settled sizing.now →
-        AreNoted whole earlier names → AreNoted whole (given ∷ earlier) names }
-{
-    if enters(kind, operation) {
-        return false;
-    }
-    if is_ext(operation) {
-        return false;
-    }
-    match sizing.defines {
-        Defines::Nothing => true,
-        Defines::Symbol(_) => false,
-        Defines::Externals => false,
-    }
-}
-
 impl DeckNames {
     /// Those of no statement.
     pub(crate) fn new(alloc: Global) -> DeckNames
@@ -87,6 +68,37 @@ impl DeckNames {
         DeckNames {
             entries: EntryNames::new(alloc),
             externals: ExternalNames::new(alloc),
+        }
+    }
+
+    /// Those of one statement more by what is kept of it, and whether that tells them: where it does
+    /// not, nothing is noted.
+    pub(crate) fn note_kept(
+        &mut self,
+        kind: DeckKind,
+        sized: &SizedStatement,
+    ) -> Result<bool, AllocError>
+        ensures noted { IfOk result (λ told. told ≡ true → (whole : Whole) (earlier : List statements.Statement) (given : statements.Statement) (stood : ℕ) (ahead : List Card) →
+            kind ≡ whole.deck.kind → IsSizedStatement whole.deck.kind earlier stood ahead sized.now given →
+            AreNoted whole earlier self.old → AreNoted whole (given ∷ earlier) self.new) }
+        ensures untold { IfOk result (λ told. told ≡ false → self.new ≡ self.old) }
+    {
+        if enters(kind, sized.operation) {
+            return Ok(false);
+        }
+        if is_ext(sized.operation) {
+            return Ok(false);
+        }
+        match sized.sizing.defines {
+            Defines::Nothing => Ok(true),
+            Defines::Externals => Ok(false),
+            Defines::Symbol(form) => match &sized.label {
+                None => Ok(false),
+                Some(label) => {
+                    self.externals.seen.define(label.as_slice(), form)?;
+                    Ok(true)
+                }
+            },
         }
     }
 

@@ -7,7 +7,7 @@ ghost use Rattle.deck_coder.specs.Walks.{IsWhole, Whole, whole_of};
 ghost use Rattle.deck_coder.specs.DeckWalks.{IsDone, IsListing, IsWalked};
 
 use crate::deck_lines::{DeckLines, next_cards};
-use crate::deck_names::{DeckNames, is_silent};
+use crate::deck_names::DeckNames;
 use crate::deck_view::DeckView;
 use cards::StatementRoom;
 use deck_pieces::{Piece, SizedDeck, SizedStatement};
@@ -73,8 +73,8 @@ impl Making {
         ensures sized { meter.new.sized ≡ meter.old.sized }
     {
         let kind = view.deck.kind();
-        if is_silent(kind, sized.operation, &sized.sizing) {
-            if let Some(read) = kept_operand(kind, sized.operation, &sized.kept) {
+        if let Some(read) = kept_operand(kind, sized.operation, &sized.kept) {
+            if self.names.note_kept(kind, sized)? {
                 return self.lines.add(view, &read, sized, meter);
             }
         }

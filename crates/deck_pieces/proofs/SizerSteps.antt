@@ -1,6 +1,6 @@
 -- One statement more, sized behind those before it.
 use Rattle.std.proofs.Common.{◌≡◌, List, ◌∷◌, sym, ap, ap₂, ◌∙◌, subst}
-use Rattle.std.specs.Prelude.{reverse}
+use Rattle.std.specs.Prelude.{IfSome, reverse}
 use Rattle.definitions.specs.Blocks.{block_in_use}
 use Rattle.definitions.specs.Cards.{Card}
 use Rattle.definitions.specs.Literals.{operand_literals, with_literals}
@@ -60,6 +60,7 @@ pub record IsStep (kind : DeckKind) (earlier : List Statement) (given : Statemen
   pub sizing : IsSizing (λ name. defined name (settled_all kind earlier)) (settle kind (settled_all kind earlier) given) sized.sizing
   pub number_base : sized.sizing.number_base ≡ number_base_of (settled_all kind earlier)
   pub operation : (settle kind (settled_all kind earlier) given).read.operation ≡ operation_as sized.operation
+  pub label : IfSome sized.label (λ label. label ≡ (settle kind (settled_all kind earlier) given).read.fields.location)
   pub kept : IsKeptReading sized.kept (settle kind (settled_all kind earlier) given).read.operand
   pub made : effect ≡ effect_of kind (settle kind (settled_all kind earlier) given)
   pub literals : new.literals ≡ with_literals (operand_literals (settle kind (settled_all kind earlier) given).read.operand) old.literals
@@ -85,6 +86,7 @@ sizer-step kind cards earlier given r effect sized old new next is step =
       sizing = step.sizing;
       number_base = step.number_base;
       operation = step.operation;
+      label = step.label;
       kept = step.kept;
     } in
     record {

@@ -1,5 +1,5 @@
 -- When what is kept of a deck is what its cards make.
-use Rattle.std.specs.Prelude.{ℕ, ◌≡◌, ⊤, ◌+◌, ◌<◌, ◌≤◌, List, [], ◌∷◌, ◌++◌, take, drop, length, reverse}
+use Rattle.std.specs.Prelude.{ℕ, ◌≡◌, ⊤, ◌+◌, ◌<◌, ◌≤◌, List, [], ◌∷◌, ◌++◌, IfSome, take, drop, length, reverse}
 use Rattle.definitions.specs.Cards.{Card}
 use Rattle.definitions.specs.DeckKinds.{up_to_end, behind_end, kind_of_statements}
 use Rattle.definitions.specs.Lengths.{lengths_of}
@@ -26,6 +26,7 @@ pub record IsSizedStatement (deck_kind : DeckKind) (earlier : List Statement) (s
   pub sizing : IsSizing (λ name. defined name (settled_all deck_kind earlier)) (settle deck_kind (settled_all deck_kind earlier) statement) sized.sizing
   pub number_base : sized.sizing.number_base ≡ number_base_of (settled_all deck_kind earlier)
   pub operation : (settle deck_kind (settled_all deck_kind earlier) statement).read.operation ≡ operation_as sized.operation
+  pub label : IfSome sized.label (λ label. label ≡ (settle deck_kind (settled_all deck_kind earlier) statement).read.fields.location)
   pub kept : IsKeptReading sized.kept (settle deck_kind (settled_all deck_kind earlier) statement).read.operand
 
 -- a statement is the next so many cards of those ahead, and so many stood before them

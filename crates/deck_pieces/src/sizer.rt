@@ -11,7 +11,7 @@ ghost use Rattle.deck_pieces.specs.Sizers.{IsNext, IsSizer};
 use crate::definitions_kept::define;
 use crate::literal_words::add_literals;
 use crate::pieces::{Piece, add_statement};
-use crate::sized_statement::SizedStatement;
+use crate::sized_statement::{SizedStatement, label_of};
 use crate::symbol_table::SymbolTable;
 use statement_coder::{Meter, Statement, read_operand, size_reading};
 use std::alloc::{AllocError, Global};
@@ -77,6 +77,7 @@ impl Sizer {
         let sized = SizedStatement {
             cards: count,
             operation: statement.operation,
+            label: label_of(statement.location),
             kept: reading.kept(),
             sizing,
         };

@@ -1,7 +1,8 @@
 -- What is kept of a reading, in the words of what was read.
 use Rattle.std.specs.Prelude.{ℕ}
 use Rattle.definitions.specs.Symbols.{Value}
-use Rattle.definitions.specs.Expressions.{Element, ANumber, ASymbol, ARegister, LocationCounter, OriginCounter, OperatorElement}
+use Rattle.definitions.specs.Expressions.{Element, ANumber, ASymbol, ARegister, LocationCounter, OriginCounter, ALiteral, OfNumber, OperatorElement}
+use Rattle.expr_forms.specs.Elements.{sign_as}
 use Rattle.expr_forms.specs.Links.{operator_as}
 use Rattle.expr_forms.specs.Registers.{register_as}
 use Rattle.expr_forms.specs.declared.kept_expressions.KeptElement as elements
@@ -21,6 +22,7 @@ kept_element_as (element.Symbol name) = ASymbol name
 kept_element_as (element.Register register) = ARegister (register_as register)
 kept_element_as element.LocationCounter = LocationCounter
 kept_element_as element.OriginCounter = OriginCounter
+kept_element_as (element.Literal sign size) = ALiteral (OfNumber (sign_as sign) (Value size))
 
 -- the operator and its element
 abbrev pub kept_link_as : Operator → elements.KeptElement → OperatorElement

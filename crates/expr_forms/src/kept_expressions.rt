@@ -3,7 +3,7 @@ ghost use Rattle.std.specs.Prelude.{◌≡◌, IfSome};
 ghost use Rattle.expr_forms.specs.Elements.{element_as};
 ghost use Rattle.expr_forms.specs.Kept.{kept_element_as};
 
-use crate::elements::{Element, Sign};
+use crate::elements::{Element, Literal, Sign};
 use crate::expressions::Expr;
 use crate::kept_texts::KeptText;
 use crate::links::{Link, LoneRegisters, Operator};
@@ -22,6 +22,8 @@ pub(crate) enum KeptElement {
     Register(Register),
     LocationCounter,
     OriginCounter,
+    /// A number behind an equals sign.
+    Literal(Sign, u32),
 }
 
 /// The number, where it has 32 bits.
@@ -50,7 +52,24 @@ fn kept_symbol(name: &[u8]) -> Option<KeptElement>
     }
 }
 
-/// The same element, where it can be kept: no item and no literal.
+/// The literal, where it is a number of 32 bits.
+#[inline(always)]
+fn kept_literal(literal: Literal<'_>) -> Option<KeptElement>
+    ensures { IfSome result (λ kept. kept_element_as kept ≡ element_as (Element.Literal literal.entry)) }
+{
+    match literal {
+        Literal::Number(sign, number) => match number {
+            Number::Value(size) => match u32::try_from(size.value) {
+                Ok(value) => Some(KeptElement::Literal(sign, value)),
+                Err(_) => None,
+            },
+            Number::TooGreat => None,
+        },
+        Literal::Item(_) => None,
+    }
+}
+
+/// The same element, where it can be kept: no item, and no literal of an item.
 #[inline(always)]
 fn kept_element(element: Element<'_>) -> Option<KeptElement>
     ensures { IfSome result (λ kept. kept_element_as kept ≡ element_as element.entry) }
@@ -62,7 +81,7 @@ fn kept_element(element: Element<'_>) -> Option<KeptElement>
         Element::LocationCounter => Some(KeptElement::LocationCounter),
         Element::OriginCounter => Some(KeptElement::OriginCounter),
         Element::Item(_) => None,
-        Element::Literal(_) => None,
+        Element::Literal(literal) => kept_literal(literal),
     }
 }
 
@@ -80,6 +99,12 @@ impl KeptElement {
             KeptElement::Register(register) => Element::Register(*register),
             KeptElement::LocationCounter => Element::LocationCounter,
             KeptElement::OriginCounter => Element::OriginCounter,
+            KeptElement::Literal(sign, value) => {
+                let size = Magnitude {
+                    value: u64::from(*value),
+                };
+                Element::Literal(Literal::Number(*sign, Number::Value(size)))
+            }
         }
     }
 }

@@ -1,5 +1,6 @@
 -- One statement more is a step of all that is kept.
-use Rattle.std.proofs.Common.{refl, sym, ap, ◌∙◌, subst}
+use Rattle.std.proofs.Common.{◌≡◌, ℕ, List, refl, sym, ap, ◌∙◌, subst}
+use Rattle.std.specs.Prelude.{IfSome}
 use Rattle.definitions.specs.Operands.{operand_of}
 use Rattle.definitions.specs.Settling.{number_base_of, settle, settled_all}
 use Rattle.definitions.specs.States.{BlockState}
@@ -19,7 +20,7 @@ returns-clause-taken c = λ kind cards earlier given read next is.
     let r = c.read_operand-reading.result in
     let base = c.number_base.result in
     let sizing = c.size_reading-sizing.result in
-    let sized : SizedStatement = record { cards = c.args.count; operation = code.operation; kept = c.kept.result; sizing = sizing } in
+    let sized : SizedStatement = record { cards = c.args.count; operation = code.operation; label = c.label_of.result; kept = c.kept.result; sizing = sizing } in
     let based = c.number_base.ensures ∙ ap (λ (state : BlockState). state.number_base) is.state in
     let read_here = subst (λ b. operand_in code b r) c.number_base.ensures c.read_operand-reading.ensures.reading in
     let operand = settled-operand kind earlier given code base r read based c.read_operand-reading.ensures.reading in
@@ -33,6 +34,7 @@ returns-clause-taken c = λ kind cards earlier given read next is.
       sizing = is_sizing;
       number_base = number_base;
       operation = sym read.operation;
+      label = subst (λ (l : List ℕ). IfSome c.label_of.result (λ label. label ≡ l)) read.location c.label_of.ensures;
       kept = c.kept.ensures settled.read.operand operand;
       made = c.effect-effect.ensures.effect kind given (number_base_of all) _ settled read refl is_sizing;
       literals = c.in_ok-add_literals.ensures settled.read.operand operand;
