@@ -1,10 +1,11 @@
 -- Steps over the columns of cards.
-use Rattle.std.proofs.Common.{◌≡◌, ◌≢◌, ℕ, ◌+◌, ◌-◌, ◌≤◌, ◌<◌, zero, suc, List, [], ◌∷◌, ◌++◌, length, take, drop, refl, sym, ap, ◌∙◌, arith, get_or}
-use Rattle.std.specs.Prelude.{replicate}
+use Rattle.std.proofs.Common.{◌≡◌, ◌≢◌, ℕ, ◌+◌, ◌-◌, ◌≤◌, ◌<◌, zero, suc, true, false, true≢false, not, ◌&&◌, cond, Some, None, List, [], ◌∷◌, ◌++◌, length, take, drop, position, refl, sym, ap, subst, ◌∙◌, arith, le-ltb, get_or}
+use Rattle.std.specs.Prelude.{nat_lt, replicate, is_some, is_none}
+use Rattle.std.specs.List.{list_all, position_or_len}
 use Rattle.std.proofs.lemmas.Bool.{ne_eqb}
 use Rattle.std.proofs.lemmas.List.{take_more, take-take, take-replicate, drop-replicate, take_at}
 use Rattle.definitions.specs.Cards.{trimmed, onto_columns, padded}
-use Rattle.definitions.specs.Characters.{blank}
+use Rattle.definitions.specs.Characters.{blank, display_code_of}
 use Rattle.cards.specs.Columns.{IsPadded}
 
 -- a blank more at the end is dropped
@@ -22,15 +23,37 @@ trimmed-other : (cs : List ℕ) (d : ℕ) → d ≢ blank → trimmed (cs ++ d �
 trimmed-other [] d other = rw (ne_eqb d 32 other) refl
 trimmed-other (c ∷ cs) d other = ap (onto_columns c) (trimmed-other cs d other) ∙ onto_columns-more c d cs
 
--- a blank column keeps the length
-pub trimmed-keeps : (line : List ℕ) (len k : ℕ) → k < length line → get_or line k 0 ≡ blank → take len line ≡ trimmed (take k line) → take len line ≡ trimmed (take (k + 1) line)
-trimmed-keeps line len k within is so_far =
-    so_far ∙ sym (trimmed-blank (take k line)) ∙ ap trimmed (ap (λ c. take k line ++ c ∷ []) (sym is) ∙ sym (take_more line k 0 within))
+-- a blank column less
+pub trimmed-shorter : (line : List ℕ) (len : ℕ) → 0 < len → len ≤ length line → get_or line (len - 1) 0 ≡ blank → trimmed (take (len - 1) line) ≡ trimmed (take len line)
+trimmed-shorter line len some within is =
+    let k = len - 1 in
+    let more : k + 1 ≡ len = omega (arith, some) in
+    sym (trimmed-blank (take k line)) ∙ ap trimmed (ap (λ c. take k line ++ c ∷ []) (sym is) ∙ sym (take_more line k 0 (omega (arith, some, within))))
+    ∙ ap (λ n. trimmed (take n line)) more
 
 -- another column ends what is kept
-pub trimmed-ends : (line : List ℕ) (k : ℕ) → k < length line → get_or line k 0 ≢ blank → take (k + 1) line ≡ trimmed (take (k + 1) line)
-trimmed-ends line k within other =
-    take_more line k 0 within ∙ sym (trimmed-other (take k line) (get_or line k 0) other) ∙ ap trimmed (sym (take_more line k 0 within))
+pub trimmed-ends : (line : List ℕ) (len : ℕ) → 0 < len → len ≤ length line → get_or line (len - 1) 0 ≢ blank → take len line ≡ trimmed (take len line)
+trimmed-ends line len some within other =
+    let k = len - 1 in
+    let more : k + 1 ≡ len = omega (arith, some) in
+    let one_more = take_more line k 0 (omega (arith, some, within)) in
+    let ends : take (k + 1) line ≡ trimmed (take (k + 1) line) = one_more ∙ sym (trimmed-other (take k line) (get_or line k 0) other) ∙ ap trimmed (sym one_more) in
+    subst (λ n. take n line ≡ trimmed (take n line)) more ends
+
+-- where all characters are lawful, none is bad
+lawful-whole : (cs : List ℕ) → list_all (λ c. is_some (display_code_of c)) cs ≡ true → position_or_len (λ c. is_none (display_code_of c)) cs ≡ length cs
+lawful-whole [] h = refl
+lawful-whole (c ∷ cs) h =
+    elim (is_some (display_code_of c)) as (λ b. (b && list_all (λ d. is_some (display_code_of d)) cs) ≡ true → cond (not (not b)) (1 + position_or_len (λ d. is_none (display_code_of d)) cs) 0 ≡ length (c ∷ cs)) [
+      | true ↦ λ all. let rest = lawful-whole cs all in omega (arith, rest)
+      | false ↦ λ all. absurd (true≢false (sym all))
+    ] h
+
+pub none_bad : (cs : List ℕ) → list_all (λ c. is_some (display_code_of c)) cs ≡ true → None ≡ position (λ c. is_none (display_code_of c)) cs
+none_bad cs h =
+    let whole = lawful-whole cs h in
+    let all = length cs in
+    sym (ap (λ n. cond (nat_lt n all) (Some n) None) whole ∙ ap (λ t. cond t (Some all) None) (le-ltb all all (omega arith)))
 
 -- as many blanks as are wanted are enough
 blanks-enough : (n few many : ℕ) (cs : List ℕ) → n ≤ few → few ≤ many → take n (cs ++ replicate many blank) ≡ take n (cs ++ replicate few blank)

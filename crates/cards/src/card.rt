@@ -1,5 +1,6 @@
 //! One card.
-ghost use Rattle.std.specs.Prelude.{◌≡◌, ◌≤◌, ◌||◌, length, take, position, is_none};
+ghost use Rattle.std.specs.Prelude.{◌≡◌, ◌≤◌, ◌||◌, length, take, position, is_none, is_some};
+ghost use Rattle.std.specs.List.{list_all};
 ghost use Rattle.definitions.specs.Cards.{card_of, is_comma_card, is_comment, padded, trimmed};
 ghost use Rattle.definitions.specs.Characters.{display_code_of};
 ghost use Rattle.cards.specs.CardReads.{read_as};
@@ -137,18 +138,32 @@ fn trimmed_len(line: &[u8]) -> usize
     ensures within { result ≤ length line.now }
     ensures kept { take result line.now ≡ trimmed line.now }
 {
-    let mut len = 0;
-    for (k, column) in line.iter().enumerate() {
-        if *column != b' ' {
-            len = k + 1;
-        }
+    let mut len = line.len();
+    while len > 0 && line[len - 1] == b' ' {
+        len -= 1;
     }
     len
 }
 
 /// The place, from 0, of the first character without a display code.
+#[tactic(auto, using(crate::proofs::ColumnSteps::none_bad))]
 fn first_bad(columns: &[u8]) -> Option<usize>
     ensures { result ≡ position (λ c. is_none (display_code_of c)) columns.now }
 {
+    if are_lawful(columns) {
+        return None;
+    }
     columns.iter().position(|c| !has_display_code(*c))
+}
+
+/// Whether all characters have a display code. No character ends the loop, so that many of them are
+/// looked at together.
+fn are_lawful(columns: &[u8]) -> bool
+    ensures { result ≡ list_all (λ c. is_some (display_code_of c)) columns.now }
+{
+    let mut lawful = true;
+    for c in columns {
+        lawful = lawful & has_display_code(*c);
+    }
+    lawful
 }

@@ -3,7 +3,7 @@ ghost use Rattle.std.specs.Prelude.{◌≡◌, ◌≤◌, ◌∷◌, [], length}
 ghost use Rattle.definitions.specs.Fields.{fields_of, fields_of_text, no_fields};
 
 use crate::card::Card;
-use crate::field_parts::{cut, part_text};
+use crate::field_parts::{cut, operation_part, part_text};
 use std::marker::Model;
 
 /// The fields of a statement, as parts of its text of at most 711 characters. Contracts see the
@@ -37,6 +37,17 @@ impl<'a> Fields<'a> {
         } else {
             Fields::of_text(card.read_columns())
         }
+    }
+
+    /// The operation field of a statement of one card; no other field is looked for.
+    pub fn operation_of_card(card: &'a Card) -> &'a [u8]
+        ensures { result.now ≡ (fields_of (card.now ∷ [])).operation }
+    {
+        if card.is_unread() {
+            return &[];
+        }
+        let text = card.read_columns();
+        part_text(text, operation_part(text))
     }
 
     /// The fields of a statement that is not read.

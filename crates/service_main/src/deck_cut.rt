@@ -68,11 +68,10 @@ fn add_card(alloc: Global, decks: &mut Vec<Deck>, number: u64, card: Card) -> Re
 fn role_of(card: &Card) -> CardRole
     ensures { result ≡ role_of card.now }
 {
-    let fields = Fields::of_card(card);
-    if !is_ident(fields.operation()) {
+    if !is_ident(Fields::operation_of_card(card)) {
         return CardRole::Continues;
     }
-    match DeckName::read(before_mark(fields.variable())) {
+    match DeckName::read(before_mark(Fields::of_card(card).variable())) {
         Ok(name) => CardRole::Begins(name),
         Err(_) => CardRole::Misnamed,
     }

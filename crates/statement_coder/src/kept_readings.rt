@@ -1,7 +1,6 @@
 //! What is kept of a statement's operand, so that coding does not read it again.
-ghost use Rattle.std.specs.Prelude.{◌≡◌, MatchOption};
+ghost use Rattle.std.specs.Prelude.{◌≡◌};
 ghost use Rattle.definitions.specs.Operands as operands;
-ghost use Rattle.definitions.specs.declared.marks.DeckKind as kinds;
 ghost use Rattle.statement_coder.specs.KeptReadings.{IsKeptReading, reading_of};
 ghost use Rattle.statement_coder.specs.Readings.{IsReading};
 

@@ -1,4 +1,4 @@
-use Rattle.std.proofs.Common.{◌≡◌, ◌≤◌, length, ap, arith}
+use Rattle.std.proofs.Common.{length, ap, arith}
 use Rattle.cards.proofs.ColumnLaws.{length-padded}
 use Rattle.cards.proofs.statement_fields.Fields.of_card.Goals as goal
 
