@@ -1,6 +1,6 @@
 //! What a run answers to a deck.
 
-use service_main::{asm_run, asm_status};
+use asm_main::{asm_run, asm_status};
 use std::alloc::Global;
 use std::io;
 use text_ports::Counted;

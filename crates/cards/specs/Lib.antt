@@ -5,3 +5,6 @@ pub mod Befores
 pub mod ItemLengths
 pub mod FieldParts
 pub mod Readings
+pub mod Causes
+pub mod Edits
+pub mod Counts

@@ -1,10 +1,16 @@
-//! Cards, the names of decks, statements and their fields, exactly as the definitions have them.
-//! Nothing here knows an operation but DIS, or a symbol.
+//! Cards and edits of cards, the names of decks, statements and their fields, exactly as the definitions
+//! have them. Nothing here knows an operation but DIS, or a symbol.
 #![tactic(auto)]
 
 // Cards, and the names of decks.
 mod card;
 mod deck_name;
+
+// Edits of a deck's cards.
+mod applying;
+mod copies;
+mod edits;
+mod faults;
 
 // Which cards are one statement, and its text.
 mod statement_list;
@@ -17,14 +23,20 @@ mod field_parts;
 mod statement_fields;
 mod variable_fields;
 
+pub use applying::apply;
 pub use card::{Card, CardFault};
 pub use card_fields::fields;
+pub use copies::{copied_cards, copied_edits, edited_copy};
 pub use deck_name::{BadName, DeckName};
+pub use edits::{Edit, EditFault};
+pub use faults::{fault_of, first_fault};
 pub use statement_fields::Fields;
 pub use statement_list::{Span, StatementList, statements};
 pub use statement_room::StatementRoom;
 
 #[cfg(test)]
 mod tests_cards;
+#[cfg(test)]
+mod tests_edits;
 #[cfg(test)]
 mod tests_fields;

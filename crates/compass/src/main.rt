@@ -6,8 +6,8 @@ mod serving;
 
 ghost use Rattle.std.specs.Prelude.{◌≡◌, ◌≢◌, ℕ, ◌<◌, pos};
 
+use asm_main::{AsmFault, Tally, asm_run, asm_status};
 use clap::{ArgMatches, Command, Error};
-use service_main::{AsmFault, Tally, asm_run, asm_status};
 use serving::{run_service, serve_words, settings_of};
 use std::alloc::Global;
 use std::env;

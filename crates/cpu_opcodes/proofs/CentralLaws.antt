@@ -5,9 +5,9 @@ use Rattle.std.proofs.lemmas.Bool.{and_parts}
 use Rattle.definitions.specs.CentralTable as table
 use Rattle.definitions.specs.CentralTable.{SumRow}
 use Rattle.definitions.specs.Matching.{is_octal_digit, is_operation}
-use Rattle.opcode_rows.specs.declared.row.Row.{Row}
-use Rattle.opcode_rows.specs.SortedNames.{name_number, has_number}
-use Rattle.opcode_rows.proofs.TableLaws.{same_filters, filter-map}
+use Rattle.operations.specs.declared.row.Row.{Row}
+use Rattle.operations.specs.SortedNames.{name_number, has_number}
+use Rattle.operations.proofs.TableLaws.{same_filters, filter-map}
 use Rattle.cpu_opcodes.specs.declared.operand_table.TheConstants.{OPERAND_ROWS}
 use Rattle.cpu_opcodes.specs.declared.sum_table.TheConstants.{SUM_ROWS}
 use Rattle.cpu_opcodes.specs.OperationNames.{name_of, padded, rows_with, rows_named}

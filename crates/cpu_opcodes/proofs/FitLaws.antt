@@ -5,7 +5,7 @@ use Rattle.definitions.specs.Characters.{same_text}
 use Rattle.definitions.specs.Pieces.{Piece, pieces_of}
 use Rattle.definitions.specs.Expressions.{expression_of}
 use Rattle.definitions.specs.Matching.{OfK, OfN, Match, matched, plain_text, plain_field, with_field, subfield_matched, subfields_matched}
-use Rattle.definitions.specs.declared.marks.NumberBase.{NumberBase}
+use Rattle.definitions.specs.declared.number_base.NumberBase.{NumberBase}
 use Rattle.expr_forms.specs.Operands.{IsOperand}
 use Rattle.expr_forms.specs.declared.operands.Subfield.{Subfield}
 use Rattle.expr_forms.specs.declared.operands.Operand.TheVariants as operand

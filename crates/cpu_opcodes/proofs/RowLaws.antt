@@ -7,8 +7,8 @@ use Rattle.definitions.specs.Pieces.{Piece}
 use Rattle.definitions.specs.CentralTable as table
 use Rattle.definitions.specs.CentralTable.{SumRow}
 use Rattle.definitions.specs.Matching.{RegisterDigits, no_ijk, is_ijk, is_octal_digit, matched, is_operation, Instruction, Sum, matched_instruction, subfields_matched, with_registers, sum_code, sum_instruction, registers_matched, ignoring_fit, row_fit, sum_fit, rows_for, sum_rows_for, first_fit}
-use Rattle.definitions.specs.declared.marks.NumberBase.{NumberBase}
-use Rattle.opcode_rows.specs.declared.row.Row.{Row}
+use Rattle.definitions.specs.declared.number_base.NumberBase.{NumberBase}
+use Rattle.operations.specs.declared.row.Row.{Row}
 use Rattle.cpu_opcodes.specs.declared.code.Code.{Code}
 use Rattle.cpu_opcodes.specs.declared.code.OperandForm.{OperandForm}
 use Rattle.cpu_opcodes.specs.declared.code.SumForm.{SumForm}

@@ -4,7 +4,7 @@ use Rattle.std.specs.Prelude.{is_some}
 use Rattle.definitions.specs.Pieces.{Piece}
 use Rattle.definitions.specs.CentralTable as table
 use Rattle.definitions.specs.Matching.{Instruction, ignoring_fit, row_fit, sum_fit, sum_read, single, rows_for, sum_rows_for, first_fit, central_of}
-use Rattle.definitions.specs.declared.marks.NumberBase.{NumberBase}
+use Rattle.definitions.specs.declared.number_base.NumberBase.{NumberBase}
 use Rattle.cpu_opcodes.proofs.RowLaws.{or_fit, first_fit-append}
 
 -- what the rows of each table make of an operand

@@ -6,8 +6,8 @@ use Rattle.definitions.specs.CentralTable.{SumRow}
 use Rattle.definitions.specs.Matching.{RegisterDigits, is_ijk, is_octal_digit, with_ijk, matched, OfK, Sum, instruction_of, sum_field, sum_code, sum_instruction, sum_fit, single, sum_rows_for, first_fit}
 use Rattle.definitions.specs.Pieces.{Piece}
 use Rattle.definitions.specs.CentralTable as table
-use Rattle.definitions.specs.declared.marks.NumberBase.{NumberBase}
-use Rattle.opcode_rows.specs.declared.row.Row.{Row}
+use Rattle.definitions.specs.declared.number_base.NumberBase.{NumberBase}
+use Rattle.operations.specs.declared.row.Row.{Row}
 use Rattle.expr_forms.specs.Operands.{IsOperand}
 use Rattle.expr_forms.specs.declared.operands.Subfield.{Subfield}
 use Rattle.expr_forms.specs.declared.operands.Operand.TheVariants as operand

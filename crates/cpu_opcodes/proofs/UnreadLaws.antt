@@ -10,7 +10,7 @@ use Rattle.definitions.specs.Pieces.{Mark, Comma, Plus, Minus, Star, Slash, Equa
 use Rattle.definitions.specs.Expressions.{Sign, NoSign, MinusSign, Add, Subtract, OperatorElement, ElementOf, pairs_of, with_sign, expression_of}
 use Rattle.definitions.specs.CentralTable.{Row, central_rows, ignoring_rows, sum_rows}
 use Rattle.definitions.specs.Matching.{RegisterDigits, no_ijk, is_octal_digit, with_ijk, matched, is_operation, OfK, OfN, Match, plain_text, plain_field, with_field, subfield_matched, subfields_matched, with_registers, matched_instruction, Instruction, ignoring_fit, row_fit, sum_fit, sum_read, single, sum_rows_for, first_fit, central_of}
-use Rattle.definitions.specs.declared.marks.NumberBase.{NumberBase}
+use Rattle.definitions.specs.declared.number_base.NumberBase.{NumberBase}
 use Rattle.expr_forms.specs.Operands.{is_subfield, is_operand}
 use Rattle.cpu_opcodes.specs.RegisterPieces.{pieces_fit, is_of_run, begins_with_run, is_run, are_of_field, is_sum_of_registers, is_register_pattern, is_pattern_part}
 use Rattle.cpu_opcodes.specs.RegisterLinks.{read_links_fit}

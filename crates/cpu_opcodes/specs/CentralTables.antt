@@ -3,7 +3,7 @@ use Rattle.std.specs.Prelude.{ℕ, Bool, true, false, List, [], ◌∷◌, map, 
 use Rattle.definitions.specs.CentralTable as table
 use Rattle.definitions.specs.CentralTable.{SumRow, ignoring_rows, sum_rows, central_rows}
 use Rattle.definitions.specs.Matching.{is_operation}
-use Rattle.opcode_rows.specs.declared.row.Row.{Row}
+use Rattle.operations.specs.declared.row.Row.{Row}
 use Rattle.cpu_opcodes.specs.declared.code.Code.{Code}
 use Rattle.cpu_opcodes.specs.declared.code.OperandForm.{OperandForm}
 use Rattle.cpu_opcodes.specs.declared.code.SumForm.{SumForm}

@@ -6,7 +6,7 @@ use Rattle.definitions.specs.Pieces.{Piece}
 use Rattle.definitions.specs.CentralTable as table
 use Rattle.definitions.specs.CentralTable.{SumRow}
 use Rattle.definitions.specs.Matching.{RegisterDigits, no_ijk, is_octal_digit, matched, Field, NoField, Match, is_plain_field, Instruction, Sum, instruction_of, matched_instruction, subfields_matched, sum_code, sum_instruction}
-use Rattle.definitions.specs.declared.marks.NumberBase.{NumberBase}
+use Rattle.definitions.specs.declared.number_base.NumberBase.{NumberBase}
 use Rattle.cpu_opcodes.specs.declared.registers_found.RegistersFound.{RegistersFound}
 use Rattle.cpu_opcodes.specs.RegistersFound.{digits_as}
 

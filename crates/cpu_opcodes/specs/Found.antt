@@ -2,7 +2,7 @@
 use Rattle.std.specs.Prelude.{ℕ, List, Option, Some, None}
 use Rattle.definitions.specs.Pieces.{Piece}
 use Rattle.definitions.specs.Matching.{Field, NoField, OfK, OfN, Match, Instruction, instruction_of, subfield_matched}
-use Rattle.definitions.specs.declared.marks.NumberBase.{NumberBase}
+use Rattle.definitions.specs.declared.number_base.NumberBase.{NumberBase}
 use Rattle.expr_forms.specs.Shapes.{instruction_as}
 use Rattle.expr_forms.specs.declared.shapes.Shape.{Shape}
 use Rattle.cpu_opcodes.specs.RegistersFound.{digits_as}

@@ -2,7 +2,7 @@
 use Rattle.std.specs.Prelude.{ℕ, List, Option, Some, None, Bool, true, ◌&&◌, nat_lt, nat_le, length}
 use Rattle.std.specs.List.{list_all}
 use Rattle.definitions.specs.Matching.{RegisterDigits, code_digits}
-use Rattle.opcode_rows.specs.declared.row.Row.{Row}
+use Rattle.operations.specs.declared.row.Row.{Row}
 use Rattle.cpu_opcodes.specs.declared.code.Code.{Code}
 use Rattle.cpu_opcodes.specs.declared.code.OperandForm.{OperandForm}
 use Rattle.cpu_opcodes.specs.declared.code.SumForm.{SumForm}

@@ -4,8 +4,8 @@ ghost use Rattle.std.specs.List.{list_all};
 ghost use Rattle.definitions.specs.Pieces.{Piece};
 ghost use Rattle.definitions.specs.CentralTable as table;
 ghost use Rattle.definitions.specs.Matching.{first_fit, row_fit, rows_for};
-ghost use Rattle.definitions.specs.declared.marks.NumberBase.{NumberBase};
-ghost use Rattle.opcode_rows.specs.declared.row.Row.{Row};
+ghost use Rattle.definitions.specs.declared.number_base.NumberBase.{NumberBase};
+ghost use Rattle.operations.specs.declared.row.Row.{Row};
 ghost use Rattle.expr_forms.specs.Operands.{IsOperand};
 ghost use Rattle.expr_forms.specs.Shapes.{instruction_as};
 ghost use Rattle.cpu_opcodes.specs.declared.code.OperandForm.{OperandForm};
@@ -21,7 +21,7 @@ use crate::operand_fits::operand_fit;
 use crate::registers_found::RegistersFound;
 use crate::text_match::named_registers;
 use expr_forms::Operand;
-use opcode_rows::Row;
+use operations::Row;
 
 /// What an operand gives with the code of a row, if the operand fits it.
 fn row_fit<'e, 'a>(

@@ -5,8 +5,8 @@ ghost use Rattle.definitions.specs.Pieces.{Piece};
 ghost use Rattle.definitions.specs.CentralTable as table;
 ghost use Rattle.definitions.specs.Operations.{is_central};
 ghost use Rattle.definitions.specs.Matching.{is_operation, ignoring_fit, rows_for, first_fit, central_of};
-ghost use Rattle.definitions.specs.declared.marks.NumberBase.{NumberBase};
-ghost use Rattle.definitions.specs.declared.marks.Letter.TheVariants as letters;
+ghost use Rattle.definitions.specs.declared.number_base.NumberBase.{NumberBase};
+ghost use Rattle.definitions.specs.declared.letter.Letter.TheVariants as letters;
 ghost use Rattle.expr_forms.specs.Operands.{IsOperand};
 ghost use Rattle.expr_forms.specs.Shapes.{instruction_as};
 ghost use Rattle.cpu_opcodes.specs.CentralTables.{operand_row, sum_row, operand_rows_of, sum_rows_of, is_some_of};
@@ -22,7 +22,7 @@ use crate::sum_fits::sum_fit;
 use crate::tables::{central_rows, has_rows, ignoring_rows, sum_rows};
 use definitions::Letter;
 use expr_forms::{Operand, Shape};
-use opcode_rows::Row;
+use operations::Row;
 
 /// The instruction of the first row that has an operation and ignores its operand.
 fn ignoring_fit<'a>(operation: &[u8]) -> Option<Shape<'a>>

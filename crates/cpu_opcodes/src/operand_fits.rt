@@ -3,7 +3,7 @@ ghost use Rattle.std.specs.Prelude.{◌≡◌, ◌==◌, List, [], Some, IsTrue,
 ghost use Rattle.std.specs.List.{slice_split};
 ghost use Rattle.definitions.specs.Pieces.{Piece};
 ghost use Rattle.definitions.specs.Matching.{NoField, subfield_matched, subfields_matched};
-ghost use Rattle.definitions.specs.declared.marks.NumberBase.{NumberBase};
+ghost use Rattle.definitions.specs.declared.number_base.NumberBase.{NumberBase};
 ghost use Rattle.expr_forms.specs.Operands.{IsSubfield, IsOperand};
 ghost use Rattle.cpu_opcodes.specs.RegistersFound.{digits_as};
 ghost use Rattle.cpu_opcodes.specs.CodeTexts.{operand_text};

@@ -1,7 +1,7 @@
 //! The rows whose operand is read subfield by subfield, and those whose operand is ignored, by name.
 use crate::code::{Code, OperandForm};
 use crate::patterns::OperandPattern;
-use opcode_rows::Row;
+use operations::Row;
 
 /// Rows of a name, a pattern and a code.
 macro_rules! operand_rows {

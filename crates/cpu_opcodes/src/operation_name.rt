@@ -1,9 +1,9 @@
 //! The name under which a table has an operation: its two letters, and i in place of a digit.
 ghost use Rattle.std.specs.Prelude.{◌≡◌, IsTrue};
-ghost use Rattle.opcode_rows.specs.SortedNames.{is_sorted, has_at_most};
+ghost use Rattle.operations.specs.SortedNames.{is_sorted, has_at_most};
 ghost use Rattle.cpu_opcodes.specs.OperationNames.{name_of, rows_named};
 
-use opcode_rows::{Row, rows_of};
+use operations::{Row, rows_of};
 
 /// The name of an operation, if it can have one.
 fn name_of(operation: &[u8]) -> Option<[u8; 3]>

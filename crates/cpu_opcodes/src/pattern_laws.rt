@@ -9,7 +9,7 @@ ghost use Rattle.cpu_opcodes.specs.declared.patterns.OperandPattern.{OperandPatt
 ghost use Rattle.cpu_opcodes.specs.CodeTexts.{operand_text};
 ghost use Rattle.cpu_opcodes.specs.RegisterPieces.{pieces_fit, are_of_field, is_sum_of_registers, is_register_pattern, is_pattern_part};
 ghost use Rattle.cpu_opcodes.specs.RegisterLinks.{read_links_fit};
-ghost use Rattle.definitions.specs.declared.marks.NumberBase.{NumberBase};
+ghost use Rattle.definitions.specs.declared.number_base.NumberBase.{NumberBase};
 
 /// The text of a subfield fits a pattern of registers exactly where its pieces do; and each part of
 /// an operand's pattern is K, n, or such a pattern.

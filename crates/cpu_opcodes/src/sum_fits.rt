@@ -5,8 +5,8 @@ ghost use Rattle.definitions.specs.Pieces.{Piece};
 ghost use Rattle.definitions.specs.CentralTable as table;
 ghost use Rattle.definitions.specs.Matching as matching;
 ghost use Rattle.definitions.specs.Matching.{sum_read, single, sum_rows_for};
-ghost use Rattle.definitions.specs.declared.marks.NumberBase.{NumberBase};
-ghost use Rattle.opcode_rows.specs.declared.row.Row.{Row};
+ghost use Rattle.definitions.specs.declared.number_base.NumberBase.{NumberBase};
+ghost use Rattle.operations.specs.declared.row.Row.{Row};
 ghost use Rattle.expr_forms.specs.Operands.{IsOperand};
 ghost use Rattle.expr_forms.specs.Shapes.{instruction_as};
 ghost use Rattle.expr_forms.specs.Sums.{IsSum, AreRegisters, field_of};
@@ -26,7 +26,7 @@ use crate::shapes::{fitted_with, shape_of};
 use crate::tables::has_rows;
 use crate::text_match::{matched, named_registers};
 use expr_forms::{Expr, Operand, Shape, Sum, SumRegisters};
-use opcode_rows::Row;
+use operations::Row;
 
 /// The digits of the registers of a sum, if they fit a pattern.
 fn registers_fit(

@@ -1,7 +1,7 @@
 //! The rows whose operand is a sum, by name: JP, and all that sets an A, B or X register.
 use crate::code::{Code, SumForm};
 use crate::patterns::SumPattern;
-use opcode_rows::Row;
+use operations::Row;
 
 /// A code, if there is one.
 macro_rules! some_code {

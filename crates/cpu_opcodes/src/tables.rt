@@ -12,7 +12,7 @@ use crate::code::{Code, OperandForm, SumForm};
 use crate::operand_table::{MOST_OPERAND_ROWS, NO_ROWS, OPERAND_ROWS, PS_ROWS};
 use crate::operation_name::rows_named;
 use crate::sum_table::{MOST_SUM_ROWS, SUM_ROWS};
-use opcode_rows::Row;
+use operations::Row;
 
 /// The rows of an operation whose operand is ignored, in the order in which they count: one of NO and
 /// one of PS. Two letters that begin with N or P are compared with one of these names, and nothing else

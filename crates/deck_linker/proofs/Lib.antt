@@ -5,3 +5,14 @@ pub mod EntryLaws
 pub mod ValueLaws
 pub mod WordLaws
 pub mod BeyondLaws
+pub mod StoredLaws
+pub mod NameLaws
+pub mod LineLaws
+pub mod DigitLaws
+pub mod UnfitLaws
+pub mod LinkLineLaws
+pub mod MapLaws
+pub mod TextLaws
+pub mod ImageLaws
+pub mod PublishLaws
+pub mod ElsewhereLaws

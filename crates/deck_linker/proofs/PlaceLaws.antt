@@ -5,8 +5,8 @@ use Rattle.definitions.specs.Kinds.{memory_end, is_absolute_deck}
 use Rattle.definitions.specs.Lengths.{BlockLength}
 use Rattle.definitions.specs.Link.{Based, based_from, deck_length, end_of_decks, has_beyond, rel_past, commons_from}
 use Rattle.definitions.specs.Objects.{Object}
-use Rattle.definitions.specs.declared.marks.DeckKind.{DeckKind}
-use Rattle.definitions.specs.declared.marks.DeckKind.TheVariants.{Rel, Abs, Periph}
+use Rattle.definitions.specs.declared.deck_kind.DeckKind.{DeckKind}
+use Rattle.definitions.specs.declared.deck_kind.DeckKind.TheVariants.{Rel, Abs, Periph}
 use Rattle.deck_linker.specs.Placing.{placed, placed_by, end_with, end_behind, placed_common, end_with_common, names_of_lengths, names_of_commons}
 use Rattle.deck_linker.proofs.TestLaws.{lt-true, lt-false}
 

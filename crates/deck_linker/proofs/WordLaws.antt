@@ -11,8 +11,8 @@ use Rattle.definitions.specs.Kinds.{memory_end, units, unit_bits}
 use Rattle.definitions.specs.Operations.{is_instruction}
 use Rattle.definitions.specs.StatementItems.{Item}
 use Rattle.definitions.specs.Words.{Coded, Linking, Parcel, StoredWord, cut, parcels_from, parcels_of, onto_runs, runs_of, with_number, words_in_run, words_in, stored, stored_words, joined}
-use Rattle.definitions.specs.declared.marks.DeckKind.{DeckKind}
-use Rattle.definitions.specs.declared.marks.DeckKind.TheVariants.{Rel, Abs, Periph}
+use Rattle.definitions.specs.declared.deck_kind.DeckKind.{DeckKind}
+use Rattle.definitions.specs.declared.deck_kind.DeckKind.TheVariants.{Rel, Abs, Periph}
 use Rattle.definitions.specs.Lengths.{BlockRow}
 use Rattle.deck_linker.specs.Beyond.{coded_beyond, has_items, reaches_beyond, stores_beyond}
 use Rattle.deck_linker.proofs.TestLaws.{lt-true, lt-false}

@@ -7,8 +7,8 @@ use Rattle.definitions.specs.Kinds.{memory_end}
 use Rattle.definitions.specs.Lengths.{BlockLength}
 use Rattle.definitions.specs.Link.{Based, Common, rel_past, has_beyond, end_of_decks}
 use Rattle.definitions.specs.Objects.{Object}
-use Rattle.definitions.specs.declared.marks.DeckKind.{DeckKind}
-use Rattle.definitions.specs.declared.marks.DeckKind.TheVariants.{Rel}
+use Rattle.definitions.specs.declared.deck_kind.DeckKind.{DeckKind}
+use Rattle.definitions.specs.declared.deck_kind.DeckKind.TheVariants.{Rel}
 
 -- an object of this kind where the decks before it end there
 abbrev pub placed_by : DeckKind → ℕ → Object → Based

@@ -5,8 +5,7 @@ ghost use Rattle.definitions.specs.Link.{has_beyond};
 ghost use Rattle.definitions.specs.Objects.{object_of};
 ghost use Rattle.deck_linker.specs.Beyond.{is_named_at, keeps_fields, line_beyond, listed_beyond, literals_beyond, reaches_beyond, row_beyond};
 
-use deck_kinds::{memory_end, units};
-use deck_objects::{CodedLine, Line, LineFields, Object, ObjectParts};
+use deck_assembler::{CodedLine, Line, LineFields, Object, ObjectParts};
 use definitions::DeckKind;
 use expr_forms::Name;
 use use_blocks::{BlockRow, is_common};
@@ -38,8 +37,8 @@ fn is_named_at(rows: &[BlockRow], index: u32, name: &Name) -> bool
 fn reaches_beyond(kind: DeckKind, base: u64, end: u32) -> bool
     ensures { result ≡ reaches_beyond kind base end }
 {
-    let word = end.saturating_sub(1) / units(kind);
-    u128::from(memory_end(kind)) <= u128::from(base) + u128::from(word)
+    let word = end.saturating_sub(1) / kind.units();
+    u128::from(kind.memory_end()) <= u128::from(base) + u128::from(word)
 }
 
 /// Whether a line stores a word of a block beyond memory.
@@ -79,7 +78,7 @@ fn any_listed_beyond(kind: DeckKind, rows: &[BlockRow], row: &BlockRow, lines: &
 fn literals_beyond(kind: DeckKind, base: u64, count: usize) -> bool
     ensures { result ≡ literals_beyond kind base count }
 {
-    0 < count && u128::from(memory_end(kind)) < u128::from(base) + count as u128
+    0 < count && u128::from(kind.memory_end()) < u128::from(base) + count as u128
 }
 
 /// Whether a block of an object stores a word beyond memory.

@@ -1,6 +1,6 @@
-//! Where decks and their common blocks stand in a link, what their entries and externals are worth, and
-//! the bits that the link makes of forms, exactly as the definitions have them. Nothing here writes a
-//! line.
+//! The link: where decks and their common blocks stand, what their entries and externals are worth, and
+//! what it publishes, its LINK lines, its map and its octal image behind the listings of its decks,
+//! exactly as the definitions have them.
 #![tactic(auto)]
 
 // Where decks and common blocks stand.
@@ -16,11 +16,32 @@ mod entry_table;
 mod linking;
 mod values;
 
+// Decks, names and lines.
+mod link_text;
+mod linked_deck;
+mod name_set;
+
+// LINK lines and the map.
+mod link_lines;
+mod map;
+mod unfit_fields;
+
+// The image.
+mod common_image;
+mod image;
+mod merging;
+
+// All of them.
+mod publication;
+
 pub use based::Based;
 pub use commons::Common;
 pub use layout::Layout;
 pub use linking::DeckLinking;
 pub use name_key::NameKey;
+pub use publication::{Publication, link};
 
 #[cfg(test)]
 mod tests;
+#[cfg(test)]
+mod tests_links;

@@ -4,3 +4,11 @@ mod WordLaws
 mod FieldTexts
 mod ListableLaws
 mod ListingLaws
+mod PutSteps
+mod FieldSteps
+mod LiteralSteps
+mod LineSteps
+mod RunSteps
+mod WalkSteps
+mod ImageLineSteps
+mod AloneSteps

@@ -11,17 +11,17 @@ use Rattle.definitions.specs.Operations as op
 use Rattle.definitions.specs.Operations.{Operation, is_instruction}
 use Rattle.definitions.specs.StatementItems.{Item}
 use Rattle.definitions.specs.Words.{Coded, width_of}
-use Rattle.definitions.specs.declared.marks.DeckKind.{DeckKind}
-use Rattle.definitions.specs.declared.marks.DeckKind.TheVariants.{Rel, Abs, Periph}
-use Rattle.field_items.specs.declared.items.Item as code
-use Rattle.statement_laws.specs.Filling.{DoFill, HasFields}
-use Rattle.statement_laws.specs.Reaching.{DoReach, DoesReach}
-use Rattle.statement_laws.specs.Rising.{AreLaidOut}
-use Rattle.deck_objects.specs.CodedLines.{AreCoded, IsCoded}
-use Rattle.deck_objects.specs.PartsOf.{ArePartsOf}
-use Rattle.deck_objects.specs.declared.lines.CodedLine.{CodedLine}
-use Rattle.deck_objects.specs.declared.lines.Line.{Line}
-use Rattle.deck_objects.specs.declared.object.ObjectParts.{ObjectParts}
+use Rattle.definitions.specs.declared.deck_kind.DeckKind.{DeckKind}
+use Rattle.definitions.specs.declared.deck_kind.DeckKind.TheVariants.{Rel, Abs, Periph}
+use Rattle.statement_coder.specs.declared.items.Item as code
+use Rattle.definitions.specs.Filling.{DoFill, HasFields}
+use Rattle.definitions.specs.Reaching.{DoReach, DoesReach}
+use Rattle.definitions.specs.Rising.{AreLaidOut}
+use Rattle.deck_assembler.specs.CodedLines.{AreCoded, IsCoded}
+use Rattle.deck_assembler.specs.PartsOf.{ArePartsOf}
+use Rattle.deck_assembler.specs.declared.lines.CodedLine.{CodedLine}
+use Rattle.deck_assembler.specs.declared.lines.Line.{Line}
+use Rattle.deck_assembler.specs.declared.object.ObjectParts.{ObjectParts}
 use Rattle.deck_listing.specs.ListedParts.{AreListable, IsListable, IsListableLine}
 use Rattle.deck_listing.specs.WordLines.{has_one_line}
 use Rattle.deck_listing.proofs.FieldTexts.{has_one_line-true}

@@ -11,14 +11,14 @@ use Rattle.definitions.specs.Lengths.{BlockRow, base_in}
 use Rattle.definitions.specs.Listing.{unlinked, data_lines, peripheral_lines}
 use Rattle.definitions.specs.StatementItems.{Item, Content, Known, Linked, part_value}
 use Rattle.definitions.specs.Words.{content_bits, cut, joined, width_of}
-use Rattle.definitions.specs.declared.marks.DeckKind.{DeckKind}
-use Rattle.definitions.specs.declared.marks.DeckKind.TheVariants.{Rel, Abs, Periph}
+use Rattle.definitions.specs.declared.deck_kind.DeckKind.{DeckKind}
+use Rattle.definitions.specs.declared.deck_kind.DeckKind.TheVariants.{Rel, Abs, Periph}
 use Rattle.definitions.proofs.WordLaws.{pow_positive}
-use Rattle.statement_laws.specs.Filling.{HasRoom}
-use Rattle.statement_laws.proofs.CodingLaws.{coded_in-below}
-use Rattle.deck_objects.specs.LineItems.{AreShort}
+use Rattle.definitions.specs.Filling.{HasRoom}
+use Rattle.definitions.proofs.CodingLaws.{coded_in-below}
+use Rattle.deck_assembler.specs.LineItems.{AreShort}
 use Rattle.deck_listing.specs.WordLines.{AreJoined, DoFillWords, behind_full, lines_ahead, with_bits, word_line, word_lines}
-use Rattle.deck_listing.specs.declared.words.OpenWord.{OpenWord}
+use Rattle.deck_listing.specs.declared.field_lines.OpenWord.{OpenWord}
 use Rattle.deck_listing.proofs.CutLaws.{cut-first}
 
 -- bits behind bits fit both widths together

@@ -2,3 +2,10 @@
 pub mod WordLines
 -- The text of what an object keeps.
 pub mod ListedParts
+-- Fields that are put, and the runs of the statements so far.
+pub mod Putting
+pub mod Walking
+-- Texts, the lines of words, and how a deck is linked alone.
+pub mod Texts
+pub mod ImageWordLines
+pub mod Alone

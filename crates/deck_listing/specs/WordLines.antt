@@ -6,10 +6,10 @@ use Rattle.definitions.specs.Lengths.{BlockRow}
 use Rattle.definitions.specs.Operations.{Operation, is_instruction}
 use Rattle.definitions.specs.StatementItems.{Item}
 use Rattle.definitions.specs.Words.{Linking, cut, joined, width_of}
-use Rattle.definitions.specs.declared.marks.DeckKind.{DeckKind}
-use Rattle.definitions.specs.declared.marks.DeckKind.TheVariants.{Periph}
-use Rattle.deck_objects.specs.LineItems.{AreShort}
-use Rattle.deck_listing.specs.declared.words.OpenWord.{OpenWord}
+use Rattle.definitions.specs.declared.deck_kind.DeckKind.{DeckKind}
+use Rattle.definitions.specs.declared.deck_kind.DeckKind.TheVariants.{Periph}
+use Rattle.deck_assembler.specs.LineItems.{AreShort}
+use Rattle.deck_listing.specs.declared.field_lines.OpenWord.{OpenWord}
 
 -- the line of one word of a deck, which is no instruction
 abbrev pub word_line : DeckKind → ℕ → ℕ → List ℕ

@@ -1,13 +1,31 @@
-//! The listing of a deck: its cards with their numbers, the letters and the octal of each statement,
-//! its blocks and the count of its errors.
+//! The texts of one deck: its listing, with its cards and their numbers, the letters and the octal of
+//! each statement, its blocks and the count of its errors; and its octal image, with the words that it
+//! stores in order of address.
 #![tactic(auto)]
 
+// The listing.
+mod field_lines;
 mod lines;
 mod statements;
 mod whole;
-mod words;
 
+// The stored words of its blocks: the fields of its statements, put line by line.
+mod blocks;
+mod fields;
+mod word_lines;
+
+// The image.
+mod alone;
+mod image_lines;
+mod section_words;
+mod sections;
+
+pub use blocks::{block_words, stored_words};
+pub use image_lines::push_image_line;
+pub use sections::{image, push_section};
 pub use whole::{errors, listing, push_listing};
 
 #[cfg(test)]
 mod tests;
+#[cfg(test)]
+mod tests_image;

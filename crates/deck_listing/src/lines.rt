@@ -5,11 +5,10 @@ ghost use Rattle.definitions.specs.Listing.{block_line, card_lines, central_line
 ghost use Rattle.definitions.specs.Numerals.{decimal_of};
 
 use cards::{Card, DeckName};
-use deck_kinds::kind_text;
 use definitions::DeckKind;
 use operations::Letters;
 use std::alloc::AllocError;
-use text_buffers::{ShortText, Text};
+use text_ports::{ShortText, Text};
 use use_blocks::BlockRow;
 
 /// The first line: the name and the kind of the deck.
@@ -23,7 +22,7 @@ pub(crate) fn push_deck_line(
     text.push_bytes(b"DECK ")?;
     text.push_bytes(name.as_slice())?;
     text.push_byte(b' ')?;
-    text.push_bytes(kind_text(kind))?;
+    text.push_bytes(kind.text())?;
     text.push_byte(b'\n')
 }
 

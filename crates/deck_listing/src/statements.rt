@@ -7,20 +7,19 @@ ghost use Rattle.definitions.specs.StatementItems.{known};
 ghost use Rattle.definitions.specs.Words.{width_of};
 ghost use Rattle.deck_listing.specs.ListedParts.{AreListable, IsListable, IsListableLine, line_text, lines_text, stored_text};
 ghost use Rattle.deck_listing.specs.WordLines.{fields_text, has_one_line};
-ghost use Rattle.deck_objects.specs.LineItems.{AreShort};
-ghost use Rattle.field_items.specs.Items.{item_as};
+ghost use Rattle.deck_assembler.specs.LineItems.{AreShort};
+ghost use Rattle.statement_coder.specs.Items.{item_as};
 ghost use Rattle.operations.specs.OperationsAs.{operation_as};
 
+use crate::field_lines::{joined_fields, push_word_lines};
 use crate::lines::{push_card_lines, push_central_line, push_letters_line};
-use crate::words::{joined_fields, push_word_lines};
 use cards::Card;
-use deck_kinds::{unit_bits, units};
-use deck_objects::{CodedLine, Line, LineFields, ObjectParts};
+use deck_assembler::{CodedLine, Line, LineFields, ObjectParts};
 use definitions::DeckKind;
-use field_items::{Content, Item};
 use operations::Operation;
+use statement_coder::{Content, Item};
 use std::alloc::AllocError;
-use text_buffers::Text;
+use text_ports::Text;
 use use_blocks::Bases;
 
 /// Whether the fields of a statement have one line together: an instruction's, in a deck of central
@@ -72,7 +71,7 @@ fn push_fields(
     if has_one_line(kind, stored.operation) {
         return push_instruction(text, &parts.bases, stored.place, items);
     }
-    let word = stored.place / units(kind);
+    let word = stored.place / kind.units();
     push_word_lines(text, kind, &parts.bases, word as u64, items)
 }
 
@@ -82,7 +81,7 @@ fn known_field(kind: DeckKind, stored: &CodedLine, bits: u64) -> Item
     ensures { item_as result ≡ known ((stored.now.end - stored.now.place) * unit_bits kind) bits }
 {
     Item {
-        width: stored.end.saturating_sub(stored.place) * unit_bits(kind),
+        width: stored.end.saturating_sub(stored.place) * kind.unit_bits(),
         content: Content::Known(bits),
         letter: None,
     }

@@ -2,18 +2,18 @@
 //! memory.
 ghost use Rattle.std.specs.Prelude.{◌≡◌};
 
+use crate::field_lines::push_word_lines;
 use crate::lines::{
     push_card_lines, push_central_line, push_deck_line, push_errors_line, push_letters_line,
     push_peripheral_line,
 };
-use crate::words::push_word_lines;
 use cards::{Card, DeckName};
 use definitions::{DeckKind, Letter};
-use field_items::{Content, Item};
 use operations::Letters;
+use statement_coder::{Content, Item};
 use std::alloc::{AllocError, Global};
 use std::process::Abort;
-use text_buffers::Text;
+use text_ports::Text;
 use use_blocks::{Bases, Lengths, Literals};
 
 fn card(rt: &impl Abort, text: &[u8]) -> Card {

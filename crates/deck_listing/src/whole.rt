@@ -7,9 +7,9 @@ ghost use Rattle.deck_listing.specs.ListedParts.{AreListable, flagged_lines, has
 use crate::lines::{push_block_lines, push_deck_line, push_errors_line};
 use crate::statements::push_statements;
 use cards::{Card, DeckName};
-use deck_objects::{Line, Object, ObjectParts};
+use deck_assembler::{Line, Object, ObjectParts};
 use std::alloc::{AllocError, Global};
-use text_buffers::Text;
+use text_ports::Text;
 
 /// How many bytes of room are asked for at first for each card. A card has a line of at most 87 bytes,
 /// but seldom one of more than 40, and a word has one of 32.

@@ -1,1 +1,4 @@
 pub mod Seen
+pub mod Turns
+pub mod Unchanged
+pub mod IdleDesk

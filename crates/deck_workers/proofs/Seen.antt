@@ -10,9 +10,9 @@ use Rattle.desk_core.specs.declared.replies.Reply.{Reply}
 use Rattle.desk_core.specs.Desks.{Desk}
 use Rattle.desk_core.specs.Steps.{Steps}
 use Rattle.desk_core.specs.Runs.{History}
-use Rattle.deck_jobs.specs.declared.made.Made.{Made}
-use Rattle.deck_jobs.specs.Rounds.{Round, Working, IsRound, call_of, entries_of, entries_in}
-use Rattle.deck_jobs.proofs.Turns.{entries-more}
+use Rattle.deck_workers.specs.declared.made.Made.{Made}
+use Rattle.deck_workers.specs.Rounds.{Round, Working, IsRound, call_of, entries_of, entries_in}
+use Rattle.deck_workers.proofs.Turns.{entries-more}
 use Rattle.deck_workers.specs.Working.{Calls, MakesRound, Works}
 
 -- an entry of a seat is its own

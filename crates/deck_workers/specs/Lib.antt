@@ -1,1 +1,5 @@
 pub mod Working
+pub mod Language
+pub mod Jobs
+pub mod Rounds
+pub mod Settling

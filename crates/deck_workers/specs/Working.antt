@@ -3,7 +3,7 @@ use Rattle.std.specs.Prelude.{◌≡◌, ℕ, List, ◌++◌, All}
 use mathlib.Core.List.{IsPrefix}
 use Rattle.turn_office.specs.Histories.{entries_by}
 use Rattle.desk_core.specs.Runs.{History}
-use Rattle.deck_jobs.specs.Rounds.{Round, IsRound, entries_of, entries_in}
+use Rattle.deck_workers.specs.Rounds.{Round, IsRound, entries_of, entries_in}
 
 -- what a seat had seen begins what it has seen now, and its calls since have these entries
 pub record Calls (number : ℕ) (entries seen now : History) : Type 0 where

@@ -1,18 +1,34 @@
-//! Those who work for a desk that many share: each claims what is due, runs it outside of any turn, and
-//! delivers it, and sleeps on a bell where nothing is due.
+//! The jobs that a desk gives out, and those who run them: what is made of a deck or of objects, and a
+//! worker that claims what is due, runs it outside of any turn, delivers it, and sleeps on a bell where
+//! nothing is due.
 //!
 //! A turn at the desk is one claim, one delivery, or one lease given up; decks are assembled, and
-//! objects linked, between two turns. A bell says that there may be work, or that the worker is to stop. Not promised: that a
-//! bell arrives, that a worker gets on, or when a job is run: that two run at once is tested.
+//! objects linked, between two turns. A bell says that there may be work, or that the worker is to stop.
+//! Not promised: that a bell arrives, that a worker gets on, or when a job is run: that two run at once
+//! is tested. `settle` does all jobs on the thread of whoever holds the desk.
 #![tactic(auto)]
 
+// What is made of a job; no threads here, and nothing waits.
+mod assembling;
+mod jobs;
+mod made;
+mod runs;
+mod settling;
+
+// Workers.
 mod bells;
 mod gates;
 mod working;
 
 pub use bells::Bell;
 pub use gates::{Gate, OpenGate};
+pub use jobs::{Job, job_in};
+pub use made::Made;
+pub use runs::Runs;
+pub use settling::{Settled, settle};
 pub use working::worker;
 
 #[cfg(test)]
 mod tests;
+#[cfg(test)]
+mod tests_jobs;

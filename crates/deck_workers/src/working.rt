@@ -2,13 +2,13 @@
 ghost use Rattle.std.specs.Prelude.{◌≡◌};
 ghost use Rattle.turn_office.specs.Histories.{IsLegal};
 ghost use Rattle.desk_core.specs.Steps.{Steps};
-ghost use Rattle.deck_jobs.specs.Jobs.{MayMake};
+ghost use Rattle.deck_workers.specs.Jobs.{MayMake};
 ghost use Rattle.deck_workers.specs.Working.{MakesRound, Works};
 
 use crate::bells::{Bell, hears_of_work};
 use crate::gates::Gate;
+use crate::{Job, Made, Runs, job_in};
 use crossbeam_channel::Receiver;
-use deck_jobs::{Job, Made, Runs, job_in};
 use desk_core::{Call, Desk};
 use statement_coder::Meter;
 use std::alloc::Global;

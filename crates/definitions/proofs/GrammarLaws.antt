@@ -7,7 +7,7 @@ use Rattle.definitions.specs.Pieces.{Mark, Plus, Minus, Star, Slash, Equals, Pie
 use Rattle.definitions.specs.Symbols.{Register, register_of, is_symbol, Number, number_read}
 use Rattle.definitions.specs.Expressions.{Sign, NoSign, PlusSign, MinusSign, OfNumber, OfCountedItem, Element, ANumber, ACountedItem, ASymbol, ARegister, LocationCounter, OriginCounter, ALiteral, Operator, Times, Divide, Add, Subtract, OperatorElement, element_of_number, element_of_name, element_of_text, counter_of, literal_of, Awaited, AnOperator, ElementOf, onto_pairs, pairs_of}
 use Rattle.definitions.specs.Grammar.{IsNumberText, IsSymbolText, sign_pieces, IsElement}
-use Rattle.definitions.specs.declared.marks.NumberBase.{NumberBase}
+use Rattle.definitions.specs.declared.number_base.NumberBase.{NumberBase}
 
 -- the pair with this operator and element
 abbrev pub link_of : Operator → Element → OperatorElement

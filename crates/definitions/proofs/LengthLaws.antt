@@ -5,7 +5,7 @@ use Rattle.definitions.specs.Settled.{Settled}
 use Rattle.definitions.specs.Blocks.{is_common}
 use Rattle.definitions.specs.Lengths.{BlockLength, BlockRow, placed_row, rows_from, literals_row, rows_of, lengths_of, block_rows, local_words, total_length}
 use Rattle.definitions.specs.Literals.{literal_words}
-use Rattle.definitions.specs.declared.marks.DeckKind.{DeckKind}
+use Rattle.definitions.specs.declared.deck_kind.DeckKind.{DeckKind}
 
 -- each row's base is the local lengths before it, from a base on, or 0 for a common block
 abbrev AreSums : ℕ → List BlockRow → Type 0

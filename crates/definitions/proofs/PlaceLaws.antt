@@ -6,8 +6,8 @@ use Rattle.definitions.specs.Operations.{Operation}
 use Rattle.definitions.specs.Operands.{Operand}
 use Rattle.definitions.specs.Kinds.{units}
 use Rattle.definitions.specs.Places.{MayStand, least_place, is_at_word, is_upper, is_long}
-use Rattle.definitions.specs.declared.marks.DeckKind.{DeckKind}
-use Rattle.definitions.specs.declared.marks.DeckKind.TheVariants.{Rel, Abs, Periph}
+use Rattle.definitions.specs.declared.deck_kind.DeckKind.{DeckKind}
+use Rattle.definitions.specs.declared.deck_kind.DeckKind.TheVariants.{Rel, Abs, Periph}
 
 -- the next word at or behind a place
 word_behind : (from : ℕ) → from ≤ (from + 4 - 1) / 4 * 4

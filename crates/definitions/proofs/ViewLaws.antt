@@ -14,10 +14,10 @@ use Rattle.definitions.specs.Counters.{Counters, counters_at}
 use Rattle.definitions.specs.EarlyValues.{early_names, early_value, equated, outcome_of}
 use Rattle.definitions.specs.Settling.{View, is_known, external, externals, external_letters, letter_where, location_letters, first_definition, definitions_of, operand_letters, settled_letters, is_refused, settled_as, settled_with, settled_from, place_of}
 use Rattle.definitions.specs.States.{BlockState, seen_from, symbols_of_element, symbols_in, own_symbols, operand_symbols, lawful_names, defines_location, early_symbols, Agree}
-use Rattle.definitions.specs.declared.marks.DeckKind.{DeckKind}
-use Rattle.definitions.specs.declared.marks.DeckKind.TheVariants.{Rel, Abs, Periph}
-use Rattle.definitions.specs.declared.marks.Letter.{Letter}
-use Rattle.definitions.specs.declared.marks.Letter.TheVariants as letter
+use Rattle.definitions.specs.declared.deck_kind.DeckKind.{DeckKind}
+use Rattle.definitions.specs.declared.deck_kind.DeckKind.TheVariants.{Rel, Abs, Periph}
+use Rattle.definitions.specs.declared.letter.Letter.{Letter}
+use Rattle.definitions.specs.declared.letter.Letter.TheVariants as letter
 
 -- views that agree on two lists of names together agree on each
 agree-front : (v w : View) (a b : List (List ℕ)) → Agree v w (a ++ b) → Agree v w a

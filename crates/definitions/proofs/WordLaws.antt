@@ -10,8 +10,8 @@ use Rattle.definitions.specs.Kinds.{units, unit_bits, word_bits}
 use Rattle.definitions.specs.Operations.{is_instruction}
 use Rattle.definitions.specs.Words.{Parcel, Coded, Linking, StoredWord, cut, parcels_from, parcels_of, onto_runs, runs_of, in_word, latest_in_word, pass, filling_of, bits_at, last_places, word_of_parcels, stored, words_in, stored_words, joined}
 use Rattle.definitions.specs.StatementItems.{Item}
-use Rattle.definitions.specs.declared.marks.DeckKind.{DeckKind}
-use Rattle.definitions.specs.declared.marks.DeckKind.TheVariants.{Rel, Abs, Periph}
+use Rattle.definitions.specs.declared.deck_kind.DeckKind.{DeckKind}
+use Rattle.definitions.specs.declared.deck_kind.DeckKind.TheVariants.{Rel, Abs, Periph}
 
 -- a power of two is not 0
 pub pow_positive : (n : ℕ) → 0 < 2 ^ n

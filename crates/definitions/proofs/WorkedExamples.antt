@@ -14,8 +14,8 @@ use Rattle.definitions.specs.Settled.{Settled}
 use Rattle.definitions.specs.Settling.{settled_all}
 use Rattle.definitions.specs.Literals.{literal_words}
 use Rattle.definitions.specs.Lengths.{block_rows}
-use Rattle.definitions.specs.declared.marks.DeckKind.TheVariants.{Abs}
-use Rattle.definitions.specs.declared.marks.NumberBase.TheVariants.{Decimal}
+use Rattle.definitions.specs.declared.deck_kind.DeckKind.TheVariants.{Abs}
+use Rattle.definitions.specs.declared.number_base.NumberBase.TheVariants.{Decimal}
 
 -- the first deck of the README
 abbrev first : List ℕ

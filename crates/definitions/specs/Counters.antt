@@ -5,8 +5,8 @@ use Rattle.definitions.specs.Symbols.{is_nominal}
 use Rattle.definitions.specs.Forms.{Form, absolute, Added, Block}
 use Rattle.definitions.specs.Kinds.{units}
 use Rattle.definitions.specs.Settled.{Settled, Counting, Unchanged, Counts, Ended}
-use Rattle.definitions.specs.declared.marks.DeckKind.{DeckKind}
-use Rattle.definitions.specs.declared.marks.DeckKind.TheVariants.{Rel}
+use Rattle.definitions.specs.declared.deck_kind.DeckKind.{DeckKind}
+use Rattle.definitions.specs.declared.deck_kind.DeckKind.TheVariants.{Rel}
 
 -- the word of a block in which a place lies
 abbrev pub word_of_place : DeckKind → ℕ → ℕ

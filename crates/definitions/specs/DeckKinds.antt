@@ -6,10 +6,10 @@ use Rattle.definitions.specs.Characters.{same_text}
 use Rattle.definitions.specs.Statements.{Statement}
 use Rattle.definitions.specs.Fields.{Fields, fields_of}
 use Rattle.definitions.specs.Operations.{Operation, Kind, pseudo_instructions, pseudo_among, is_neutral}
-use Rattle.definitions.specs.declared.marks.DeckKind.{DeckKind}
-use Rattle.definitions.specs.declared.marks.DeckKind.TheVariants.{Rel}
-use Rattle.definitions.specs.declared.marks.NumberBase.{NumberBase}
-use Rattle.definitions.specs.declared.marks.NumberBase.TheVariants.{Decimal, Octal}
+use Rattle.definitions.specs.declared.deck_kind.DeckKind.{DeckKind}
+use Rattle.definitions.specs.declared.deck_kind.DeckKind.TheVariants.{Rel}
+use Rattle.definitions.specs.declared.number_base.NumberBase.{NumberBase}
+use Rattle.definitions.specs.declared.number_base.NumberBase.TheVariants.{Decimal, Octal}
 
 -- whether a statement is END
 abbrev pub is_end : Fields → Bool

@@ -11,9 +11,9 @@ use Rattle.definitions.specs.Operations.{Operation}
 use Rattle.definitions.specs.Sizes.{size_of}
 use Rattle.definitions.specs.Counters.{Counters}
 use Rattle.definitions.specs.Settled.{LocationSetting, Unchanged, Counts, Ended}
-use Rattle.definitions.specs.declared.marks.DeckKind.{DeckKind}
-use Rattle.definitions.specs.declared.marks.Letter.{Letter}
-use Rattle.definitions.specs.declared.marks.Letter.TheVariants as letter
+use Rattle.definitions.specs.declared.deck_kind.DeckKind.{DeckKind}
+use Rattle.definitions.specs.declared.letter.Letter.{Letter}
+use Rattle.definitions.specs.declared.letter.Letter.TheVariants as letter
 
 -- only symbols that are seen early, and no literals
 abbrev pub early_names : (List ℕ → Option Form) → Counters → Names

@@ -5,10 +5,10 @@ use Rattle.definitions.specs.Operations as op
 use Rattle.definitions.specs.Operations.{Operation}
 use Rattle.definitions.specs.Operands.{Operand, NamesOperand}
 use Rattle.definitions.specs.Settled.{Settled, Definition, defined, defined_in}
-use Rattle.definitions.specs.declared.marks.DeckKind.{DeckKind}
-use Rattle.definitions.specs.declared.marks.DeckKind.TheVariants.{Periph}
-use Rattle.definitions.specs.declared.marks.Letter.{Letter}
-use Rattle.definitions.specs.declared.marks.Letter.TheVariants as letter
+use Rattle.definitions.specs.declared.deck_kind.DeckKind.{DeckKind}
+use Rattle.definitions.specs.declared.deck_kind.DeckKind.TheVariants.{Periph}
+use Rattle.definitions.specs.declared.letter.Letter.{Letter}
+use Rattle.definitions.specs.declared.letter.Letter.TheVariants as letter
 
 -- a name may be entered where it is defined, and is no external and no block that is subtracted
 abbrev pub entry_fault : Option Form → List Letter

@@ -5,7 +5,7 @@ use Rattle.definitions.specs.Characters.{same_text}
 use Rattle.definitions.specs.CountedItems.{CountedItem, bits_needed}
 use Rattle.definitions.specs.Pieces.{Plus, Minus, Star, Slash, Equals, Piece, IsMark, IsCountedItem, Plain}
 use Rattle.definitions.specs.Symbols.{Register, register_of, is_symbol, Number, number_read}
-use Rattle.definitions.specs.declared.marks.NumberBase.{NumberBase}
+use Rattle.definitions.specs.declared.number_base.NumberBase.{NumberBase}
 
 -- no sign, plus or minus
 pub data Sign : Type 0 where

@@ -5,8 +5,8 @@ use Rattle.definitions.specs.Characters.{display_code_of, same_text}
 use Rattle.definitions.specs.CountedItems.{CountedItem}
 use Rattle.definitions.specs.Symbols.{Number, Value, TooGreat, greatest}
 use Rattle.definitions.specs.Expressions.{Literal, Element, ANumber, ACountedItem, ASymbol, ARegister, LocationCounter, OriginCounter, ALiteral, Operator, Divide, Subtract, OperatorElement, Term, Expression}
-use Rattle.definitions.specs.declared.marks.Letter.{Letter}
-use Rattle.definitions.specs.declared.marks.Letter.TheVariants as letter
+use Rattle.definitions.specs.declared.letter.Letter.{Letter}
+use Rattle.definitions.specs.declared.letter.Letter.TheVariants as letter
 
 -- what is known at the link alone: where a block stands, what an external is; the literals block is `=`
 pub data Relocation : Type 0 where

@@ -6,8 +6,8 @@ use Rattle.definitions.specs.Words.{StoredWord, stored_words}
 use Rattle.definitions.specs.Objects.{Object}
 use Rattle.definitions.specs.Listing.{line}
 use Rattle.definitions.specs.Link.{Based, Common, Layout, AddressedWord, addressed, object_words, is_beyond, linking_of}
-use Rattle.definitions.specs.declared.marks.DeckKind.{DeckKind}
-use Rattle.definitions.specs.declared.marks.DeckKind.TheVariants.{Rel, Periph}
+use Rattle.definitions.specs.declared.deck_kind.DeckKind.{DeckKind}
+use Rattle.definitions.specs.declared.deck_kind.DeckKind.TheVariants.{Rel, Periph}
 
 -- a stored word behind its address: 20 digits behind 6, in a peripheral deck 4 behind 4
 abbrev pub word_line : DeckKind → AddressedWord → List ℕ

@@ -5,7 +5,7 @@ use Rattle.definitions.specs.Kinds.{units}
 use Rattle.definitions.specs.Settled.{Settled}
 use Rattle.definitions.specs.Blocks.{blocks_used, changes, literals_block, is_common}
 use Rattle.definitions.specs.Literals.{literal_words}
-use Rattle.definitions.specs.declared.marks.DeckKind.{DeckKind}
+use Rattle.definitions.specs.declared.deck_kind.DeckKind.{DeckKind}
 
 -- one more than the last word that the statement's items or its reservation reach; an ORG reaches none
 abbrev pub reached : DeckKind → Settled → ℕ

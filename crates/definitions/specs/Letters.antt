@@ -7,10 +7,10 @@ use Rattle.definitions.specs.Operands.{Operand, NamesOperand}
 use Rattle.definitions.specs.Settled.{Settled, defined}
 use Rattle.definitions.specs.Entries.{entry_fault}
 use Rattle.definitions.specs.StatementItems.{Item, Context, operand_items}
-use Rattle.definitions.specs.declared.marks.DeckKind.{DeckKind}
-use Rattle.definitions.specs.declared.marks.DeckKind.TheVariants.{Periph}
-use Rattle.definitions.specs.declared.marks.Letter.{Letter}
-use Rattle.definitions.specs.declared.marks.Letter.TheVariants as letter
+use Rattle.definitions.specs.declared.deck_kind.DeckKind.{DeckKind}
+use Rattle.definitions.specs.declared.deck_kind.DeckKind.TheVariants.{Periph}
+use Rattle.definitions.specs.declared.letter.Letter.{Letter}
+use Rattle.definitions.specs.declared.letter.Letter.TheVariants as letter
 
 -- a letter as it is written
 abbrev pub letter_text : Letter → List ℕ

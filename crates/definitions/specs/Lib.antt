@@ -54,3 +54,7 @@ pub mod Image
 pub mod Build
 -- The answer of `compass asm`.
 pub mod Answer
+-- The fields of a statement, and how statements follow one another in their blocks.
+pub mod Filling
+pub mod Rising
+pub mod Reaching

@@ -13,8 +13,8 @@ use Rattle.definitions.specs.StatementItems.{Item, Known, Linked, part_value}
 use Rattle.definitions.specs.Words.{Coded, Linking, StoredWord, stored_words}
 use Rattle.definitions.specs.Objects.{Object}
 use Rattle.definitions.specs.Listing.{line}
-use Rattle.definitions.specs.declared.marks.DeckKind.{DeckKind}
-use Rattle.definitions.specs.declared.marks.DeckKind.TheVariants.{Rel, Abs, Periph}
+use Rattle.definitions.specs.declared.deck_kind.DeckKind.{DeckKind}
+use Rattle.definitions.specs.declared.deck_kind.DeckKind.TheVariants.{Rel, Abs, Periph}
 
 -- where the first REL deck stands
 abbrev pub first_base : ℕ

@@ -11,8 +11,8 @@ use Rattle.definitions.specs.Lengths.{BlockRow, base_in}
 use Rattle.definitions.specs.StatementItems.{Item, part_value}
 use Rattle.definitions.specs.Words.{Coded, Linking, joined, width_of, cut}
 use Rattle.definitions.specs.Objects.{Object, Shown}
-use Rattle.definitions.specs.declared.marks.DeckKind.{DeckKind}
-use Rattle.definitions.specs.declared.marks.DeckKind.TheVariants.{Periph}
+use Rattle.definitions.specs.declared.deck_kind.DeckKind.{DeckKind}
+use Rattle.definitions.specs.declared.deck_kind.DeckKind.TheVariants.{Periph}
 
 -- a text and the line feed that ends it
 abbrev pub line : List ℕ → List ℕ

@@ -9,8 +9,8 @@ use Rattle.definitions.specs.Matching.{Field, NoField, OfK, OfN}
 use Rattle.definitions.specs.Operands.{Operand, CentralOperand, WordsOperand, BitsOperand, Datum, ExpressionWord, BitField}
 use Rattle.definitions.specs.Settled.{Settled}
 use Rattle.definitions.specs.Blocks.{literals_block}
-use Rattle.definitions.specs.declared.marks.Letter.{Letter}
-use Rattle.definitions.specs.declared.marks.Letter.TheVariants as letter
+use Rattle.definitions.specs.declared.letter.Letter.{Letter}
+use Rattle.definitions.specs.declared.letter.Letter.TheVariants as letter
 
 -- a number with its sign
 abbrev pub signed_number : Sign → ℕ → ℤ

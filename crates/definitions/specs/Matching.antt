@@ -5,7 +5,7 @@ use Rattle.definitions.specs.Characters.{same_text, is_among, comma, zero_digit}
 use Rattle.definitions.specs.Pieces.{Mark, Comma, Plus, Minus, Star, Slash, Equals, Piece, IsMark, IsCountedItem, Plain}
 use Rattle.definitions.specs.Expressions.{Expression, Sign, PlusSign, Term, Operator, Subtract, Element, ARegister, OperatorElement, expression_of, is_plain}
 use Rattle.definitions.specs.CentralTable.{Row, SumRow, central_rows, ignoring_rows, sum_rows}
-use Rattle.definitions.specs.declared.marks.NumberBase.{NumberBase}
+use Rattle.definitions.specs.declared.number_base.NumberBase.{NumberBase}
 
 -- the digits of i, j and k
 pub record RegisterDigits : Type 0 where

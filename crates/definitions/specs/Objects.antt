@@ -11,7 +11,7 @@ use Rattle.definitions.specs.StatementItems.{Context, items_of}
 use Rattle.definitions.specs.Letters.{letters_of, in_order}
 use Rattle.definitions.specs.Entries.{entries_of, externals_of}
 use Rattle.definitions.specs.Words.{Coded}
-use Rattle.definitions.specs.declared.marks.DeckKind.{DeckKind}
+use Rattle.definitions.specs.declared.deck_kind.DeckKind.{DeckKind}
 
 -- a statement of the listing: its cards, its letters and its fields
 pub record Shown : Type 0 where

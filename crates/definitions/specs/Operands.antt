@@ -10,9 +10,9 @@ use Rattle.definitions.specs.PeripheralTable.{PeripheralForm, Ignored, Long, Per
 use Rattle.definitions.specs.Matching.{Instruction, central_of}
 use Rattle.definitions.specs.Operations as op
 use Rattle.definitions.specs.Operations.{Operation}
-use Rattle.definitions.specs.declared.marks.DeckKind.{DeckKind}
-use Rattle.definitions.specs.declared.marks.DeckKind.TheVariants.{Rel, Periph}
-use Rattle.definitions.specs.declared.marks.NumberBase.{NumberBase}
+use Rattle.definitions.specs.declared.deck_kind.DeckKind.{DeckKind}
+use Rattle.definitions.specs.declared.deck_kind.DeckKind.TheVariants.{Rel, Periph}
+use Rattle.definitions.specs.declared.number_base.NumberBase.{NumberBase}
 
 -- what fills words of DATA or CON
 pub data Datum : Type 0 where

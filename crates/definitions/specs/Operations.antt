@@ -5,8 +5,8 @@ use Rattle.definitions.specs.Characters.{same_text}
 use Rattle.definitions.specs.CentralTable.{Row, SumRow, central_rows, ignoring_rows, sum_rows}
 use Rattle.definitions.specs.PeripheralTable.{peripheral_row}
 use Rattle.definitions.specs.Matching.{is_operation}
-use Rattle.definitions.specs.declared.marks.DeckKind.{DeckKind}
-use Rattle.definitions.specs.declared.marks.DeckKind.TheVariants.{Abs, Periph}
+use Rattle.definitions.specs.declared.deck_kind.DeckKind.{DeckKind}
+use Rattle.definitions.specs.declared.deck_kind.DeckKind.TheVariants.{Abs, Periph}
 
 -- the operations that the language tells apart
 pub data Operation : Type 0 where

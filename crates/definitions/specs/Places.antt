@@ -9,8 +9,8 @@ use Rattle.definitions.specs.Operations.{Operation, is_data, is_reserving}
 use Rattle.definitions.specs.Operands.{Operand, BadOperand}
 use Rattle.definitions.specs.Sizes.{size_of}
 use Rattle.definitions.specs.Settled.{Settled}
-use Rattle.definitions.specs.declared.marks.DeckKind.{DeckKind}
-use Rattle.definitions.specs.declared.marks.DeckKind.TheVariants.{Periph}
+use Rattle.definitions.specs.declared.deck_kind.DeckKind.{DeckKind}
+use Rattle.definitions.specs.declared.deck_kind.DeckKind.TheVariants.{Periph}
 
 -- whether an operand is flagged V
 abbrev pub is_bad : Operand → Bool

@@ -7,9 +7,9 @@ use Rattle.definitions.specs.Fields.{Fields, fields_of}
 use Rattle.definitions.specs.Forms.{Form}
 use Rattle.definitions.specs.Operations.{Operation, operation_of}
 use Rattle.definitions.specs.Operands.{Operand, operand_of}
-use Rattle.definitions.specs.declared.marks.DeckKind.{DeckKind}
-use Rattle.definitions.specs.declared.marks.NumberBase.{NumberBase}
-use Rattle.definitions.specs.declared.marks.Letter.{Letter}
+use Rattle.definitions.specs.declared.deck_kind.DeckKind.{DeckKind}
+use Rattle.definitions.specs.declared.number_base.NumberBase.{NumberBase}
+use Rattle.definitions.specs.declared.letter.Letter.{Letter}
 
 -- what is read of a statement before any name is known
 pub record ReadStatement : Type 0 where

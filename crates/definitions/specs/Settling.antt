@@ -16,11 +16,11 @@ use Rattle.definitions.specs.Blocks.{changes, open_names, block_in_use, blocks_u
 use Rattle.definitions.specs.Places.{Position, position_in, is_bad, is_no_minus, least_place, to_word, asks_after}
 use Rattle.definitions.specs.Counters.{Counters, counting_in, counters_at}
 use Rattle.definitions.specs.EarlyValues.{early_names, early_value, equated, Outcome, outcome_of}
-use Rattle.definitions.specs.declared.marks.DeckKind.{DeckKind}
-use Rattle.definitions.specs.declared.marks.DeckKind.TheVariants.{Rel, Periph}
-use Rattle.definitions.specs.declared.marks.NumberBase.{NumberBase}
-use Rattle.definitions.specs.declared.marks.Letter.{Letter}
-use Rattle.definitions.specs.declared.marks.Letter.TheVariants as letter
+use Rattle.definitions.specs.declared.deck_kind.DeckKind.{DeckKind}
+use Rattle.definitions.specs.declared.deck_kind.DeckKind.TheVariants.{Rel, Periph}
+use Rattle.definitions.specs.declared.number_base.NumberBase.{NumberBase}
+use Rattle.definitions.specs.declared.letter.Letter.{Letter}
+use Rattle.definitions.specs.declared.letter.Letter.TheVariants as letter
 
 -- the values of the symbols that earlier statements define
 abbrev pub View : Type 0

@@ -5,7 +5,7 @@ use Rattle.definitions.specs.PeripheralTable.{PeripheralForm, Wide, Long}
 use Rattle.definitions.specs.Matching.{Field, NoField, OfK, OfN}
 use Rattle.definitions.specs.Operands.{Operand, CentralOperand, PeripheralOperand, WordsOperand, BitsOperand, TextOperand, Datum, CountedItemWords, BitField}
 use Rattle.definitions.specs.Kinds.{word_bits, units, address_bits}
-use Rattle.definitions.specs.declared.marks.DeckKind.{DeckKind}
+use Rattle.definitions.specs.declared.deck_kind.DeckKind.{DeckKind}
 
 -- how many words a piece of DATA or CON fills
 abbrev pub datum_words : DeckKind → Datum → ℕ

@@ -16,10 +16,10 @@ use Rattle.definitions.specs.Sizes.{bits_of}
 use Rattle.definitions.specs.Literals.{signed_number, literal_form}
 use Rattle.definitions.specs.Lengths.{BlockRow, base_in}
 use Rattle.definitions.specs.Settled.{Settled, defined}
-use Rattle.definitions.specs.declared.marks.DeckKind.{DeckKind}
-use Rattle.definitions.specs.declared.marks.DeckKind.TheVariants.{Rel}
-use Rattle.definitions.specs.declared.marks.Letter.{Letter}
-use Rattle.definitions.specs.declared.marks.Letter.TheVariants as letter
+use Rattle.definitions.specs.declared.deck_kind.DeckKind.{DeckKind}
+use Rattle.definitions.specs.declared.deck_kind.DeckKind.TheVariants.{Rel}
+use Rattle.definitions.specs.declared.letter.Letter.{Letter}
+use Rattle.definitions.specs.declared.letter.Letter.TheVariants as letter
 
 -- bits that are known, or a form that the link makes a number of
 pub data Content : Type 0 where

@@ -16,8 +16,8 @@ use Rattle.definitions.specs.Places.{Position, position_in, no_position}
 use Rattle.definitions.specs.Counters.{counting_in}
 use Rattle.definitions.specs.Settling.{View, Seen, number_base_of, all_neutral, settle}
 use Rattle.definitions.specs.Lengths.{BlockLength, reached}
-use Rattle.definitions.specs.declared.marks.DeckKind.{DeckKind}
-use Rattle.definitions.specs.declared.marks.NumberBase.{NumberBase}
+use Rattle.definitions.specs.declared.deck_kind.DeckKind.{DeckKind}
+use Rattle.definitions.specs.declared.number_base.NumberBase.{NumberBase}
 
 -- a block that is used: its position, and its LOC in force
 pub record UsedBlock : Type 0 where

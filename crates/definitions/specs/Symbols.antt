@@ -3,8 +3,8 @@ use Rattle.std.specs.Prelude.{ℕ, ◌+◌, ◌-◌, ◌*◌, ◌^◌, ◌==◌,
 use Rattle.std.specs.List.{list_all}
 use Rattle.definitions.specs.Characters.{is_digit, is_symbol_character, is_among, same_text, zero_digit}
 use Rattle.definitions.specs.Numerals.{number_of}
-use Rattle.definitions.specs.declared.marks.NumberBase.{NumberBase}
-use Rattle.definitions.specs.declared.marks.NumberBase.TheVariants.{Decimal, Octal}
+use Rattle.definitions.specs.declared.number_base.NumberBase.{NumberBase}
+use Rattle.definitions.specs.declared.number_base.NumberBase.TheVariants.{Decimal, Octal}
 
 -- a register: A, B or X, and its digit
 pub record Register : Type 0 where

@@ -7,8 +7,8 @@ use Rattle.definitions.specs.Operations.{is_instruction}
 use Rattle.definitions.specs.Kinds.{units, unit_bits}
 use Rattle.definitions.specs.Settled.{Settled}
 use Rattle.definitions.specs.StatementItems.{Item, Content, Known, Linked}
-use Rattle.definitions.specs.declared.marks.DeckKind.{DeckKind}
-use Rattle.definitions.specs.declared.marks.DeckKind.TheVariants.{Periph}
+use Rattle.definitions.specs.declared.deck_kind.DeckKind.{DeckKind}
+use Rattle.definitions.specs.declared.deck_kind.DeckKind.TheVariants.{Periph}
 
 -- how the link makes bits of a form in a field
 abbrev pub Linking : Type 0

@@ -19,8 +19,8 @@ ghost use Rattle.definitions.specs.Lengths.{BlockRow, block_rows, total_length};
 ghost use Rattle.definitions.specs.Words.{Coded, Linking, StoredWord, stored_words};
 ghost use Rattle.definitions.specs.DeckInput.{Deck};
 ghost use Rattle.definitions.specs.Build.{build_of, listing_of, image_of};
-ghost use Rattle.definitions.specs.declared.marks.DeckKind.{DeckKind};
-ghost use Rattle.definitions.specs.declared.marks.NumberBase.{NumberBase};
+ghost use Rattle.definitions.specs.declared.deck_kind.DeckKind.{DeckKind};
+ghost use Rattle.definitions.specs.declared.number_base.NumberBase.{NumberBase};
 
 /// The octal text of a number, with as many digits as it needs or more, reads back as the number.
 pub fn octal_reads_back()

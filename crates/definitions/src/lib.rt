@@ -1,17 +1,33 @@
-//! What a program and its definitions name alike (letters, kinds of decks, number bases), and the laws
-//! of the definitions.
+//! The language, in `specs/`: what a program and its definitions name alike (letters, kinds of decks,
+//! number bases), and the laws of the definitions, each the contract of a function.
 #![tactic(auto)]
 
 // What code and definitions name alike.
-mod marks;
+mod deck_kind;
+mod letter;
+mod number_base;
 
-// The laws.
+// The laws of texts, fields, places, bases and builds.
 mod laws;
+
+// Those of states: what a statement is rests on the state before it.
 mod state_laws;
 
+// Those of settled statements, their places and their fields, and of the object that they make.
+mod field_laws;
+mod object_laws;
+mod place_laws;
+mod reach_laws;
+
+pub use deck_kind::DeckKind;
+pub use field_laws::{fields_fill, fields_fit, instructions_fill_parcels};
 pub use laws::{
     bases_are_sums, builds_are_listing_and_image, octal_reads_back, one_cut_into_fields,
     places_are_the_least, reads_the_grammar, statements_have_all_cards, words_fit,
 };
-pub use marks::{DeckKind, Letter, NumberBase};
+pub use letter::Letter;
+pub use number_base::NumberBase;
+pub use object_laws::{coded_statements_are_shown, names_of_blocks_differ};
+pub use place_laws::{places_rise, statements_are_laid_out};
+pub use reach_laws::statements_reach_words;
 pub use state_laws::{lengths_follow, states_are_enough, states_step, tails_agree};

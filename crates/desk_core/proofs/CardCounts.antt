@@ -1,6 +1,6 @@
 -- Edits that apply leave no more cards than a deck may have.
 use Rattle.std.proofs.Common.{◌≡◌, ℕ, ◌+◌, ◌≤◌, List, [], ◌∷◌, length, Option, Some, None, option_map, refl}
-use Rattle.card_edits.proofs.FaultLaws.{edited-few}
+use Rattle.cards.proofs.FaultLaws.{edited-few}
 use Rattle.desk_core.specs.Language.{Card}
 use Rattle.desk_core.specs.Edits.{Edit, EditFault, fault_of, edited, edited_by, first_fault}
 

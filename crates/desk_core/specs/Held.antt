@@ -1,6 +1,6 @@
 -- What the desk sees of a record and of a publication (ours).
 use Rattle.edit_core.specs.Records.{Record}
-use Rattle.deck_publisher.specs.Publishing.{Published}
+use Rattle.deck_linker.specs.Publishing.{Published}
 use Rattle.desk_core.specs.Desks.{Kept, Publication}
 
 -- the deck of a record

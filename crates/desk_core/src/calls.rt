@@ -4,9 +4,8 @@ use crate::held::Held;
 use crate::listed::Listed;
 use crate::new_deck::NewDeck;
 use crate::shared_publication::SharedPublication;
-use card_edits::Edit;
-use cards::DeckName;
-use deck_objects::SharedObject;
+use cards::{DeckName, Edit};
+use deck_assembler::SharedObject;
 
 /// The result of a deck job: the lease, the deck's identity and version as the job had them; the
 /// record, none where it is spent; and the object.

@@ -12,8 +12,7 @@ use crate::desk::{Desk, against_next};
 use crate::new_deck::NewDeck;
 use crate::replies::{Refusal, Reply};
 use crate::stored_deck::StoredDeck;
-use card_edits::{Edit, EditFault, fault_of, first_fault};
-use cards::DeckName;
+use cards::{DeckName, Edit, EditFault, fault_of, first_fault};
 use std::alloc::AllocError;
 
 /// How many decks a desk has at most.

@@ -15,7 +15,7 @@ use crate::leases::{Lease, is_leased_at};
 use crate::listed::Listed;
 use crate::replies::{Refusal, Reply};
 use crate::stored_deck::StoredDeck;
-use deck_objects::SharedObject;
+use deck_assembler::SharedObject;
 use std::alloc::{AllocError, Global};
 
 impl Desk {

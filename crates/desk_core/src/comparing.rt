@@ -6,7 +6,7 @@ ghost use Rattle.desk_core.specs.Delivering.{same_cards, same_decks};
 
 use crate::stored_deck::StoredDeck;
 use cards::{Card, DeckName};
-use deck_objects::SharedObject;
+use deck_assembler::SharedObject;
 
 pub(crate) fn same_name(name: &DeckName, other: &DeckName) -> bool
     ensures { result ≡ same_text name.now other.now }

@@ -12,9 +12,8 @@ ghost use Rattle.desk_core.specs.OwnNames.{HaveOwnNames, IsPlaceOf, has_lease, w
 use crate::held::Held;
 use crate::jobs::DeckWork;
 use crate::stored_deck::StoredDeck;
-use card_edits::Edit;
-use cards::DeckName;
-use deck_objects::SharedObject;
+use cards::{DeckName, Edit};
+use deck_assembler::SharedObject;
 use std::alloc::{AllocError, Global};
 use std::marker::Model;
 

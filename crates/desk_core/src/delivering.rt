@@ -16,7 +16,7 @@ use crate::held::Held;
 use crate::leases::{is_leased, is_leased_at};
 use crate::replies::{Refusal, Reply};
 use crate::shared_publication::SharedPublication;
-use deck_objects::SharedObject;
+use deck_assembler::SharedObject;
 
 impl Desk {
     /// The result of a deck job. A stale one gives its record back; one that is not the deck's loses it.

@@ -2,8 +2,7 @@
 ghost use Rattle.std.specs.Prelude.{◌≡◌, None, [], ◌∷◌, ◌++◌, is_ok, if◌then◌else◌};
 ghost use Rattle.desk_core.specs.Edits.{fault_of, first_fault, edited, edited_by};
 
-use card_edits::{Edit, apply, copied_edits, edited_copy};
-use cards::Card;
+use cards::{Card, Edit, apply, copied_edits, edited_copy};
 use std::alloc::{AllocError, Global};
 
 /// Makes an edit that applies, and keeps it with those that wait. Without memory nothing changes.

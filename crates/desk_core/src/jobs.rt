@@ -3,9 +3,8 @@
 use crate::deck_cards::DeckCards;
 use crate::held::Held;
 use crate::listed::Listed;
-use card_edits::Edit;
-use cards::DeckName;
-use deck_objects::SharedObject;
+use cards::{DeckName, Edit};
+use deck_assembler::SharedObject;
 
 /// What a deck job begins with.
 #[derive(Drop)]

@@ -8,8 +8,7 @@ use crate::desk::Desk;
 use crate::listed::Listed;
 use crate::replies::{Refusal, Reply, Row};
 use crate::stored_deck::StoredDeck;
-use card_edits::copied_cards;
-use cards::DeckName;
+use cards::{DeckName, copied_cards};
 use std::alloc::{AllocError, Global};
 
 impl Desk {

@@ -3,8 +3,7 @@
 use crate::jobs::{DeckWork, LinkWork};
 use crate::listed::Listed;
 use crate::shared_publication::SharedPublication;
-use card_edits::EditFault;
-use cards::{Card, DeckName};
+use cards::{Card, DeckName, EditFault};
 
 /// The state of a deck.
 #[derive(Clone, Copy, Debug, PartialEq, Eq)]

@@ -1,7 +1,7 @@
 //! A publication that several hold.
 ghost use Rattle.std.specs.Prelude.{◌≡◌, IfOk};
 
-use deck_publisher::Publication;
+use deck_linker::Publication;
 use std::alloc::{AllocError, Global};
 use std::marker::Model;
 use std::sync::Arc;

@@ -2,8 +2,7 @@
 //! first change to the words of the image.
 use super::*;
 use crate::tests_steps::*;
-use card_edits::Edit;
-use cards::{Card, DeckName};
+use cards::{Card, DeckName, Edit};
 use std::alloc::Global;
 use std::process::Abort;
 

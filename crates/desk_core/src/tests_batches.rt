@@ -1,7 +1,7 @@
 //! What no clause says: batches as a person writes them, each one change or none.
 use super::*;
 use crate::tests_steps::*;
-use card_edits::{Edit, EditFault};
+use cards::{Edit, EditFault};
 use std::alloc::Global;
 use std::process::Abort;
 

@@ -3,7 +3,7 @@
 use super::*;
 use crate::tests_steps::*;
 use cards::DeckName;
-use deck_objects::SharedObject;
+use deck_assembler::SharedObject;
 use edit_core::Kept;
 use statement_coder::Meter;
 use std::alloc::Global;

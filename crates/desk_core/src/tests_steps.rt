@@ -1,10 +1,9 @@
 //! Steps of a desk as the tests make them: a helper for each kind of step, with the reply that is
 //! wanted, and jobs done by hand. The deck is called M.
 use super::*;
-use card_edits::Edit;
-use cards::{Card, DeckName};
-use deck_objects::SharedObject;
-use deck_publisher::link;
+use cards::{Card, DeckName, Edit};
+use deck_assembler::SharedObject;
+use deck_linker::link;
 use edit_core::{Kept, assemble};
 use statement_coder::Meter;
 use std::alloc::Global;

@@ -5,7 +5,7 @@ use Rattle.deck_files.specs.declared.deck_shelf.ShelfLoadFault.{ShelfLoadFault}
 use Rattle.deck_files.specs.declared.deck_shelf.ShelfSaveFault.{ShelfSaveFault}
 use Rattle.desk_core.specs.declared.calls.Call.{Call}
 use Rattle.desk_core.specs.declared.replies.Reply.{Reply}
-use Rattle.session_service.specs.Serving.{Sides}
+use Rattle.session_line.specs.Serving.{Sides}
 use Rattle.desk_service.specs.declared.sessions.Ending.{Ending}
 use Rattle.desk_service.specs.Sessions.{ServesLine, ServesLines, ServesSession, next_line, ended, most_commands}
 

@@ -6,9 +6,9 @@ use Rattle.deck_files.specs.declared.deck_shelf.ShelfLoadFault.{ShelfLoadFault}
 use Rattle.deck_files.specs.declared.deck_shelf.ShelfSaveFault.{ShelfSaveFault}
 use Rattle.desk_core.specs.declared.calls.Call.{Call}
 use Rattle.desk_core.specs.declared.replies.Reply.{Reply}
-use Rattle.session_service.specs.declared.serving.Outcome.{Outcome}
-use Rattle.session_service.specs.declared.serving.Outcome.TheVariants.{Served, Ended, ReadFault, WriteFault}
-use Rattle.session_service.specs.Serving.{Sides, Serves}
+use Rattle.session_line.specs.declared.serving.Outcome.{Outcome}
+use Rattle.session_line.specs.declared.serving.Outcome.TheVariants.{Served, Ended, ReadFault, WriteFault}
+use Rattle.session_line.specs.Serving.{Sides, Serves}
 use Rattle.desk_service.specs.declared.sessions.Ending.{Ending}
 use Rattle.desk_service.specs.declared.sessions.Ending.TheVariants as ending
 

@@ -5,7 +5,7 @@ ghost use Rattle.desk_service.specs.Bells.{RingsAfter};
 use crossbeam_channel::Sender;
 use deck_workers::Bell;
 use desk_core::{Call, Reply};
-use session_service::Calls;
+use session_line::Calls;
 use std::marker::Model;
 use std::sync::Wait;
 

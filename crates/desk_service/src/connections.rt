@@ -2,7 +2,7 @@
 
 use crate::sessions::serve_session;
 use deck_files::Shelf;
-use session_service::Calls;
+use session_line::Calls;
 use std::alloc::Global;
 use std::io::{BufReader, BufWriter};
 use std::net::{TcpListener, TcpStream};

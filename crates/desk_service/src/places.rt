@@ -9,7 +9,7 @@ use crossbeam_channel::{Receiver, Sender};
 use deck_files::FolderShelf;
 use deck_workers::{Bell, OpenGate, worker};
 use desk_core::Desk;
-use session_service::SeatCalls;
+use session_line::SeatCalls;
 use std::alloc::{AllocError, Global};
 use std::net::TcpListener;
 use std::rt::Files;

@@ -1,10 +1,10 @@
 //! One session: line after line, until the client or a fault ends it.
 ghost use Rattle.std.specs.Prelude.{◌≡◌};
-ghost use Rattle.session_service.specs.Serving.{sides};
+ghost use Rattle.session_line.specs.Serving.{sides};
 ghost use Rattle.desk_service.specs.Sessions.{ServesLine, ServesSession, ending_after};
 
 use deck_files::Shelf;
-use session_service::{Calls, Outcome, serve_one};
+use session_line::{Calls, Outcome, serve_one};
 use std::alloc::Global;
 use std::io::{Read, Write};
 use text_ports::Counted;

@@ -1,10 +1,10 @@
 -- What keeps a record from being edited (ours).
 use Rattle.std.specs.Prelude.{Bool, true, false, List, Option, Some, option_map}
 use Rattle.definitions.specs.Cards.{Card}
-use Rattle.card_edits.specs.declared.edits.Edit.{Edit}
-use Rattle.card_edits.specs.declared.edits.EditFault.{EditFault}
-use Rattle.card_edits.specs.declared.edits.EditFault.TheVariants as edit_fault
-use Rattle.card_edits.specs.Edits.{fault_of}
+use Rattle.cards.specs.declared.edits.Edit.{Edit}
+use Rattle.cards.specs.declared.edits.EditFault.{EditFault}
+use Rattle.cards.specs.declared.edits.EditFault.TheVariants as edit_fault
+use Rattle.cards.specs.Edits.{fault_of}
 use Rattle.edit_core.specs.declared.faults.RecordFault.{RecordFault}
 use Rattle.edit_core.specs.declared.faults.RecordFault.TheVariants.{Spent, NoSuchCard, DeckFull}
 

@@ -2,12 +2,10 @@
 ghost use Rattle.std.specs.Prelude.{◌≡◌, ◌≤◌, ◌+◌, length, reverse, IfOk};
 ghost use Rattle.definitions.specs.DeckKinds.{up_to_end};
 ghost use Rattle.definitions.specs.Statements.{statements_of};
-ghost use Rattle.deck_pieces.specs.SizedDecks.{IsSizedDeck};
+ghost use Rattle.deck_assembler.specs.SizedDecks.{IsSizedDeck};
 
 use cards::{Card, DeckName};
-use deck_coder::object_parts;
-use deck_objects::{Object, SharedObject};
-use deck_pieces::SizedDeck;
+use deck_assembler::{Object, SharedObject, SizedDeck, object_parts};
 use statement_coder::Meter;
 use std::alloc::{AllocError, Global};
 

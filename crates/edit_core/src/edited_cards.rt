@@ -1,9 +1,8 @@
 //! Cards with an edit.
 ghost use Rattle.std.specs.Prelude.{◌≡◌, None, IfOk};
-ghost use Rattle.card_edits.specs.Edits.{fault_of, edited};
+ghost use Rattle.cards.specs.Edits.{fault_of, edited};
 
-use card_edits::{Edit, apply, copied_cards};
-use cards::Card;
+use cards::{Card, Edit, apply, copied_cards};
 use std::alloc::{AllocError, Global};
 
 /// A copy of these cards, with an edit that applies to them.

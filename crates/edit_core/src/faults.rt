@@ -2,7 +2,7 @@
 ghost use Rattle.std.specs.Prelude.{◌≡◌};
 ghost use Rattle.edit_core.specs.Faults.{record_fault};
 
-use card_edits::EditFault;
+use cards::EditFault;
 
 /// Why a record is not edited, or is spent from then on.
 #[derive(Clone, Copy, Debug, PartialEq, Eq)]

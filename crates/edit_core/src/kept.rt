@@ -3,7 +3,7 @@ ghost use Rattle.std.specs.Prelude.{◌≡◌, ◌≤◌, ◌+◌, true, false, 
 ghost use Rattle.std.specs.Option.{ForSome};
 ghost use Rattle.definitions.specs.DeckKinds.{up_to_end};
 ghost use Rattle.definitions.specs.Statements.{statements_of};
-ghost use Rattle.card_edits.specs.Edits.{fault_of, edited};
+ghost use Rattle.cards.specs.Edits.{fault_of, edited};
 ghost use Rattle.edit_core.specs.Edited.{statement_count, IsRecordOf};
 ghost use Rattle.edit_core.specs.Faults.{against};
 ghost use Rattle.edit_core.specs.Records.{ArePieces};
@@ -12,10 +12,8 @@ use crate::assembling::assembled;
 use crate::edited_cards::edited_cards;
 use crate::faults::{RecordFault, record_fault};
 use crate::piece_counts::piece_counts;
-use card_edits::{Edit, fault_of};
-use cards::{Card, DeckName};
-use deck_objects::SharedObject;
-use deck_pieces::SizedDeck;
+use cards::{Card, DeckName, Edit, fault_of};
+use deck_assembler::{SharedObject, SizedDeck};
 use statement_coder::Meter;
 use std::alloc::{AllocError, Global};
 use std::marker::Model;
@@ -43,7 +41,7 @@ pub enum FinishFault {
 
 impl Model for Kept {
     ghost use Rattle.std.specs.Prelude.{◌≡◌, ◌≤◌, false, length};
-    ghost use Rattle.deck_pieces.specs.SizedDecks.{IsSizedDeck};
+    ghost use Rattle.deck_assembler.specs.SizedDecks.{IsSizedDeck};
     ghost use Rattle.edit_core.specs.Records.{Record, piece_counts};
 
     ghost Value = { Record };

@@ -2,7 +2,7 @@
 ghost use Rattle.std.specs.Prelude.{◌≡◌, map, IfOk};
 ghost use Rattle.edit_core.specs.Records.{piece_counts};
 
-use deck_pieces::Piece;
+use deck_assembler::Piece;
 use std::alloc::{AllocError, Global};
 
 /// The number of statements of each of these pieces.

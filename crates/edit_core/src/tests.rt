@@ -1,7 +1,6 @@
 //! What no clause says: records of small decks, that an edit is made, and that an object is found.
 use crate::{Kept, RecordFault, assemble};
-use card_edits::Edit;
-use cards::{Card, DeckName};
+use cards::{Card, DeckName, Edit};
 use statement_coder::Meter;
 use std::alloc::{AllocError, Global};
 use std::process::Abort;

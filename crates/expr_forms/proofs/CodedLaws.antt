@@ -13,8 +13,8 @@ use Rattle.definitions.specs.CountedItems.{CountedItem, bits_needed}
 use Rattle.definitions.specs.Forms.{characters_number}
 use Rattle.definitions.specs.Coding.{counted_item_bits, counted_item_in, words_needed}
 use Rattle.definitions.specs.Kinds.{word_bits}
-use Rattle.definitions.specs.declared.marks.DeckKind.{DeckKind}
-use Rattle.definitions.specs.declared.marks.DeckKind.TheVariants.{Rel, Abs, Periph}
+use Rattle.definitions.specs.declared.deck_kind.DeckKind.{DeckKind}
+use Rattle.definitions.specs.declared.deck_kind.DeckKind.TheVariants.{Rel, Abs, Periph}
 use Rattle.definitions.specs.Words.{cut}
 use Rattle.definitions.proofs.WordLaws.{pow_positive}
 use Rattle.definitions.proofs.LiteralLaws.{characters_number-below}

@@ -7,7 +7,7 @@ use Rattle.definitions.specs.CountedItems.{CountedSpan, counted_item_at}
 use Rattle.definitions.specs.Pieces.{Mark, Plus, Minus, Star, Equals, Spot, AtStart, AtEquals, Inside, Begun, ByMark, Piece, IsMark, IsCountedItem, Plain, mark_of, begun_by, begun_by_counted_item, spot_behind, left_of, onto_pieces, pieces_at, pieces_of}
 use Rattle.definitions.specs.Symbols.{number_read}
 use Rattle.definitions.specs.Expressions.{Sign, PlusSign, MinusSign, Element, LocationCounter, OriginCounter, Operator, OperatorElement, AnOperator, ElementOf, counter_of, literal_of, onto_pairs, pairs_of}
-use Rattle.definitions.specs.declared.marks.NumberBase.{NumberBase}
+use Rattle.definitions.specs.declared.number_base.NumberBase.{NumberBase}
 use Rattle.definitions.proofs.GrammarLaws.{EndsElement, pairs_of-star}
 use Rattle.expr_forms.specs.Elements.{ends_element, signed_literal}
 use Rattle.expr_forms.specs.PiecesFound.{piece_as, spot_behind_piece}

@@ -2,7 +2,7 @@
 use Rattle.std.proofs.Common.{◌≡◌, ℕ, List, [], ◌∷◌, Option, Some, None, refl, ◌∙◌, ap}
 use Rattle.definitions.specs.Pieces.{Mark, Comma, Plus, Minus, Star, Slash, Equals, AtStart, Inside, Begun, Piece, IsMark, IsCountedItem, Plain, mark_of, begun_by, spot_behind, left_of, onto_plain, onto_pieces, pieces_at, pieces_of}
 use Rattle.definitions.specs.Expressions.{Operator, Times, Divide, Add, Subtract, OperatorElement, AnOperator, ElementOf, pairs_of}
-use Rattle.definitions.specs.declared.marks.NumberBase.{NumberBase}
+use Rattle.definitions.specs.declared.number_base.NumberBase.{NumberBase}
 use Rattle.expr_forms.specs.Links.{operator_marked}
 
 -- a run is no operator

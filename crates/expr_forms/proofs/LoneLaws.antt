@@ -3,7 +3,7 @@ use Rattle.std.proofs.Common.{◌≡◌, ℕ, ◌≤◌, List, [], ◌∷◌, �
 use Rattle.std.specs.Prelude.{is_some, unwrap_or}
 use Rattle.definitions.specs.Pieces.{Piece, mark_of, pieces_of}
 use Rattle.definitions.specs.Expressions.{Element, Operator, Times, Divide, Add, Subtract, OperatorElement, Term, ElementOf, pairs_of, Grouped, onto_grouped, grouped}
-use Rattle.definitions.specs.declared.marks.NumberBase.{NumberBase}
+use Rattle.definitions.specs.declared.number_base.NumberBase.{NumberBase}
 use Rattle.definitions.proofs.GrammarLaws.{link_of, StartsWithElement, pairs_of-read}
 use Rattle.definitions.proofs.TermLaws.{JoinsTerms, AreFactorLinks, AreJoined, links_in, term_of, IsGrouping, grouped-groups}
 use Rattle.expr_forms.specs.Links.{operator_marked, pairs_behind, links_behind, IsLawful}

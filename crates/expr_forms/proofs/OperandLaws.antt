@@ -3,7 +3,7 @@ use Rattle.std.proofs.Common.{◌≡◌, List, [], ◌∷◌, Bool, true, false,
 use Rattle.std.specs.Prelude.{is_some}
 use Rattle.std.specs.List.{list_all}
 use Rattle.definitions.specs.Pieces.{Piece}
-use Rattle.definitions.specs.declared.marks.NumberBase.{NumberBase}
+use Rattle.definitions.specs.declared.number_base.NumberBase.{NumberBase}
 use Rattle.expr_forms.specs.declared.operands.Subfield.{Subfield}
 use Rattle.expr_forms.specs.Operands.{IsSubfield, is_subfield, is_operand}
 

@@ -8,8 +8,8 @@ use Rattle.std.proofs.lemmas.Bool.{lt-leb, le-leb}
 use Rattle.std.proofs.lemmas.Bool.Decides.{leb_tells}
 use Rattle.definitions.specs.Symbols.{greatest}
 use Rattle.definitions.specs.Forms.{is_in_range, in_range, quotient}
-use Rattle.definitions.specs.declared.marks.Letter.{Letter}
-use Rattle.definitions.specs.declared.marks.Letter.TheVariants as letter
+use Rattle.definitions.specs.declared.letter.Letter.{Letter}
+use Rattle.definitions.specs.declared.letter.Letter.TheVariants as letter
 use Rattle.expr_forms.specs.Ranges.{ranged}
 
 -- a number in range

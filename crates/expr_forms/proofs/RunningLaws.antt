@@ -7,8 +7,8 @@ use Rattle.std.proofs.lemmas.List.{length-take-le, get_or-take, take_more_set, m
 use Rattle.std.proofs.Math.Seq.{take-set-lt}
 use Rattle.definitions.specs.Forms.{Relocation, Part, Added, Subtracted, Form, Running, same_relocation, running_part, plus_relocation, plus_relocations, is_in_range, is_zero, is_negative, running_in_range, remaining, part_of, plus_term, signed}
 use Rattle.definitions.specs.Expressions.{Operator, Times, Divide, Add, Subtract}
-use Rattle.definitions.specs.declared.marks.Letter.{Letter}
-use Rattle.definitions.specs.declared.marks.Letter.TheVariants as letter
+use Rattle.definitions.specs.declared.letter.Letter.{Letter}
+use Rattle.definitions.specs.declared.letter.Letter.TheVariants as letter
 use Rattle.expr_forms.specs.Ranges.{ranged}
 use Rattle.expr_forms.specs.FormsAs.{relocation_as}
 use Rattle.expr_forms.specs.Running.{base_as, is_other, AreSmall, left_list, part_times, part_relocation}

@@ -3,7 +3,7 @@ use Rattle.std.proofs.Common.{◌≡◌, ℕ, subst, List, [], ◌∷◌, refl, 
 use Rattle.std.specs.Prelude.{Result, Ok, Err, pos}
 use Rattle.definitions.specs.Expressions.{Element, Operator, OperatorElement, Term, Expression, Grouped, grouped}
 use Rattle.definitions.specs.Forms.{Form, Names, Running, element_form, combined_with, product, plus_term, sum_from, closed, value_of, absolute}
-use Rattle.definitions.specs.declared.marks.Letter.{Letter}
+use Rattle.definitions.specs.declared.letter.Letter.{Letter}
 use Rattle.definitions.proofs.TermLaws.{JoinsFactors, JoinsTerms, term_of, onto_grouped-factor, onto_grouped-term}
 use Rattle.expr_forms.specs.Parsed.{BeginsTerm}
 use Rattle.expr_forms.specs.Running.{bases_as, AreSmall}

@@ -3,7 +3,7 @@ use Rattle.std.specs.Prelude.{ℕ, List, [], ◌∷◌, Option, Some, None, Bool
 use Rattle.definitions.specs.Pieces.{Mark, Equals, Piece, Plain, Inside, pieces_at}
 use Rattle.definitions.specs.Symbols.{number_read}
 use Rattle.definitions.specs.Expressions.{Sign, NoSign, PlusSign, MinusSign, Literal, OfNumber, OfCountedItem, Element, ANumber, ACountedItem, ASymbol, ARegister, LocationCounter, OriginCounter, ALiteral, Operator, OperatorElement, AnOperator, literal_of, onto_pairs, pairs_of}
-use Rattle.definitions.specs.declared.marks.NumberBase.{NumberBase}
+use Rattle.definitions.specs.declared.number_base.NumberBase.{NumberBase}
 use Rattle.expr_forms.specs.Numbers.{number_as}
 use Rattle.expr_forms.specs.Registers.{register_as}
 use Rattle.expr_forms.specs.PiecesFound.{item_as}

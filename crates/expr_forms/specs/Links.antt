@@ -2,7 +2,7 @@
 use Rattle.std.specs.Prelude.{ℕ, List, [], ◌∷◌, Option, Some, None, ⊤, unwrap_or, ◌≡◌, true, is_some}
 use Rattle.definitions.specs.Pieces.{Mark, Comma, Plus, Minus, Star, Slash, Equals, Inside, pieces_at}
 use Rattle.definitions.specs.Expressions.{Operator, Times, Divide, Add, Subtract, OperatorElement, AnOperator, onto_pairs, pairs_of}
-use Rattle.definitions.specs.declared.marks.NumberBase.{NumberBase}
+use Rattle.definitions.specs.declared.number_base.NumberBase.{NumberBase}
 use Rattle.expr_forms.specs.Elements.{element_as}
 use Rattle.expr_forms.specs.declared.links.Operator as operators
 use Rattle.expr_forms.specs.declared.links.Operator.TheVariants as operator

@@ -1,8 +1,8 @@
 -- Numbers of the code, in the words of the definitions.
 use Rattle.std.specs.Prelude.{ℕ}
 use Rattle.definitions.specs.Symbols.{Number, Value, TooGreat}
-use Rattle.definitions.specs.declared.marks.NumberBase.{NumberBase}
-use Rattle.definitions.specs.declared.marks.NumberBase.TheVariants.{Decimal, Octal}
+use Rattle.definitions.specs.declared.number_base.NumberBase.{NumberBase}
+use Rattle.definitions.specs.declared.number_base.NumberBase.TheVariants.{Decimal, Octal}
 use Rattle.expr_forms.specs.declared.numbers.Number as code
 use Rattle.expr_forms.specs.declared.numbers.Number.TheVariants as number
 

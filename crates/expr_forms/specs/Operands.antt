@@ -2,7 +2,7 @@
 use Rattle.std.specs.Prelude.{◌≡◌, ◌≤◌, List, [], ◌∷◌, length, Some, Bool, false, ◌&&◌, is_some}
 use Rattle.definitions.specs.Pieces.{Piece, pieces_of}
 use Rattle.definitions.specs.Expressions.{expression_of}
-use Rattle.definitions.specs.declared.marks.NumberBase.{NumberBase}
+use Rattle.definitions.specs.declared.number_base.NumberBase.{NumberBase}
 use Rattle.expr_forms.specs.declared.operands.Subfield.{Subfield}
 use Rattle.expr_forms.specs.declared.operands.Operand as code
 use Rattle.expr_forms.specs.declared.operands.Operand.TheVariants as operand

@@ -1,7 +1,7 @@
 -- What an expression of the code is, in the words of the definitions.
 use Rattle.std.specs.Prelude.{ℕ, ◌≤◌, List, [], ◌∷◌, length}
 use Rattle.definitions.specs.Expressions.{Sign, OperatorElement, Expression, grouped}
-use Rattle.definitions.specs.declared.marks.NumberBase.{NumberBase}
+use Rattle.definitions.specs.declared.number_base.NumberBase.{NumberBase}
 use Rattle.definitions.proofs.TermLaws.{JoinsTerms, links_in}
 use Rattle.expr_forms.specs.Links.{IsLawful, links_behind}
 use Rattle.expr_forms.specs.LoneRegisters.{terms_left_by}

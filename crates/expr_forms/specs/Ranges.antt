@@ -1,8 +1,8 @@
 -- Numbers in range.
 use Rattle.std.specs.Prelude.{ℤ, Result, Ok, Err, if◌then◌else◌}
 use Rattle.definitions.specs.Forms.{is_in_range}
-use Rattle.definitions.specs.declared.marks.Letter.{Letter}
-use Rattle.definitions.specs.declared.marks.Letter.TheVariants as letter
+use Rattle.definitions.specs.declared.letter.Letter.{Letter}
+use Rattle.definitions.specs.declared.letter.Letter.TheVariants as letter
 
 -- a number, or A where it is out of range
 abbrev pub ranged : ℤ → Result ℤ Letter

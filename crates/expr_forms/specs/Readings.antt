@@ -5,7 +5,7 @@ use Rattle.definitions.specs.Pieces.{Piece, Plain}
 use Rattle.definitions.specs.Symbols.{is_block_name, number_read}
 use Rattle.definitions.specs.Expressions.{Sign}
 use Rattle.definitions.specs.Operands.{Datum, ZeroWord, NumberWord, CountedItemWords, ExpressionWord, number_word, BitField, bit_field, given_expression, plain_of, Operand, BadOperand, UseName, UseBefore, UseRefused}
-use Rattle.definitions.specs.declared.marks.NumberBase.{NumberBase}
+use Rattle.definitions.specs.declared.number_base.NumberBase.{NumberBase}
 use Rattle.expr_forms.specs.Numbers.{number_as}
 use Rattle.expr_forms.specs.Elements.{sign_as}
 use Rattle.expr_forms.specs.PiecesFound.{item_as}

@@ -2,7 +2,7 @@
 use Rattle.std.specs.Prelude.{ℕ, ◌≡◌, List, Result, Ok, Err, ⊤}
 use Rattle.definitions.specs.Expressions.{Operator, OperatorElement, grouped}
 use Rattle.definitions.specs.Forms.{Form, Names, Running, product, plus_term, sum_from, closed}
-use Rattle.definitions.specs.declared.marks.Letter.{Letter}
+use Rattle.definitions.specs.declared.letter.Letter.{Letter}
 use Rattle.expr_forms.specs.Links.{operator_as}
 use Rattle.expr_forms.specs.Running.{running_as}
 use Rattle.expr_forms.specs.declared.running.Base.{Base}

@@ -3,7 +3,7 @@ ghost use Rattle.std.specs.Prelude.{◌≡◌, MatchResult, codes, Some, None};
 ghost use Rattle.definitions.specs.Fields.{Fields};
 ghost use Rattle.definitions.specs.DeckKinds.{number_base_set};
 ghost use Rattle.definitions.specs.Operands.{Unread, BadOperand, base_operand};
-ghost use Rattle.definitions.specs.declared.marks.Letter.TheVariants as letter;
+ghost use Rattle.definitions.specs.declared.letter.Letter.TheVariants as letter;
 
 use crate::characters::is_lone;
 use definitions::{Letter, NumberBase};

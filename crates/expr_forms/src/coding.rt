@@ -11,7 +11,7 @@ ghost use Rattle.definitions.specs.Literals.{literal_word};
 ghost use Rattle.definitions.specs.Words.{cut};
 ghost use Rattle.expr_forms.specs.CodedItems.{in_places};
 
-use crate::counted_item::{CountedItem, word_bits};
+use crate::counted_item::CountedItem;
 use definitions::{DeckKind, Letter};
 use text_ports::display_of;
 
@@ -102,7 +102,7 @@ pub fn counted_item_word(item: &CountedItem, kind: DeckKind, index: usize) -> u6
     ensures { let words = words_needed (word_bits kind) item.now in
         result ≡ slice_index (cut (word_bits kind) words (counted_item_bits (words * word_bits kind) item.now)) index }
 {
-    let in_word = word_bits(kind) / CHARACTER_BITS;
+    let in_word = kind.word_bits() as usize / CHARACTER_BITS;
     let places = item.words_needed(kind) * in_word;
     number_in_places(item, places, index * in_word, in_word)
 }

@@ -2,7 +2,7 @@
 ghost use Rattle.std.specs.Prelude.{◌≡◌, ◌≤◌, ◌∷◌, [], length, option_map, is_some, Some, None, IfSome, IfNone, MatchResult};
 ghost use Rattle.definitions.specs.Pieces.{pieces_of, subfields_of};
 ghost use Rattle.definitions.specs.Operands.{con_word, all_words, plain_of, expression_word};
-ghost use Rattle.definitions.specs.declared.marks.Letter.TheVariants as letter;
+ghost use Rattle.definitions.specs.declared.letter.Letter.TheVariants as letter;
 ghost use Rattle.expr_forms.specs.Readings.{datum_as};
 
 use crate::data_words::Datum;

@@ -85,16 +85,6 @@ impl<'a> CountedItem<'a> {
         ensures words { result ≡ words_needed (word_bits kind) self.now }
         ensures few { result ≤ 51 }
     {
-        self.bits_needed().div_ceil(word_bits(kind))
-    }
-}
-
-/// How many bits a word of a deck has.
-pub(crate) fn word_bits(kind: DeckKind) -> usize
-    ensures { result ≡ word_bits kind }
-{
-    match kind {
-        DeckKind::Periph => 12,
-        DeckKind::Rel | DeckKind::Abs => 60,
+        self.bits_needed().div_ceil(kind.word_bits() as usize)
     }
 }

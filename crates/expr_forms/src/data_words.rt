@@ -3,7 +3,7 @@ ghost use Rattle.std.specs.Prelude.{◌≡◌, ◌≤◌, ◌∷◌, [], length,
 ghost use Rattle.definitions.specs.Pieces.{Inside, ByMark, IsMark, IsCountedItem, spot_behind, pieces_at, pieces_of, subfields_of};
 ghost use Rattle.definitions.specs.Symbols.{number_read};
 ghost use Rattle.definitions.specs.Operands.{CountedItemWords, number_word, data_word, all_words};
-ghost use Rattle.definitions.specs.declared.marks.Letter.TheVariants as letter;
+ghost use Rattle.definitions.specs.declared.letter.Letter.TheVariants as letter;
 ghost use Rattle.expr_forms.specs.Elements.{sign_as};
 ghost use Rattle.expr_forms.specs.PiecesFound.{mark_as, item_as};
 ghost use Rattle.expr_forms.specs.Readings.{datum_as, alone, signed_word};

@@ -4,10 +4,9 @@ ghost use Rattle.std.specs.Prelude.{◌≡◌, ◌≤◌, ◌<◌, ◌==◌, not
 ghost use Rattle.std.specs.List.{prefix_len};
 ghost use Rattle.definitions.specs.Characters.{comma};
 ghost use Rattle.definitions.specs.Operands.{TextOperand, BadOperand, count_read, word_characters, dis_operand};
-ghost use Rattle.definitions.specs.declared.marks.Letter.TheVariants as letter;
+ghost use Rattle.definitions.specs.declared.letter.Letter.TheVariants as letter;
 ghost use Rattle.expr_forms.specs.Numbers.{number_as};
 
-use crate::counted_item::word_bits;
 use crate::numbers::{Number, number_read};
 use definitions::{DeckKind, Letter, NumberBase};
 use std::marker::Model;
@@ -63,7 +62,7 @@ fn word_characters(kind: DeckKind) -> usize
     ensures characters { result ≡ word_characters kind }
     ensures few { result ≤ 10 }
 {
-    word_bits(kind) / CHARACTER_BITS
+    kind.word_bits() as usize / CHARACTER_BITS
 }
 
 /// How many characters stand before the first comma.

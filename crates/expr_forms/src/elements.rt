@@ -4,7 +4,7 @@ ghost use Rattle.std.specs.Prelude.{◌≡◌, ◌<◌, ◌≤◌, ◌∷◌, le
 ghost use Rattle.definitions.specs.Pieces.{Star, Equals, AtEquals, Inside, ByMark, IsMark, spot_behind, pieces_at, pieces_of};
 ghost use Rattle.definitions.specs.Expressions.{Operator, AnOperator, ElementOf, element_of_text, counter_of, literal_of, onto_pairs, pairs_of};
 ghost use Rattle.definitions.specs.Symbols.{number_read};
-ghost use Rattle.definitions.specs.declared.marks.NumberBase.{NumberBase};
+ghost use Rattle.definitions.specs.declared.number_base.NumberBase.{NumberBase};
 ghost use Rattle.expr_forms.specs.PiecesFound.{mark_as};
 ghost use Rattle.expr_forms.specs.Elements.{sign_as, element_as, elements_found, ends_element, signed_literal};
 

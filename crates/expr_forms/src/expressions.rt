@@ -4,7 +4,7 @@ ghost use Rattle.std.specs.Prelude.{◌≡◌, ◌≤◌, ◌<◌, ◌∷◌, []
 ghost use Rattle.definitions.specs.Pieces.{Inside, pieces_at, pieces_of};
 ghost use Rattle.definitions.specs.Expressions.{ElementOf, AnOperator, pairs_of, grouped, with_sign, expression_of};
 ghost use Rattle.definitions.specs.Grammar.{operator_of};
-ghost use Rattle.definitions.specs.declared.marks.NumberBase.{NumberBase};
+ghost use Rattle.definitions.specs.declared.number_base.NumberBase.{NumberBase};
 ghost use Rattle.definitions.proofs.GrammarLaws.{link_of};
 ghost use Rattle.expr_forms.specs.Elements.{sign_as, element_as};
 ghost use Rattle.expr_forms.specs.Links.{link_as};

@@ -2,7 +2,7 @@
 ghost use Rattle.std.specs.Prelude.{◌≡◌, ◌≤◌, ◌+◌, ◌∷◌, [], length, option_map, IfNone, IfSome};
 ghost use Rattle.definitions.specs.Pieces.{Inside, mark_of, pieces_at};
 ghost use Rattle.definitions.specs.Expressions.{AnOperator, pairs_of};
-ghost use Rattle.definitions.specs.declared.marks.NumberBase.{NumberBase};
+ghost use Rattle.definitions.specs.declared.number_base.NumberBase.{NumberBase};
 ghost use Rattle.expr_forms.specs.Elements.{element_as};
 ghost use Rattle.expr_forms.specs.Links.{operator_as, operator_marked, link_as, links_behind, links_found, IsLawful, ForLink};
 ghost use Rattle.expr_forms.specs.LoneRegisters.{joins_terms, is_register, begins_term, is_lone, without_lone, links_left_by};

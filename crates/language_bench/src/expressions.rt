@@ -1,7 +1,7 @@
 //! Expressions as decks often have them, read and valued.
 ghost use Rattle.std.specs.Prelude.{Some, Err, pos};
 ghost use Rattle.definitions.specs.Forms.{absolute};
-ghost use Rattle.definitions.specs.declared.marks.Letter.TheVariants.{A};
+ghost use Rattle.definitions.specs.declared.letter.Letter.TheVariants.{A};
 
 use definitions::{Letter, NumberBase};
 use expr_forms::{Expr, Form, Literal, Names, value};

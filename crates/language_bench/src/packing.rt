@@ -1,6 +1,6 @@
 //! A block as full as it may be, word by word.
 ghost use Rattle.std.specs.Prelude.{◌≡◌, OnOk};
-ghost use Rattle.definitions.specs.declared.marks.DeckKind.TheVariants.{Rel};
+ghost use Rattle.definitions.specs.declared.deck_kind.DeckKind.TheVariants.{Rel};
 
 use definitions::DeckKind;
 use parcel_packer::{Field, Words};

@@ -5,9 +5,8 @@ ghost use Rattle.definitions.specs.Characters.{same_text};
 use cards::{Card, StatementRoom};
 use definitions::{DeckKind, Letter};
 use expr_forms::{Form, Literal, Name};
-use field_items::{BlockBases, Item};
 use statement_coder::{
-    CodedItems, EarlySymbols, FinalSymbols, Meter, Sizing, Statement, code, size,
+    BlockBases, CodedItems, EarlySymbols, FinalSymbols, Item, Meter, Sizing, Statement, code, size,
 };
 use std::alloc::Global;
 use std::io;

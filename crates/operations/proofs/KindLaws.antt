@@ -5,8 +5,8 @@ use Rattle.std.proofs.lemmas.Grind.{reverse_onto}
 use Rattle.definitions.specs.Fields.{Fields}
 use Rattle.definitions.specs.Operations.{pseudo_instructions, pseudo_among, is_neutral}
 use Rattle.definitions.specs.DeckKinds.{kind_made, kind_of}
-use Rattle.definitions.specs.declared.marks.DeckKind.{DeckKind}
-use Rattle.definitions.specs.declared.marks.DeckKind.TheVariants.{Rel}
+use Rattle.definitions.specs.declared.deck_kind.DeckKind.{DeckKind}
+use Rattle.definitions.specs.declared.deck_kind.DeckKind.TheVariants.{Rel}
 use Rattle.operations.specs.KindsFound.{or_kind, kind_found}
 
 -- the kind that is found, or else that of later statements

@@ -8,7 +8,7 @@ use Rattle.std.proofs.lemmas.Nat.{or_shr, or_mod, mod_below}
 use Rattle.std.proofs.lemmas.Grind.{flat_map-append}
 use Rattle.definitions.specs.Characters.{is_among}
 use Rattle.definitions.specs.Letters.{letter_text, texts, in_order}
-use Rattle.definitions.specs.declared.marks.Letter.{Letter}
+use Rattle.definitions.specs.declared.letter.Letter.{Letter}
 use Rattle.operations.specs.LetterBits.{is_flagged, flagged}
 
 or_true : (b : Bool) → (b || true) ≡ true

@@ -1,2 +1,4 @@
 pub mod KindLaws
 pub mod LetterLaws
+pub mod SortedLaws
+pub mod TableLaws

@@ -1,3 +1,4 @@
 pub mod OperationsAs
 pub mod KindsFound
 pub mod LetterBits
+pub mod SortedNames

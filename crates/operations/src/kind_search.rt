@@ -38,7 +38,7 @@ pub struct KindSearch {
 
 impl Model for KindSearch {
     ghost use Rattle.std.specs.Prelude.{Option};
-    ghost use Rattle.definitions.specs.declared.marks.DeckKind as kinds;
+    ghost use Rattle.definitions.specs.declared.deck_kind.DeckKind as kinds;
 
     ghost Value = { Option kinds.DeckKind };
 

@@ -1,18 +1,27 @@
-//! What the fields of a statement say before any value is known: its operation and the classes of
-//! operations, the kind of its deck, the number base, END, and the letters that flag it. Whether a name
-//! is an instruction stands in the tables of instructions, not here.
+//! Operations by their names: the rows of a table of instructions that have a name, and the other
+//! operations; and what the fields of a statement say before any value is known, the kind of its deck,
+//! the number base, END, and the letters that flag it. The tables of instructions are not here.
 #![tactic(auto)]
 
-mod kind_search;
-mod letters;
+// The rows of a name.
+mod row;
+mod row_search;
+
+// The other operations, and their classes.
 mod operation;
 mod pseudo_table;
 mod settings;
+
+// The kind of a deck, and letters.
+mod kind_search;
+mod letters;
 
 pub use kind_search::KindSearch;
 pub use letters::{LetterText, Letters};
 pub use operation::Operation;
 pub use pseudo_table::{operation_of, pseudo_instruction};
+pub use row::Row;
+pub use row_search::rows_of;
 pub use settings::{asks_upper, is_end, number_base_set};
 
 #[cfg(test)]

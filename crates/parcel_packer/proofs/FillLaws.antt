@@ -6,7 +6,7 @@ use Rattle.std.proofs.lemmas.Bool.Decides.{eqb_tells, leb_tells}
 use Rattle.std.proofs.lemmas.List.{reverse-append}
 use Rattle.definitions.specs.Kinds.{units}
 use Rattle.definitions.specs.Words.{Parcel, StoredWord, in_word, latest_in_word, word_of_parcels, with_number, words_in_run, words_in, stored}
-use Rattle.definitions.specs.declared.marks.DeckKind.{DeckKind}
+use Rattle.definitions.specs.declared.deck_kind.DeckKind.{DeckKind}
 use Rattle.parcel_packer.specs.Spans.{RiseWithin}
 use Rattle.parcel_packer.specs.Filling.{IsFilled, as_stored, found, is_none_there, latest_value, offsets, or_else, value_in, value_of_parcels}
 use Rattle.parcel_packer.specs.declared.gathering.BlockWord.{BlockWord}

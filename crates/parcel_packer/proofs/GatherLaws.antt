@@ -8,8 +8,8 @@ use Rattle.std.proofs.lemmas.List.Elements.{filter-append}
 use Rattle.std.proofs.lemmas.List.Folds.{list_any-append}
 use Rattle.definitions.specs.Kinds.{units}
 use Rattle.definitions.specs.Words.{Parcel, bits_at, in_word, filling_of, pass, word_of_parcels}
-use Rattle.definitions.specs.declared.marks.DeckKind.{DeckKind}
-use Rattle.definitions.specs.declared.marks.DeckKind.TheVariants.{Rel, Abs, Periph}
+use Rattle.definitions.specs.declared.deck_kind.DeckKind.{DeckKind}
+use Rattle.definitions.specs.declared.deck_kind.DeckKind.TheVariants.{Rel, Abs, Periph}
 use Rattle.parcel_packer.specs.Packing.{parcel_at}
 use Rattle.parcel_packer.specs.Spans.{RiseWithin}
 use Rattle.parcel_packer.specs.Filling.{IsFilled, IsGathered, IsOpenWord, found, is_none_there, offsets, or_else, value_in, value_of_parcels, word_made}

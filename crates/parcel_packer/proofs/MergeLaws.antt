@@ -5,7 +5,7 @@ use Rattle.std.proofs.lemmas.Bool.Decides.{eqb_tells}
 use Rattle.std.specs.Prelude.{Vec, Result, Ok, Err, IfOk}
 use Rattle.std.proofs.lemmas.List.{take-append-drop}
 use Rattle.definitions.specs.Words.{Parcel}
-use Rattle.definitions.specs.declared.marks.DeckKind.{DeckKind}
+use Rattle.definitions.specs.declared.deck_kind.DeckKind.{DeckKind}
 use Rattle.parcel_packer.specs.Spans.{RiseWithin, DoRunsRise, parcels_in, parcels_in_runs}
 use Rattle.parcel_packer.specs.Filling.{IsFilled, IsMerging, found, offsets, or_else, value_in, latest_value}
 use Rattle.parcel_packer.specs.declared.spans.Span.{Span}

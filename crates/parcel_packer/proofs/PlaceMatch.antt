@@ -5,8 +5,8 @@ use Rattle.definitions.specs.Operations.{Operation}
 use Rattle.definitions.specs.Operands.{Operand}
 use Rattle.definitions.specs.Kinds.{units}
 use Rattle.definitions.specs.Places.{least_place, is_at_word, is_upper, is_long, to_word, past_last_parcel}
-use Rattle.definitions.specs.declared.marks.DeckKind.{DeckKind}
-use Rattle.definitions.specs.declared.marks.DeckKind.TheVariants.{Rel, Abs, Periph}
+use Rattle.definitions.specs.declared.deck_kind.DeckKind.{DeckKind}
+use Rattle.definitions.specs.declared.deck_kind.DeckKind.TheVariants.{Rel, Abs, Periph}
 use Rattle.parcel_packer.specs.declared.places.Size.{Size}
 use Rattle.parcel_packer.specs.declared.places.Upper.{Upper}
 use Rattle.parcel_packer.specs.Placing.{least_place_of, is_at_word_start, is_two_parcels}

@@ -11,8 +11,8 @@ use Rattle.definitions.specs.Kinds.{most_words}
 use Rattle.definitions.specs.StatementItems.{Item}
 use Rattle.definitions.specs.Words.{Parcel, Coded, Linking, cut, parcels_from, width_of, joined, content_bits, parcels_of, onto_runs, runs_of}
 use Rattle.definitions.specs.Operations.{is_instruction}
-use Rattle.definitions.specs.declared.marks.DeckKind.{DeckKind}
-use Rattle.definitions.specs.declared.marks.DeckKind.TheVariants.{Rel, Abs, Periph}
+use Rattle.definitions.specs.declared.deck_kind.DeckKind.{DeckKind}
+use Rattle.definitions.specs.declared.deck_kind.DeckKind.TheVariants.{Rel, Abs, Periph}
 use Rattle.parcel_packer.specs.Packing.{OpenRun, Packed, AreFieldsFitting, end_bit, most_bits, moved, MayBegin, put_bit, put_bits, put_items, parcel_at, runs_in}
 use Rattle.parcel_packer.specs.Spans.{IsOpen, IsPut, IsKept, RiseWithin, DoRunsRise, places, parcels_in, run_of, span_parcels}
 use Rattle.parcel_packer.specs.declared.spans.Span.{Span}

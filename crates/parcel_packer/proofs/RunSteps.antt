@@ -3,7 +3,7 @@ use Rattle.std.proofs.Common.{◌≡◌, ℕ, zero, suc, ◌+◌, ◌-◌, ◌/�
 use Rattle.std.proofs.lemmas.List.{drop_more, take_more, replicate_more, length-replicate}
 use Rattle.definitions.specs.Kinds.{units}
 use Rattle.definitions.specs.Words.{Parcel, parcels_from}
-use Rattle.definitions.specs.declared.marks.DeckKind.{DeckKind}
+use Rattle.definitions.specs.declared.deck_kind.DeckKind.{DeckKind}
 use Rattle.parcel_packer.specs.Packing.{parcel_at}
 use Rattle.parcel_packer.specs.Spans.{RiseWithin, places, parcels_in, span_parcels}
 use Rattle.parcel_packer.specs.declared.spans.Span.{Span}

@@ -4,7 +4,7 @@ use Rattle.std.specs.Prelude.{Vec, false}
 use Rattle.definitions.specs.Kinds.{units, unit_bits, word_bits}
 use Rattle.definitions.specs.Kinds.{most_words}
 use Rattle.definitions.specs.Words.{Parcel, stored, words_in}
-use Rattle.definitions.specs.declared.marks.DeckKind.{DeckKind}
+use Rattle.definitions.specs.declared.deck_kind.DeckKind.{DeckKind}
 use Rattle.parcel_packer.specs.Packing.{MayBegin, OpenRun, Packed, empty_run, most_bits, moved, put_bits, runs_in}
 use Rattle.parcel_packer.specs.Spans.{DoRunsRise, IsKept, parcels_in, parcels_in_runs, run_of}
 use Rattle.parcel_packer.specs.Filling.{IsFilled, as_stored, found, latest_value, or_else, value_in}

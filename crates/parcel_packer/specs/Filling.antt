@@ -3,7 +3,7 @@ use Rattle.std.specs.Prelude.{ℕ, ◌≡◌, ◌+◌, ◌*◌, ◌/◌, ◌%◌
 use Rattle.std.specs.List.{list_any}
 use Rattle.definitions.specs.Kinds.{units}
 use Rattle.definitions.specs.Words.{Parcel, StoredWord, bits_at, in_word, word_of_parcels}
-use Rattle.definitions.specs.declared.marks.DeckKind.{DeckKind}
+use Rattle.definitions.specs.declared.deck_kind.DeckKind.{DeckKind}
 use Rattle.parcel_packer.specs.Spans.{RiseWithin}
 use Rattle.parcel_packer.specs.declared.gathering.BlockWord.{BlockWord}
 use Rattle.parcel_packer.specs.declared.gathering.OpenWord.{OpenWord}

@@ -5,7 +5,7 @@ use Rattle.definitions.specs.Kinds.{units, unit_bits}
 use Rattle.definitions.specs.Kinds.{most_words}
 use Rattle.definitions.specs.StatementItems.{Item}
 use Rattle.definitions.specs.Words.{Linking, Parcel, content_bits}
-use Rattle.definitions.specs.declared.marks.DeckKind.{DeckKind}
+use Rattle.definitions.specs.declared.deck_kind.DeckKind.{DeckKind}
 
 -- a run: its whole parcels, and the parcel behind them with its first bits as one number
 pub record OpenRun : Type 0 where

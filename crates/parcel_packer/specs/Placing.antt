@@ -1,7 +1,7 @@
 -- Where something may stand in its block (COMPASS 60492600, forcing upper).
 use Rattle.std.specs.Prelude.{ℕ, ◌≡◌, ◌+◌, ◌*◌, ◌≤◌, ◌==◌, Bool, true, false, ⊤, if◌then◌else◌}
 use Rattle.definitions.specs.Places.{to_word, past_last_parcel}
-use Rattle.definitions.specs.declared.marks.DeckKind.TheVariants.{Rel}
+use Rattle.definitions.specs.declared.deck_kind.DeckKind.TheVariants.{Rel}
 use Rattle.parcel_packer.specs.declared.places.Place.{Place}
 use Rattle.parcel_packer.specs.declared.places.Placed.{Placed}
 use Rattle.parcel_packer.specs.declared.places.Size.{Size}

@@ -2,7 +2,7 @@
 use Rattle.std.specs.Prelude.{ℕ, ◌≡◌, ◌+◌, ◌*◌, ◌^◌, ◌<◌, ◌≤◌, List, [], ◌∷◌, ◌++◌, replicate, length, Vec}
 use Rattle.definitions.specs.Kinds.{unit_bits}
 use Rattle.definitions.specs.Words.{Parcel, parcels_from}
-use Rattle.definitions.specs.declared.marks.DeckKind.{DeckKind}
+use Rattle.definitions.specs.declared.deck_kind.DeckKind.{DeckKind}
 use Rattle.parcel_packer.specs.Packing.{OpenRun, put_bits}
 use Rattle.parcel_packer.specs.declared.fields.Field.{Field}
 use Rattle.parcel_packer.specs.declared.spans.Span.{Span}

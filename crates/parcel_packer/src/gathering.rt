@@ -2,7 +2,7 @@
 ghost use Rattle.std.specs.Prelude.{◌≡◌, ℕ, ◌+◌, ◌-◌, ◌*◌, ◌/◌, ◌%◌, ◌^◌, ◌<◌, ◌≤◌, ◌||◌, List, [], ◌∷◌, ◌++◌, IfOk, OnOk, unwrap_or, slice_index_or, length};
 ghost use Rattle.definitions.specs.Kinds.{units, unit_bits};
 ghost use Rattle.definitions.specs.Words.{Parcel, filling_of, word_of_parcels};
-ghost use Rattle.definitions.specs.declared.marks.DeckKind.{DeckKind};
+ghost use Rattle.definitions.specs.declared.deck_kind.DeckKind.{DeckKind};
 ghost use Rattle.parcel_packer.specs.Packing.{parcel_at};
 ghost use Rattle.parcel_packer.specs.Spans.{RiseWithin, places, parcels_in, span_parcels};
 ghost use Rattle.parcel_packer.specs.Filling.{IsFilled, IsOpenWord, IsGathered, value_in, word_made};

@@ -1,7 +1,7 @@
 //! The least place at which something may stand.
 ghost use Rattle.std.specs.Prelude.{◌≡◌, ◌+◌, ◌*◌, ◌/◌, ◌≤◌, ◌==◌, if◌then◌else◌};
 ghost use Rattle.definitions.specs.Places.{to_word, past_last_parcel};
-ghost use Rattle.definitions.specs.declared.marks.DeckKind.TheVariants.{Rel};
+ghost use Rattle.definitions.specs.declared.deck_kind.DeckKind.TheVariants.{Rel};
 ghost use Rattle.parcel_packer.specs.Placing.{IsSizeAllowed, StaysAtWord, parcels_before, size_parcels, least_place_of};
 
 use crate::places::{Place, Placed, Size, Upper};

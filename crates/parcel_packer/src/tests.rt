@@ -1,6 +1,6 @@
 //! What no clause says: words as the manual has them, and that each call succeeds.
 ghost use Rattle.std.specs.Prelude.{◌≡◌, ◌<◌, ◌≤◌, true, false};
-ghost use Rattle.definitions.specs.declared.marks.DeckKind.TheVariants.{Rel};
+ghost use Rattle.definitions.specs.declared.deck_kind.DeckKind.TheVariants.{Rel};
 ghost use Rattle.parcel_packer.specs.Placing.{IsSizeAllowed};
 ghost use Rattle.parcel_packer.specs.Spans.{IsField};
 

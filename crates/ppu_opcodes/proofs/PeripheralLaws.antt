@@ -9,9 +9,9 @@ use Rattle.definitions.specs.Expressions.{Expression}
 use Rattle.definitions.specs.Operands.{PeripheralOperand, just_one, one_or_two}
 use Rattle.definitions.specs.PeripheralTable.{PeripheralRow, peripheral_rows, peripheral_row, row_among}
 use Rattle.definitions.proofs.TextLaws.{same_text-true}
-use Rattle.opcode_rows.specs.declared.row.Row.{Row}
-use Rattle.opcode_rows.specs.SortedNames.{name_number, has_number}
-use Rattle.opcode_rows.proofs.TableLaws.{same_filters, filter-map, eqb-name_number}
+use Rattle.operations.specs.declared.row.Row.{Row}
+use Rattle.operations.specs.SortedNames.{name_number, has_number}
+use Rattle.operations.proofs.TableLaws.{same_filters, filter-map, eqb-name_number}
 use Rattle.ppu_opcodes.specs.declared.table.TheConstants.{ROWS}
 use Rattle.ppu_opcodes.specs.declared.code.Code.{Code}
 use Rattle.ppu_opcodes.specs.PeripheralCodes.{row_as, found_row}

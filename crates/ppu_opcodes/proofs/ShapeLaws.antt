@@ -7,7 +7,7 @@ use Rattle.definitions.specs.Pieces.{Piece}
 use Rattle.definitions.specs.PeripheralTable.{PeripheralRow, peripheral_row, peripheral_rows, row_among}
 use Rattle.definitions.specs.Operands as operand
 use Rattle.definitions.specs.Operands.{plain_of, by_form, peripheral_operand}
-use Rattle.definitions.specs.declared.marks.NumberBase.{NumberBase}
+use Rattle.definitions.specs.declared.number_base.NumberBase.{NumberBase}
 use Rattle.expr_forms.specs.declared.shapes.Shape.{Shape}
 use Rattle.expr_forms.specs.Shapes.{HasForm}
 use Rattle.ppu_opcodes.specs.declared.code.Code.{Code}

@@ -4,8 +4,8 @@ use Rattle.definitions.specs.Expressions.{Expression}
 use Rattle.definitions.specs.PeripheralTable as table
 use Rattle.definitions.specs.PeripheralTable.{PeripheralForm, PeripheralRow}
 use Rattle.definitions.specs.Operands as operand
-use Rattle.definitions.specs.declared.marks.Letter.{Letter}
-use Rattle.definitions.specs.declared.marks.Letter.TheVariants.{O, V}
+use Rattle.definitions.specs.declared.letter.Letter.{Letter}
+use Rattle.definitions.specs.declared.letter.Letter.TheVariants.{O, V}
 use Rattle.expr_forms.specs.declared.shapes.Shape.{Shape}
 use Rattle.expr_forms.specs.declared.shapes.Field.{Field}
 use Rattle.expr_forms.specs.Shapes.{HasForm, IsPeripheral}

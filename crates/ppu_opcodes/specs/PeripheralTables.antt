@@ -1,8 +1,8 @@
 -- A table of peripheral instructions as the definitions have it.
 use Rattle.std.specs.Prelude.{ℕ, ◌==◌, List, [], ◌∷◌, Option, Some, None, map, filter}
 use Rattle.definitions.specs.PeripheralTable.{PeripheralRow}
-use Rattle.opcode_rows.specs.declared.row.Row.{Row}
-use Rattle.opcode_rows.specs.SortedNames.{name_number}
+use Rattle.operations.specs.declared.row.Row.{Row}
+use Rattle.operations.specs.SortedNames.{name_number}
 use Rattle.ppu_opcodes.specs.declared.code.Code.{Code}
 use Rattle.ppu_opcodes.specs.PeripheralCodes.{row_as}
 

@@ -6,7 +6,7 @@ ghost use Rattle.definitions.specs.Pieces.{Piece};
 ghost use Rattle.definitions.specs.PeripheralTable as form;
 ghost use Rattle.definitions.specs.PeripheralTable.{PeripheralRow, peripheral_row};
 ghost use Rattle.definitions.specs.Operands.{BadOperand, plain_of, one_or_two, by_form, peripheral_operand};
-ghost use Rattle.definitions.specs.declared.marks.NumberBase.{NumberBase};
+ghost use Rattle.definitions.specs.declared.number_base.NumberBase.{NumberBase};
 ghost use Rattle.expr_forms.specs.Operands.{IsSubfield, IsOperand};
 ghost use Rattle.ppu_opcodes.specs.PeripheralCodes.{form_as};
 ghost use Rattle.ppu_opcodes.specs.PeripheralShapes.{IsFound, IsFieldOf, fault_of, is_ignoring, only_value};

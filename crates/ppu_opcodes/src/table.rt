@@ -6,7 +6,7 @@ ghost use Rattle.ppu_opcodes.specs.PeripheralCodes.{found_row};
 ghost use Rattle.ppu_opcodes.specs.PeripheralTables.{first_code};
 
 use crate::code::{Code, Form};
-use opcode_rows::{Row, rows_of};
+use operations::{Row, rows_of};
 
 /// Rows of a name, two octal digits and a form.
 macro_rules! rows {

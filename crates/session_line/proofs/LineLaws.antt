@@ -6,8 +6,8 @@ use Rattle.definitions.specs.Cards.{CardRead}
 use Rattle.definitions.specs.DeckInput.{is_deck_name}
 use Rattle.session_line.specs.declared.verbs.EditKind.{EditKind}
 use Rattle.session_line.specs.declared.verbs.EditKind.TheVariants as kind
-use Rattle.card_edits.specs.declared.edits.Edit.{Edit}
-use Rattle.card_edits.specs.declared.edits.Edit.TheVariants.{Insert, Replace, Remove}
+use Rattle.cards.specs.declared.edits.Edit.{Edit}
+use Rattle.cards.specs.declared.edits.Edit.TheVariants.{Insert, Replace, Remove}
 use Rattle.session_line.specs.declared.commands.Command.{Command}
 use Rattle.session_line.specs.declared.commands.Command.TheVariants as command
 use Rattle.session_line.specs.declared.refusals.Refusal.{Refusal}

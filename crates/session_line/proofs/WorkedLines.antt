@@ -1,7 +1,7 @@
 -- Worked lines, computed: which command each is, or why it is refused.
 use Rattle.std.proofs.Common.{◌≡◌, Ok, Err, codes, refl}
 use Rattle.cards.specs.declared.card.CardFault.TheVariants as card
-use Rattle.card_edits.specs.declared.edits.Edit.TheVariants.{Insert, Replace, Remove}
+use Rattle.cards.specs.declared.edits.Edit.TheVariants.{Insert, Replace, Remove}
 use Rattle.session_line.specs.declared.commands.Command.TheVariants as command
 use Rattle.session_line.specs.declared.refusals.Refusal.TheVariants.{BadCommand, BadName, BadCard}
 use Rattle.session_line.specs.Edits.{edit_in_batch}

@@ -5,7 +5,7 @@ use Rattle.definitions.specs.Fields.{unbroken_front}
 use Rattle.session_line.specs.declared.verbs.EditKind.{EditKind}
 use Rattle.session_line.specs.declared.verbs.Verb.{Verb}
 use Rattle.session_line.specs.declared.verbs.Verb.TheVariants as verb
-use Rattle.card_edits.specs.declared.edits.Edit.{Edit}
+use Rattle.cards.specs.declared.edits.Edit.{Edit}
 use Rattle.session_line.specs.declared.commands.Command.{Command}
 use Rattle.session_line.specs.declared.commands.Command.TheVariants as command
 use Rattle.session_line.specs.declared.refusals.Refusal.{Refusal}

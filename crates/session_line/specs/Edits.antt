@@ -5,8 +5,8 @@ use Rattle.definitions.specs.Fields.{unbroken_front}
 use Rattle.cards.specs.declared.card.CardFault.TheVariants as card
 use Rattle.session_line.specs.declared.verbs.EditKind.{EditKind}
 use Rattle.session_line.specs.declared.verbs.EditKind.TheVariants as kind
-use Rattle.card_edits.specs.declared.edits.Edit.{Edit}
-use Rattle.card_edits.specs.declared.edits.Edit.TheVariants.{Insert, Replace, Remove}
+use Rattle.cards.specs.declared.edits.Edit.{Edit}
+use Rattle.cards.specs.declared.edits.Edit.TheVariants.{Insert, Replace, Remove}
 use Rattle.session_line.specs.declared.refusals.Refusal.{Refusal}
 use Rattle.session_line.specs.declared.refusals.Refusal.TheVariants.{BadCommand, BadCard}
 use Rattle.session_line.specs.Words.{from_blank, first_number, behind_word}

@@ -5,3 +5,11 @@ pub mod Commands
 pub mod Lines
 pub mod Refusals
 pub mod Replies
+pub mod Tasks
+pub mod Taking
+pub mod Batches
+pub mod Reasons
+pub mod Answers
+pub mod Executing
+pub mod Serving
+pub mod Kinds

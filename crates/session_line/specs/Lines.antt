@@ -2,8 +2,8 @@
 use Rattle.std.specs.Prelude.{ℕ, ◌≡◌, ◌≤◌, ⊤, List, [], ◌++◌, Result, Ok, Err, IsTrue, codes, decimal}
 use Rattle.definitions.specs.Cards.{IsCard, card_of}
 use Rattle.definitions.specs.DeckInput.{is_deck_name}
-use Rattle.card_edits.specs.declared.edits.Edit.{Edit}
-use Rattle.card_edits.specs.declared.edits.Edit.TheVariants.{Insert, Replace, Remove}
+use Rattle.cards.specs.declared.edits.Edit.{Edit}
+use Rattle.cards.specs.declared.edits.Edit.TheVariants.{Insert, Replace, Remove}
 use Rattle.session_line.specs.declared.commands.Command.{Command}
 use Rattle.session_line.specs.declared.commands.Command.TheVariants as command
 use Rattle.session_line.specs.declared.refusals.Refusal.{Refusal}

@@ -1,8 +1,8 @@
 -- The texts of refusals (ours): the name, then the numbers in decimal, each after one blank.
 use Rattle.std.specs.Prelude.{ℕ, List, ◌++◌, codes, decimal}
 use Rattle.cards.specs.CardReads.{card_fault_text}
-use Rattle.card_edits.specs.declared.edits.EditFault.{EditFault}
-use Rattle.card_edits.specs.declared.edits.EditFault.TheVariants as fault
+use Rattle.cards.specs.declared.edits.EditFault.{EditFault}
+use Rattle.cards.specs.declared.edits.EditFault.TheVariants as fault
 use Rattle.session_line.specs.declared.refusals.Refusal.{Refusal}
 use Rattle.session_line.specs.declared.refusals.Refusal.TheVariants as refusal
 

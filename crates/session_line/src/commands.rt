@@ -6,8 +6,7 @@ use crate::edits::{edit_at, fits_edit};
 use crate::refusals::Refusal;
 use crate::verbs::{EditKind, Verb, verb_of};
 use crate::words::{behind_word, first_number, first_word, from_blank, to_blank};
-use card_edits::Edit;
-use cards::DeckName;
+use cards::{DeckName, Edit};
 
 /// How many edits a batch has at most.
 const MOST_EDITS: u64 = 100;

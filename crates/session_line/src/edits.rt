@@ -5,8 +5,7 @@ ghost use Rattle.session_line.specs.Edits.{card_behind, fits_edit, edit_at, edit
 use crate::refusals::Refusal;
 use crate::verbs::{EditKind, edit_kind_of};
 use crate::words::{behind_blank, behind_word, first_number, from_blank, to_blank};
-use card_edits::Edit;
-use cards::Card;
+use cards::{Card, Edit};
 
 /// Whether what stands behind the place may stand there: behind that of a removed card nothing does.
 pub(crate) fn fits_edit(kind: EditKind, rest: &[u8]) -> bool

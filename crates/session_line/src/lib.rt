@@ -1,5 +1,6 @@
-//! The lines of a session: which line is which command, or why it is refused, and the text of each
-//! reply. Nothing here calls a desk or a shelf, or opens a port.
+//! One line of a session, read, executed and answered: which line is which command, or why it is
+//! refused; at most one call of the desk and one of the shelf; and the text of the reply. Nothing here
+//! knows what a desk does with a call, where a shelf keeps its files, or what a port is.
 #![tactic(auto)]
 
 // Words and numbers.
@@ -11,9 +12,6 @@ mod commands;
 mod edits;
 mod refusals;
 
-// What clients may rest on.
-mod laws;
-
 // Replies.
 mod refusal_texts;
 mod replies;
@@ -21,14 +19,43 @@ mod reply_line;
 mod reply_texts;
 mod writing;
 
-pub use card_edits::{Edit, EditFault};
+// The desk that is called.
+mod calls;
+mod seat_calls;
+
+// What is asked.
+mod batches;
+mod reading;
+mod tasks;
+
+// What is done and told.
+mod answers;
+mod executing;
+mod reasons;
+mod serving;
+
+// What clients may rest on.
+mod desk_laws;
+mod laws;
+
+pub use calls::Calls;
+pub use cards::{Edit, EditFault};
 pub use commands::{BatchHead, Command, read_command};
 pub use desk_core::{Row, State};
+pub use desk_laws::a_desk_answers_sessions;
 pub use edits::read_batch_line;
 pub use laws::lines_read_back;
 pub use refusals::Refusal;
 pub use replies::Reply;
+pub use seat_calls::SeatCalls;
+pub use serving::{Outcome, serve_one};
 pub use writing::{reply_text, write_reply};
 
 #[cfg(test)]
 mod tests;
+#[cfg(test)]
+mod tests_faults;
+#[cfg(test)]
+mod tests_serving;
+#[cfg(test)]
+mod tests_steps;

@@ -5,8 +5,7 @@ ghost use Rattle.session_line.specs.Refusals.{edit_fault_text, refusal_text};
 
 use crate::refusals::Refusal;
 use crate::reply_line::ReplyLine;
-use card_edits::EditFault;
-use cards::CardFault;
+use cards::{CardFault, EditFault};
 
 /// A name, and a number behind it.
 fn put_numbered(line: &mut ReplyLine, name: &[u8], number: u64)

@@ -1,7 +1,6 @@
 //! Why something is refused.
 
-use card_edits::EditFault;
-use cards::CardFault;
+use cards::{CardFault, EditFault};
 
 /// Why a command, a file or an input is refused. Lines, columns and edits count from 1.
 ///

@@ -9,9 +9,9 @@ use Rattle.definitions.specs.Settled.{ReadStatement, Settled, defined, read_of}
 use Rattle.definitions.specs.Settling.{View}
 use Rattle.definitions.specs.StatementItems.{Context}
 use Rattle.definitions.specs.Statements.{Statement}
-use Rattle.definitions.specs.declared.marks.DeckKind.{DeckKind}
-use Rattle.definitions.specs.declared.marks.Letter.{Letter}
-use Rattle.field_items.specs.Items.{AreSeen}
+use Rattle.definitions.specs.declared.deck_kind.DeckKind.{DeckKind}
+use Rattle.definitions.specs.declared.letter.Letter.{Letter}
+use Rattle.statement_coder.specs.Items.{AreSeen}
 use Rattle.operations.specs.OperationsAs.{operation_as}
 use Rattle.statement_coder.specs.ReadOperands.{IsReadOperand}
 use Rattle.statement_coder.specs.Readings.{IsReading, IsWhole}

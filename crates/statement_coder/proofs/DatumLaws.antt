@@ -10,8 +10,8 @@ use Rattle.definitions.specs.Operands.{Datum}
 use Rattle.definitions.specs.Settled.{Settled}
 use Rattle.definitions.specs.StatementItems.{Item, Context, known, number_item, expression_item, datum_item}
 use Rattle.definitions.specs.Words.{cut}
-use Rattle.definitions.specs.declared.marks.DeckKind.{DeckKind}
-use Rattle.definitions.specs.declared.marks.DeckKind.TheVariants.{Rel, Abs, Periph}
+use Rattle.definitions.specs.declared.deck_kind.DeckKind.{DeckKind}
+use Rattle.definitions.specs.declared.deck_kind.DeckKind.TheVariants.{Rel, Abs, Periph}
 use Rattle.definitions.proofs.LiteralLaws.{characters_number-below}
 use Rattle.expr_forms.specs.CodedItems.{in_places}
 use Rattle.expr_forms.proofs.CodedLaws.{counted_item_bits-whole, length-in_places, word_bits-characters, words_needed-room}

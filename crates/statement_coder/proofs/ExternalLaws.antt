@@ -6,8 +6,8 @@ use Rattle.definitions.specs.Forms.{Form}
 use Rattle.definitions.specs.Letters.{texts, in_order}
 use Rattle.definitions.specs.Settled.{Definition, defined_in}
 use Rattle.definitions.specs.Settling.{View, external, is_known, letter_where, external_letters}
-use Rattle.definitions.specs.declared.marks.Letter.{Letter}
-use Rattle.definitions.specs.declared.marks.Letter.TheVariants as letter
+use Rattle.definitions.specs.declared.letter.Letter.{Letter}
+use Rattle.definitions.specs.declared.letter.Letter.TheVariants as letter
 use Rattle.statement_coder.specs.Externals.{has_unlawful, is_listed, has_known}
 
 -- whether one of these names is defined so far

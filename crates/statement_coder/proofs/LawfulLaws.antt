@@ -7,7 +7,7 @@ use Rattle.definitions.specs.Literals.{datum_literals}
 use Rattle.definitions.specs.Operands.{Datum, data_word, number_word, all_words, onto_all, linked_name}
 use Rattle.definitions.specs.Pieces.{Piece, Plain, IsMark, IsCountedItem, Plus, Minus}
 use Rattle.definitions.specs.Symbols.{Number, number_read, is_linked_name}
-use Rattle.definitions.specs.declared.marks.NumberBase.{NumberBase}
+use Rattle.definitions.specs.declared.number_base.NumberBase.{NumberBase}
 use Rattle.statement_coder.specs.Readings.{IsLawfulName}
 
 -- the literals of what may be there

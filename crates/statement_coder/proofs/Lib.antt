@@ -13,3 +13,5 @@ pub mod ToldLaws
 pub mod OperandLaws
 pub mod CodingLaws
 pub mod JoinLaws
+pub mod ShapeLaws
+pub mod SixBitLaws

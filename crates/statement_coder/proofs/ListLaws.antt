@@ -5,7 +5,7 @@ use Rattle.definitions.specs.StatementItems.{Item, known}
 use Rattle.definitions.specs.Words.{cut}
 use Rattle.statement_coder.specs.WordItems.{known_words}
 use Rattle.statement_coder.specs.CodedItems.{IsKept}
-use Rattle.field_items.specs.declared.items.Item as code
+use Rattle.statement_coder.specs.declared.items.Item as code
 
 -- a list keeps itself
 pub kept_same : (a : List code.Item) → IsKept a a

@@ -1,8 +1,8 @@
 -- Letters that are gathered one after the other.
 use Rattle.std.proofs.Common.{◌≡◌, ◌∙◌, ℕ, List, [], ◌++◌, Option, Some, None, refl, ap, sym, append_assoc, append-nil}
 use Rattle.definitions.specs.Letters.{in_order}
-use Rattle.definitions.specs.declared.marks.Letter.{Letter}
-use Rattle.field_items.specs.Items as fields
+use Rattle.definitions.specs.declared.letter.Letter.{Letter}
+use Rattle.statement_coder.specs.Items as fields
 use Rattle.statement_coder.specs.LettersAs as told
 
 -- the text of those so far; with those that are left they are all

@@ -14,9 +14,9 @@ use Rattle.definitions.specs.Pieces.{Piece, pieces_of, subfields_of}
 use Rattle.definitions.specs.Kinds.{allows_literals}
 use Rattle.definitions.specs.Characters.{is_among, same_text, slash, comma}
 use Rattle.definitions.specs.Symbols.{number_read, is_block_name}
-use Rattle.definitions.specs.declared.marks.NumberBase.{NumberBase}
-use Rattle.definitions.specs.declared.marks.DeckKind.TheVariants.{Rel, Abs, Periph}
-use Rattle.definitions.specs.declared.marks.DeckKind.{DeckKind}
+use Rattle.definitions.specs.declared.number_base.NumberBase.{NumberBase}
+use Rattle.definitions.specs.declared.deck_kind.DeckKind.TheVariants.{Rel, Abs, Periph}
+use Rattle.definitions.specs.declared.deck_kind.DeckKind.{DeckKind}
 
 -- as many characters as the words have, if the operand is a text
 abbrev pub FillsWords : DeckKind → Operand → Type 0

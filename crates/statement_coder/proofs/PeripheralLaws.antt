@@ -5,7 +5,7 @@ use Rattle.definitions.specs.Pieces.{Piece}
 use Rattle.definitions.specs.Expressions.{Expression, expression_of, is_plain}
 use Rattle.definitions.specs.PeripheralTable.{PeripheralForm, Ignored, Short, ShortJump, Shift, Wide, Long, PeripheralRow}
 use Rattle.definitions.specs.Operands.{BadOperand, plain_expression, plain_of, one_or_two, just_one, by_form, peripheral_operand}
-use Rattle.definitions.specs.declared.marks.NumberBase.{NumberBase}
+use Rattle.definitions.specs.declared.number_base.NumberBase.{NumberBase}
 use Rattle.expr_forms.specs.Operands.{is_subfield, is_operand}
 use Rattle.ppu_opcodes.specs.PeripheralShapes.{is_ignored, is_ignoring}
 

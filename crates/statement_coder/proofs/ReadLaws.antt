@@ -6,8 +6,8 @@ use Rattle.definitions.specs.Operations.{Operation, operation_of}
 use Rattle.definitions.specs.Operands.{operand_of}
 use Rattle.definitions.specs.Settled.{ReadStatement, read_of}
 use Rattle.definitions.specs.Settling.{View, Seen, settled_from}
-use Rattle.definitions.specs.declared.marks.DeckKind.{DeckKind}
-use Rattle.definitions.specs.declared.marks.NumberBase.{NumberBase}
+use Rattle.definitions.specs.declared.deck_kind.DeckKind.{DeckKind}
+use Rattle.definitions.specs.declared.number_base.NumberBase.{NumberBase}
 use Rattle.operations.specs.OperationsAs.{operation_as}
 use Rattle.statement_coder.specs.Sizings.{read_as, settled_read, IsSizing}
 use Rattle.statement_coder.specs.StatementsRead.{IsRead}

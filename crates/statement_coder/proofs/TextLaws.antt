@@ -4,7 +4,7 @@ use Rattle.std.proofs.Math.Nat.{mul-le-mul_right}
 use Rattle.definitions.specs.Forms.{characters_number}
 use Rattle.definitions.specs.Kinds.{word_bits}
 use Rattle.definitions.specs.Words.{cut}
-use Rattle.definitions.specs.declared.marks.DeckKind.{DeckKind}
+use Rattle.definitions.specs.declared.deck_kind.DeckKind.{DeckKind}
 use Rattle.expr_forms.proofs.CodedLaws.{get_or-cut, word_bits-characters}
 
 -- at most 100 words of at most 10 characters

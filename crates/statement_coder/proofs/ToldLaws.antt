@@ -9,12 +9,12 @@ use Rattle.definitions.specs.Operands as operands
 use Rattle.definitions.specs.Operands.{Operand, WordsOperand, TextOperand}
 use Rattle.definitions.specs.StatementItems.{Item, Content, Known, Linked, known}
 use Rattle.definitions.specs.Words.{cut}
-use Rattle.definitions.specs.declared.marks.DeckKind.{DeckKind}
-use Rattle.definitions.specs.declared.marks.Letter.{Letter}
+use Rattle.definitions.specs.declared.deck_kind.DeckKind.{DeckKind}
+use Rattle.definitions.specs.declared.letter.Letter.{Letter}
 use Rattle.definitions.proofs.LiteralLaws.{characters_number-below}
 use Rattle.expr_forms.proofs.CodedLaws.{word_bits-characters}
-use Rattle.field_items.specs.Items.{item_as}
-use Rattle.field_items.specs.declared.items.Item as code
+use Rattle.statement_coder.specs.Items.{item_as}
+use Rattle.statement_coder.specs.declared.items.Item as code
 use Rattle.statement_coder.specs.CodedItems.{IsKept, AreListed, AreTold}
 use Rattle.statement_coder.specs.FieldLetters.{field_letters}
 use Rattle.statement_coder.specs.WordItems.{is_several, known_words, words_of, in_words, listed_fields}

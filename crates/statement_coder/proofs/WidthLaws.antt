@@ -10,10 +10,10 @@ use Rattle.definitions.specs.Kinds.{address_bits}
 use Rattle.definitions.specs.Literals.{signed_number}
 use Rattle.definitions.specs.Settled.{Settled}
 use Rattle.definitions.specs.StatementItems.{Item, Linked, Context, faulty, known_if, linked_item, form_item, value_item, whole_counted_item, counted_item_or_value, expression_item, number_item, final_names, number_in, vfd_value}
-use Rattle.definitions.specs.declared.marks.DeckKind.{DeckKind}
-use Rattle.definitions.specs.declared.marks.DeckKind.TheVariants.{Rel, Abs, Periph}
-use Rattle.definitions.specs.declared.marks.Letter.{Letter}
-use Rattle.definitions.specs.declared.marks.Letter.TheVariants as letter
+use Rattle.definitions.specs.declared.deck_kind.DeckKind.{DeckKind}
+use Rattle.definitions.specs.declared.deck_kind.DeckKind.TheVariants.{Rel, Abs, Periph}
+use Rattle.definitions.specs.declared.letter.Letter.{Letter}
+use Rattle.definitions.specs.declared.letter.Letter.TheVariants as letter
 
 -- both fields of a choice have this width
 width-cond : (b : Bool) (x y : Item) (width : ℕ) → x.width ≡ width → y.width ≡ width → (if b then x else y).width ≡ width

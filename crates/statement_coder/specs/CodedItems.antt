@@ -5,9 +5,9 @@ use Rattle.definitions.specs.Operands.{Operand}
 use Rattle.definitions.specs.Operations as op
 use Rattle.definitions.specs.Operations.{Operation}
 use Rattle.definitions.specs.StatementItems.{Item, known}
-use Rattle.definitions.specs.declared.marks.DeckKind.{DeckKind}
-use Rattle.field_items.specs.Items.{item_as, items_as}
-use Rattle.field_items.specs.declared.items.Item as code
+use Rattle.definitions.specs.declared.deck_kind.DeckKind.{DeckKind}
+use Rattle.statement_coder.specs.Items.{item_as, items_as}
+use Rattle.statement_coder.specs.declared.items.Item as code
 use Rattle.statement_coder.specs.WordItems.{listed_fields}
 use Rattle.statement_coder.specs.declared.coded.CodedItems as told
 use Rattle.statement_coder.specs.declared.coded.CodedItems.TheVariants as items

@@ -10,3 +10,6 @@ pub mod Sizings
 pub mod WordItems
 pub mod CodedItems
 pub mod FieldLetters
+pub mod Items
+pub mod Numbers
+pub mod FieldItems

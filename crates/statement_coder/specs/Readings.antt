@@ -5,7 +5,7 @@ use Rattle.definitions.specs.Kinds.{word_bits}
 use Rattle.definitions.specs.Literals.{datum_literals}
 use Rattle.definitions.specs.Operands as definitions
 use Rattle.definitions.specs.Symbols.{is_linked_name}
-use Rattle.definitions.specs.declared.marks.DeckKind.{DeckKind}
+use Rattle.definitions.specs.declared.deck_kind.DeckKind.{DeckKind}
 use Rattle.expr_forms.specs.Readings.{use_as}
 use Rattle.expr_forms.specs.Shapes.{instruction_as, IsPeripheral}
 use Rattle.expr_forms.specs.declared.dis_fields.DisText.{DisText}

@@ -7,7 +7,7 @@ use Rattle.definitions.specs.Counters.{counters_at}
 use Rattle.definitions.specs.EarlyValues.{early_names, early_value}
 use Rattle.definitions.specs.Letters.{in_order}
 use Rattle.definitions.specs.Settling.{View, Seen, place_of, settled_with}
-use Rattle.definitions.specs.declared.marks.DeckKind.{DeckKind}
+use Rattle.definitions.specs.declared.deck_kind.DeckKind.{DeckKind}
 use Rattle.operations.specs.OperationsAs.{operation_as}
 use Rattle.use_blocks.specs.EffectsAs.{change_as, setting_as}
 use Rattle.statement_coder.specs.Definitions.{defined_by}

@@ -4,7 +4,7 @@ use Rattle.definitions.specs.Cards.{Card}
 use Rattle.definitions.specs.Fields.{fields_of}
 use Rattle.definitions.specs.Operations.{operation_of}
 use Rattle.definitions.specs.Statements.{is_stray}
-use Rattle.definitions.specs.declared.marks.DeckKind.{DeckKind}
+use Rattle.definitions.specs.declared.deck_kind.DeckKind.{DeckKind}
 use Rattle.operations.specs.OperationsAs.{operation_as}
 use Rattle.statement_coder.specs.declared.statement.Statement.{Statement}
 

@@ -4,8 +4,8 @@ use Rattle.definitions.specs.Kinds.{word_bits}
 use Rattle.definitions.specs.Operands.{Operand, WordsOperand, TextOperand}
 use Rattle.definitions.specs.StatementItems.{Content, Known, Item, known}
 use Rattle.definitions.specs.Words.{cut}
-use Rattle.definitions.specs.declared.marks.DeckKind.{DeckKind}
-use Rattle.definitions.specs.declared.marks.Letter.{Letter}
+use Rattle.definitions.specs.declared.deck_kind.DeckKind.{DeckKind}
+use Rattle.definitions.specs.declared.letter.Letter.{Letter}
 
 -- whether bits fill several words whole
 abbrev pub is_several : ℕ → ℕ → ℕ → Bool

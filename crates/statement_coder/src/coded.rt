@@ -1,5 +1,5 @@
 //! What is told of a coded statement: its fields and its letters.
-use field_items::InstructionItems;
+use crate::InstructionItems;
 use operations::Letters;
 
 /// The fields of a statement.

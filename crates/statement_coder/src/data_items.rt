@@ -5,14 +5,14 @@ ghost use Rattle.definitions.specs.Operands.{WordsOperand, BitsOperand};
 ghost use Rattle.definitions.specs.Settled.{Settled};
 ghost use Rattle.definitions.specs.StatementItems.{datum_item, operand_items};
 ghost use Rattle.expr_forms.specs.Readings.{datum_as};
-ghost use Rattle.field_items.specs.Items.{AreSeen, deck_with, item_as};
+ghost use Rattle.statement_coder.specs.Items.{AreSeen, deck_with, item_as};
 ghost use Rattle.statement_coder.specs.CodedItems.{IsKept};
 ghost use Rattle.statement_coder.specs.WordItems.{in_words};
 
-use crate::listing::{known_word, push, push_item, word_bits};
+use crate::listing::{known_word, push, push_item};
+use crate::{BlockBases, Item, bit_field_item, expression_item, number_item, zeros_to_word};
 use definitions::DeckKind;
 use expr_forms::{BitFields, ConWords, CountedItem, DataWords, Datum, Names};
-use field_items::{BlockBases, Item, bit_field_item, expression_item, number_item, zeros_to_word};
 use std::alloc::AllocError;
 
 /// Puts the words of a subfield of DATA or CON at the end of a list.
@@ -29,7 +29,7 @@ fn push_datum<B: BlockBases, N: Names>(
         AreSeen (N.names names.now) context statement →
         map item_as list.new.items ≡ map item_as list.old.items ++ in_words (word_bits kind) (datum_item context statement (datum_as datum.now))) }
 {
-    let word = word_bits(kind);
+    let word = kind.word_bits();
     match datum {
         Datum::Zero => push(list, known_word(kind, 0)),
         Datum::Number(sign, number) => push(list, number_item(word, *sign, *number)),
@@ -109,7 +109,7 @@ pub(crate) fn push_bits<B: BlockBases, N: Names>(
                 let width = u32::from(field.width);
                 let item = bit_field_item(kind, bases, names, width, &field.value);
                 push(list, item)?;
-                filled = (filled + width) % word_bits(kind);
+                filled = (filled + width) % kind.word_bits();
             }
         }
     }

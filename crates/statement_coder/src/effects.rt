@@ -7,13 +7,12 @@ ghost use Rattle.definitions.specs.Settled.{Settled, read_of};
 ghost use Rattle.definitions.specs.Settling.{View};
 ghost use Rattle.definitions.specs.States.{effect_of};
 ghost use Rattle.definitions.specs.Statements as statements;
-ghost use Rattle.definitions.specs.declared.marks.DeckKind as kinds;
-ghost use Rattle.definitions.specs.declared.marks.NumberBase as bases;
+ghost use Rattle.definitions.specs.declared.deck_kind.DeckKind as kinds;
+ghost use Rattle.definitions.specs.declared.number_base.NumberBase as bases;
 ghost use Rattle.use_blocks.specs.EffectsAs.{effect_as};
 ghost use Rattle.statement_coder.specs.Sizings.{IsSizing};
 ghost use Rattle.statement_coder.specs.StatementsRead.{IsRead};
 
-use crate::placing::units;
 use crate::sizing::Sizing;
 use crate::statement::Statement;
 use definitions::DeckKind;
@@ -25,7 +24,7 @@ fn words_to(kind: DeckKind, end: u32) -> u32
     requires { end ≤ 524288 }
     ensures { result ≡ (end + units kind - 1) / units kind }
 {
-    (end + units(kind) - 1) / units(kind)
+    (end + kind.units() - 1) / kind.units()
 }
 
 impl Sizing {

@@ -6,7 +6,7 @@ ghost use Rattle.definitions.specs.Letters.{in_order, name_fault, entry_letters}
 ghost use Rattle.definitions.specs.Operands as operands;
 ghost use Rattle.definitions.specs.Operations as op;
 ghost use Rattle.definitions.specs.Settled.{Settled, defined};
-ghost use Rattle.definitions.specs.declared.marks.DeckKind.TheVariants as kinds;
+ghost use Rattle.definitions.specs.declared.deck_kind.DeckKind.TheVariants as kinds;
 ghost use Rattle.expr_forms.specs.FormsAs.{part_as};
 ghost use Rattle.operations.specs.OperationsAs.{operation_as};
 ghost use Rattle.statement_coder.specs.LettersAs.{letters_as};

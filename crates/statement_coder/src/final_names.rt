@@ -4,7 +4,7 @@ ghost use Rattle.std.specs.Prelude.{◌≡◌, Result};
 ghost use Rattle.definitions.specs.Expressions as expressions;
 ghost use Rattle.definitions.specs.Forms as forms;
 ghost use Rattle.definitions.specs.Settling.{View};
-ghost use Rattle.definitions.specs.declared.marks.Letter as marks;
+ghost use Rattle.definitions.specs.declared.letter.Letter as marks;
 ghost use Rattle.expr_forms.specs.Elements.{literal_as};
 
 use definitions::Letter;

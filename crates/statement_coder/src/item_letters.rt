@@ -1,13 +1,13 @@
 //! The letters that flag fields.
 ghost use Rattle.std.specs.Prelude.{◌≡◌, map};
 ghost use Rattle.definitions.specs.Letters.{in_order};
-ghost use Rattle.field_items.specs.Items.{item_as, items_as, option_items};
+ghost use Rattle.statement_coder.specs.Items.{item_as, items_as, option_items};
 ghost use Rattle.statement_coder.specs.FieldLetters.{field_letters};
 ghost use Rattle.statement_coder.specs.LettersAs.{letters_as};
 
 use crate::size_letters::with_letter;
+use crate::{InstructionItems, Item};
 use definitions::Letter;
-use field_items::{InstructionItems, Item};
 use operations::Letters;
 
 /// The letters of the fields of a list.

@@ -29,6 +29,13 @@ mod meter;
 mod sized;
 mod sizing;
 
+// What a value, a counted item or a number is in so many bits of a deck of some kind.
+mod instruction_fields;
+mod items;
+mod numbers;
+mod six_bits;
+mod values;
+
 // Its fields, once all names have their values.
 mod coded;
 mod coding;
@@ -45,19 +52,26 @@ pub use coding::{code, code_read};
 pub use definitions_made::Defines;
 pub use early_values::EarlySymbols;
 pub use final_names::FinalSymbols;
+pub use instruction_fields::{InstructionItems, instruction_items};
+pub use items::{Content, Item, number_item, zeros_to_word};
 pub use kept_readings::KeptReading;
 pub use laws::lists_keep_bits;
 pub use meter::Meter;
+pub use numbers::{BlockBases, number_coded, number_in};
 pub use operand_sources::kept_operand;
 pub use read_operands::ReadOperand;
 pub use readings::{Reading, read_operand};
+pub use six_bits::{count_item, displacement_item, shift_item};
 pub use sized::{size, size_reading};
 pub use sizing::Sizing;
 pub use statement::Statement;
+pub use values::{bit_field_item, expression_item, value_item};
 
 #[cfg(test)]
 mod tests_codes;
 #[cfg(test)]
 mod tests_effects;
+#[cfg(test)]
+mod tests_items;
 #[cfg(test)]
 mod tests_sizes;

@@ -7,32 +7,22 @@ ghost use Rattle.definitions.specs.Forms.{characters_number};
 ghost use Rattle.definitions.specs.Kinds.{word_bits};
 ghost use Rattle.definitions.specs.StatementItems.{known};
 ghost use Rattle.definitions.specs.Words.{cut};
-ghost use Rattle.field_items.specs.Items.{item_as};
+ghost use Rattle.statement_coder.specs.Items.{item_as};
 ghost use Rattle.statement_coder.specs.CodedItems.{IsKept};
 ghost use Rattle.statement_coder.specs.WordItems.{known_words};
 
+use crate::{Content, Item};
 use definitions::DeckKind;
 use expr_forms::{CountedItem, DisText, counted_item_word};
-use field_items::{Content, Item};
 use std::alloc::AllocError;
 use text_ports::display_of;
-
-/// How many bits a word of a deck has.
-pub(crate) fn word_bits(kind: DeckKind) -> u32
-    ensures { result ≡ word_bits kind }
-{
-    match kind {
-        DeckKind::Periph => 12,
-        DeckKind::Rel | DeckKind::Abs => 60,
-    }
-}
 
 /// A word of known bits.
 pub(crate) fn known_word(kind: DeckKind, bits: u64) -> Item
     ensures { item_as result ≡ known (word_bits kind) bits }
 {
     Item {
-        width: word_bits(kind),
+        width: kind.word_bits(),
         content: Content::Known(bits),
         letter: None,
     }

@@ -11,28 +11,18 @@ ghost use Rattle.operations.specs.OperationsAs.{operation_as};
 ghost use Rattle.statement_coder.specs.Outcomes.{outcome_as};
 ghost use Rattle.expr_forms.specs.FormsAs.{part_as, relocation_as};
 
-use crate::placing::{is_same, units};
+use crate::placing::is_same;
 use definitions::{DeckKind, Letter};
 use expr_forms::{Form, Name, Part, Relocation};
 use operations::Operation;
 use use_blocks::{Counting, LocationSetting};
-
-/// How many words a block has at most.
-fn most_words(kind: DeckKind) -> u32
-    ensures { result ≡ most_words kind }
-{
-    match kind {
-        DeckKind::Periph => 4096,
-        DeckKind::Rel | DeckKind::Abs => 131_072,
-    }
-}
 
 /// A number of words from 0 up to, but not with, the greatest: else A.
 fn in_words(kind: DeckKind, number: i64) -> Result<u32, Letter>
     ensures words { result ≡ in_words (most_words kind) number }
     ensures few { MatchResult result (λ words. words < most_words kind) (λ letter. ⊤) }
 {
-    if number < 0 || number >= i64::from(most_words(kind)) {
+    if number < 0 || number >= i64::from(kind.most_words()) {
         return Err(Letter::A);
     }
     Ok(number as u32)
@@ -54,7 +44,7 @@ pub(crate) fn reserved(
         return Err(Letter::R);
     }
     let words = in_words(kind, form.number())?;
-    if place + words * units(kind) <= most_words(kind) * units(kind) {
+    if place + words * kind.units() <= kind.most_words() * kind.units() {
         Ok(words)
     } else {
         Err(Letter::A)
@@ -189,7 +179,7 @@ fn origin_outcome(kind: DeckKind, block: &Name, place: u32, value: Result<Form, 
     match origin_word(kind, block, value) {
         Err(letter) => stays_with(place, letter),
         Ok(word) => Outcome {
-            end: word * units(kind),
+            end: word * kind.units(),
             setting: LocationSetting::Ended,
             letter: None,
         },
@@ -222,7 +212,7 @@ fn reserved_outcome(kind: DeckKind, place: u32, value: Result<Form, Letter>) -> 
 {
     match reserved(kind, place, value) {
         Err(letter) => stays_with(place, letter),
-        Ok(words) => ends_at(place + words * units(kind)),
+        Ok(words) => ends_at(place + words * kind.units()),
     }
 }
 
@@ -280,7 +270,7 @@ fn outcome_of_size(kind: DeckKind, place: u32, size: u32) -> Outcome
     ensures outcome { (all : ℕ) → min size 600000 ≡ min all 600000 → outcome_as result ≡ outcome_of_size kind place all }
     ensures within { result.end ≤ 524288 }
 {
-    if place + size <= most_words(kind) * units(kind) {
+    if place + size <= kind.most_words() * kind.units() {
         ends_at(place + size)
     } else {
         stays_with(place, Letter::A)

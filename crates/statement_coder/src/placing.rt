@@ -20,16 +20,6 @@ pub(crate) struct OperandClass {
     pub(crate) is_long: bool,
 }
 
-/// How many units a word has: four parcels, or one in a peripheral deck.
-pub(crate) fn units(kind: DeckKind) -> u32
-    ensures { result ≡ units kind }
-{
-    match kind {
-        DeckKind::Periph => 1,
-        DeckKind::Rel | DeckKind::Abs => 4,
-    }
-}
-
 /// Whether both texts are the same.
 pub(crate) fn is_same(text: &[u8], other: &[u8]) -> bool
     ensures { result ≡ same_text text.now other.now }
@@ -67,7 +57,7 @@ pub(crate) fn to_word(kind: DeckKind, place: u32) -> u32
     ensures word { result ≡ to_word kind place }
     ensures within { result ≤ 524288 }
 {
-    (place + units(kind) - 1) / units(kind) * units(kind)
+    (place + kind.units() - 1) / kind.units() * kind.units()
 }
 
 /// The place, or the next word where a long instruction would begin in parcel 3.

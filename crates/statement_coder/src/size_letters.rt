@@ -6,9 +6,9 @@ ghost use Rattle.definitions.specs.Settling.{letter_where, is_refused, operand_l
 ghost use Rattle.definitions.specs.States.{names_of_blocks};
 ghost use Rattle.definitions.specs.Operations as op;
 ghost use Rattle.definitions.specs.Places.{is_bad};
-ghost use Rattle.definitions.specs.declared.marks.DeckKind.TheVariants as kinds;
-ghost use Rattle.definitions.specs.declared.marks.Letter as marks;
-ghost use Rattle.definitions.specs.declared.marks.Letter.TheVariants as letter;
+ghost use Rattle.definitions.specs.declared.deck_kind.DeckKind.TheVariants as kinds;
+ghost use Rattle.definitions.specs.declared.letter.Letter as marks;
+ghost use Rattle.definitions.specs.declared.letter.Letter.TheVariants as letter;
 ghost use Rattle.operations.specs.OperationsAs.{operation_as};
 ghost use Rattle.statement_coder.specs.LettersAs.{letters_as};
 ghost use Rattle.statement_coder.specs.Readings.{IsReading};

@@ -7,7 +7,7 @@ ghost use Rattle.definitions.specs.Pieces.{pieces_of, subfields_of};
 ghost use Rattle.definitions.specs.Places.{asks_upper, asks_after};
 ghost use Rattle.definitions.specs.Settling.{is_run, settled_from};
 ghost use Rattle.definitions.specs.States.{seen_from};
-ghost use Rattle.definitions.specs.declared.marks.DeckKind as kinds;
+ghost use Rattle.definitions.specs.declared.deck_kind.DeckKind as kinds;
 ghost use Rattle.operations.specs.OperationsAs.{operation_as};
 ghost use Rattle.use_blocks.specs.Changes.{IsAccepted};
 ghost use Rattle.use_blocks.specs.EffectsAs.{change_as, setting_as};

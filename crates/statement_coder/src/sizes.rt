@@ -6,11 +6,10 @@ ghost use Rattle.definitions.specs.Kinds.{units, word_bits};
 ghost use Rattle.definitions.specs.Sizes.{data_words, datum_words, bits_of, size_of};
 ghost use Rattle.definitions.specs.Places.{is_bad, is_long};
 ghost use Rattle.operations.specs.OperationsAs.{operation_as};
-ghost use Rattle.definitions.specs.declared.marks.DeckKind as kinds;
+ghost use Rattle.definitions.specs.declared.deck_kind.DeckKind as kinds;
 ghost use Rattle.expr_forms.specs.Readings.{datum_as};
 ghost use Rattle.statement_coder.specs.Readings.{IsReading, IsInstruction};
 
-use crate::placing::units;
 use crate::readings::Reading;
 use definitions::DeckKind;
 use expr_forms::{BitFields, ConWords, CountedItem, DataWords, Datum, Field, Shape, UseField};
@@ -125,10 +124,10 @@ pub(crate) fn size_of(kind: DeckKind, reading: &Reading<'_>) -> u32
 {
     match reading {
         Reading::Instruction(shape) => shape_units(shape),
-        Reading::Data(words) => data_words(kind, words.copied()) * units(kind),
-        Reading::Con(words) => con_words(kind, words.copied()) * units(kind),
-        Reading::Vfd(fields) => bit_words(kind, field_bits(fields.copied())) * units(kind),
-        Reading::Text(text) => text.words() as u32 * units(kind),
+        Reading::Data(words) => data_words(kind, words.copied()) * kind.units(),
+        Reading::Con(words) => con_words(kind, words.copied()) * kind.units(),
+        Reading::Vfd(fields) => bit_words(kind, field_bits(fields.copied())) * kind.units(),
+        Reading::Text(text) => text.words() as u32 * kind.units(),
         Reading::Unread => 0,
         Reading::Bad => 0,
         Reading::Value(_) => 0,

@@ -3,10 +3,10 @@ ghost use Rattle.std.specs.Prelude.{[], Ok, pos};
 ghost use Rattle.definitions.specs.Forms.{absolute};
 
 use super::*;
+use crate::{BlockBases, Content, InstructionItems, Item};
 use cards::{Card, StatementRoom};
 use definitions::{DeckKind, Letter};
 use expr_forms::{Form, Literal, Name};
-use field_items::{BlockBases, Content, InstructionItems, Item};
 use std::process::Abort;
 use use_blocks::BlockState;
 

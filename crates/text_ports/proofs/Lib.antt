@@ -4,3 +4,5 @@ pub mod WritingSteps
 pub mod CharacterLaws
 pub mod LineLaws
 pub mod HeldLines
+-- The steps of writing digits from the last one on.
+pub mod DigitSteps

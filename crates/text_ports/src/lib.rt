@@ -1,11 +1,16 @@
-//! Bytes in and out: ports that count their faults, lines, octal text, display code, and ports over
-//! memory that fail on purpose. Nothing here knows what a card is, and only a `FaultyWriter` takes
-//! memory.
+//! Bytes in and out: texts in memory, octal and decimal digits, display code, lines, ports that count
+//! their faults, and ports over memory that fail on purpose. Nothing here knows what a card is, and only
+//! `Text` and `FaultyWriter` take memory.
 #![tactic(auto)]
 
 // Characters and numbers.
 mod characters;
+mod digits;
 mod octal_text;
+
+// Texts in memory, and short ones on the stack.
+mod short_text;
+mod text;
 
 // Ports, and what goes in and out.
 mod counted;
@@ -25,7 +30,11 @@ pub use faulty_writer::FaultyWriter;
 pub use held_lines::next_held_line;
 pub use lines::{LineBuf, LineIs, next_line};
 pub use octal_text::{OctalText, octal};
+pub use short_text::ShortText;
+pub use text::Text;
 pub use writing::{Broken, put_all};
 
 #[cfg(test)]
 mod tests;
+#[cfg(test)]
+mod tests_texts;

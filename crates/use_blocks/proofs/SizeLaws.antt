@@ -21,10 +21,10 @@ use Rattle.definitions.specs.Settling.{Seen, seen_of, place_of, settle, settled_
 use Rattle.definitions.specs.Lengths.{BlockLength, block_rows, lengths_of, length_of, literals_row, reached, rows_from, local_words, placed_row, total_length}
 use Rattle.definitions.specs.Literals.{literal_words, with_literals, with_word, operand_literals, literal_word}
 use Rattle.definitions.specs.Expressions.{Literal}
-use Rattle.definitions.specs.declared.marks.DeckKind.{DeckKind}
-use Rattle.definitions.specs.declared.marks.DeckKind.TheVariants.{Rel, Abs, Periph}
-use Rattle.definitions.specs.declared.marks.Letter.{Letter}
-use Rattle.definitions.specs.declared.marks.Letter.TheVariants as letter
+use Rattle.definitions.specs.declared.deck_kind.DeckKind.{DeckKind}
+use Rattle.definitions.specs.declared.deck_kind.DeckKind.TheVariants.{Rel, Abs, Periph}
+use Rattle.definitions.specs.declared.letter.Letter.{Letter}
+use Rattle.definitions.specs.declared.letter.Letter.TheVariants as letter
 
 -- blocks: a change opens one where it is accepted
 opened-few : (name : List ℕ) (names : List (List ℕ)) → length names ≤ 64 → is_accepted name names ≡ true → length (with_opened (Opens name) names) ≤ 64

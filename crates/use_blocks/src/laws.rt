@@ -6,7 +6,7 @@ ghost use Rattle.definitions.specs.Literals.{literal_words};
 ghost use Rattle.definitions.specs.Settled.{Settled};
 ghost use Rattle.definitions.specs.Settling.{settle, settled_all};
 ghost use Rattle.definitions.specs.Statements.{Statement};
-ghost use Rattle.definitions.specs.declared.marks.DeckKind.{DeckKind};
+ghost use Rattle.definitions.specs.declared.deck_kind.DeckKind.{DeckKind};
 
 /// A deck has at most 64 blocks and 131,072 literals, and so at most 65 rows.
 pub fn blocks_are_few()

@@ -6,7 +6,7 @@ ghost use Rattle.definitions.specs.Lengths as definitions;
 ghost use Rattle.definitions.specs.Lengths.{lengths_of};
 ghost use Rattle.definitions.specs.Settled.{Opens};
 ghost use Rattle.definitions.specs.States.{Effect, state_after, names_of_blocks, lengths_advanced, lengths_behind};
-ghost use Rattle.definitions.specs.declared.marks.DeckKind.{DeckKind};
+ghost use Rattle.definitions.specs.declared.deck_kind.DeckKind.{DeckKind};
 ghost use Rattle.use_blocks.specs.BlockLengths.{block_names, has_name, opened_by, reaching};
 
 use expr_forms::Name;

@@ -3,8 +3,8 @@ use Rattle.std.specs.Prelude.{IsTrue}
 use Rattle.std.specs.List.{list_all}
 use Rattle.definitions.specs.Pieces.{Piece}
 use Rattle.definitions.specs.Matching.{first_fit}
-use Rattle.definitions.specs.declared.marks.NumberBase.{NumberBase}
-use Rattle.opcode_rows.specs.declared.row.Row.{Row}
+use Rattle.definitions.specs.declared.number_base.NumberBase.{NumberBase}
+use Rattle.operations.specs.declared.row.Row.{Row}
 use Rattle.expr_forms.specs.Operands.{IsOperand}
 use Rattle.cpu_opcodes.specs.declared.code.OperandForm.{OperandForm}
 use Rattle.cpu_opcodes.specs.RegistersFound.{digits_as}

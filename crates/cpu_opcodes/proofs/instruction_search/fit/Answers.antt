@@ -3,7 +3,7 @@ use Rattle.std.specs.Prelude.{if◌then◌else◌}
 use Rattle.std.specs.List.{list_any}
 use Rattle.definitions.specs.CentralTable as table
 use Rattle.definitions.specs.Matching.{is_operation}
-use Rattle.definitions.specs.declared.marks.Letter.TheVariants as letters
+use Rattle.definitions.specs.declared.letter.Letter.TheVariants as letters
 use Rattle.expr_forms.specs.Shapes.{instruction_as}
 use Rattle.cpu_opcodes.specs.CentralTables.{operand_row, sum_row, padded_row, padded_sum_row}
 use Rattle.cpu_opcodes.specs.Found.{fitted_as}

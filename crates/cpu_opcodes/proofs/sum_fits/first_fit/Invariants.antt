@@ -2,7 +2,7 @@ use Rattle.std.proofs.Common.{◌≡◌, Some, map, length}
 use Rattle.std.specs.Prelude.{IsTrue}
 use Rattle.std.specs.List.{list_all}
 use Rattle.definitions.specs.Matching.{Sum, first_fit}
-use Rattle.opcode_rows.specs.declared.row.Row.{Row}
+use Rattle.operations.specs.declared.row.Row.{Row}
 use Rattle.expr_forms.specs.Sums.{IsSum}
 use Rattle.cpu_opcodes.specs.declared.code.SumForm.{SumForm}
 use Rattle.cpu_opcodes.specs.RegistersFound.{digits_as}

@@ -1,5 +1,5 @@
 use Rattle.std.proofs.Common.{sym, ◌∙◌}
-use Rattle.deck_jobs.specs.Rounds.{Resting, Working}
+use Rattle.deck_workers.specs.Rounds.{Resting, Working}
 use Rattle.deck_workers.proofs.Seen.{one-call, worked}
 use Rattle.deck_workers.proofs.working.make_round.Goals as goal
 

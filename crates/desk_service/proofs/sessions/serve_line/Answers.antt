@@ -1,6 +1,6 @@
 use Rattle.std.proofs.Common.{ℕ, ◌≡◌, sym, ap, refl, subst}
 use Rattle.std.specs.Io.KnownBytes.{Keeps}
-use Rattle.session_service.specs.Serving.{Serves, sides}
+use Rattle.session_line.specs.Serving.{Serves, sides}
 use Rattle.desk_service.proofs.sessions.serve_line.Goals as goal
 
 pub returns : goal.returns

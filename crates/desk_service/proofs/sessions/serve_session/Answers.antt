@@ -1,5 +1,5 @@
 use Rattle.std.proofs.Common.{◌≡◌, ℕ, ◌<◌, arith, subst}
-use Rattle.session_service.specs.Serving.{sides}
+use Rattle.session_line.specs.Serving.{sides}
 use Rattle.desk_service.specs.Sessions.{ServesLines, most_commands, no_line, full}
 use Rattle.desk_service.proofs.SessionSteps.{lines_more, session_ended}
 use Rattle.desk_service.proofs.sessions.serve_session.Goals as goal

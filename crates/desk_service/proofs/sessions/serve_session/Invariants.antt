@@ -1,4 +1,4 @@
-use Rattle.session_service.specs.Serving.{sides}
+use Rattle.session_line.specs.Serving.{sides}
 use Rattle.desk_service.specs.Sessions.{ServesLines}
 use Rattle.desk_service.proofs.sessions.serve_session.Given as goal
 

@@ -3,7 +3,7 @@ use Rattle.std.specs.Prelude.{ℤ, option_map, FitsSigned, Result, Ok}
 use Rattle.std.specs.Int.{w64}
 use Rattle.std.proofs.lemmas.Int.{to_z-of_z}
 use Rattle.definitions.specs.Forms.{Running}
-use Rattle.definitions.specs.declared.marks.Letter.{Letter}
+use Rattle.definitions.specs.declared.letter.Letter.{Letter}
 use Rattle.expr_forms.specs.FormsAs.{part_as}
 use Rattle.expr_forms.specs.Links.{operator_as}
 use Rattle.expr_forms.specs.Running.{bases_as, running_as, AreSmall}

@@ -4,8 +4,8 @@ use Rattle.definitions.specs.Letters.{in_order, letters_of}
 use Rattle.definitions.specs.Settled.{Settled, read_of}
 use Rattle.definitions.specs.StatementItems.{items_of}
 use Rattle.definitions.specs.Statements.{Statement}
-use Rattle.definitions.specs.declared.marks.DeckKind.{DeckKind}
-use Rattle.field_items.specs.Items.{deck_with}
+use Rattle.definitions.specs.declared.deck_kind.DeckKind.{DeckKind}
+use Rattle.statement_coder.specs.Items.{deck_with}
 use Rattle.operations.specs.OperationsAs.{operation_as}
 use Rattle.statement_coder.specs.CodedItems.{AreTold}
 use Rattle.statement_coder.specs.ReadOperands.{IsReadOperand}

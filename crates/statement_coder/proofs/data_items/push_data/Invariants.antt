@@ -3,7 +3,7 @@ use Rattle.definitions.specs.Kinds.{word_bits}
 use Rattle.definitions.specs.Operands.{WordsOperand}
 use Rattle.definitions.specs.Settled.{Settled}
 use Rattle.definitions.specs.StatementItems.{operand_items}
-use Rattle.field_items.specs.Items.{AreSeen, deck_with, item_as}
+use Rattle.statement_coder.specs.Items.{AreSeen, deck_with, item_as}
 use Rattle.statement_coder.specs.CodedItems.{IsKept}
 use Rattle.statement_coder.specs.WordItems.{in_words}
 use Rattle.statement_coder.proofs.data_items.push_data.Given as goal

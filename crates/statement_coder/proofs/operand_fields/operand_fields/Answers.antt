@@ -2,7 +2,7 @@ use Rattle.std.proofs.Common.{◌≡◌, ◌∙◌, ◌*◌, ◌/◌, ◌++◌, 
 use Rattle.definitions.specs.Kinds.{word_bits}
 use Rattle.definitions.specs.Operands.{Operand, Datum, BitField, WordsOperand, BitsOperand, TextOperand}
 use Rattle.definitions.specs.StatementItems.{Item, operand_items}
-use Rattle.field_items.specs.Items.{deck_with, item_as}
+use Rattle.statement_coder.specs.Items.{deck_with, item_as}
 use Rattle.statement_coder.specs.CodedItems.{AreTold}
 use Rattle.statement_coder.specs.Readings.{IsReading, IsWhole}
 use Rattle.statement_coder.specs.WordItems.{in_words}

@@ -1,7 +1,7 @@
 use Rattle.std.proofs.Common.{◌∙◌, ℕ, List, map, drop, ap, subst}
 use Rattle.definitions.specs.Letters.{in_order}
-use Rattle.field_items.specs.Items.{item_as}
-use Rattle.field_items.specs.declared.items.Item as code
+use Rattle.statement_coder.specs.Items.{item_as}
+use Rattle.statement_coder.specs.declared.items.Item as code
 use Rattle.statement_coder.specs.CodedItems.{AreTold}
 use Rattle.statement_coder.specs.FieldLetters.{field_letters}
 use Rattle.statement_coder.proofs.ToldLaws.{told-letters}

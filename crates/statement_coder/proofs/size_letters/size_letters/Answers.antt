@@ -3,8 +3,8 @@ use Rattle.std.specs.Prelude.{is_some}
 use Rattle.definitions.specs.Letters.{in_order}
 use Rattle.definitions.specs.Settling.{letter_where, location_letters, is_refused, operand_letters}
 use Rattle.definitions.specs.States.{names_of_blocks}
-use Rattle.definitions.specs.declared.marks.Letter.{Letter}
-use Rattle.definitions.specs.declared.marks.Letter.TheVariants as letter
+use Rattle.definitions.specs.declared.letter.Letter.{Letter}
+use Rattle.definitions.specs.declared.letter.Letter.TheVariants as letter
 use Rattle.operations.specs.OperationsAs.{operation_as}
 use Rattle.statement_coder.specs.LettersAs.{letters_as}
 use Rattle.statement_coder.proofs.size_letters.size_letters.Goals as goal

@@ -1,0 +1,64 @@
+-- What a run writes, counts and says: the build of the decks of its input (ours).
+use Rattle.std.specs.Prelude.{ℕ, ◌≡◌, ◌<◌, ⊤, List, [], ◌++◌, Option, Some, None, Result, Ok, length, take, codes, IfSome}
+use Rattle.std.specs.Io.KnownBytes.{Appends, Keeps}
+use Rattle.definitions.specs.Answer.{Answer}
+use Rattle.definitions.specs.Build.{Build, build_of}
+use Rattle.definitions.specs.DeckInput.{Deck}
+use Rattle.definitions.specs.Listing.{line}
+use Rattle.asm_main.specs.Faults.{fault_text}
+use Rattle.asm_main.specs.Inputs.{input_in, AreDecksOf, input_fault}
+use Rattle.asm_main.specs.Runs.{run_status}
+use Rattle.asm_main.specs.declared.asm_fault.AsmFault.{AsmFault}
+use Rattle.asm_main.specs.declared.asm_fault.AsmFault.TheVariants.{OutOfMemory, DeckFull, NameTaken, TooManyDecks, ReadFault, BadLine, LastLineCut, WriteFault, BadName}
+use Rattle.asm_main.specs.declared.running.Tally.{Tally}
+
+-- the count of a build
+abbrev pub Counts : Build → Tally → Type 0
+Counts build tally = (tally.errors ≡ build.errors) × (tally.links ≡ build.links)
+
+-- the decks of the input, where its bytes are known, were built, and all of that went out
+pub record IsBuilt (bytes old new : Option (List ℕ)) (tally : Tally) : Type 0 where
+  pub decks : List Deck
+  pub found : IfSome bytes (λ b. AreDecksOf (input_in b) decks)
+  pub output : Appends old new (build_of decks).text
+  pub counts : Counts (build_of decks) tally
+
+-- so much of it went out, and not all
+pub record IsPartBuilt (bytes old new : Option (List ℕ)) (sent : ℕ) : Type 0 where
+  pub decks : List Deck
+  pub found : IfSome bytes (λ b. AreDecksOf (input_in b) decks)
+  pub part : sent < length (build_of decks).text
+  pub output : Appends old new (take sent (build_of decks).text)
+
+-- what went out before a fault: part of the build where the writer failed, else nothing
+abbrev pub IsOutputAfter : Option (List ℕ) → Option (List ℕ) → Option (List ℕ) → AsmFault → Type 0
+IsOutputAfter bytes old new OutOfMemory = Keeps old new
+IsOutputAfter bytes old new DeckFull = Keeps old new
+IsOutputAfter bytes old new NameTaken = Keeps old new
+IsOutputAfter bytes old new TooManyDecks = Keeps old new
+IsOutputAfter bytes old new ReadFault = Keeps old new
+IsOutputAfter bytes old new (BadLine number fault) = Keeps old new
+IsOutputAfter bytes old new LastLineCut = Keeps old new
+IsOutputAfter bytes old new (WriteFault sent) = IsPartBuilt bytes old new sent
+IsOutputAfter bytes old new (BadName number) = Keeps old new
+
+-- a run that ended well gave this answer
+pub record Gives (answer : Answer) (old new : Option (List ℕ)) (tally : Tally) : Type 0 where
+  pub output : Appends old new answer.output
+  pub message : answer.message ≡ []
+  pub status : run_status (Ok tally) ≡ answer.status
+
+-- a run that told a fault of the input told this answer
+pub record Tells (answer : Answer) (fault : AsmFault) : Type 0 where
+  pub output : answer.output ≡ []
+  pub message : answer.message ≡ line (codes "compass: " ++ fault_text fault)
+  pub status : answer.status ≡ 3
+
+-- where the fault is one of the input, it told this answer
+abbrev pub IsToldBy : Answer → AsmFault → Type 0
+IsToldBy answer fault = IfSome (input_fault fault) (λ told. Tells answer fault)
+
+-- what of an answer went out before a fault: so much where the writer failed
+abbrev pub IsPartOf : Answer → Option (List ℕ) → Option (List ℕ) → AsmFault → Type 0
+IsPartOf answer old new (WriteFault sent) = (sent < length answer.output) × Appends old new (take sent answer.output)
+IsPartOf answer old new fault = ⊤

@@ -1,0 +1,73 @@
+-- What a run makes of its input, in the words of the definitions (ours).
+use Rattle.std.specs.Prelude.{ℕ, ◌≡◌, ◌<◌, ◌≤◌, ◌^◌, ⊤, List, ◌++◌, Option, Some, None, length, map, reverse, IfSome, MatchOption}
+use Rattle.std.specs.Io.KnownBytes.{Consumes}
+use Rattle.definitions.specs.DeckInput.{Deck}
+use Rattle.definitions.specs.InputLines.{lines_of}
+use Rattle.definitions.specs.DeckInput.{Input, Decks, Faulty, InputFault, input_of, in_card_order, in_input_order}
+use Rattle.definitions.specs.DeckInput as input
+use Rattle.cards.specs.declared.card.CardFault.{CardFault}
+use Rattle.cards.specs.declared.card.CardFault.TheVariants as card
+use Rattle.asm_main.specs.declared.asm_fault.AsmFault.{AsmFault}
+use Rattle.asm_main.specs.declared.asm_fault.AsmFault.TheVariants.{OutOfMemory, DeckFull, NameTaken, TooManyDecks, ReadFault, BadLine, LastLineCut, WriteFault, BadName}
+
+-- the input that these bytes are
+abbrev pub input_in : List ℕ → Input
+input_in bytes = input_of (reverse (lines_of bytes))
+
+-- decks as the definitions collect them: newest first, each with its cards newest first
+abbrev pub newest_first : List Deck → List Deck
+newest_first decks = reverse (map in_card_order decks)
+
+-- the input is these decks, in order
+abbrev pub AreDecksOf : Input → List Deck → Type 0
+AreDecksOf (Decks found) decks = decks ≡ in_input_order found
+AreDecksOf (Faulty fault) decks = ⊥
+
+-- no line of the input is a fault
+abbrev pub IsSound : Input → Type 0
+IsSound (Decks found) = ⊤
+IsSound (Faulty fault) = ⊥
+
+-- the fault of a line that is no card
+abbrev pub bad_line : ℕ → CardFault → InputFault
+bad_line number card.TooWide = input.BadLineTooWide number
+bad_line number (card.BadCharacter column) = input.BadLineBadCharacter number column
+
+-- the fault of the input that a fault tells, if it is one
+abbrev pub input_fault : AsmFault → Option InputFault
+input_fault OutOfMemory = None
+input_fault DeckFull = Some input.DeckFull
+input_fault NameTaken = Some input.NameTaken
+input_fault TooManyDecks = Some input.TooManyDecks
+input_fault ReadFault = None
+input_fault (BadLine number fault) = Some (bad_line number fault)
+input_fault LastLineCut = Some input.LastLineCut
+input_fault (WriteFault sent) = None
+input_fault (BadName number) = Some (input.BadName number)
+
+-- the input has this very fault, or it has none and no memory was left
+abbrev pub IsFaultOf : Input → AsmFault → Type 0
+IsFaultOf found fault = MatchOption (input_fault fault) ((fault ≡ OutOfMemory) × IsSound found) (λ told. found ≡ Faulty told)
+
+-- a fault that tells one of the input tells the one that it has
+abbrev pub TellsFaultOf : Input → AsmFault → Type 0
+TellsFaultOf found fault = IfSome (input_fault fault) (λ told. found ≡ Faulty told)
+
+-- the reader lost lines that show no fault, and then no more than one line
+pub record ReadsToFault (old new : Option (List ℕ)) : Type 0 where
+  pub front : List ℕ
+  pub line : List ℕ
+  pub consumed : Consumes old new (front ++ line)
+  pub sound : IsSound (input_in front)
+  pub one : length (lines_of line) ≤ 1
+
+-- the numbers that a fault of a card tells can be written
+abbrev pub IsSmallColumn : CardFault → Type 0
+IsSmallColumn card.TooWide = ⊤
+IsSmallColumn (card.BadCharacter column) = column < 2 ^ 64
+
+-- the numbers that a fault tells can be written
+abbrev pub AreSmall : AsmFault → Type 0
+AreSmall (BadLine number fault) = (number < 2 ^ 64) × IsSmallColumn fault
+AreSmall (BadName number) = number < 2 ^ 64
+AreSmall fault = ⊤

@@ -1,0 +1,85 @@
+//! One run of `compass asm`, and its status.
+ghost use Rattle.std.specs.Prelude.{◌≡◌, OnOk, IfOk, IfErr, IfSome};
+ghost use Rattle.definitions.specs.Answer.{answer_of};
+ghost use Rattle.asm_main.specs.Builds.{IsBuilt, IsOutputAfter, Gives, IsToldBy, IsPartOf};
+ghost use Rattle.asm_main.specs.Inputs.{input_in, TellsFaultOf, ReadsToFault};
+ghost use Rattle.asm_main.specs.Runs.{IsReadBefore, input_count_after, output_count_after, run_status};
+
+use crate::asm_fault::AsmFault;
+use crate::deck_input::read_decks;
+use crate::publishing::publish;
+use crate::writing::write_texts;
+use std::alloc::Global;
+use std::io::{BufRead, Write};
+use text_ports::Counted;
+
+/// What a run counts: the flagged statements, and the LINK lines of the map.
+#[derive(Clone, Copy, Debug, PartialEq, Eq)]
+pub struct Tally {
+    pub errors: usize,
+    pub links: usize,
+}
+
+/// Reads decks of cards, and writes their listing, the link map and the octal image: the answer of
+/// the definitions. All is read before anything is written, and what follows the first fault is not
+/// looked at.
+pub fn asm_run<R: BufRead, W: Write>(
+    alloc: Global,
+    input: &mut Counted<R>,
+    output: &mut Counted<W>,
+) -> Result<Tally, AsmFault>
+    // Where the bytes of the input are known, the answer is that of the definitions: what is
+    // written, and the status; or the fault of the input, its text and its status; and after a
+    // fault of the writer exactly the first `sent` bytes.
+    ensures answer { IfOk result (λ tally.
+        IfSome (R.remaining input.old.0) (λ bytes. Gives (answer_of bytes) (W.contents output.old.0) (W.contents output.new.0) tally)) }
+    ensures told { IfErr result (λ fault.
+        IfSome (R.remaining input.old.0) (λ bytes. IsToldBy (answer_of bytes) fault)) }
+    ensures part { IfErr result (λ fault.
+        IfSome (R.remaining input.old.0) (λ bytes. IsPartOf (answer_of bytes) (W.contents output.old.0) (W.contents output.new.0) fault)) }
+
+    // What was read are lines that show no fault, and then one line at most: what follows the first
+    // fault is not looked at.
+    ensures read { ReadsToFault (R.remaining input.old.0) (R.remaining input.new.0) }
+    ensures fault { IfErr result (λ fault.
+        IfSome (R.remaining input.old.0) (λ bytes. TellsFaultOf (input_in bytes) fault)) }
+
+    // Nothing is written before all is read.
+    ensures all_read { IsReadBefore result (R.remaining input.new.0) }
+
+    // The build of some decks went out, those of the input; the tally counts its flagged statements
+    // and LINK lines. After a fault of the writer exactly the bytes that it tells went out, after any
+    // other none.
+    ensures built { IfOk result (IsBuilt (R.remaining input.old.0) (W.contents output.old.0) (W.contents output.new.0)) }
+    ensures output { IfErr result (IsOutputAfter (R.remaining input.old.0) (W.contents output.old.0) (W.contents output.new.0)) }
+
+    // A fault of a port is told only where that port failed in the call.
+    ensures input_count_ok { OnOk result (input.new.1 ≡ input.old.1) }
+    ensures output_count_ok { OnOk result (output.new.1 ≡ output.old.1) }
+    ensures input_count { IfErr result (λ fault. input.new.1 ≡ input_count_after fault input.old.1) }
+    ensures output_count { IfErr result (λ fault. output.new.1 ≡ output_count_after fault output.old.1) }
+{
+    let decks = read_decks(alloc, input)?;
+    let publication = publish(alloc, decks)?;
+    match write_texts(output, &publication) {
+        Ok(()) => Ok(Tally {
+            errors: publication.errors() as usize,
+            links: publication.links(),
+        }),
+        Err(broken) => Err(AsmFault::WriteFault { sent: broken.sent }),
+    }
+}
+
+/// The exit status of a run: 0, or 1 where a statement is flagged or the map has a LINK line; 3
+/// after a fault of the input, 4 where no memory was left, 5 after a fault of the output.
+pub fn asm_status(outcome: &Result<Tally, AsmFault>) -> u8
+    ensures { result ≡ run_status outcome.now }
+{
+    match outcome {
+        Ok(tally) if tally.errors == 0 && tally.links == 0 => 0,
+        Ok(_) => 1,
+        Err(AsmFault::OutOfMemory) => 4,
+        Err(AsmFault::WriteFault { .. }) => 5,
+        Err(_) => 3,
+    }
+}

@@ -1,2 +1,0 @@
--- Edits by the number of cards.
-pub mod FaultLaws

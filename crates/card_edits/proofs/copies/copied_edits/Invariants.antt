@@ -1,5 +1,0 @@
-use Rattle.std.proofs.Common.{◌≡◌, take}
-use Rattle.card_edits.proofs.copies.copied_edits.Given as goal
-
-abbrev pub invariant-loop-edit : goal.invariant-loop-edit
-invariant-loop-edit l = l.copies.items ≡ take l.edit-index l.edits

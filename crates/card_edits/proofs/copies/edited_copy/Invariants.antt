@@ -1,9 +1,0 @@
-use Rattle.std.proofs.Common.{◌≡◌, None, drop}
-use Rattle.card_edits.specs.Edits.{first_fault, edited_by}
-use Rattle.card_edits.proofs.copies.edited_copy.Given as goal
-
-abbrev pub invariant-loop-edit : goal.invariant-loop-edit
-invariant-loop-edit l = record {
-  applies : first_fault (drop l.edit-index l.edits) l.copies.items ≡ None;
-  made : edited_by (drop l.edit-index l.edits) l.copies.items ≡ edited_by l.edits l.cards;
-}

@@ -1,7 +1,0 @@
-use Rattle.std.proofs.Common.{◌∙◌, ap, sym, ℕ}
-use Rattle.card_edits.specs.Counts.{fault_from}
-use Rattle.card_edits.proofs.FaultLaws.{first-fault}
-use Rattle.card_edits.proofs.faults.first_fault.Goals as goal
-
-pub returns : goal.returns
-returns c = λ cards count. c.fault_from.ensures ∙ ap (λ (n : ℕ). fault_from 1 n c.args.edits.now) (sym count) ∙ sym (first-fault c.args.edits.now cards)

@@ -1,0 +1,43 @@
+//! What an edit is, and why one does not apply.
+ghost use Rattle.std.specs.Prelude.{◌≡◌};
+
+use crate::Card;
+
+/// An edit of a deck's cards. Places count from 1.
+#[derive(Drop)]
+pub enum Edit {
+    /// The card becomes the one at this place.
+    Insert { at: u64, card: Card },
+    /// The card takes the place of the one there.
+    Replace { at: u64, card: Card },
+    /// The card at this place goes.
+    Remove { at: u64 },
+}
+
+/// Why an edit does not apply.
+#[derive(Clone, Copy, Debug, PartialEq, Eq)]
+pub enum EditFault {
+    /// The deck has no such place.
+    NoSuchCard,
+    /// The deck has 20,000 cards.
+    DeckFull,
+}
+
+impl Edit {
+    /// The same edit once more.
+    pub fn copied(&self) -> Edit
+        ensures { result ≡ self.now }
+    {
+        match self {
+            Edit::Insert { at, card } => Edit::Insert {
+                at: *at,
+                card: card.copied(),
+            },
+            Edit::Replace { at, card } => Edit::Replace {
+                at: *at,
+                card: card.copied(),
+            },
+            Edit::Remove { at } => Edit::Remove { at: *at },
+        }
+    }
+}

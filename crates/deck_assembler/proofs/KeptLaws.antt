@@ -1,0 +1,160 @@
+-- What a line keeps of fields is those fields to whoever links.
+use Rattle.std.proofs.Common.{◌≡◌, ◌∙◌, ℕ, ◌+◌, ◌-◌, ◌*◌, ◌≤◌, true, false, List, [], ◌∷◌, ◌++◌, length, take, drop, map, refl, ap, sym, subst, arith}
+use Rattle.std.specs.Prelude.{slice_get}
+use Rattle.std.proofs.lemmas.Bool.{true≢false}
+use Rattle.std.proofs.lemmas.List.{drop-map, drop_at, length-map, take_all, length-drop, take-take, drop-take}
+use Rattle.definitions.specs.Kinds.{unit_bits}
+use Rattle.definitions.specs.Lengths.{BlockRow}
+use Rattle.definitions.specs.Operands.{Operand}
+use Rattle.definitions.specs.Operations as op
+use Rattle.definitions.specs.Operations.{Operation}
+use Rattle.definitions.specs.Settled.{Settled}
+use Rattle.definitions.specs.Settling.{View}
+use Rattle.definitions.specs.StatementItems.{Item, known}
+use Rattle.definitions.specs.Words.{Coded, width_of}
+use Rattle.definitions.specs.declared.deck_kind.DeckKind.{DeckKind}
+use Rattle.statement_coder.specs.Items.{item_as, items_as}
+use Rattle.statement_coder.specs.declared.items.Item as code
+use Rattle.statement_coder.specs.declared.instruction_fields.InstructionItems.{InstructionItems}
+use Rattle.operations.specs.OperationsAs.{operation_as}
+use Rattle.statement_coder.specs.CodedItems.{IsKept, is_zeros, stores_zeros, zeros_of}
+use Rattle.statement_coder.specs.WordItems.{listed_fields}
+use Rattle.statement_coder.specs.declared.coded.CodedItems.{CodedItems}
+use Rattle.statement_coder.specs.declared.sizing.Sizing.{Sizing}
+use Rattle.statement_coder.proofs.ListLaws.{kept-length}
+use Rattle.definitions.specs.Filling.{HasFields, DoFill}
+use Rattle.deck_assembler.specs.LineItems.{listed, kept_from, AreBitsOf, AreShort, AreKept}
+use Rattle.deck_assembler.specs.CodedLines.{IsCoded, IsNamed}
+use Rattle.deck_assembler.specs.declared.lines.CodedLine as lines
+use Rattle.deck_assembler.specs.declared.lines.LineFields.{LineFields}
+use Rattle.deck_assembler.specs.declared.lines.LineFields.TheVariants as kept
+use Rattle.deck_assembler.specs.KeptFields.{IsNumber, AreKeptAs, IsTold, are_zeros}
+use Rattle.deck_assembler.proofs.ListedLaws.{bits-listed, none-listed}
+
+-- the end of a list
+listed-end : (items : List code.Item) (first : ℕ) → listed items first (length items - first) ≡ map item_as (drop first items)
+listed-end items first = ap (map item_as) (take_all (length items - first) (drop first items) (omega (arith, length-drop first items)))
+
+-- the fields of an instruction, put behind a list
+pub instruction-kept : (kind : DeckKind) (operand : Operand) (sizing : Sizing) (instruction : InstructionItems) (fields : LineFields) (before after : List code.Item) (told : List Item) →
+    fields ≡ kept.Listed (length before) (length after - length before) → IsKept before after → map item_as after ≡ map item_as before ++ items_as instruction →
+    items_as instruction ≡ told → listed_fields kind operand told ≡ told → AreKeptAs kind operand sizing fields after told
+instruction-kept kind operand sizing instruction fields before after told is keeps put same whole =
+    subst (λ (f : LineFields). AreKeptAs kind operand sizing f after told) (sym is) (
+      let longer = kept-length before after keeps in omega (arith, longer),
+      listed-end after (length before) ∙ sym (drop-map item_as (length before) after) ∙ ap (drop (length before)) put
+          ∙ drop_at (map item_as before) (items_as instruction) (length before) (length-map before item_as) ∙ same ∙ sym whole,
+    )
+
+-- fields that fill a place have as many bits
+filled-width : (kind : DeckKind) (place end : ℕ) (operand : Operand) (fields : List Item) → DoFill kind place end fields → HasFields (listed_fields kind operand fields) → width_of fields ≡ (end - place) * unit_bits kind
+filled-width kind place end operand [] filled has = absurd (subst HasFields (none-listed kind operand [] refl) has)
+filled-width kind place end operand (item ∷ items) filled has = filled
+
+-- one number in place of the fields
+number-bits : (kind : DeckKind) (operand : Operand) (width bits : ℕ) (fields : List Item) → HasFields (listed_fields kind operand fields) → width_of fields ≡ width → IsNumber (listed_fields kind operand fields) bits →
+    AreBitsOf (known width bits ∷ []) fields
+number-bits kind operand width bits fields has wide number =
+    let told = bits-listed kind operand fields in
+    record {
+      some = λ h. tt;
+      none = λ e. absurd (subst HasFields (told.none e) has);
+      width = omega (arith, wide);
+      bits = λ linking. (let e : bits * 1 + 0 ≡ bits = omega arith in e) ∙ sym (number.together.same linking) ∙ told.bits linking;
+      unfit = λ layout based from. sym (number.together.fitting layout based from) ∙ told.unfit layout based from;
+    }
+
+number-short : (kind : DeckKind) (operand : Operand) (width bits : ℕ) (fields : List Item) → width_of fields ≡ width → IsNumber (listed_fields kind operand fields) bits → AreShort (known width bits ∷ [])
+number-short kind operand width bits fields wide number =
+    let told = bits-listed kind operand fields in
+    let same : width_of (listed_fields kind operand fields) ≡ width = told.width ∙ wide in
+    (rw same at number.short, (rw same at number.room, tt))
+
+-- fields are themselves
+same-bits : (fields : List Item) → AreBitsOf fields fields
+same-bits fields = record { some = λ h. h; none = λ e. e; width = refl; bits = λ linking. refl; unfit = λ layout based from. refl }
+
+-- what a line keeps are the bits of its statement
+line-bits : (kind : DeckKind) (operand : Operand) (sizing : Sizing) (items : List code.Item) (fields : LineFields) (told : List Item) → DoFill kind sizing.place sizing.end told → AreKeptAs kind operand sizing fields items told →
+    AreBitsOf (kept_from kind items sizing.place sizing.end fields) told
+line-bits kind operand sizing items kept.Absent told filled h = subst (λ l. AreBitsOf [] l) (sym h) (same-bits [])
+line-bits kind operand sizing items (kept.Known bits) told filled h =
+    number-bits kind operand ((sizing.end - sizing.place) * unit_bits kind) bits told h.0 (filled-width kind sizing.place sizing.end operand told filled h.0) h.1
+line-bits kind operand sizing items (kept.Listed first count) told filled h = subst (λ l. AreBitsOf l told) (sym h.1) (bits-listed kind operand told)
+line-bits kind operand sizing items kept.Zeros told filled h = subst (λ l. AreBitsOf (zeros_of kind sizing ∷ []) l) (sym h) (same-bits (zeros_of kind sizing ∷ []))
+
+-- and short
+line-short : (kind : DeckKind) (operand : Operand) (sizing : Sizing) (items : List code.Item) (line : lines.CodedLine) (fields : LineFields) (told : List Item) → line.place ≡ sizing.place → line.end ≡ sizing.end → line.fields ≡ fields →
+    DoFill kind sizing.place sizing.end told → (are_zeros fields ≡ false → AreShort (listed_fields kind operand told)) → AreKeptAs kind operand sizing fields items told → AreKept kind items line fields
+line-short kind operand sizing items line kept.Absent told e f g filled short h = tt
+line-short kind operand sizing items line (kept.Known bits) told e f g filled short h =
+    subst (λ (kept' : LineFields). AreShort (kept_from kind items line.place line.end kept')) (sym g)
+    (subst (λ n. AreShort (known ((line.end - n) * unit_bits kind) bits ∷ [])) (sym e)
+    (subst (λ n. AreShort (known ((n - sizing.place) * unit_bits kind) bits ∷ [])) (sym f)
+    (number-short kind operand ((sizing.end - sizing.place) * unit_bits kind) bits told (filled-width kind sizing.place sizing.end operand told filled h.0) h.1)))
+line-short kind operand sizing items line (kept.Listed first count) told e f g filled short h = (h.0, subst AreShort (sym h.1) (short refl))
+line-short kind operand sizing items line kept.Zeros told e f g filled short h = tt
+
+-- zeros are a BSSZ's
+zero-fields : (fields : LineFields) → are_zeros fields ≡ true → fields ≡ kept.Zeros
+zero-fields kept.Absent e = absurd (true≢false (sym e))
+zero-fields (kept.Known bits) e = absurd (true≢false (sym e))
+zero-fields (kept.Listed first count) e = absurd (true≢false (sym e))
+zero-fields kept.Zeros e = refl
+
+zero-operation : (operation : Operation) → stores_zeros operation ≡ true → operation ≡ op.Bssz
+zero-operation op.Bssz e = refl
+zero-operation _ e = absurd (true≢false (sym e))
+
+-- the line of a statement of which so much is told
+pub line-coded : (kind : DeckKind) (rows : List BlockRow) (view : View) (settled : Settled) (sizing : Sizing) (told : CodedItems) (before after items : List code.Item) (fields : List Item) (line : lines.CodedLine) →
+    operation_as line.operation ≡ settled.read.operation → IsNamed (slice_get rows line.block) settled.block → line.place ≡ sizing.place → line.end ≡ sizing.end → line.begins_run ≡ sizing.begins_run →
+    IsTold kind view settled sizing told before after fields → AreKeptAs kind settled.read.operand sizing line.fields items fields → are_zeros line.fields ≡ is_zeros told →
+    IsCoded kind rows items line (record { settled = settled; fields = fields })
+line-coded kind rows view settled sizing told before after items fields line operation block place end begins is kept' zeros =
+    let filled : DoFill kind sizing.place sizing.end fields =
+    subst (λ n. DoFill kind n sizing.end fields) (sym is.is_sizing.place) (subst (λ n. DoFill kind settled.place n fields) (sym is.is_sizing.end) is.filled) in
+    let alike : are_zeros line.fields ≡ stores_zeros settled.read.operation = zeros ∙ is.zeros in
+    record {
+      operation = operation;
+      block = block;
+      place = place ∙ is.is_sizing.place;
+      end = end ∙ is.is_sizing.end;
+      begins_run = begins ∙ is.is_sizing.begins_run;
+      fields = subst (λ n. AreBitsOf (kept_from kind items n line.end line.fields) fields) (sym place)
+          (subst (λ n. AreBitsOf (kept_from kind items sizing.place n line.fields) fields) (sym end)
+          (line-bits kind settled.read.operand sizing items line.fields fields filled kept'));
+      kept = line-short kind settled.read.operand sizing items line line.fields fields place end refl filled (λ e. is.short (sym alike ∙ e)) kept';
+      zeros = (λ e. zero-operation settled.read.operation (sym alike ∙ ap are_zeros e), λ e. zero-fields line.fields (alike ∙ ap stores_zeros e));
+    }
+
+-- a longer list has the fields of a line too
+kept-listed : (before after : List code.Item) (first count : ℕ) → IsKept before after → first + count ≤ length before → listed after first count ≡ listed before first count
+kept-listed before after first count keeps within =
+    ap (map item_as) (sym (drop-take first count after) ∙ ap (drop first) (sym (take-take (first + count) (length before) after within) ∙ ap (take (first + count)) keeps) ∙ drop-take first count before)
+
+longer-fields : (kind : DeckKind) (before after : List code.Item) (line : lines.CodedLine) (fields : LineFields) → line.fields ≡ fields → IsKept before after → AreKept kind before line fields →
+    (kept_from kind after line.place line.end fields ≡ kept_from kind before line.place line.end fields) × AreKept kind after line fields
+longer-fields kind before after line kept.Absent e keeps h = (refl, tt)
+longer-fields kind before after line (kept.Known bits) e keeps h =
+    (refl, subst (λ (f : LineFields). AreShort (kept_from kind after line.place line.end f)) (sym e) (subst (λ (f : LineFields). AreShort (kept_from kind before line.place line.end f)) e h))
+longer-fields kind before after line (kept.Listed first count) e keeps h =
+    let same = kept-listed before after first count keeps h.0 in
+    let longer = kept-length before after keeps in
+    (same, (omega (arith, longer, h.0), subst AreShort (sym same) h.1))
+longer-fields kind before after line kept.Zeros e keeps h = (refl, tt)
+
+-- a line stays what it is where fields are put behind those that it has
+pub coded-longer : (kind : DeckKind) (rows : List BlockRow) (before after : List code.Item) (line : lines.CodedLine) (coded : Coded) → IsKept before after → IsCoded kind rows before line coded → IsCoded kind rows after line coded
+coded-longer kind rows before after line coded keeps is =
+    let more = longer-fields kind before after line line.fields refl keeps is.kept in
+    record {
+      operation = is.operation;
+      block = is.block;
+      place = is.place;
+      end = is.end;
+      begins_run = is.begins_run;
+      fields = subst (λ l. AreBitsOf l coded.fields) (sym more.0) is.fields;
+      kept = more.1;
+      zeros = is.zeros;
+    }

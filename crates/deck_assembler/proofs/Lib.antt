@@ -1,0 +1,45 @@
+-- The table of symbols, and what statements define.
+pub mod SymbolKeyLaws
+pub mod SymbolLaws
+pub mod NameTexts
+pub mod DefinitionLaws
+-- The pieces.
+pub mod PieceLaws
+pub mod PieceSteps
+-- The literals.
+pub mod LiteralSteps
+-- The order of the deck.
+pub mod OntoLaws
+pub mod ForwardLaws
+pub mod StateForward
+-- Where END stands.
+pub mod EndLaws
+pub mod KindLaws
+-- One statement more.
+pub mod SizerSteps
+-- All of a deck.
+pub mod DeckLaws
+-- Known fields as one number.
+pub mod KnownLaws
+-- Fields told word by word.
+pub mod ListedLaws
+-- The fields of statements are short.
+pub mod ShortLaws
+-- What a line keeps.
+pub mod KeptLaws
+-- Entries and externals.
+pub mod EntryLaws
+pub mod ExternalLaws
+-- Two facts of one value.
+pub mod ResultLaws
+-- The blocks of a deck.
+pub mod BlockLaws
+-- One statement more.
+pub mod WalkLaws
+-- The blocks that statements use.
+pub mod UsedLaws
+-- All statements of a deck.
+pub mod DeckWalkLaws
+pub mod PieceCounts
+-- The parts of an object.
+pub mod PartLaws

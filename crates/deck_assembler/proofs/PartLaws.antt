@@ -1,0 +1,172 @@
+-- What a walk over a deck made are the parts of its object.
+use Rattle.std.proofs.Common.{◌≡◌, ◌∙◌, ℕ, ◌+◌, List, [], ◌∷◌, ◌++◌, Option, Some, None, map, drop, reverse, refl, ap, ap₂, sym, subst, append-nil}
+use Rattle.std.specs.Prelude.{filter_map}
+use Rattle.std.proofs.lemmas.List.{reverse-append}
+use Rattle.std.proofs.lemmas.List.Elements.{filter_map-append}
+use Rattle.indexmap.proofs.ReorderLemmas.{map-reverse}
+use Rattle.definitions.specs.Cards.{Card}
+use Rattle.definitions.specs.DeckInput.{Deck}
+use Rattle.definitions.specs.DeckKinds.{up_to_end, behind_end, kind_of_statements}
+use Rattle.definitions.specs.Entries.{entries_of}
+use Rattle.definitions.specs.Lengths.{BlockRow}
+use Rattle.definitions.specs.Objects.{Shown, shown_of, only_listed, coded_of, context_of, object_in, object_of}
+use Rattle.definitions.specs.Settled.{Settled}
+use Rattle.definitions.specs.Settling.{settled_all}
+use Rattle.definitions.specs.StatementItems.{Context}
+use Rattle.definitions.specs.Statements.{Statement, statements_of}
+use Rattle.definitions.specs.Words.{Coded}
+use Rattle.definitions.specs.declared.deck_kind.DeckKind.{DeckKind}
+use Rattle.definitions.specs.declared.deck_kind.DeckKind.TheVariants.{Rel, Abs, Periph}
+use Rattle.statement_coder.specs.declared.items.Item as code
+use Rattle.definitions.proofs.ReachLaws.{statements-reach}
+use Rattle.definitions.proofs.RiseLaws.{statements-laid_out}
+use Rattle.deck_assembler.specs.CodedLines.{IsCoded, IsStored, AreShown, AreCoded}
+use Rattle.deck_assembler.specs.PartsOf.{ArePartsOf}
+use Rattle.deck_assembler.specs.declared.lines.CodedLine.{CodedLine}
+use Rattle.deck_assembler.specs.declared.lines.Line.{Line}
+use Rattle.deck_assembler.specs.declared.object.ObjectParts.{ObjectParts}
+use Rattle.deck_assembler.specs.SizedDecks.{AreListedFrom}
+use Rattle.deck_assembler.specs.SharedNames.{entries_to}
+use Rattle.deck_assembler.specs.Walks.{Whole, IsWhole, all_settled, context_in, AreShownTo, AreLinedAs}
+use Rattle.deck_assembler.specs.DeckWalks.{IsDone, IsListing, shown_with}
+use Rattle.deck_assembler.specs.declared.deck_lines.DeckLines.{DeckLines}
+use Rattle.deck_assembler.specs.declared.deck_walk.Making.{Making}
+
+-- lines behind which no card is left
+shown-all : (kind : DeckKind) (rows : List BlockRow) (items : List code.Item) (before : ℕ) (cards : List Card) (lines : List Line) (shown : List Shown) (stood : ℕ) (ahead : List Card) →
+    AreShownTo kind rows items before cards lines shown stood ahead → ahead ≡ [] → AreShown kind rows items before cards lines shown
+shown-all kind rows items before cards [] [] stood ahead h e = h.1 ∙ e
+shown-all kind rows items before cards [] (one ∷ shown) stood ahead h e = h
+shown-all kind rows items before cards (line ∷ lines) [] stood ahead h e = h
+shown-all kind rows items before cards (line ∷ lines) (one ∷ shown) stood ahead h e = (h.0, shown-all kind rows items (before + line.cards) (drop line.cards cards) lines shown stood ahead h.1 e)
+
+-- the statements up to END among those that are shown
+abbrev coded_among : List Shown → List Coded
+coded_among shown = filter_map (λ (one : Shown). one.coded) shown
+
+-- a line more, by what it stores
+abbrev MoreCoded : DeckKind → List BlockRow → List code.Item → List Line → Option CodedLine → List Coded → Type 0
+MoreCoded kind rows items lines stored all = elim stored [
+  | None ↦ AreCoded kind rows items lines all
+  | Some line ↦ elim all [ [] ↦ ⊥ | coded ∷ others ↦ IsCoded kind rows items line coded × AreCoded kind rows items lines others ]
+]
+
+abbrev with_coded : Option Coded → List Coded → List Coded
+with_coded None others = others
+with_coded (Some coded) others = coded ∷ others
+
+more-coded : (kind : DeckKind) (rows : List BlockRow) (items : List code.Item) (lines : List Line) (stored : Option CodedLine) (coded : Option Coded) (others : List Coded) → IsStored kind rows items stored coded →
+    AreCoded kind rows items lines others → MoreCoded kind rows items lines stored (with_coded coded others)
+more-coded kind rows items lines None None others h rest = rest
+more-coded kind rows items lines None (Some coded) others h rest = absurd h
+more-coded kind rows items lines (Some line) None others h rest = absurd h
+more-coded kind rows items lines (Some line) (Some coded) others h rest = (h, rest)
+
+coded-among : (one : Shown) (shown : List Shown) → coded_among (one ∷ shown) ≡ with_coded one.coded (coded_among shown)
+coded-among one shown = step one.coded
+  where
+    step : (coded : Option Coded) → (let other : Shown = record { statement = one.statement; letters = one.letters; coded = coded } in coded_among (other ∷ shown)) ≡ with_coded coded (coded_among shown)
+    step None = refl
+    step (Some coded) = refl
+
+coded-shown : (kind : DeckKind) (rows : List BlockRow) (items : List code.Item) (before : ℕ) (cards : List Card) (lines : List Line) (shown : List Shown) → AreShown kind rows items before cards lines shown →
+    AreCoded kind rows items lines (coded_among shown)
+coded-shown kind rows items before cards [] [] h = tt
+coded-shown kind rows items before cards [] (one ∷ shown) h = absurd h
+coded-shown kind rows items before cards (line ∷ lines) [] h = absurd h
+coded-shown kind rows items before cards (line ∷ lines) (one ∷ shown) h =
+    subst (MoreCoded kind rows items lines line.coded) (sym (coded-among one shown))
+    (more-coded kind rows items lines line.coded one.coded (coded_among shown) h.0.stored (coded-shown kind rows items (before + line.cards) (drop line.cards cards) lines shown h.1))
+
+among-up_to_end : (context : Context) (settled : List Settled) → coded_among (map (shown_of context) settled) ≡ map (coded_of context) settled
+among-up_to_end context [] = refl
+among-up_to_end context (first ∷ settled) = ap (λ l. coded_of context first ∷ l) (among-up_to_end context settled)
+
+among-behind : (statements : List Statement) → coded_among (map only_listed statements) ≡ []
+among-behind [] = refl
+among-behind (first ∷ statements) = among-behind statements
+
+-- the statements of the listing in order
+shown-object : (context : Context) (settled : List Settled) (others : List Statement) → reverse (map only_listed others ++ map (shown_of context) settled) ≡ reverse (map (shown_of context) settled) ++ map only_listed (reverse others)
+shown-object context settled others = reverse-append (map only_listed others) (map (shown_of context) settled) ∙ ap (λ l. reverse (map (shown_of context) settled) ++ l) (sym (map-reverse only_listed others))
+
+coded-object : (context : Context) (settled : List Settled) (others : List Statement) → coded_among (reverse (map (shown_of context) settled) ++ map only_listed (reverse others)) ≡ reverse (map (coded_of context) settled)
+coded-object context settled others =
+    filter_map-append (λ (one : Shown). one.coded) (reverse (map (shown_of context) settled)) (map only_listed (reverse others))
+    ∙ ap₂ (λ (a b : List Coded). a ++ b) (ap coded_among (sym (map-reverse (shown_of context) settled)) ∙ among-up_to_end context (reverse settled) ∙ map-reverse (coded_of context) settled) (among-behind (reverse others))
+    ∙ append-nil (reverse (map (coded_of context) settled))
+
+entries-all : (kind : DeckKind) (settled : List Settled) → entries_to kind settled settled ≡ entries_of kind settled
+entries-all Rel settled = refl
+entries-all Abs settled = refl
+entries-all Periph settled = refl
+
+-- all lines of a deck
+done-shown : (whole : Whole) (lines : DeckLines) → IsListing whole [] lines →
+    AreShown whole.deck.kind whole.rows lines.items.items 0 whole.cards lines.lines.items (shown_with whole (reverse whole.others))
+done-shown whole lines listing = step listing.coming listing.all listing.listed
+  where
+    step : (coming : List Statement) → listing.passed ++ coming ≡ reverse whole.others → AreListedFrom lines.stood (drop lines.stood whole.cards) [] coming →
+        AreShown whole.deck.kind whole.rows lines.items.items 0 whole.cards lines.lines.items (shown_with whole (reverse whole.others))
+    step [] all h =
+        let passed : listing.passed ≡ reverse whole.others = sym (append-nil listing.passed) ∙ all in
+        let lined = subst (λ (l : List Statement). AreLinedAs whole (shown_with whole l) lines) passed listing.lined in
+        shown-all whole.deck.kind whole.rows lines.items.items 0 whole.cards lines.lines.items (shown_with whole (reverse whole.others)) lines.stood (drop lines.stood whole.cards) lined h
+    step (given ∷ coming) all h = absurd h
+
+-- what the statements were coded with is what the definitions have
+context-same : (whole : Whole) → IsWhole whole → context_in whole ≡ context_of whole.deck.kind (all_settled whole)
+context-same whole is =
+    let settled = all_settled whole in
+    ap₂ (λ (rows : List BlockRow) (literals : List ℕ). let context : Context = record { kind = whole.deck.kind; settled = settled; rows = rows; literals = literals } in context) is.rows is.sized.literals
+
+-- the parts of what was made
+pub record AreMade (whole : Whole) (made : Making) (parts : ObjectParts) : Type 0 where
+  pub kind : parts.kind ≡ whole.deck.kind
+  pub rows : parts.bases ≡ whole.rows
+  pub literals : parts.literals.items ≡ whole.deck.literals
+  pub lines : parts.lines.items ≡ made.lines.lines.items
+  pub items : parts.items.items ≡ made.lines.items.items
+  pub entries : parts.entries.items ≡ made.names.entries.entries.items
+  pub externals : parts.externals.items ≡ made.names.externals.names.items
+
+made-parts : (name : List ℕ) (whole : Whole) (made : Making) (parts : ObjectParts) → IsWhole whole → IsDone whole made → AreMade whole made parts →
+    ArePartsOf whole.cards parts (object_in name (context_of whole.deck.kind (all_settled whole)) whole.others)
+made-parts name whole made parts is done are =
+    let kind = whole.deck.kind in
+    let settled = all_settled whole in
+    let context = context_of kind settled in
+    let same = context-same whole is in
+    let shown = done-shown whole made.lines done.listing in
+    let listing : shown_with whole (reverse whole.others) ≡ reverse (map only_listed whole.others ++ map (shown_of context) settled) =
+    ap (λ (c : Context). reverse (map (shown_of c) settled) ++ map only_listed (reverse whole.others)) same ∙ sym (shown-object context settled whole.others) in
+    let moved = λ (P : DeckKind → List BlockRow → List code.Item → List Line → Type 0) (h : P kind whole.rows made.lines.items.items made.lines.lines.items).
+    subst (λ (k : DeckKind). P k parts.bases parts.items.items parts.lines.items) (sym are.kind)
+    (subst (λ (r : List BlockRow). P kind r parts.items.items parts.lines.items) (sym are.rows)
+    (subst (λ (i : List code.Item). P kind whole.rows i parts.lines.items) (sym are.items)
+    (subst (λ (l : List Line). P kind whole.rows made.lines.items.items l) (sym are.lines) h))) in
+    record {
+      kind = are.kind;
+      rows = are.rows ∙ is.rows;
+      literals = are.literals ∙ is.sized.literals;
+      entries = are.entries ∙ done.noted.entries ∙ entries-all kind settled;
+      externals = are.externals ∙ done.noted.externals.externals;
+      shown = moved (λ k r i l. AreShown k r i 0 whole.cards l (reverse (map only_listed whole.others ++ map (shown_of context) settled)))
+          (subst (AreShown kind whole.rows made.lines.items.items 0 whole.cards made.lines.lines.items) listing shown);
+      coded = moved (λ k r i l. AreCoded k r i l (reverse (map (coded_of context) settled)))
+          (subst (AreCoded kind whole.rows made.lines.items.items made.lines.lines.items)
+          (ap coded_among (listing ∙ shown-object context settled whole.others) ∙ coded-object context settled whole.others)
+          (coded-shown kind whole.rows made.lines.items.items 0 whole.cards made.lines.lines.items (shown_with whole (reverse whole.others)) shown));
+      laid = statements-laid_out kind whole.known context refl;
+      reach = statements-reach kind whole.known context;
+      few = is.few;
+    }
+
+-- the parts of the object of a deck
+pub parts-of : (name : List ℕ) (whole : Whole) (made : Making) (parts : ObjectParts) → IsWhole whole → IsDone whole made → AreMade whole made parts →
+    whole.known ≡ up_to_end (statements_of (reverse whole.cards)) → whole.others ≡ behind_end (statements_of (reverse whole.cards)) → (let deck : Deck = record { name = name; cards = whole.cards } in ArePartsOf whole.cards parts (object_of deck))
+parts-of name whole made parts is done are known others =
+    let all = statements_of (reverse whole.cards) in
+    subst (λ (o : List Statement). let statements = up_to_end all in ArePartsOf whole.cards parts (object_in name (context_of (kind_of_statements statements) (settled_all (kind_of_statements statements) statements)) o)) others
+    (subst (λ (s : List Statement). ArePartsOf whole.cards parts (object_in name (context_of (kind_of_statements s) (settled_all (kind_of_statements s) s)) whole.others)) known
+    (subst (λ (k : DeckKind). ArePartsOf whole.cards parts (object_in name (context_of k (settled_all k whole.known)) whole.others)) is.sized.kind (made-parts name whole made parts is done are)))

@@ -1,0 +1,105 @@
+-- One statement more, sized behind those before it.
+use Rattle.std.proofs.Common.{◌≡◌, List, ◌∷◌, sym, ap, ap₂, ◌∙◌, subst}
+use Rattle.std.specs.Prelude.{IfSome, reverse}
+use Rattle.definitions.specs.Blocks.{block_in_use}
+use Rattle.definitions.specs.Cards.{Card}
+use Rattle.definitions.specs.Literals.{operand_literals, with_literals}
+use Rattle.definitions.specs.Operands.{operand_of}
+use Rattle.definitions.specs.Settled.{defined}
+use Rattle.definitions.specs.Settling.{View, number_base_of, settle, settled_all, settled_from}
+use Rattle.definitions.specs.Statements.{Statement}
+use Rattle.definitions.specs.States.{BlockState, Effect, state_after, seen_from, effect_of, advanced, lengths_advanced, names_of_blocks}
+use Rattle.definitions.specs.declared.deck_kind.DeckKind.{DeckKind}
+use Rattle.definitions.specs.declared.number_base.NumberBase.{NumberBase}
+use Rattle.definitions.proofs.StateSteps.{seen_of-state, state_after-step, lengths_of-step, settled_all-in_use}
+use Rattle.operations.specs.OperationsAs.{operation_as}
+use Rattle.use_blocks.specs.BlockLengths.{block_names}
+use Rattle.statement_coder.specs.KeptReadings.{IsKeptReading}
+use Rattle.statement_coder.specs.Readings.{IsReading, IsLawful}
+use Rattle.statement_coder.specs.Sizings.{read_as, settled_read, IsSizing}
+use Rattle.statement_coder.specs.StatementsRead.{IsRead}
+use Rattle.statement_coder.specs.declared.readings.Reading as readings
+use Rattle.statement_coder.specs.declared.sizing.Sizing.{Sizing}
+use Rattle.statement_coder.specs.declared.statement.Statement as statements
+use Rattle.statement_coder.proofs.ReadLaws.{settled-sizing}
+use Rattle.deck_assembler.specs.FirstSymbols.{symbol_in, with_defined}
+use Rattle.deck_assembler.specs.PieceSteps.{with_statement, sized_newest}
+use Rattle.deck_assembler.specs.Sizers.{stood, ahead, IsNext, AreSized, HaveStates, AreFilledNewest, IsSizer}
+use Rattle.deck_assembler.specs.SizedDecks.{IsSizedStatement}
+use Rattle.deck_assembler.specs.declared.sized_statement.SizedStatement.{SizedStatement}
+use Rattle.deck_assembler.specs.declared.sizer.Sizer.{Sizer}
+use Rattle.deck_assembler.proofs.DefinitionLaws.{defined-step}
+use Rattle.deck_assembler.proofs.PieceSteps.{sized-step, states-step, filled-step}
+
+-- the operand that the code reads of a statement
+abbrev pub operand_in : statements.Statement → NumberBase → readings.Reading → Type 0
+operand_in code base r = IsReading r (operand_of code.kind base (operation_as code.operation) code.name.now code.variable.now)
+
+-- what was read is the operand that is settled
+pub settled-operand : (kind : DeckKind) (earlier : List Statement) (given : Statement) (code : statements.Statement) (base : NumberBase) (r : readings.Reading) →
+    IsRead kind given.cards code → base ≡ number_base_of (settled_all kind earlier) → operand_in code base r → IsReading r (settle kind (settled_all kind earlier) given).read.operand
+settled-operand kind earlier given code base r read e h =
+    subst (IsReading r) (λ i. operand_of (read.kind i) (e i) (read.operation i) (read.name i) (read.variable i)) h
+
+-- what was sized is what is settled
+pub settled-sized : (kind : DeckKind) (earlier : List Statement) (given : Statement) (code : statements.Statement) (state : BlockState) (view : View) (sizing : Sizing) →
+    IsRead kind given.cards code → state ≡ state_after (settled_all kind earlier) → view ≡ (λ name. defined name (settled_all kind earlier)) →
+    IsSizing view (settled_read code.kind (seen_from state view) (read_as code given (operand_of code.kind state.number_base (operation_as code.operation) code.name.now code.variable.now))) sizing →
+    IsSizing (λ name. defined name (settled_all kind earlier)) (settle kind (settled_all kind earlier) given) sizing
+settled-sized kind earlier given code state view sizing read s v h =
+    let all = settled_all kind earlier in
+    let from : IsSizing view (settled_from kind (seen_from state view) given) sizing = settled-sizing view (seen_from state view) kind given code sizing read h in
+    let there : IsSizing (λ name. defined name all) (settled_from kind (seen_from (state_after all) (λ name. defined name all)) given) sizing =
+    subst (λ (both : BlockState × View). IsSizing both.1 (settled_from kind (seen_from both.0 both.1) given) sizing) (λ i. (s i, v i)) from in
+    subst (λ seen. IsSizing (λ name. defined name all) (settled_from kind seen given) sizing) (sym (seen_of-state all)) there
+
+-- what one statement does to all that is kept
+pub record IsStep (kind : DeckKind) (earlier : List Statement) (given : Statement) (r : readings.Reading) (effect : Effect) (sized : SizedStatement) (old new : Sizer) : Type 0 where
+  pub lawful : IsLawful r
+  pub operand : IsReading r (settle kind (settled_all kind earlier) given).read.operand
+  pub sizing : IsSizing (λ name. defined name (settled_all kind earlier)) (settle kind (settled_all kind earlier) given) sized.sizing
+  pub number_base : sized.sizing.number_base ≡ number_base_of (settled_all kind earlier)
+  pub operation : (settle kind (settled_all kind earlier) given).read.operation ≡ operation_as sized.operation
+  pub label : IfSome sized.label (λ label. label ≡ (settle kind (settled_all kind earlier) given).read.fields.location)
+  pub kept : IsKeptReading sized.kept (settle kind (settled_all kind earlier) given).read.operand
+  pub made : effect ≡ effect_of kind (settle kind (settled_all kind earlier) given)
+  pub literals : new.literals ≡ with_literals (operand_literals (settle kind (settled_all kind earlier) given).read.operand) old.literals
+  pub symbols : symbol_in new.symbols ≡ with_defined (settle kind (settled_all kind earlier) given).read.fields.location (settle kind (settled_all kind earlier) given).read.operand sized.sizing.defines (symbol_in old.symbols)
+  pub lengths : new.lengths ≡ lengths_advanced (block_in_use old.state.open_names) effect old.lengths
+  pub same_blocks : block_names new.lengths ≡ names_of_blocks (advanced effect old.state).blocks
+  pub pieces : reverse new.pieces.items ≡ with_statement old.state sized (reverse old.pieces.items)
+  pub state : new.state ≡ advanced effect old.state
+
+-- and that is what the statements make with it
+pub sizer-step : (kind : DeckKind) (cards : List Card) (earlier : List Statement) (given : Statement) (r : readings.Reading) (effect : Effect) (sized : SizedStatement) (old new : Sizer) →
+    IsNext cards earlier sized.cards given → IsSizer kind cards earlier old → IsStep kind earlier given r effect sized old new → IsSizer kind cards (given ∷ earlier) new
+sizer-step kind cards earlier given r effect sized old new next is step =
+    let all = settled_all kind earlier in
+    let settled = settle kind all given in
+    let in_use = settled_all-in_use kind (given ∷ earlier) in
+    let here : IsSizedStatement kind earlier (stood earlier) (ahead cards earlier) sized given = record {
+      before = next.before;
+      cards = next.cards;
+      some = next.some;
+      few = next.few;
+      within = next.within;
+      sizing = step.sizing;
+      number_base = step.number_base;
+      operation = step.operation;
+      label = step.label;
+      kept = step.kept;
+    } in
+    record {
+      state = step.state ∙ ap₂ advanced step.made is.state ∙ sym (state_after-step kind settled all in_use);
+      symbols =
+          step.symbols ∙ ap (with_defined settled.read.fields.location settled.read.operand sized.sizing.defines) is.symbols
+          ∙ defined-step kind all given sized.sizing.defines r step.operand step.lawful step.sizing.definitions;
+      literals = step.literals ∙ ap (with_literals (operand_literals settled.read.operand)) is.literals;
+      lengths =
+          step.lengths ∙ (λ i. lengths_advanced (block_in_use (is.state i).open_names) (step.made i) (is.lengths i))
+          ∙ sym (lengths_of-step kind settled all in_use);
+      same_blocks = step.same_blocks ∙ ap (λ (state : BlockState). names_of_blocks state.blocks) (sym step.state);
+      sized = subst (AreSized kind cards (given ∷ earlier)) (sym (ap sized_newest step.pieces ∙ sized-step old.state sized (reverse old.pieces.items))) (here, is.sized);
+      states = subst (HaveStates kind (given ∷ earlier)) (sym step.pieces) (states-step kind given earlier old.state sized (reverse old.pieces.items) is.state is.states);
+      filled = subst AreFilledNewest (sym step.pieces) (filled-step old.state sized (reverse old.pieces.items) is.filled);
+    }

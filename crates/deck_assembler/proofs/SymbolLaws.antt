@@ -1,0 +1,107 @@
+-- A table by number gives each name its own value.
+use Rattle.std.proofs.Common.{◌≡◌, ℕ, ◌<◌, ◌==◌, ◌&&◌, Bool, true, false, true≢false, suc, zero, List, [], ◌∷◌, Option, Some, None, nat_lt, refl, sym, ap, ◌∙◌, subst, arith, if◌then◌else◌}
+use Rattle.std.specs.Prelude.{nat_eq, slice_index_or}
+use Rattle.std.specs.List.{list_all}
+use Rattle.std.specs.Map.{lookup}
+use Rattle.std.proofs.lemmas.Bool.{lt-ltb, eq-eqb, eqb-true, ltb-true}
+use Rattle.definitions.specs.Characters.{same_text}
+use Rattle.definitions.specs.Forms.{Form}
+use Rattle.definitions.specs.Settled.{or_form}
+use Rattle.definitions.proofs.TextLaws.{same_text-true, same_text-refl}
+use Rattle.deck_assembler.specs.SymbolKeys.{is_name, key_of}
+use Rattle.deck_assembler.specs.declared.symbol_key.SymbolKey.{SymbolKey}
+use Rattle.deck_assembler.proofs.SymbolKeyLaws.{same-name}
+use Rattle.deck_assembler.specs.FirstSymbols.{is_known_name, number_of_name, symbol_in, with_symbol}
+
+pub both_first : (x y : Bool) → (x && y) ≡ true → x ≡ true
+both_first true y h = refl
+both_first false y h = h
+
+pub both_second : (x y : Bool) → (x && y) ≡ true → y ≡ true
+both_second true y h = h
+both_second false y h = absurd (true≢false (sym h))
+
+-- bytes are below 256
+all-bytes : (text : List ℕ) → ((i : ℕ) → slice_index_or text i 0 < 256) → list_all (λ c. nat_lt c 256) text ≡ true
+all-bytes [] h = refl
+all-bytes (c ∷ text) h = ap (λ b. b && list_all (λ d. nat_lt d 256) text) (lt-ltb c 256 (h 0)) ∙ all-bytes text (λ i. h (suc i))
+
+bytes-all : (text : List ℕ) → list_all (λ c. nat_lt c 256) text ≡ true → (i : ℕ) → slice_index_or text i 0 < 256
+bytes-all [] h i = omega arith
+bytes-all (c ∷ text) h zero = ltb-true c 256 (both_first (nat_lt c 256) _ h)
+bytes-all (c ∷ text) h (suc i) = bytes-all text (both_second (nat_lt c 256) _ h) i
+
+-- a text of bytes is known where it is a name
+known-bytes : (name : List ℕ) → ((i : ℕ) → slice_index_or name i 0 < 256) → is_known_name name ≡ is_name name
+known-bytes name bytes = by (is_name name)
+  where
+    by : (b : Bool) → (b && list_all (λ c. nat_lt c 256) name) ≡ b
+    by true = all-bytes name bytes
+    by false = refl
+
+-- a number as a name, where it is one
+abbrev name_if : Bool → ℕ → Option SymbolKey
+name_if b code = if b then Some (record { code = code }) else None
+
+-- what a name of this number is worth
+abbrev worth_if : Bool → List (ℕ × Form) → ℕ → Option Form
+worth_if b forms code = if b then lookup (nat_eq code) forms else None
+
+-- what a name is worth
+pub symbol_in-some : (forms : List (ℕ × Form)) (name : List ℕ) (found : SymbolKey) → ((i : ℕ) → slice_index_or name i 0 < 256) → key_of name ≡ Some found →
+    lookup (nat_eq found.code) forms ≡ symbol_in forms name
+symbol_in-some forms name found bytes h = by (is_name name) h ∙ sym (ap (λ b. worth_if b forms (number_of_name name)) (known-bytes name bytes))
+  where
+    by : (b : Bool) → name_if b (number_of_name name) ≡ Some found → lookup (nat_eq found.code) forms ≡ worth_if b forms (number_of_name name)
+    by true e = cc
+    by false e = cc
+
+-- what a new definition makes of the forms by number
+abbrev kept_form : ℕ → ℕ → Form → Option Form → Option Form
+kept_form other code form before = or_form before (if other == code then Some form else None)
+
+-- two known names are one where their numbers are
+same-number : (name other : List ℕ) → is_known_name name ≡ true → is_known_name other ≡ true → (number_of_name other == number_of_name name) ≡ same_text other name
+same-number name other known known' = by (number_of_name other == number_of_name name) (same_text other name) refl refl
+  where
+    same : number_of_name other ≡ number_of_name name → other ≡ name
+    same e = same-name other name
+        (bytes-all other (both_second (is_name other) (list_all (λ c. nat_lt c 256) other) known'))
+        (bytes-all name (both_second (is_name name) (list_all (λ c. nat_lt c 256) name) known))
+        (both_first (is_name other) (list_all (λ c. nat_lt c 256) other) known')
+        (both_first (is_name name) (list_all (λ c. nat_lt c 256) name) known)
+        e
+
+    by : (b c : Bool) → (number_of_name other == number_of_name name) ≡ b → same_text other name ≡ c → b ≡ c
+    by true true e f = refl
+    by false false e f = refl
+    by true false e f = absurd (true≢false (sym (same_text-refl other) ∙ ap (same_text other) (same (eqb-true (number_of_name other) (number_of_name name) e)) ∙ f))
+    by false true e f = absurd (true≢false (sym (eq-eqb (number_of_name other) (number_of_name name) (ap number_of_name (same_text-true other name f))) ∙ e))
+
+-- a name that is defined, where it is one
+define-known : (old new : List (ℕ × Form)) (name : List ℕ) (form : Form) → is_known_name name ≡ true →
+    ((other : ℕ) → lookup (nat_eq other) new ≡ kept_form other (number_of_name name) form (lookup (nat_eq other) old)) →
+    (other : List ℕ) → symbol_in new other ≡ with_symbol name form (symbol_in old) other
+define-known old new name form known kept other = by (is_known_name other) refl
+  where
+    by : (b : Bool) → is_known_name other ≡ b →
+        worth_if b new (number_of_name other) ≡ or_form (worth_if b old (number_of_name other)) (if is_known_name name && same_text other name then Some form else None)
+    by true e =
+        kept (number_of_name other)
+        ∙ ap (λ c. or_form (lookup (nat_eq (number_of_name other)) old) (if c then Some form else None)) (same-number name other known e ∙ ap (λ c. c && same_text other name) (sym known))
+    by false e = none (same_text other name) refl ∙ ap (λ c. if c && same_text other name then Some form else None) (sym known)
+      where
+        none : (c : Bool) → same_text other name ≡ c → None ≡ (if c then Some form else None)
+        none true f = absurd (true≢false (sym known ∙ ap is_known_name (sym (same_text-true other name f)) ∙ e))
+        none false f = refl
+
+-- a symbol more
+pub symbol_in-kept : (old new : List (ℕ × Form)) (name : List ℕ) (found : SymbolKey) (form : Form) → ((i : ℕ) → slice_index_or name i 0 < 256) → key_of name ≡ Some found →
+    ((other : ℕ) → lookup (nat_eq other) new ≡ kept_form other found.code form (lookup (nat_eq other) old)) →
+    symbol_in new ≡ with_symbol name form (symbol_in old)
+symbol_in-kept old new name found form bytes h kept = λ i other. by (is_name name) refl h other i
+  where
+    by : (b : Bool) → is_name name ≡ b → name_if b (number_of_name name) ≡ Some found → (other : List ℕ) → symbol_in new other ≡ with_symbol name form (symbol_in old) other
+    by true e f = define-known old new name form (known-bytes name bytes ∙ e)
+        (subst (λ (n : SymbolKey). (other : ℕ) → lookup (nat_eq other) new ≡ kept_form other n.code form (lookup (nat_eq other) old)) (cc) kept)
+    by false e f = cc

@@ -1,0 +1,9 @@
+use Rattle.deck_assembler.specs.Walks.{whole_of}
+use Rattle.deck_assembler.proofs.DeckWalkLaws.{walk-begin}
+use Rattle.deck_assembler.proofs.deck_walk.Making.new.Goals as goal
+
+pub returns : goal.returns
+returns c =
+    λ known others is.
+    let whole = whole_of c.args.view.now known others in
+    walk-begin whole (record { lines = c.in_ok-new.field-0; names = c.new-2.result }) is c.in_ok-new.ensures.stood (c.in_ok-new.ensures.lined whole) (c.new-2.ensures whole)

@@ -1,0 +1,10 @@
+use Rattle.std.proofs.Common.{◌≡◌, length}
+use Rattle.deck_assembler.specs.FirstSymbols.{symbol_in, with_externals}
+use Rattle.deck_assembler.proofs.definitions_kept.define_externals.Given as goal
+
+-- the names that are left make the symbols of all
+abbrev pub invariant-names : goal.invariant-names
+invariant-names l = with_externals l.rest (symbol_in l.symbols) ≡ with_externals l.fn.names (symbol_in l.initial.symbols)
+
+abbrev pub decreases-names : goal.decreases-names
+decreases-names l = length l.rest

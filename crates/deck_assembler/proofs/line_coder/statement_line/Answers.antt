@@ -1,0 +1,42 @@
+use Rattle.std.proofs.Common.{◌≡◌, ◌∙◌, ap, sym, refl, subst}
+use Rattle.definitions.specs.Letters.{in_order, letters_of}
+use Rattle.definitions.specs.Settled.{defined}
+use Rattle.definitions.specs.Settling.{View, settle, settled_all}
+use Rattle.definitions.specs.StatementItems.{items_of}
+use Rattle.statement_coder.specs.Items.{deck_with}
+use Rattle.statement_coder.specs.CodedItems.{AreTold, stores_zeros}
+use Rattle.definitions.proofs.FillLaws.{settle-fill}
+use Rattle.deck_assembler.specs.KeptFields.{IsTold}
+use Rattle.deck_assembler.specs.Walks.{context_in, whole_of, all_settled}
+use Rattle.deck_assembler.proofs.ShortLaws.{settle-short}
+use Rattle.deck_assembler.proofs.line_coder.statement_line.Goals as goal
+
+pub returns-clause-line : goal.returns-clause-line
+returns-clause-line c =
+    λ known others earlier given stood ahead is same taken sized named.
+    let whole = whole_of c.args.view.now known others in
+    let kind = whole.deck.kind in
+    let before = settled_all kind earlier in
+    let settled = settle kind before given in
+    let context = context_in whole in
+    let sizing = c.args.sized.now.sizing in
+    let view : View = λ name. defined name before in
+    let told = subst (λ k. AreTold k settled.read.operand sizing c.in_ok-coded.coded.items c.args.items.now.items c.code_read.new.list.items
+    (items_of (deck_with k whole.rows (all_settled whole) whole.deck.literals) settled settled.read.operation)) same
+    (c.in_ok-coded.ensures.items view settled (all_settled whole) whole.deck.literals is.sized.symbols refl sized.sizing taken) in
+    let is_told : IsTold kind view settled sizing c.in_ok-coded.coded.items c.args.items.now.items c.code_read.new.list.items (items_of context settled settled.read.operation) = record {
+      is_sizing = sized.sizing;
+      are_told = told;
+      zeros = c.in_ok-coded.ensures.zeros ∙ ap stores_zeros (sym taken.operation);
+      filled = settle-fill kind before given context refl;
+      short = settle-short kind before given context refl;
+    } in (
+      record {
+        before = sym sized.before;
+        cards = sized.cards;
+        letters = subst (λ k. c.in_ok-coded.coded.letters ≡ in_order (letters_of (deck_with k whole.rows (all_settled whole) whole.deck.literals) settled)) same
+            (c.in_ok-coded.ensures.letters view settled (all_settled whole) whole.deck.literals is.sized.symbols refl sized.sizing taken);
+        stored = c.in_ok-line.ensures.line kind whole.rows view settled c.args.items.now.items (items_of context settled settled.read.operation) (sym taken.operation) named is_told;
+      },
+      c.in_ok-line.ensures.before kind view settled c.args.items.now.items (items_of context settled settled.read.operation) is_told,
+    )

@@ -1,0 +1,61 @@
+use Rattle.std.proofs.Common.{◌∙◌, reverse, refl, ap₂, arith}
+use Rattle.std.proofs.lemmas.List.{length-reverse}
+use Rattle.definitions.specs.DeckKinds.{up_to_end, behind_end}
+use Rattle.definitions.specs.Lengths.{rows_of}
+use Rattle.definitions.specs.Statements.{statements_of}
+use Rattle.deck_assembler.specs.declared.object.ObjectParts.{ObjectParts}
+use Rattle.deck_assembler.specs.DeckParts.{sized_in}
+use Rattle.deck_assembler.specs.Walks.{Whole, IsWhole}
+use Rattle.deck_assembler.proofs.PartLaws.{AreMade, parts-of}
+use Rattle.deck_assembler.proofs.PieceCounts.{sized-length}
+use Rattle.deck_assembler.proofs.object_part_list.object_parts.Goals as goal
+
+pub returns-in_err-made-clause-coded : goal.returns-in_err-made-clause-coded
+returns-in_err-made-clause-coded c =
+    let all = statements_of (reverse c.args.cards.now) in
+    let deck = c.args.deck.now in
+    let counted = sized-length deck.kind _ 0 c.args.cards.now (sized_in deck.pieces) (reverse (up_to_end all)) deck.behind (reverse (behind_end all)) c.requires.deck.sized in
+    let turned = length-reverse (up_to_end all) in
+    let coded = c.in_err-made.ensures.coded in
+    omega (arith, counted, turned, coded)
+
+pub returns-clause-coded : goal.returns-clause-coded
+returns-clause-coded c =
+    let all = statements_of (reverse c.args.cards.now) in
+    let deck = c.args.deck.now in
+    let counted = sized-length deck.kind _ 0 c.args.cards.now (sized_in deck.pieces) (reverse (up_to_end all)) deck.behind (reverse (behind_end all)) c.requires.deck.sized in
+    let turned = length-reverse (up_to_end all) in
+    let coded = c.in_ok-made.ensures.coded in
+    omega (arith, counted, turned, coded)
+
+pub returns-clause-parts : goal.returns-clause-parts
+returns-clause-parts c =
+    λ name.
+    let all = statements_of (reverse c.args.cards.now) in
+    let sized = c.requires.deck in
+    let made = c.in_ok-made.made in
+    let whole : Whole = record { cards = c.args.cards.now; deck = c.args.deck.now; rows = c.in_ok-bases.bases; known = up_to_end all; others = behind_end all } in
+    let parts : ObjectParts = record {
+      kind = c.kind.result;
+      lines = made.lines.lines;
+      items = made.lines.items;
+      bases = c.in_ok-bases.bases;
+      literals = c.in_ok-literals.literals;
+      entries = made.names.entries.entries;
+      externals = made.names.externals.names;
+    } in
+    let is : IsWhole whole = record {
+      sized = sized;
+      rows = c.in_ok-bases.ensures.rows ∙ ap₂ rows_of (c.lengths.ensures ∙ sized.lengths) (c.literals-2.ensures ∙ sized.literals);
+      few = c.requires.few;
+    } in
+    let are : AreMade whole made parts = record {
+      kind = c.kind.ensures;
+      rows = refl;
+      literals = c.in_ok-literals.ensures.items ∙ c.words.ensures ∙ c.literals.ensures;
+      lines = refl;
+      items = refl;
+      entries = refl;
+      externals = refl;
+    } in
+    parts-of name whole made parts is (c.in_ok-made.ensures.done (up_to_end all) (behind_end all) is) are refl refl

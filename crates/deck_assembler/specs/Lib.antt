@@ -1,0 +1,23 @@
+-- The fields that a line keeps.
+pub mod LineItems
+-- The lines and the parts of an object.
+pub mod CodedLines
+pub mod PartsOf
+-- What a record keeps of a deck, as contracts see it.
+pub mod DeckParts
+pub mod SymbolKeys
+pub mod FirstSymbols
+-- What makes it the deck's.
+pub mod SizedDecks
+-- One statement more, and the statements up to END.
+pub mod LiteralsRead
+pub mod PieceSteps
+pub mod Sizers
+pub mod FirstStatements
+-- The fields of a statement, as a line keeps them.
+pub mod KeptFields
+-- Entries and externals.
+pub mod SharedNames
+-- One statement after another.
+pub mod Walks
+pub mod DeckWalks

@@ -1,0 +1,94 @@
+//! The lines of the statements of a deck, one behind the other.
+ghost use Rattle.std.specs.Prelude.{ℕ, ◌≡◌, ◌+◌, ◌-◌, ◌^◌, ◌≤◌, ◌∷◌, ◌++◌, [], List, IfOk, OnOk, true, length, take, drop, min};
+ghost use Rattle.definitions.specs.Objects.{Shown, only_listed};
+ghost use Rattle.definitions.specs.Settling.{settle, settled_all};
+ghost use Rattle.definitions.specs.Statements as statements;
+ghost use Rattle.statement_coder.specs.ReadOperands.{IsReadOperand};
+ghost use Rattle.deck_assembler.specs.SizedDecks.{IsListedStatement, IsSizedStatement};
+ghost use Rattle.deck_assembler.specs.Walks.{AreLined, AreLinedAs, IsWhole, Whole, has_row, whole_of};
+
+use crate::block_index::block_index;
+use crate::deck_view::DeckView;
+use crate::line_coder::statement_line;
+use crate::{Line, SizedStatement};
+use cards::Card;
+use operations::Letters;
+use statement_coder::{Item, Meter, ReadOperand};
+use std::alloc::{AllocError, Global};
+
+/// The lines so far with the fields that they list, how many cards they have, and the index of the
+/// latest block.
+#[derive(Drop)]
+pub(crate) struct DeckLines {
+    pub(crate) lines: Vec<Line>,
+    pub(crate) items: Vec<Item>,
+    pub(crate) stood: usize,
+    block: u32,
+}
+
+/// The next so many cards, at most ten.
+pub(crate) fn next_cards(cards: &[Card], stood: usize, count: u32) -> &[Card]
+    ensures cards { count ≤ 10 → count ≤ length (drop stood cards.now) → result.now ≡ take count (drop stood cards.now) }
+    ensures few { length result.now ≤ 10 }
+{
+    let behind = cards.split_at(stood.min(cards.len())).1;
+    behind
+        .split_at((count as usize).min(10).min(behind.len()))
+        .0
+}
+
+impl DeckLines {
+    /// Those of no statement, with memory for so many lines.
+    pub(crate) fn new(alloc: Global, room: usize) -> Result<DeckLines, AllocError>
+        ensures lined { IfOk result (λ lines. (whole : Whole) → AreLined whole [] lines) }
+        ensures stood { IfOk result (λ lines. lines.stood ≡ 0) }
+    {
+        Ok(DeckLines {
+            lines: Vec::with_capacity(alloc, room)?,
+            items: Vec::new(alloc),
+            stood: 0,
+            block: 0,
+        })
+    }
+
+    /// The line of one statement more, whose operand was read. Where memory runs out the lines are of no use.
+    pub(crate) fn add(
+        &mut self,
+        view: &DeckView<'_>,
+        read: &ReadOperand<'_>,
+        sized: &SizedStatement,
+        meter: &mut Meter,
+    ) -> Result<(), AllocError>
+        ensures lined { OnOk result ((known others earlier : List statements.Statement) (given : statements.Statement) →
+            let whole = whole_of view.now known others in
+            let before = settled_all whole.deck.kind earlier in
+            IsWhole whole → read.now.kind ≡ whole.deck.kind → IsReadOperand read.now (settle whole.deck.kind before given) → IsSizedStatement whole.deck.kind earlier self.old.stood (drop self.old.stood whole.cards) sized.now given →
+            has_row (settle whole.deck.kind before given).block whole.rows ≡ true → AreLined whole earlier self.old → AreLined whole (given ∷ earlier) self.new) }
+        ensures stood { OnOk result (self.new.stood ≡ min (self.old.stood + sized.now.cards) (2 ^ 64 - 1)) }
+        ensures coded { meter.new.coded ≡ min (meter.old.coded + 1) (2 ^ 64 - 1) }
+        ensures sized { meter.new.sized ≡ meter.old.sized }
+    {
+        let block = block_index(view.bases.rows(), &sized.sizing.block, self.block);
+        let line = statement_line(view, read, sized, block, &mut self.items, meter)?;
+        self.lines.push(line)?;
+        self.block = block;
+        self.stood = self.stood.saturating_add(sized.cards as usize);
+        Ok(())
+    }
+
+    /// The line of a statement of so many cards that is only listed.
+    pub(crate) fn list(&mut self, count: u32) -> Result<(), AllocError>
+        ensures lined { OnOk result ((whole : Whole) (shown : List Shown) (given : statements.Statement) →
+            IsWhole whole → IsListedStatement self.old.stood (drop self.old.stood whole.cards) count given →
+            AreLinedAs whole shown self.old → AreLinedAs whole (shown ++ only_listed given ∷ []) self.new) }
+        ensures stood { OnOk result (self.new.stood ≡ min (self.old.stood + count) (2 ^ 64 - 1)) }
+    {
+        self.lines.push(Line {
+            cards: count,
+            letters: Letters::none(),
+            coded: None,
+        })?;
+        self.stood = self.stood.saturating_add(count as usize);
+        Ok(())
+    }
+}

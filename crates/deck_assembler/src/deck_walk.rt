@@ -1,0 +1,149 @@
+//! All statements of a deck, one after the other: their lines and their names.
+ghost use Rattle.std.specs.Prelude.{◌≡◌, ◌≤◌, ◌+◌, ◌∷◌, ◌++◌, [], List, IfOk, OnOk, length};
+ghost use Rattle.definitions.specs.Statements as statements;
+ghost use Rattle.deck_assembler.specs.DeckParts.{sized_in};
+ghost use Rattle.deck_assembler.specs.declared.sized_statement.SizedStatement as code;
+ghost use Rattle.deck_assembler.specs.Walks.{IsWhole, Whole, whole_of};
+ghost use Rattle.deck_assembler.specs.DeckWalks.{IsDone, IsListing, IsWalked};
+
+use crate::deck_lines::{DeckLines, next_cards};
+use crate::deck_names::DeckNames;
+use crate::deck_view::DeckView;
+use crate::{Piece, SizedDeck, SizedStatement};
+use cards::StatementRoom;
+use statement_coder::{Meter, Statement, kept_operand};
+use std::alloc::{AllocError, Global};
+
+/// The lines and the names of the statements so far.
+#[derive(Drop)]
+pub(crate) struct Making {
+    pub(crate) lines: DeckLines,
+    pub(crate) names: DeckNames,
+}
+
+/// For how many lines there is to be memory: a piece has 128 statements at most.
+fn line_room(deck: &SizedDeck) -> usize {
+    let pieces = deck.pieces().len().saturating_mul(128);
+    pieces.saturating_add(deck.behind().len())
+}
+
+impl Making {
+    /// Those of no statement, with memory for the lines of all of them.
+    fn new(alloc: Global, view: &DeckView<'_>) -> Result<Making, AllocError>
+        ensures { IfOk result (λ made. (known others : List statements.Statement) → let whole = whole_of view.now known others in IsWhole whole → IsWalked whole (sized_in whole.deck.pieces) made) }
+    {
+        Ok(Making {
+            lines: DeckLines::new(alloc, line_room(view.deck))?,
+            names: DeckNames::new(alloc),
+        })
+    }
+
+    /// One statement more, whose cards are read once more.
+    fn add_again(
+        &mut self,
+        view: &DeckView<'_>,
+        room: &mut StatementRoom,
+        sized: &SizedStatement,
+        meter: &mut Meter,
+    ) -> Result<(), AllocError>
+        ensures walked { OnOk result ((known others : List statements.Statement) (left : List code.SizedStatement) → let whole = whole_of view.now known others in
+            IsWhole whole → IsWalked whole (sized.now ∷ left) self.old → IsWalked whole left self.new) }
+        ensures coded { meter.new.coded ≤ meter.old.coded + 1 }
+        ensures sized { meter.new.sized ≡ meter.old.sized }
+    {
+        let cards = next_cards(view.cards, self.lines.stood, sized.cards);
+        let statement = Statement::read(view.deck.kind(), cards, room);
+        self.names.note(view, &statement, &sized.sizing)?;
+        let read = statement.read_operand(sized.sizing.number_base);
+        self.lines.add(view, &read, sized, meter)
+    }
+
+    /// One statement more: its cards are read once more where it gives or takes names, or where its
+    /// operand was not kept. Where memory runs out what was made is of no use.
+    fn add(
+        &mut self,
+        view: &DeckView<'_>,
+        room: &mut StatementRoom,
+        sized: &SizedStatement,
+        meter: &mut Meter,
+    ) -> Result<(), AllocError>
+        ensures walked { OnOk result ((known others : List statements.Statement) (left : List code.SizedStatement) → let whole = whole_of view.now known others in
+            IsWhole whole → IsWalked whole (sized.now ∷ left) self.old → IsWalked whole left self.new) }
+        ensures coded { meter.new.coded ≤ meter.old.coded + 1 }
+        ensures sized { meter.new.sized ≡ meter.old.sized }
+    {
+        let kind = view.deck.kind();
+        if let Some(read) = kept_operand(kind, sized.operation, &sized.kept) {
+            if self.names.note_kept(kind, sized)? {
+                return self.lines.add(view, &read, sized, meter);
+            }
+        }
+        self.add_again(view, room, sized, meter)
+    }
+
+    /// Some statements more.
+    fn add_all(
+        &mut self,
+        view: &DeckView<'_>,
+        room: &mut StatementRoom,
+        piece: &[SizedStatement],
+        meter: &mut Meter,
+    ) -> Result<(), AllocError>
+        ensures walked { OnOk result ((known others : List statements.Statement) (left : List code.SizedStatement) → let whole = whole_of view.now known others in
+            IsWhole whole → IsWalked whole (piece.now ++ left) self.old → IsWalked whole left self.new) }
+        ensures coded { meter.new.coded ≤ meter.old.coded + length piece.now }
+        ensures sized { meter.new.sized ≡ meter.old.sized }
+    {
+        for sized in piece {
+            self.add(view, room, sized, meter)?;
+        }
+        Ok(())
+    }
+
+    /// The statements of some pieces more.
+    fn add_pieces(
+        &mut self,
+        view: &DeckView<'_>,
+        room: &mut StatementRoom,
+        pieces: &[Piece],
+        meter: &mut Meter,
+    ) -> Result<(), AllocError>
+        ensures walked { OnOk result ((known others : List statements.Statement) → let whole = whole_of view.now known others in
+            IsWhole whole → IsWalked whole (sized_in pieces.now) self.old → IsWalked whole [] self.new) }
+        ensures coded { meter.new.coded ≤ meter.old.coded + length (sized_in pieces.now) }
+        ensures sized { meter.new.sized ≡ meter.old.sized }
+    {
+        for piece in pieces {
+            self.add_all(view, room, piece.statements(), meter)?;
+        }
+        Ok(())
+    }
+}
+
+/// The lines of the statements behind END, which have so many cards each, behind those up to END.
+fn list_all(lines: &mut DeckLines, counts: &[u32]) -> Result<(), AllocError>
+    ensures { OnOk result ((whole : Whole) → IsWhole whole → IsListing whole counts.now lines.old → IsListing whole [] lines.new) }
+{
+    for count in counts {
+        lines.list(*count)?;
+    }
+    Ok(())
+}
+
+/// The lines and the names of a deck. At most the statements up to END are coded, also where memory
+/// runs out.
+pub(crate) fn walk(
+    alloc: Global,
+    view: &DeckView<'_>,
+    meter: &mut Meter,
+) -> Result<Making, AllocError>
+    ensures done { IfOk result (λ made. (known others : List statements.Statement) → let whole = whole_of view.now known others in IsWhole whole → IsDone whole made) }
+    ensures coded { meter.new.coded ≤ meter.old.coded + length (sized_in view.now.deck.now.pieces) }
+    ensures sized { meter.new.sized ≡ meter.old.sized }
+{
+    let mut made = Making::new(alloc, view)?;
+    let mut room = StatementRoom::new();
+    made.add_pieces(view, &mut room, view.deck.pieces(), meter)?;
+    list_all(&mut made.lines, view.deck.behind())?;
+    Ok(made)
+}

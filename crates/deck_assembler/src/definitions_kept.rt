@@ -1,0 +1,71 @@
+//! What a sized statement defines, taken into the table of symbols (COMPASS 60492600, location field,
+//! EQU, EXT).
+ghost use Rattle.std.specs.Prelude.{◌≡◌, ◌≤◌, length, OnOk};
+ghost use Rattle.definitions.specs.Operands as operands;
+ghost use Rattle.definitions.specs.Settling.{external};
+ghost use Rattle.statement_coder.specs.Readings.{IsReading};
+ghost use Rattle.deck_assembler.specs.FirstSymbols.{symbol_in, with_symbol, with_externals, with_names, with_defined};
+
+use crate::symbol_table::SymbolTable;
+use expr_forms::{Form, LinkedNames, Name, Part, Relocation};
+use statement_coder::{Defines, Reading};
+use std::alloc::AllocError;
+
+/// The value of a name that EXT defines.
+fn external(name: &[u8]) -> Form
+    requires { length name.now ≤ 7 }
+    ensures { result ≡ (external name.now).form }
+{
+    Form::new(0, Some(Part::Added(Relocation::External(Name::new(name)))))
+}
+
+/// Defines the names of an EXT that have no value yet. Some of them are defined where memory runs out.
+#[inline(never)]
+fn define_externals(symbols: &mut SymbolTable, names: LinkedNames<'_>) -> Result<(), AllocError>
+    ensures { OnOk result (symbol_in symbols.new ≡ with_externals names.entry (symbol_in symbols.old)) }
+{
+    let mut rest = names;
+    'names: loop {
+        match rest.next() {
+            None => return Ok(()),
+            Some(None) => {}
+            Some(Some(name)) => symbols.define(name, external(name))?,
+        }
+    }
+}
+
+/// Defines the names of an operand, if it is that of an EXT.
+fn define_names(symbols: &mut SymbolTable, reading: &Reading<'_>) -> Result<(), AllocError>
+    ensures { OnOk result ((operand : operands.Operand) → IsReading reading.now operand → symbol_in symbols.new ≡ with_names operand (symbol_in symbols.old)) }
+{
+    match reading {
+        Reading::Names(names) => define_externals(symbols, names.copied()),
+        Reading::Unread => Ok(()),
+        Reading::Bad => Ok(()),
+        Reading::Instruction(_) => Ok(()),
+        Reading::Data(_) => Ok(()),
+        Reading::Con(_) => Ok(()),
+        Reading::Vfd(_) => Ok(()),
+        Reading::Text(_) => Ok(()),
+        Reading::Value(_) => Ok(()),
+        Reading::Use(_) => Ok(()),
+    }
+}
+
+/// Defines what a statement with this location field and this operand defines. Some of it is defined
+/// where memory runs out.
+pub(crate) fn define(
+    symbols: &mut SymbolTable,
+    location: &[u8],
+    reading: &Reading<'_>,
+    defines: Defines,
+) -> Result<(), AllocError>
+    ensures { OnOk result ((operand : operands.Operand) → IsReading reading.now operand →
+        symbol_in symbols.new ≡ with_defined location.now operand defines (symbol_in symbols.old)) }
+{
+    match defines {
+        Defines::Nothing => Ok(()),
+        Defines::Symbol(form) => symbols.define(location, form),
+        Defines::Externals => define_names(symbols, reading),
+    }
+}

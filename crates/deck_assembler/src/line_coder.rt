@@ -1,0 +1,48 @@
+//! The line of one statement of a deck.
+ghost use Rattle.std.specs.Prelude.{ℕ, ◌≡◌, ◌+◌, ◌-◌, ◌^◌, List, IfOk, min, slice_get};
+ghost use Rattle.definitions.specs.Cards.{Card};
+ghost use Rattle.definitions.specs.Objects.{shown_of};
+ghost use Rattle.definitions.specs.Settling.{settle, settled_all};
+ghost use Rattle.definitions.specs.Statements as statements;
+ghost use Rattle.statement_coder.specs.CodedItems.{IsKept};
+ghost use Rattle.statement_coder.specs.ReadOperands.{IsReadOperand};
+ghost use Rattle.deck_assembler.specs.CodedLines.{IsNamed, IsShown};
+ghost use Rattle.deck_assembler.specs.SizedDecks.{IsSizedStatement};
+ghost use Rattle.deck_assembler.specs.Walks.{IsWhole, context_in, whole_of};
+
+use crate::deck_view::DeckView;
+use crate::statement_lines::coded_line;
+use crate::{Line, SizedStatement, Unlinked};
+use statement_coder::{Item, Meter, ReadOperand, code_read};
+use std::alloc::AllocError;
+
+/// The line of a statement whose operand was read, and whose block has this index. Its fields are put
+/// behind those of the lines before it, if they are listed; where memory runs out the list is of no
+/// use.
+pub(crate) fn statement_line(
+    view: &DeckView<'_>,
+    read: &ReadOperand<'_>,
+    sized: &SizedStatement,
+    block: u32,
+    items: &mut Vec<Item>,
+    meter: &mut Meter,
+) -> Result<Line, AllocError>
+    ensures line { IfOk result (λ line. (known others earlier : List statements.Statement) (given : statements.Statement) (stood : ℕ) (ahead : List Card) →
+        let whole = whole_of view.now known others in
+        let kind = whole.deck.kind in
+        let settled = settle kind (settled_all kind earlier) given in
+        IsWhole whole → read.now.kind ≡ kind → IsReadOperand read.now settled → IsSizedStatement kind earlier stood ahead sized.now given → IsNamed (slice_get whole.rows block) settled.block →
+        IsShown kind whole.rows items.new.items stood ahead line (shown_of (context_in whole) settled) × IsKept items.old.items items.new.items) }
+    ensures cards { IfOk result (λ line. line.cards ≡ sized.now.cards) }
+    ensures coded { meter.new.coded ≡ min (meter.old.coded + 1) (2 ^ 64 - 1) }
+    ensures sized { meter.new.sized ≡ meter.old.sized }
+{
+    let bases = Unlinked { bases: view.bases };
+    let coded = code_read(read, &sized.sizing, view, &bases, items, meter)?;
+    let line = coded_line(read.operation, block, &sized.sizing, coded.items, items)?;
+    Ok(Line {
+        cards: sized.cards,
+        letters: coded.letters,
+        coded: Some(line),
+    })
+}

@@ -1,0 +1,47 @@
+//! The line of a coded statement.
+ghost use Rattle.std.specs.Prelude.{◌≡◌, List, IfOk, OnOk, OnErr, slice_get};
+ghost use Rattle.definitions.specs.Lengths.{BlockRow};
+ghost use Rattle.definitions.specs.Settled.{Settled};
+ghost use Rattle.definitions.specs.Settling.{View};
+ghost use Rattle.definitions.specs.StatementItems as definitions;
+ghost use Rattle.definitions.specs.declared.deck_kind.DeckKind.{DeckKind};
+ghost use Rattle.statement_coder.specs.declared.items.Item as fields;
+ghost use Rattle.operations.specs.OperationsAs.{operation_as};
+ghost use Rattle.statement_coder.specs.CodedItems.{IsKept};
+ghost use Rattle.deck_assembler.specs.CodedLines.{IsCoded, IsNamed};
+ghost use Rattle.deck_assembler.specs.KeptFields.{IsTold};
+
+use crate::CodedLine;
+use crate::line_fields::line_fields;
+use operations::Operation;
+use statement_coder::{CodedItems, Item, Sizing};
+use std::alloc::AllocError;
+
+/// The line of a statement of which this was told, in a block that has this index among the blocks
+/// of its deck. The list keeps what it had before the statement, and behind that what the line has
+/// listed; where memory runs out it is as it was.
+pub fn coded_line(
+    operation: Operation,
+    block: u32,
+    sizing: &Sizing,
+    told: CodedItems,
+    items: &mut Vec<Item>,
+) -> Result<CodedLine, AllocError>
+    ensures line { IfOk result (λ line. (kind : DeckKind) (rows : List BlockRow) (view : View) (settled : Settled) (before : List fields.Item) (told' : List definitions.Item) →
+        operation_as operation ≡ settled.read.operation → IsNamed (slice_get rows block) settled.block →
+        IsTold kind view settled sizing.now told before items.old.items told' →
+        IsCoded kind rows items.new.items line (record { settled = settled; fields = told' })) }
+    ensures before { OnOk result ((kind : DeckKind) (view : View) (settled : Settled) (before : List fields.Item) (told' : List definitions.Item) →
+        IsTold kind view settled sizing.now told before items.old.items told' → IsKept before items.new.items) }
+    ensures unchanged { OnErr result (items.new.items ≡ items.old.items) }
+{
+    let fields = line_fields(told, items)?;
+    Ok(CodedLine {
+        operation,
+        block,
+        place: sizing.place,
+        end: sizing.end,
+        begins_run: sizing.begins_run,
+        fields,
+    })
+}

@@ -1,0 +1,82 @@
+//! The symbols of a deck, each with the value of its first definition (COMPASS 60492600, location
+//! field, EQU, EXT).
+ghost use Rattle.std.specs.Prelude.{◌≡◌, ℕ, ◌==◌, nat_eq, Some, None, OnOk, OnErr, if◌then◌else◌};
+ghost use Rattle.indexmap.specs.IndexMap.{get};
+ghost use Rattle.definitions.specs.Settled.{or_form};
+ghost use Rattle.deck_assembler.specs.FirstSymbols.{symbol_in, with_symbol};
+
+use crate::symbol_key::SymbolKey;
+use expr_forms::Form;
+use indexmap::IndexMap;
+use statement_coder::EarlySymbols;
+use std::alloc::{AllocError, Global};
+use std::marker::Model;
+
+/// The values of symbols by name. Contracts see each name as a number with its value.
+#[derive(Drop)]
+pub struct SymbolTable {
+    forms: IndexMap<u64, Form>,
+}
+
+impl Model for SymbolTable {
+    ghost use Rattle.std.specs.Prelude.{ℕ, List};
+    ghost use Rattle.definitions.specs.Forms.{Form};
+
+    ghost Value = { List (ℕ × Form) };
+
+    ghost view = { λ t. t.forms.entries };
+}
+
+impl SymbolTable {
+    /// No symbols.
+    pub fn new(alloc: Global) -> SymbolTable
+        ensures { symbol_in result ≡ (λ name. None) }
+    {
+        SymbolTable {
+            forms: IndexMap::new(alloc),
+        }
+    }
+
+    /// The value of a symbol, if it is defined.
+    pub fn value(&self, name: &[u8]) -> Option<Form>
+        ensures { result ≡ symbol_in self.now name.now }
+    {
+        match SymbolKey::of(name) {
+            None => None,
+            Some(name) => self.forms.get(&name.code).copied(),
+        }
+    }
+
+    /// Defines a symbol, if the text is a name that has no value yet. Without memory the symbols are
+    /// as before.
+    pub fn define(&mut self, name: &[u8], form: Form) -> Result<(), AllocError>
+        ensures defined { OnOk result (symbol_in self.new ≡ with_symbol name.now form (symbol_in self.old)) }
+        ensures without_memory { OnErr result (self.new ≡ self.old) }
+    {
+        match SymbolKey::of(name) {
+            None => Ok(()),
+            Some(name) => keep(&mut self.forms, name.code, form),
+        }
+    }
+}
+
+/// Gives a name its value, unless it has one. Without memory all is as before.
+fn keep(forms: &mut IndexMap<u64, Form>, code: u64, form: Form) -> Result<(), AllocError>
+    ensures kept { OnOk result ((other : ℕ) → get nat_eq forms.new other ≡ or_form (get nat_eq forms.old other) (if other == code then Some form else None)) }
+    ensures without_memory { OnErr result (forms.new.entries ≡ forms.old.entries) }
+{
+    if forms.get(&code).is_none() {
+        forms.insert(code, form)?;
+    }
+    Ok(())
+}
+
+impl EarlySymbols for SymbolTable {
+    ghost use Rattle.deck_assembler.specs.FirstSymbols.{symbol_in};
+
+    ghost view = { λ symbols. symbol_in symbols };
+
+    fn symbol(&self, name: &[u8]) -> Option<Form> {
+        self.value(name)
+    }
+}

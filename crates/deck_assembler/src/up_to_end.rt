@@ -1,0 +1,110 @@
+//! The statements of a deck up to END, one after the other (COMPASS 60492600, END, ABS, PERIPH).
+ghost use Rattle.std.specs.Prelude.{ℕ, ◌≡◌, ◌≤◌, ◌+◌, ◌-◌, ◌^◌, ◌∷◌, [], List, All, IfOk, OnOk, length, map, min};
+ghost use Rattle.cards.specs.Spans.{IsSpan, statement_at};
+ghost use Rattle.cards.specs.declared.statement_list.Span.{Span};
+ghost use Rattle.definitions.specs.DeckKinds.{is_end, up_to_end, kind_of_statements};
+ghost use Rattle.definitions.specs.Fields.{Fields, fields_of};
+ghost use Rattle.definitions.specs.Statements as statements;
+ghost use Rattle.definitions.specs.Statements.{AreNumbered};
+ghost use Rattle.definitions.specs.States.{names_of_blocks};
+ghost use Rattle.operations.specs.KindsFound.{kind_found};
+ghost use Rattle.use_blocks.specs.BlockLengths.{block_names};
+ghost use Rattle.deck_assembler.specs.FirstStatements.{all_statements, first_statements, IsEnding};
+ghost use Rattle.deck_assembler.specs.Sizers.{IsNext, IsSizer};
+
+use crate::sizer::Sizer;
+use cards::{Card, Span, StatementRoom, fields};
+use definitions::DeckKind;
+use operations::{KindSearch, is_end};
+use statement_coder::{Meter, Statement};
+use std::alloc::{AllocError, Global};
+
+/// The kind that the operation field of the statement of these cards leaves a search with.
+fn read_kind(search: &mut KindSearch, cards: &[Card], room: &mut StatementRoom)
+    requires { length cards.now ≤ 10 }
+    ensures { (earlier : List Fields) → search.old ≡ kind_found earlier → search.new ≡ kind_found (fields_of cards.now ∷ earlier) }
+{
+    let fields = fields(cards, room);
+    search.read(fields.operation());
+}
+
+/// The kind of a deck with these statements.
+pub(crate) fn kind_of(cards: &[Card], spans: &[Span]) -> DeckKind
+    requires { All (IsSpan (length cards.now)) spans.now }
+    ensures { result ≡ kind_of_statements (up_to_end (all_statements cards.now spans.now)) }
+{
+    let mut room = StatementRoom::new();
+    let mut search = KindSearch::new();
+    for span in spans {
+        if search.is_found() {
+            return search.kind();
+        }
+        read_kind(&mut search, span.of(cards), &mut room);
+    }
+    search.kind()
+}
+
+impl Sizer {
+    /// Sizes the statement of a span, which is the next one, and tells whether it is END.
+    fn take_span(
+        &mut self,
+        alloc: Global,
+        kind: DeckKind,
+        cards: &[Card],
+        span: Span,
+        room: &mut StatementRoom,
+        meter: &mut Meter,
+    ) -> Result<bool, AllocError>
+        requires blocks { block_names self.old.lengths ≡ names_of_blocks self.old.state.blocks }
+        requires span { IsSpan (length cards.now) span }
+        ensures end { IfOk result (λ ended. ended ≡ is_end (fields_of (statement_at cards.now span).cards)) }
+        ensures taken { OnOk result ((earlier : List statements.Statement) → IsNext cards.now earlier span.count (statement_at cards.now span) → IsSizer kind cards.now earlier self.old →
+            IsSizer kind cards.now (statement_at cards.now span ∷ earlier) self.new) }
+        ensures sized { meter.new.sized ≡ min (meter.old.sized + 1) (2 ^ 64 - 1) }
+        ensures coded { meter.new.coded ≡ meter.old.coded }
+    {
+        let statement = Statement::read(kind, span.of(cards), room);
+        let ended = is_end(statement.name);
+        self.take(alloc, &statement, span.count as u32, meter)?;
+        Ok(ended)
+    }
+
+    /// Sizes the statements of these spans up to END, and tells how many they are. Where memory runs
+    /// out some of them are sized.
+    pub(crate) fn take_up_to_end(
+        &mut self,
+        alloc: Global,
+        kind: DeckKind,
+        cards: &[Card],
+        spans: &[Span],
+        meter: &mut Meter,
+    ) -> Result<usize, AllocError>
+        requires none { IsSizer kind cards.now [] self.old }
+        requires spans { All (IsSpan (length cards.now)) spans.now }
+        requires numbered { AreNumbered (all_statements cards.now spans.now) }
+        ensures ended { IfOk result (λ count. IsEnding cards.now spans.now count) }
+        ensures taken { IfOk result (λ count. IsSizer kind cards.now (first_statements cards.now spans.now count) self.new) }
+        ensures sized { meter.new.sized ≤ meter.old.sized + length (up_to_end (all_statements cards.now spans.now)) }
+        ensures coded { meter.new.coded ≡ meter.old.coded }
+    {
+        let mut room = StatementRoom::new();
+        for (k, span) in spans.iter().enumerate() {
+            if self.take_span(alloc, kind, cards, *span, &mut room, meter)? {
+                return Ok(k + 1);
+            }
+        }
+        Ok(spans.len())
+    }
+}
+
+/// How many cards each of these statements has.
+pub(crate) fn card_counts(alloc: Global, spans: &[Span]) -> Result<Vec<u32>, AllocError>
+    requires { (cards : ℕ) × All (IsSpan cards) spans.now }
+    ensures { IfOk result (λ counts. counts.items ≡ map (λ (span : Span). span.count) spans.now) }
+{
+    let mut counts = Vec::with_capacity(alloc, spans.len())?;
+    for span in spans {
+        counts.push(span.count as u32)?;
+    }
+    Ok(counts)
+}

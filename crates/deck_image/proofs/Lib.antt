@@ -1,2 +1,0 @@
-mod LineSteps
-mod AloneSteps

@@ -1,4 +1,0 @@
-pub mod Language
-pub mod Jobs
-pub mod Rounds
-pub mod Settling

@@ -1,0 +1,55 @@
+-- The sections of common blocks.
+use Rattle.std.proofs.Common.{◌≡◌, ℕ, ◌+◌, List, [], ◌∷◌, ◌++◌, Bool, false, refl, sym, ap, ap₂, ◌∙◌, append_assoc, append-nil}
+use Rattle.std.specs.Prelude.{codes, flat_map, if◌then◌else◌}
+use Rattle.definitions.specs.Characters.{line_feed}
+use Rattle.definitions.specs.Numerals.{octal_of}
+use Rattle.definitions.specs.Link.{Layout, Common, addressed}
+use Rattle.definitions.specs.Image.{word_line, common_words, common_section, common_section_by}
+use Rattle.definitions.specs.Words.{StoredWord}
+use Rattle.definitions.specs.declared.deck_kind.DeckKind.TheVariants.{Rel}
+use Rattle.deck_linker.specs.Sections.{common_head, common_word, common_words_text}
+use Rattle.deck_linker.proofs.TextLaws.{four-ended}
+
+-- a word is written
+pub word-written : (old : List ℕ) (base offset value address : ℕ) → address ≡ base + offset →
+    old ++ word_line Rel (record { address = address; value = value }) ≡ old ++ common_word base (record { offset = offset; value = value })
+unfolding common_word
+word-written old base offset value address e = ap (λ (n : ℕ). old ++ word_line Rel (record { address = n; value = value })) e
+
+-- the first line is written
+pub head-written : (t u v w x name text : List ℕ) (base number : ℕ) → u ≡ t ++ codes "COMMON " → v ≡ u ++ text → w ≡ v ++ codes " " → x ≡ w ++ octal_of 6 number → text ≡ name → number ≡ base →
+    x ++ line_feed ∷ [] ≡ t ++ common_head name base
+unfolding common_head
+head-written t u v w x name text base number h k l m named placed =
+    four-ended t u v w x (codes "COMMON ") text (codes " ") (octal_of 6 number) (line_feed ∷ []) h k l m
+    ∙ ap₂ (λ (a : List ℕ) (n : ℕ). t ++ ((codes "COMMON " ++ (a ++ (codes " " ++ octal_of 6 n))) ++ line_feed ∷ [])) named placed
+
+words-text : (base : ℕ) (words : List StoredWord) → flat_map (word_line Rel) (addressed base words) ≡ common_words_text base words
+unfolding common_word
+words-text base [] = refl
+words-text base (word ∷ words) = ap (λ (t : List ℕ). word_line Rel (record { address = base + word.offset; value = word.value }) ++ t) (words-text base words)
+
+-- a section with words
+section-some : (common : Common) (words : List StoredWord) → (words ≡ [] → ⊥) → common_section common words ≡ common_head common.name common.base ++ common_words_text common.base words
+unfolding common_head
+section-some common [] h = absurd (h refl)
+section-some common (word ∷ words) h = ap (λ (t : List ℕ). common_head common.name common.base ++ t) (words-text common.base (word ∷ words))
+
+section-by : (layout : Layout) (common : Common) (past : Bool) (words : List StoredWord) → past ≡ false → words ≡ common_words layout common.name layout.decks [] →
+    common_section common words ≡ (if past then [] else common_section common (common_words layout common.name layout.decks []))
+section-by layout common past words e f = ap (common_section common) f ∙ sym (ap (λ (b : Bool). if b then [] else common_section common (common_words layout common.name layout.decks [])) e)
+
+-- the section of a common block is written
+pub section-written : (layout : Layout) (common : Common) (old headed name : List ℕ) (base place : ℕ) (words told : List StoredWord) (past : Bool) → past ≡ false → past ≡ common.is_past →
+    words ≡ common_words layout common.name layout.decks [] → (words ≡ [] → ⊥) → told ≡ words → headed ≡ old ++ common_head name base → name ≡ common.name → base ≡ common.base → place ≡ common.base →
+    headed ++ common_words_text place told ≡ old ++ common_section_by layout common
+section-written layout common old headed name base place words told past kept is all some same h named based placed =
+    ap₂ (λ (a b : List ℕ). a ++ b) (h ∙ ap₂ (λ (n : List ℕ) (k : ℕ). old ++ common_head n k) named based) (ap₂ common_words_text placed same)
+    ∙ append_assoc old (common_head common.name common.base) (common_words_text common.base words)
+    ∙ ap (λ (t : List ℕ). old ++ t) (sym (section-some common words some) ∙ section-by layout common common.is_past words (sym is ∙ kept) all)
+
+-- a common block without words has no section
+pub section-none : (layout : Layout) (common : Common) (old : List ℕ) (words : List StoredWord) (past : Bool) → past ≡ false → past ≡ common.is_past → words ≡ common_words layout common.name layout.decks [] → words ≡ [] →
+    old ≡ old ++ common_section_by layout common
+section-none layout common old words past kept is all none =
+    sym (append-nil old) ∙ ap (λ (t : List ℕ). old ++ t) (ap (common_section common) (sym none) ∙ section-by layout common common.is_past words (sym is ∙ kept) all)

@@ -1,0 +1,73 @@
+-- Names, each once, and the names that they stand for.
+use Rattle.std.proofs.Common.{◌≡◌, ℕ, List, [], ◌∷◌, ◌++◌, Bool, true, false, ◌||◌, refl, sym, ap, ap₂, ◌∙◌, append-nil, append_assoc}
+use Rattle.std.specs.Prelude.{codes, if◌then◌else◌}
+use Rattle.std.proofs.lemmas.List.Folds.{list_any-append}
+use Rattle.definitions.specs.Characters.{same_text}
+use Rattle.definitions.specs.Blocks.{is_named}
+use Rattle.definitions.specs.Settled.{Definition}
+use Rattle.definitions.specs.Link.{Based, Common, names_of, entry_names, doubled_lines, missing_lines, link_line}
+use Rattle.definitions.specs.Map.{entry_line, entry_lines}
+use Rattle.definitions.proofs.TextLaws.{same_text-true}
+use Rattle.deck_linker.specs.Names.{with_name, with_entries, with_decks, HaveNames}
+
+-- a name that is there already changes nothing
+or_there : (b c : Bool) → (b ≡ true → c ≡ true) → c ≡ (c || b)
+or_there b true h = refl
+or_there true false h = h refl
+or_there false false h = refl
+
+-- a name that is among names is so under another spelling of it
+named_along : (a b : List ℕ) (names : List (List ℕ)) → is_named b names ≡ true → same_text a b ≡ true → is_named a names ≡ true
+named_along a b names h e = ap (λ (n : List ℕ). is_named n names) (same_text-true a b e) ∙ h
+
+last_alone : (b : Bool) → (b || false) ≡ b
+last_alone true = refl
+last_alone false = refl
+
+-- a name more among names
+named_pushed : (other name : List ℕ) (names : List (List ℕ)) → is_named other (names ++ name ∷ []) ≡ (is_named other names || same_text other name)
+named_pushed other name names =
+    list_any-append (same_text other) names (name ∷ []) ∙ ap (λ (b : Bool). is_named other names || b) (last_alone (same_text other name))
+
+added : (name other : List ℕ) (names : List (List ℕ)) (b : Bool) → is_named name names ≡ b →
+    is_named other (if b then names else names ++ name ∷ []) ≡ (is_named other names || same_text other name)
+added name other names true e = or_there (same_text other name) (is_named other names) (named_along other name names e)
+added name other names false e = named_pushed other name names
+
+-- a name is added once
+pub have-name : (set names : List (List ℕ)) (name : List ℕ) → HaveNames set names → HaveNames (with_name name set) (names ++ name ∷ [])
+have-name set names name h other =
+    added name other set (is_named name set) refl
+    ∙ ap (λ (b : Bool). b || same_text other name) (h other)
+    ∙ sym (named_pushed other name names)
+
+-- the names of entries are added once each
+pub have-entries : (entries : List Definition) (set names : List (List ℕ)) → HaveNames set names → HaveNames (with_entries entries set) (names ++ names_of entries)
+have-entries [] set names h other = h other ∙ ap (is_named other) (sym (append-nil names))
+have-entries (entry ∷ entries) set names h other =
+    have-entries entries (with_name entry.name set) (names ++ entry.name ∷ []) (have-name set names entry.name h) other
+    ∙ ap (is_named other) (append_assoc names (entry.name ∷ []) (names_of entries))
+
+-- lines depend on what the names have
+pub doubled-same : (set names : List (List ℕ)) (deck : List ℕ) (entries : List Definition) → HaveNames set names → doubled_lines set deck entries ≡ doubled_lines names deck entries
+doubled-same set names deck [] h = refl
+doubled-same set names deck (entry ∷ entries) h =
+    ap₂ (λ (b : Bool) (l : List (List ℕ)). (if b then link_line (codes "D") deck (codes " " ++ entry.name) ∷ [] else []) ++ l) (h entry.name) (doubled-same set names deck entries h)
+
+pub missing-same : (set names : List (List ℕ)) (deck : List ℕ) (externals : List (List ℕ)) → HaveNames set names → missing_lines set deck externals ≡ missing_lines names deck externals
+missing-same set names deck [] h = refl
+missing-same set names deck (name ∷ externals) h =
+    ap₂ (λ (b : Bool) (l : List (List ℕ)). (if b then [] else link_line (codes "U") deck (codes " " ++ name) ∷ []) ++ l) (h name) (missing-same set names deck externals h)
+
+pub entry_lines-same : (commons : List Common) (set names : List (List ℕ)) (based : Based) (entries : List Definition) → HaveNames set names →
+    entry_lines commons set based entries ≡ entry_lines commons names based entries
+entry_lines-same commons set names based [] h = refl
+entry_lines-same commons set names based (entry ∷ entries) h =
+    ap₂ (λ (b : Bool) (l : List ℕ). (if b then [] else entry_line commons based entry) ++ l) (h entry.name) (entry_lines-same commons set names based entries h)
+
+-- the names that decks enter
+pub have-decks : (decks : List Based) (set names : List (List ℕ)) → HaveNames set names → HaveNames (with_decks decks set) (names ++ entry_names decks)
+have-decks [] set names h other = h other ∙ ap (is_named other) (sym (append-nil names))
+have-decks (based ∷ decks) set names h other =
+    have-decks decks (with_entries based.object.entries set) (names ++ names_of based.object.entries) (have-entries based.object.entries set names h) other
+    ∙ ap (is_named other) (append_assoc names (names_of based.object.entries) (entry_names decks))

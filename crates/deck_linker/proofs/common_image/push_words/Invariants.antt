@@ -1,0 +1,8 @@
+-- The lines so far, and those of the words that are left.
+use Rattle.std.proofs.Common.{◌≡◌, ◌++◌, drop}
+use Rattle.parcel_packer.specs.Filling.{as_stored}
+use Rattle.deck_linker.specs.Sections.{common_words_text}
+use Rattle.deck_linker.proofs.common_image.push_words.Given as goal
+
+abbrev pub invariant-loop-word : goal.invariant-loop-word
+invariant-loop-word l = l.text ++ common_words_text l.base (as_stored (drop l.word-index l.words)) ≡ l.fn.text ++ common_words_text l.base (as_stored l.words)

@@ -1,0 +1,10 @@
+use Rattle.std.proofs.Common.{refl}
+use Rattle.std.specs.Prelude.{flat_map}
+use Rattle.deck_linker.specs.Sections.{deck_section}
+use Rattle.deck_linker.proofs.LineLaws.{text-step}
+use Rattle.deck_linker.proofs.image.push_decks.Goals as goal
+
+pub loop-based-preserved : goal.loop-based-preserved
+loop-based-preserved c =
+    text-step (flat_map (deck_section c.args.layout.now)) (deck_section c.args.layout.now) (λ x xs. refl) c.args.decks.now c.loop-based.based-index c.based-item.result c.loop-based-test.true c.based-item.is
+    c.loop-based.text c.push_deck.new.text _ c.loop-based.invariant c.in_ok-push_deck.ensures

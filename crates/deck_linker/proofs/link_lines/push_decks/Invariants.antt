@@ -1,0 +1,8 @@
+-- The lines of the decks that are left complete those of all.
+use Rattle.std.proofs.Common.{◌≡◌, drop}
+use Rattle.deck_linker.specs.DeckLines.{lines_of_decks}
+use Rattle.deck_linker.specs.Lines.{with_lines}
+use Rattle.deck_linker.proofs.link_lines.push_decks.Given as goal
+
+abbrev pub invariant-loop-based : goal.invariant-loop-based
+invariant-loop-based l = with_lines l.out (lines_of_decks l.layout l.entered l.earlier (drop l.based-index l.decks)) ≡ with_lines l.fn.out (lines_of_decks l.layout l.entered l.fn.earlier l.decks)

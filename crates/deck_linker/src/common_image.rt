@@ -1,0 +1,134 @@
+//! The sections of common blocks in the image of a link.
+ghost use Rattle.std.specs.Prelude.{◌≡◌, ◌++◌, [], IfOk, OnOk};
+ghost use Rattle.std.specs.List.{list_any};
+ghost use Rattle.definitions.specs.Characters.{same_text};
+ghost use Rattle.definitions.specs.Image.{common_section_by, common_words, with_all_stored};
+ghost use Rattle.definitions.specs.Link.{linking_of};
+ghost use Rattle.definitions.specs.Words.{stored_words};
+ghost use Rattle.deck_linker.specs.Sections.{common_head, common_word, common_words_text};
+ghost use Rattle.parcel_packer.specs.Filling.{as_stored};
+
+use crate::linked_deck::parts;
+use crate::merging::merged;
+use crate::{Based, Common, DeckLinking, Layout};
+use deck_listing::{push_image_line, stored_words};
+use definitions::DeckKind;
+use expr_forms::Name;
+use parcel_packer::BlockWord;
+use std::alloc::{AllocError, Global};
+use text_ports::Text;
+use use_blocks::BlockRow;
+
+/// Whether one of these blocks has a name.
+fn has_row(rows: &[BlockRow], name: &Name) -> bool
+    ensures { result ≡ list_any (λ row. same_text row.name name.now) rows.now }
+{
+    for row in rows {
+        if row.name().is_same(name) {
+            return true;
+        }
+    }
+    false
+}
+
+/// The words that a deck stores in the common block of a name.
+fn words_of_deck(
+    alloc: Global,
+    layout: &Layout,
+    based: &Based,
+    name: &Name,
+) -> Result<Vec<BlockWord>, AllocError>
+    ensures { IfOk result (λ words. as_stored words.items
+        ≡ stored_words based.now.object.kind (linking_of layout.now based.now) name.now based.now.object.coded) }
+{
+    let parts = parts(based);
+    if !has_row(parts.bases.rows(), name) {
+        return Ok(Vec::new(alloc));
+    }
+    stored_words(alloc, parts, &DeckLinking { layout, based }, name)
+}
+
+/// Words of a common block with those that a deck stores there over them.
+fn with_deck(
+    alloc: Global,
+    layout: &Layout,
+    based: &Based,
+    name: &Name,
+    earlier: Vec<BlockWord>,
+) -> Result<Vec<BlockWord>, AllocError>
+    ensures { IfOk result (λ words. as_stored words.items
+        ≡ with_all_stored (stored_words based.now.object.kind (linking_of layout.now based.now) name.now based.now.object.coded) (as_stored earlier.items)) }
+{
+    let newer = words_of_deck(alloc, layout, based, name)?;
+    if newer.is_empty() {
+        return Ok(earlier);
+    }
+    merged(alloc, newer.as_slice(), earlier.as_slice())
+}
+
+/// The words that decks store in the common block of a name: each is that of the last deck that stores
+/// it.
+fn words_of_decks(
+    alloc: Global,
+    layout: &Layout,
+    name: &Name,
+    decks: &[Based],
+) -> Result<Vec<BlockWord>, AllocError>
+    ensures { IfOk result (λ words. as_stored words.items ≡ common_words layout.now name.now decks.now []) }
+{
+    let mut words = Vec::new(alloc);
+    for based in decks {
+        words = with_deck(alloc, layout, based, name, words)?;
+    }
+    Ok(words)
+}
+
+/// Writes the words of a common block that stands at a base.
+fn push_words(text: &mut Text, base: u32, words: &[BlockWord]) -> Result<(), AllocError>
+    ensures { OnOk result (text.new ≡ text.old ++ common_words_text base (as_stored words.now)) }
+{
+    for word in words {
+        push_word(text, base, *word)?;
+    }
+    Ok(())
+}
+
+/// Writes a word of a common block that stands at a base.
+fn push_word(text: &mut Text, base: u32, word: BlockWord) -> Result<(), AllocError>
+    ensures { OnOk result (text.new ≡ text.old ++ common_word base (record { offset = word.offset; value = word.value })) }
+{
+    let address = u64::from(base) + u64::from(word.offset);
+    push_image_line(text, DeckKind::Rel, address, word.value)
+}
+
+/// Writes the first line of the section of a common block: its name and its base.
+fn push_head(text: &mut Text, name: &Name, base: u32) -> Result<(), AllocError>
+    ensures { OnOk result (text.new ≡ text.old ++ common_head name.now base) }
+{
+    text.push_bytes(b"COMMON ")?;
+    text.push_bytes(name.as_slice())?;
+    text.push_byte(b' ')?;
+    text.push_octal(6, u64::from(base))?;
+    text.push_byte(b'\n')
+}
+
+/// Writes the section of a common block; one that passes the end of memory, or in which no deck stores
+/// a word, has none.
+pub(crate) fn push_common(
+    alloc: Global,
+    text: &mut Text,
+    layout: &Layout,
+    common: &Common,
+) -> Result<(), AllocError>
+    ensures { OnOk result (text.new ≡ text.old ++ common_section_by layout.now common.now) }
+{
+    if common.is_past() {
+        return Ok(());
+    }
+    let words = words_of_decks(alloc, layout, common.name(), layout.decks())?;
+    if words.is_empty() {
+        return Ok(());
+    }
+    push_head(text, common.name(), common.base())?;
+    push_words(text, common.base(), words.as_slice())
+}

@@ -1,0 +1,73 @@
+//! Sets of names.
+ghost use Rattle.std.specs.Prelude.{◌≡◌, [], IfOk, OnOk};
+ghost use Rattle.definitions.specs.Blocks.{is_named};
+ghost use Rattle.deck_linker.specs.Names.{with_decks, with_entries, with_name};
+
+use crate::linked_deck::entries;
+use crate::{Based, NameKey};
+use deck_assembler::Entry;
+use expr_forms::Name;
+use indexmap::IndexSet;
+use std::alloc::{AllocError, Global};
+use std::marker::Model;
+
+/// A set of names, in the order in which they came. Contracts see the list of the names, each once.
+#[derive(Drop)]
+pub(crate) struct NameSet {
+    names: IndexSet<NameKey>,
+}
+
+impl Model for NameSet {
+    ghost use Rattle.std.specs.Prelude.{ℕ, List};
+
+    ghost Value = { List (List ℕ) };
+
+    ghost view = { λ s. s.names.keys };
+}
+
+impl NameSet {
+    /// No names.
+    pub(crate) fn new(alloc: Global) -> NameSet
+        ensures { result ≡ [] }
+    {
+        NameSet {
+            names: IndexSet::new(alloc),
+        }
+    }
+
+    /// Whether a name is among them.
+    pub(crate) fn contains(&self, name: &Name) -> bool
+        ensures { result ≡ is_named name.now self.now }
+    {
+        self.names.contains(&NameKey::new(name))
+    }
+
+    /// The names that decks enter.
+    pub(crate) fn of_decks(alloc: Global, decks: &[Based]) -> Result<NameSet, AllocError>
+        ensures { IfOk result (λ names. names ≡ with_decks decks.now []) }
+    {
+        let mut names = NameSet::new(alloc);
+        for based in decks {
+            names.add_entries(entries(based))?;
+        }
+        Ok(names)
+    }
+
+    /// Adds a name, where it is not among them.
+    fn add(&mut self, name: &Name) -> Result<(), AllocError>
+        ensures { OnOk result (self.new ≡ with_name name.now self.old) }
+    {
+        self.names.insert(NameKey::new(name))?;
+        Ok(())
+    }
+
+    /// Adds the names that a deck enters.
+    pub(crate) fn add_entries(&mut self, entries: &[Entry]) -> Result<(), AllocError>
+        ensures { OnOk result (self.new ≡ with_entries entries.now self.old) }
+    {
+        for entry in entries {
+            self.add(entry.name())?;
+        }
+        Ok(())
+    }
+}

@@ -1,0 +1,146 @@
+//! What is published of decks: their listings with the map of their link, their octal image, and what
+//! they count.
+ghost use Rattle.std.specs.Prelude.{◌≡◌, ◌+◌, map, IfOk};
+ghost use Rattle.definitions.specs.Build.{build_of, errors_in, image_of, listing_of};
+ghost use Rattle.definitions.specs.Objects.{object_of};
+ghost use Rattle.deck_linker.specs.Publishing.{listings};
+
+use crate::Layout;
+use crate::image::image;
+use crate::map::with_map;
+use deck_assembler::SharedObject;
+use deck_listing::{errors, push_listing};
+use std::alloc::{AllocError, Global};
+use std::marker::Model;
+use text_ports::Text;
+
+/// What is published of decks under a version. Contracts see the version and the decks: all else is
+/// what the definitions give for these decks.
+#[derive(Drop)]
+pub struct Publication {
+    version: u64,
+    objects: Vec<SharedObject>,
+    listing: Text,
+    image: Text,
+    errors: u64,
+    links: usize,
+}
+
+impl Model for Publication {
+    ghost use Rattle.deck_linker.specs.Publishing.{Published, IsPublished};
+
+    ghost Value = { Published };
+
+    ghost view = { λ p. record { version = p.version; decks = p.objects.items } };
+
+    ghost invariant = { λ p. IsPublished p.objects.items p.listing p.image p.errors p.links };
+}
+
+impl Publication {
+    pub fn version(&self) -> u64
+        ensures { result ≡ self.now.version }
+    {
+        self.version
+    }
+
+    /// The objects of the decks, in their order.
+    pub fn objects(&self) -> &[SharedObject]
+        ensures { result.now ≡ self.now.decks }
+    {
+        self.objects.as_slice()
+    }
+
+    /// The listings of the decks in order, and behind them the map of their link.
+    pub fn listing(&self) -> &[u8]
+        ensures { result.now ≡ listing_of self.now.decks }
+    {
+        self.listing.as_slice()
+    }
+
+    /// The octal image of the link.
+    pub fn image(&self) -> &[u8]
+        ensures { result.now ≡ image_of self.now.decks }
+    {
+        self.image.as_slice()
+    }
+
+    /// How many statements are flagged.
+    pub fn errors(&self) -> u64
+        ensures { result ≡ (build_of self.now.decks).errors }
+    {
+        self.errors
+    }
+
+    /// How many LINK lines there are.
+    pub fn links(&self) -> usize
+        ensures { result ≡ (build_of self.now.decks).links }
+    {
+        self.links
+    }
+}
+
+/// The same objects once more.
+fn shared(alloc: Global, objects: &[SharedObject]) -> Result<Vec<SharedObject>, AllocError>
+    ensures { IfOk result (λ same. same.items ≡ objects.now) }
+{
+    let mut same = Vec::with_capacity(alloc, objects.len())?;
+    for object in objects {
+        same.push(object.share()?)?;
+    }
+    Ok(same)
+}
+
+/// The listings of decks, one behind the other.
+fn listings(alloc: Global, objects: &[SharedObject]) -> Result<Text, AllocError>
+    ensures { IfOk result (λ text. text ≡ listings objects.now) }
+{
+    let mut text = Text::new(alloc);
+    for object in objects {
+        push_listing(alloc, &mut text, object.object())?;
+    }
+    Ok(text)
+}
+
+/// How many statements of decks are flagged. No memory holds so many that their number would not fit.
+fn errors_in(objects: &[SharedObject]) -> Result<u64, AllocError>
+    ensures { IfOk result (λ count. count ≡ errors_in (map object_of objects.now)) }
+{
+    let mut count = 0;
+    for object in objects {
+        count = sum(count, errors(object.object()))?;
+    }
+    Ok(count)
+}
+
+/// The sum of two counts, where it fits.
+fn sum(count: u64, more: u64) -> Result<u64, AllocError>
+    ensures { IfOk result (λ sum. sum ≡ count + more) }
+{
+    match count.checked_add(more) {
+        Some(sum) => Ok(sum),
+        None => Err(AllocError),
+    }
+}
+
+/// Links decks in this order, and publishes them under a version.
+pub fn link(
+    alloc: Global,
+    objects: Vec<SharedObject>,
+    version: u64,
+) -> Result<Publication, AllocError>
+    ensures { IfOk result (λ publication. publication ≡ record { version = version; decks = objects.items }) }
+{
+    let layout = Layout::new(alloc, shared(alloc, objects.as_slice())?)?;
+    let front = listings(alloc, objects.as_slice())?;
+    let mapped = with_map(alloc, front, &layout)?;
+    let image = image(alloc, &layout)?;
+    let errors = errors_in(objects.as_slice())?;
+    Ok(Publication {
+        version,
+        objects,
+        listing: mapped.text,
+        image,
+        errors,
+        links: mapped.links,
+    })
+}

@@ -1,0 +1,89 @@
+-- The lines of words, one after the other.
+use Rattle.std.proofs.Common.{◌≡◌, ℕ, ◌+◌, ◌<◌, ◌≤◌, Bool, true, false, List, [], ◌∷◌, ◌++◌, not, flat_map, length, take, get_or, refl, sym, ap, ◌∙◌, append_assoc, append-nil}
+use Rattle.std.specs.Prelude.{filter, if◌then◌else◌}
+use Rattle.std.proofs.lemmas.List.{take_all, take_more}
+use Rattle.std.proofs.lemmas.List.Elements.{filter-append}
+use Rattle.std.proofs.lemmas.Grind.{flat_map-append}
+use Rattle.definitions.specs.Blocks.{is_common}
+use Rattle.definitions.specs.Image.{word_line}
+use Rattle.definitions.specs.Lengths.{BlockRow}
+use Rattle.definitions.specs.Link.{AddressedWord, addressed, block_words, is_beyond, object_words}
+use Rattle.definitions.specs.Objects.{Object}
+use Rattle.definitions.specs.Words.{Linking, StoredWord}
+use Rattle.definitions.specs.declared.deck_kind.DeckKind.{DeckKind}
+use Rattle.parcel_packer.specs.Filling.{as_stored}
+use Rattle.parcel_packer.specs.declared.gathering.BlockWord.{BlockWord}
+use Rattle.deck_listing.specs.ImageWordLines.{block_lines, lines_of, row_words}
+
+lines-append : (kind : DeckKind) (xs ys : List AddressedWord) → lines_of kind (xs ++ ys) ≡ lines_of kind xs ++ lines_of kind ys
+lines-append kind xs ys =
+    ap (flat_map (word_line kind)) (filter-append (λ word. not (is_beyond kind word)) xs ys)
+    ∙ flat_map-append (word_line kind) (filter (λ word. not (is_beyond kind word)) xs) (filter (λ word. not (is_beyond kind word)) ys)
+
+stored-append : (xs ys : List BlockWord) → as_stored (xs ++ ys) ≡ as_stored xs ++ as_stored ys
+stored-append [] ys = refl
+stored-append (x ∷ xs) ys = ap (λ (rest : List StoredWord). record { offset = x.offset; value = x.value } ∷ rest) (stored-append xs ys)
+
+addressed-append : (base : ℕ) (xs ys : List StoredWord) → addressed base (xs ++ ys) ≡ addressed base xs ++ addressed base ys
+addressed-append base [] ys = refl
+addressed-append base (x ∷ xs) ys = ap (λ (rest : List AddressedWord). record { address = base + x.offset; value = x.value } ∷ rest) (addressed-append base xs ys)
+
+block-append : (kind : DeckKind) (base block : ℕ) (xs ys : List BlockWord) → block_lines kind base block (xs ++ ys) ≡ block_lines kind base block xs ++ block_lines kind base block ys
+block-append kind base block xs ys =
+    ap (λ ws. lines_of kind (addressed (base + block) ws)) (stored-append xs ys)
+    ∙ ap (lines_of kind) (addressed-append (base + block) (as_stored xs) (as_stored ys))
+    ∙ lines-append kind (addressed (base + block) (as_stored xs)) (addressed (base + block) (as_stored ys))
+
+-- one word more
+pub word_more : (kind : DeckKind) (base block : ℕ) (words : List BlockWord) (i : ℕ) (d : BlockWord) (start before after : List ℕ) → i < length words →
+    before ≡ start ++ block_lines kind base block (take i words) → after ≡ before ++ block_lines kind base block (get_or words i d ∷ []) →
+    after ≡ start ++ block_lines kind base block (take (i + 1) words)
+word_more kind base block words i d start before after h b a =
+    let more = block_lines kind base block (get_or words i d ∷ []) in
+    a ∙ ap (λ t. t ++ more) b
+    ∙ append_assoc start (block_lines kind base block (take i words)) more
+    ∙ ap (λ l. start ++ l)
+    (sym (block-append kind base block (take i words) (get_or words i d ∷ [])) ∙ ap (block_lines kind base block) (sym (take_more words i d h)))
+
+-- the words of a deck's own blocks among these
+abbrev pub rows_words : Linking → Object → ℕ → List BlockRow → List AddressedWord
+rows_words linking object base rows = flat_map (row_words linking object base) rows
+
+-- one block more
+pub row_more : (kind : DeckKind) (linking : Linking) (object : Object) (base : ℕ) (rows : List BlockRow) (i : ℕ) (d : BlockRow) (start before after : List ℕ) → i < length rows →
+    before ≡ start ++ lines_of kind (rows_words linking object base (take i rows)) → after ≡ before ++ lines_of kind (row_words linking object base (get_or rows i d)) →
+    after ≡ start ++ lines_of kind (rows_words linking object base (take (i + 1) rows))
+row_more kind linking object base rows i d start before after h b a =
+    let words = row_words linking object base in
+    let row = get_or rows i d in
+    a ∙ ap (λ t. t ++ lines_of kind (words row)) b
+    ∙ append_assoc start (lines_of kind (flat_map words (take i rows))) (lines_of kind (words row))
+    ∙ ap (λ l. start ++ l)
+    (sym (lines-append kind (flat_map words (take i rows)) (words row))
+    ∙ ap (λ ws. lines_of kind (flat_map words (take i rows) ++ ws)) (sym (append-nil (words row)))
+    ∙ ap (lines_of kind) (sym (flat_map-append words (take i rows) (row ∷ [])) ∙ ap (flat_map words) (sym (take_more rows i d h))))
+
+-- the words of all blocks
+pub all_rows : (linking : Linking) (object : Object) (base : ℕ) (rows : List BlockRow) →
+    rows_words linking object base rows ≡ flat_map (λ (row : BlockRow). addressed (base + row.base) (block_words linking object row)) (filter (λ (row : BlockRow). not (is_common row.name)) rows)
+all_rows linking object base [] = refl
+all_rows linking object base (row ∷ rows) = by_test (is_common row.name) (all_rows linking object base rows)
+  where
+    own : List BlockRow → List AddressedWord
+    own rs = flat_map (λ (r : BlockRow). addressed (base + r.base) (block_words linking object r)) rs
+
+    by_test : (b : Bool) → rows_words linking object base rows ≡ own (filter (λ (r : BlockRow). not (is_common r.name)) rows) →
+        (if b then [] else addressed (base + row.base) (block_words linking object row)) ++ rows_words linking object base rows
+        ≡ own (if not b then row ∷ filter (λ (r : BlockRow). not (is_common r.name)) rows else filter (λ (r : BlockRow). not (is_common r.name)) rows)
+    by_test true e = e
+    by_test false e = ap (λ ws. addressed (base + row.base) (block_words linking object row) ++ ws) e
+
+-- the words of all blocks that were taken
+pub rows_taken : (linking : Linking) (object : Object) (base : ℕ) (found rows : List BlockRow) (i : ℕ) → length found ≤ i → found ≡ rows → rows ≡ object.rows →
+    rows_words linking object base (take i found) ≡ object_words linking object base
+rows_taken linking object base found rows i h e k = ap (rows_words linking object base) (take_all i found h ∙ e ∙ k) ∙ all_rows linking object base object.rows
+
+-- a row by another name
+pub row_put : (kind : DeckKind) (linking : Linking) (object : Object) (base : ℕ) (row other : BlockRow) (before after : List ℕ) → row ≡ other →
+    after ≡ before ++ lines_of kind (row_words linking object base row) → after ≡ before ++ lines_of kind (row_words linking object base other)
+row_put kind linking object base row other before after e h = h ∙ ap (λ r. before ++ lines_of kind (row_words linking object base r)) e

@@ -1,0 +1,129 @@
+-- A line as the statement that follows those whose runs are packed.
+use Rattle.std.proofs.Common.{◌≡◌, ℕ, ◌-◌, ◌*◌, ◌/◌, ◌%◌, ◌≤◌, Bool, true, false, List, [], ◌∷◌, Option, Some, None, get_or, refl, sym, ap, subst, ◌∙◌, arith}
+use Rattle.std.specs.Prelude.{slice_get}
+use Rattle.std.proofs.lemmas.Option.{get_or_from_slice_get}
+use Rattle.std.proofs.Math.Nat.{mul_comm}
+use Rattle.std.proofs.lemmas.Nat.{pow_pos}
+use Rattle.definitions.specs.Characters.{same_text}
+use Rattle.definitions.specs.Kinds.{units, unit_bits, word_bits}
+use Rattle.definitions.specs.Lengths.{BlockRow}
+use Rattle.definitions.specs.Operations as op
+use Rattle.definitions.specs.Operations.{is_instruction}
+use Rattle.definitions.specs.StatementItems.{Item}
+use Rattle.definitions.specs.Words.{Coded, Linking}
+use Rattle.definitions.specs.declared.deck_kind.DeckKind.{DeckKind}
+use Rattle.definitions.specs.declared.deck_kind.DeckKind.TheVariants.{Rel, Abs, Periph}
+use Rattle.definitions.proofs.TextLaws.{same_text-true}
+use Rattle.statement_coder.specs.declared.items.Item as code
+use Rattle.operations.specs.OperationsAs.{operation_as}
+use Rattle.parcel_packer.specs.Packing.{OpenRun, Packed, moved, put_bits}
+use Rattle.parcel_packer.proofs.PutLaws.{unit_some}
+use Rattle.definitions.specs.Filling.{DoFill, HasFields}
+use Rattle.definitions.specs.Rising.{run_end}
+use Rattle.deck_assembler.specs.CodedLines.{IsCoded, IsNamed}
+use Rattle.deck_assembler.specs.LineItems.{AreBitsOf, kept_items, zeros_to}
+use Rattle.deck_assembler.specs.declared.lines.CodedLine as lines
+use Rattle.deck_assembler.specs.declared.lines.LineFields.TheVariants as variant
+use Rattle.deck_listing.specs.Putting.{StandsAt, ArePut, IsReady}
+use Rattle.deck_listing.specs.Walking.{DoesFollow}
+use Rattle.deck_listing.proofs.PutSteps.{put_one}
+
+-- a line that is ready stands behind the run
+pub ready-stands : (kind : DeckKind) (items : List code.Item) (line : lines.CodedLine) (packed : Packed) → IsReady kind items line packed → StandsAt (unit_bits kind) packed.run (unit_bits kind * line.place)
+ready-stands kind items line packed ready = stands kind packed.run line.place ready.whole ready.behind
+  where
+    stands : (kind : DeckKind) (run : OpenRun) (place : ℕ) → run.filled ≡ 0 → run.place ≤ place → StandsAt (unit_bits kind) run (unit_bits kind * place)
+    stands Rel run place h k = record { begins = (omega arith, λ _. omega arith, λ some. absurd (omega arith)); room = omega arith }
+    stands Abs run place h k = record { begins = (omega arith, λ _. omega arith, λ some. absurd (omega arith)); room = omega arith }
+    stands Periph run place h k = record { begins = (omega arith, λ _. omega arith, λ some. absurd (omega arith)); room = omega arith }
+
+word_place : (kind : DeckKind) (place word : ℕ) → place % units kind ≡ 0 → word ≡ place / units kind → word_bits kind * word ≡ unit_bits kind * place
+word_place Rel place word h e = omega arith
+word_place Abs place word h e = omega arith
+word_place Periph place word h e = omega arith
+
+-- a run with zeros more
+abbrev with_zeros : DeckKind → OpenRun → ℕ → ℕ → OpenRun
+with_zeros kind run word count = put_bits (unit_bits kind) false (word_bits kind * count) 0 (moved (unit_bits kind) (word_bits kind * word) run)
+
+-- the zeros of a BSSZ, put as words
+pub zeros_put : (kind : DeckKind) (items : List code.Item) (linking : Linking) (line : lines.CodedLine) (old new : Packed) (unit : ℕ) →
+    IsReady kind items line old → line.fields ≡ variant.Zeros → unit ≡ units kind →
+    new ≡ record { kind = old.kind; run = with_zeros old.kind old.run (line.place / unit) ((line.end - line.place) / unit); earlier = old.earlier } →
+    ArePut (unit_bits kind) (is_instruction (operation_as line.operation)) linking old.run (unit_bits kind * line.place) (kept_items kind items line) new.run
+zeros_put kind items linking line old new unit ready zeros e h =
+    let size = unit_bits kind in
+    let word = line.place / units kind in
+    let count = (line.end - line.place) / units kind in
+    let item = zeros_to kind line.place line.end in
+    let is_run : new.run ≡ with_zeros kind old.run word count =
+    ap (λ (p : Packed). p.run) h ∙ ap (λ k. with_zeros k old.run (line.place / unit) ((line.end - line.place) / unit)) ready.kind_is
+    ∙ ap (λ u. with_zeros kind old.run (line.place / u) ((line.end - line.place) / u)) e in
+    let wide : word_bits kind * count ≡ item.width = mul_comm (word_bits kind) count in
+    let here = word_place kind line.place word (ready.from_word zeros) refl in
+    rw (ready.plain zeros, zeros)
+    (put_one size false linking old.run new.run (size * line.place) item 0 (unit_some kind) (ready-stands kind items line old ready) refl (pow_pos item.width)
+    (is_run ∙ ap (λ w. put_bits size false w 0 (moved size (word_bits kind * word) old.run)) wide ∙ ap (λ p. put_bits size false item.width 0 (moved size p old.run)) here))
+
+-- fields that are others to whoever links fill as much
+same_fill : (kind : DeckKind) (place end : ℕ) (kept fields : List Item) → AreBitsOf kept fields → DoFill kind place end fields → DoFill kind place end kept
+same_fill kind place end [] fields same h = tt
+same_fill kind place end (k ∷ kept) [] same h = cc (same.none refl)
+same_fill kind place end (k ∷ kept) (f ∷ fields) same h = same.width ∙ h
+
+some_kept : (kept fields : List Item) → AreBitsOf kept fields → HasFields kept → HasFields fields
+some_kept [] fields same h = absurd h
+some_kept (k ∷ kept) [] same h = cc (same.none refl)
+some_kept (k ∷ kept) (f ∷ fields) same h = tt
+
+-- a statement of the block that begins no run is ready to be put
+pub follows-ready : (kind : DeckKind) (rows : List BlockRow) (items : List code.Item) (linking : Linking) (block : List ℕ) (line : lines.CodedLine) (packed : Packed) (coded : Coded) (earlier : List Coded) →
+    DoesFollow kind rows items linking block line packed coded earlier → same_text coded.settled.block block ≡ true → line.begins_run ≡ false → IsReady kind items line packed
+follows-ready kind rows items linking block line packed coded earlier follows here joins =
+    let is_coded = follows.is_coded in
+    let laid = follows.laid in
+    let place = is_coded.place in
+    let end = is_coded.end in
+    let no_run : coded.settled.begins_run ≡ false = sym is_coded.begins_run ∙ joins in
+    let kept = kept_items kind items line in
+    let of_block : run_end coded.settled.block earlier ≡ run_end block earlier = ap (λ b. run_end b earlier) (same_text-true coded.settled.block block here) in
+    let first = laid.behind in
+    let second = follows.runs.place in
+    let ordered = laid.ordered no_run in
+    let within = laid.end_within in
+    let Fill : ℕ → ℕ → Type 0 = λ p e. DoFill kind p e kept in
+    let fill : Fill line.place line.end =
+    subst (λ p. Fill p line.end) (sym place) (subst (λ e. Fill coded.settled.place e) (sym end) (same_fill kind coded.settled.place coded.settled.end kept coded.fields is_coded.fields laid.filled)) in
+    let zero_fields = λ (zeros : line.fields ≡ variant.Zeros). some_kept kept coded.fields is_coded.fields (rw zeros tt) in
+    let zero_operation = λ (zeros : line.fields ≡ variant.Zeros). is_coded.zeros.0 zeros in
+    let no_instruction = λ (zeros : line.fields ≡ variant.Zeros) (h : coded.settled.read.operation ≡ op.Instruction). bssz_instruction (sym (zero_operation zeros) ∙ h) in
+    record {
+      kind_is = follows.runs.kind_is;
+      whole = follows.runs.whole;
+      behind = omega arith;
+      ordered = omega arith;
+      within = omega arith;
+      kept = is_coded.kept;
+      filled = fill;
+      plain = λ zeros. ap is_instruction (is_coded.operation ∙ zero_operation zeros);
+      from_word = λ zeros. rw place (follows.reach.from_word (zero_fields zeros) (no_instruction zeros));
+      to_word = λ zeros. rw end (follows.reach.to_word (zero_fields zeros) (no_instruction zeros));
+    }
+  where
+    bssz_instruction : op.Bssz ≡ op.Instruction → ⊥
+    bssz_instruction h = cc
+
+-- the row at the place of a block has its name
+pub named-row : (rows found : List BlockRow) (i : ℕ) (row : BlockRow) (name : List ℕ) → found ≡ rows → row ≡ get_or found i row → IsNamed (slice_get rows i) name → row.name ≡ name
+named-row rows found i row name e h named = named_by (slice_get rows i) refl named
+  where
+    named_by : (o : Option BlockRow) → slice_get rows i ≡ o → IsNamed o name → row.name ≡ name
+    named_by None k n = absurd n
+    named_by (Some r) k n = ap (λ (b : BlockRow). b.name) (h ∙ ap (λ (bs : List BlockRow). get_or bs i row) e ∙ get_or_from_slice_get rows i r row k) ∙ n
+
+-- what the test of names tells of the block of a statement
+pub test-block : (rows found : List BlockRow) (items : List code.Item) (kind : DeckKind) (line : lines.CodedLine) (coded : Coded) (row : BlockRow) (block name : List ℕ) (test answer : Bool) →
+    IsCoded kind rows items line coded → found ≡ rows → row ≡ get_or found line.block row → name ≡ row.name → test ≡ same_text name block → test ≡ answer →
+    same_text coded.settled.block block ≡ answer
+test-block rows found items kind line coded row block name test answer is_coded e h n t a =
+    ap (λ b. same_text b block) (sym (n ∙ named-row rows found line.block row coded.settled.block e h is_coded.block)) ∙ sym t ∙ a

@@ -1,0 +1,116 @@
+-- The lines of an object, walked one after the other.
+use Rattle.std.proofs.Common.{◌≡◌, ℕ, List, [], ◌∷◌, ◌++◌, Option, Some, None, reverse, refl, sym, ap, subst, ◌∙◌, append_assoc}
+use Rattle.std.proofs.lemmas.List.{reverse-append}
+use Rattle.definitions.specs.Lengths.{BlockRow}
+use Rattle.definitions.specs.Words.{Coded, Linking}
+use Rattle.definitions.specs.declared.deck_kind.DeckKind.{DeckKind}
+use Rattle.statement_coder.specs.declared.items.Item as code
+use Rattle.parcel_packer.specs.Packing.{Packed}
+use Rattle.definitions.specs.Reaching.{DoReach}
+use Rattle.definitions.specs.Rising.{AreLaidOut}
+use Rattle.deck_assembler.specs.CodedLines.{IsCoded, AreCoded}
+use Rattle.deck_assembler.specs.declared.lines.CodedLine as lines
+use Rattle.deck_assembler.specs.declared.lines.Line.{Line}
+use Rattle.deck_listing.specs.Walking.{DoesFollow, HasRuns, IsNext, IsWalked}
+
+-- the statement of the first line, and the others
+record IsSplit (kind : DeckKind) (rows : List BlockRow) (items : List code.Item) (stored : lines.CodedLine) (rest : List Line) (all : List Coded) : Type 0 where
+  coded : Coded
+  others : List Coded
+  parts : all ≡ coded ∷ others
+  is_coded : IsCoded kind rows items stored coded
+  ahead : AreCoded kind rows items rest others
+
+split_coded : (kind : DeckKind) (rows : List BlockRow) (items : List code.Item) (line : Line) (stored : lines.CodedLine) (rest : List Line) (all : List Coded) →
+    line.coded ≡ Some stored → AreCoded kind rows items (line ∷ rest) all → IsSplit kind rows items stored rest all
+split_coded kind rows items line stored rest all e h = split all (by_stored line.coded e h)
+  where
+    Rest : Option lines.CodedLine → List Coded → Type 0
+    Rest o all = elim o [
+      | None ↦ AreCoded kind rows items rest all
+      | Some stored ↦ elim all [ [] ↦ ⊥ | coded ∷ others ↦ IsCoded kind rows items stored coded × AreCoded kind rows items rest others ]
+    ]
+
+    by_stored : (o : Option lines.CodedLine) → o ≡ Some stored → Rest o all → Rest (Some stored) all
+    by_stored o e h = subst (λ p. Rest p all) e h
+
+    split : (all : List Coded) → Rest (Some stored) all → IsSplit kind rows items stored rest all
+    split [] h = absurd h
+    split (coded ∷ others) h = record { coded = coded; others = others; parts = refl; is_coded = h.0; ahead = h.1 }
+
+past_coded : (kind : DeckKind) (rows : List BlockRow) (items : List code.Item) (line : Line) (rest : List Line) (all : List Coded) →
+    line.coded ≡ None → AreCoded kind rows items (line ∷ rest) all → AreCoded kind rows items rest all
+past_coded kind rows items line rest all e h = by_stored line.coded e h
+  where
+    Rest : Option lines.CodedLine → Type 0
+    Rest o = elim o [
+      | None ↦ AreCoded kind rows items rest all
+      | Some stored ↦ elim all [ [] ↦ ⊥ | coded ∷ others ↦ IsCoded kind rows items stored coded × AreCoded kind rows items rest others ]
+    ]
+
+    by_stored : (o : Option lines.CodedLine) → o ≡ None → Rest o → Rest None
+    by_stored o e h = subst Rest e h
+
+laid_suffix : (kind : DeckKind) (later earlier : List Coded) → AreLaidOut kind (later ++ earlier) → AreLaidOut kind earlier
+laid_suffix kind [] earlier h = h
+laid_suffix kind (coded ∷ later) earlier h = laid_suffix kind later earlier h.1
+
+reach_suffix : (kind : DeckKind) (later earlier : List Coded) → DoReach kind (later ++ earlier) → DoReach kind earlier
+reach_suffix kind [] earlier h = h
+reach_suffix kind (coded ∷ later) earlier h = reach_suffix kind later earlier h.1
+
+-- one statement goes from those that are left to those that are packed
+one_over : (left earlier others : List Coded) (coded : Coded) → left ≡ coded ∷ others → reverse left ++ earlier ≡ reverse others ++ coded ∷ earlier
+one_over left earlier others coded e =
+    ap (λ l. reverse l ++ earlier) e ∙ ap (λ l. l ++ earlier) (reverse-append (coded ∷ []) others) ∙ append_assoc (reverse others) (coded ∷ []) earlier
+
+follows-split : (kind : DeckKind) (rows : List BlockRow) (items : List code.Item) (linking : Linking) (block : List ℕ) (all : List Coded) (stored : lines.CodedLine) (rest ahead : List Line) (packed : Packed) →
+    (walked : IsWalked kind rows items linking block all ahead packed) (parts : IsSplit kind rows items stored rest walked.left) →
+    DoesFollow kind rows items linking block stored packed parts.coded walked.earlier
+follows-split kind rows items linking block all stored rest ahead packed walked parts =
+    let over = one_over walked.left walked.earlier parts.others parts.coded parts.parts in
+    record {
+      is_coded = parts.is_coded;
+      laid = (laid_suffix kind (reverse parts.others) (parts.coded ∷ walked.earlier) (subst (AreLaidOut kind) over walked.laid)).0;
+      reach = (reach_suffix kind (reverse parts.others) (parts.coded ∷ walked.earlier) (subst (DoReach kind) over walked.reach)).0;
+      runs = walked.runs;
+    }
+
+-- the next line that stores something is a statement that follows
+pub walked-next : (kind : DeckKind) (rows : List BlockRow) (items : List code.Item) (linking : Linking) (block : List ℕ) (all : List Coded) (line : Line) (stored : lines.CodedLine) (rest ahead : List Line) (packed : Packed) →
+    IsWalked kind rows items linking block all ahead packed → ahead ≡ line ∷ rest → line.coded ≡ Some stored → IsNext kind rows items linking block stored packed
+walked-next kind rows items linking block all line stored rest ahead packed walked a e =
+    let parts = split_coded kind rows items line stored rest walked.left e (subst (λ ls. AreCoded kind rows items ls walked.left) a walked.coded) in
+    record { coded = parts.coded; earlier = walked.earlier; follows = follows-split kind rows items linking block all stored rest ahead packed walked parts }
+
+-- once it is put, it is one of those before the rest
+pub walked-on : (kind : DeckKind) (rows : List BlockRow) (items : List code.Item) (linking : Linking) (block : List ℕ) (all : List Coded) (line : Line) (stored : lines.CodedLine) (rest ahead : List Line) (packed new : Packed) →
+    IsWalked kind rows items linking block all ahead packed → ahead ≡ line ∷ rest → line.coded ≡ Some stored →
+    ((coded : Coded) (earlier : List Coded) → DoesFollow kind rows items linking block stored packed coded earlier → HasRuns kind linking block (coded ∷ earlier) new) →
+    IsWalked kind rows items linking block all rest new
+walked-on kind rows items linking block all line stored rest ahead packed new walked a e put =
+    let parts = split_coded kind rows items line stored rest walked.left e (subst (λ ls. AreCoded kind rows items ls walked.left) a walked.coded) in
+    let over = one_over walked.left walked.earlier parts.others parts.coded parts.parts in
+    record {
+      left = parts.others;
+      earlier = parts.coded ∷ walked.earlier;
+      split = sym over ∙ walked.split;
+      coded = parts.ahead;
+      laid = subst (AreLaidOut kind) over walked.laid;
+      reach = subst (DoReach kind) over walked.reach;
+      runs = put parts.coded walked.earlier (follows-split kind rows items linking block all stored rest ahead packed walked parts);
+    }
+
+-- a line that is only listed stores nothing
+pub walked-past : (kind : DeckKind) (rows : List BlockRow) (items : List code.Item) (linking : Linking) (block : List ℕ) (all : List Coded) (line : Line) (rest ahead : List Line) (packed : Packed) →
+    IsWalked kind rows items linking block all ahead packed → ahead ≡ line ∷ rest → line.coded ≡ None → IsWalked kind rows items linking block all rest packed
+walked-past kind rows items linking block all line rest ahead packed walked a e =
+    record {
+      left = walked.left;
+      earlier = walked.earlier;
+      split = walked.split;
+      coded = past_coded kind rows items line rest walked.left e (subst (λ ls. AreCoded kind rows items ls walked.left) a walked.coded);
+      laid = walked.laid;
+      reach = walked.reach;
+      runs = walked.runs;
+    }

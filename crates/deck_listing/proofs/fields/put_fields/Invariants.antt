@@ -1,0 +1,14 @@
+use Rattle.std.proofs.Common.{◌≡◌, ◌+◌, map, take}
+use Rattle.definitions.specs.Kinds.{unit_bits}
+use Rattle.definitions.specs.Words.{width_of}
+use Rattle.statement_coder.specs.Items.{item_as}
+use Rattle.deck_listing.specs.Putting.{ArePut}
+use Rattle.deck_listing.proofs.fields.put_fields.Given as goal
+
+abbrev pub invariant-loop-item : goal.invariant-loop-item
+invariant-loop-item g l = record {
+  kind : l.words.kind ≡ l.initial.words.kind;
+  earlier : l.words.earlier ≡ l.initial.words.earlier;
+  end : l.end ≡ l.from + width_of (map item_as (take l.item-index l.fields));
+  put : ArePut (unit_bits l.initial.words.kind) l.is_instruction (g.L.Linking.linking l.linking) l.initial.words.run l.from (map item_as (take l.item-index l.fields)) l.words.run;
+}

@@ -1,0 +1,56 @@
+-- The runs of a block, as its statements come line by line.
+use Rattle.std.specs.Prelude.{ℕ, ◌≡◌, ◌≤◌, List, ◌++◌, reverse}
+use Rattle.definitions.specs.Cards.{Card}
+use Rattle.definitions.specs.Lengths.{BlockRow}
+use Rattle.definitions.specs.Objects.{Object}
+use Rattle.definitions.specs.Words.{Coded, Linking, runs_of}
+use Rattle.definitions.specs.declared.deck_kind.DeckKind.{DeckKind}
+use Rattle.statement_coder.specs.declared.items.Item as code
+use Rattle.parcel_packer.specs.Packing.{Packed, runs_in}
+use Rattle.definitions.specs.Reaching.{DoesReach, DoReach}
+use Rattle.definitions.specs.Rising.{run_end, IsLaidOut, AreLaidOut}
+use Rattle.deck_assembler.specs.CodedLines.{IsCoded, AreCoded}
+use Rattle.deck_assembler.specs.PartsOf.{ArePartsOf}
+use Rattle.deck_assembler.specs.declared.lines.CodedLine as lines
+use Rattle.deck_assembler.specs.declared.lines.Line.{Line}
+use Rattle.deck_assembler.specs.declared.object.ObjectParts.{ObjectParts}
+
+-- some deck has an object of these parts
+pub record HasObject (parts : ObjectParts) : Type 0 where
+  pub cards : List Card
+  pub object : Object
+  pub are_parts : ArePartsOf cards parts object
+
+-- what is packed are the runs of a block from statements, newest first; its parcels are whole
+pub record HasRuns (kind : DeckKind) (linking : Linking) (block : List ℕ) (coded : List Coded) (packed : Packed) : Type 0 where
+  pub kind_is : packed.kind ≡ kind
+  pub runs : runs_in packed ≡ runs_of kind linking block coded
+  pub whole : packed.run.filled ≡ 0
+  pub empty : packed.run.bits ≡ 0
+  pub place : packed.run.place ≤ run_end block coded
+
+-- a line is the statement that follows those whose runs are packed
+pub record DoesFollow (kind : DeckKind) (rows : List BlockRow) (items : List code.Item) (linking : Linking) (block : List ℕ)
+    (line : lines.CodedLine) (packed : Packed) (coded : Coded) (earlier : List Coded) : Type 0 where
+  pub is_coded : IsCoded kind rows items line coded
+  pub laid : IsLaidOut kind coded earlier
+  pub reach : DoesReach kind coded
+  pub runs : HasRuns kind linking block earlier packed
+
+-- a line is some statement that follows
+pub record IsNext (kind : DeckKind) (rows : List BlockRow) (items : List code.Item) (linking : Linking) (block : List ℕ)
+    (line : lines.CodedLine) (packed : Packed) : Type 0 where
+  pub coded : Coded
+  pub earlier : List Coded
+  pub follows : DoesFollow kind rows items linking block line packed coded earlier
+
+-- of all these statements, newest first, those before these lines are packed
+pub record IsWalked (kind : DeckKind) (rows : List BlockRow) (items : List code.Item) (linking : Linking) (block : List ℕ)
+    (all : List Coded) (ahead : List Line) (packed : Packed) : Type 0 where
+  pub left : List Coded
+  pub earlier : List Coded
+  pub split : reverse left ++ earlier ≡ all
+  pub coded : AreCoded kind rows items ahead left
+  pub laid : AreLaidOut kind (reverse left ++ earlier)
+  pub reach : DoReach kind (reverse left ++ earlier)
+  pub runs : HasRuns kind linking block earlier packed

@@ -1,6 +1,0 @@
-use Rattle.std.proofs.Common.{[]}
-use Rattle.definitions.specs.declared.marks.DeckKind.TheVariants.{Rel}
-use Rattle.deck_objects.proofs.linking.UnlinkedLinking.bits.Goals as goal
-
-pub returns-clause-bits : goal.returns-clause-bits
-returns-clause-bits c = c.placed_bits.ensures.bits Rel [] []

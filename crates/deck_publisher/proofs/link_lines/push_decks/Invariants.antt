@@ -1,8 +1,0 @@
--- The lines of the decks that are left complete those of all.
-use Rattle.std.proofs.Common.{◌≡◌, drop}
-use Rattle.deck_publisher.specs.DeckLines.{lines_of_decks}
-use Rattle.deck_publisher.specs.Lines.{with_lines}
-use Rattle.deck_publisher.proofs.link_lines.push_decks.Given as goal
-
-abbrev pub invariant-loop-based : goal.invariant-loop-based
-invariant-loop-based l = with_lines l.out (lines_of_decks l.layout l.entered l.earlier (drop l.based-index l.decks)) ≡ with_lines l.fn.out (lines_of_decks l.layout l.entered l.fn.earlier l.decks)

@@ -1,8 +1,0 @@
--- The lines of the externals that are left complete those of all.
-use Rattle.std.proofs.Common.{◌≡◌, drop}
-use Rattle.definitions.specs.Link.{missing_lines}
-use Rattle.deck_publisher.specs.Lines.{with_lines}
-use Rattle.deck_publisher.proofs.link_lines.push_missing.Given as goal
-
-abbrev pub invariant-loop-name : goal.invariant-loop-name
-invariant-loop-name l = with_lines l.out (missing_lines l.entered l.deck (drop l.name-index l.externals)) ≡ with_lines l.fn.out (missing_lines l.entered l.deck l.externals)

@@ -1,5 +1,0 @@
-use Rattle.deck_publisher.proofs.DigitLaws.{octal-low}
-use Rattle.deck_publisher.proofs.link_text.last_digits.Goals as goal
-
-pub returns : goal.returns
-returns c = octal-low 8 c.args.address

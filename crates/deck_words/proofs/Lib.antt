@@ -1,6 +1,0 @@
-mod PutSteps
-mod FieldSteps
-mod LiteralSteps
-mod LineSteps
-mod RunSteps
-mod WalkSteps

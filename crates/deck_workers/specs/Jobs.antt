@@ -1,0 +1,84 @@
+-- What a job gives (ours): a function of the job, and one free choice.
+use Rattle.std.specs.Prelude.{◌≡◌, ◌⊎◌, ℕ, ◌+◌, Bool, true, false, List, [], ◌∷◌, Option, Some, None}
+use Rattle.std.specs.Option.{option_or}
+use Rattle.deck_workers.specs.Language.{Card, Deck, Edit, edited, edited_by, statement_count, against, RecordFault, OutOfMemory, Done, DeckWork, LinkWork, Start, FromRecord, FromCards}
+use Rattle.deck_workers.specs.declared.jobs.Job.{Job}
+use Rattle.deck_workers.specs.declared.jobs.Job.TheVariants as job
+use Rattle.deck_workers.specs.declared.made.Made.{Made}
+use Rattle.deck_workers.specs.declared.made.Made.TheVariants as made
+
+-- the deck of a job's start: that of the record, or the cards under the name that the job has
+abbrev pub start_deck : List ℕ → Start → Deck
+start_deck name (FromRecord kept) = kept.deck
+start_deck name (FromCards cards) = record { name = name; cards = cards }
+
+-- the deck that a job begins with
+abbrev pub begun_deck : DeckWork → Deck
+begun_deck work = start_deck work.name work.start
+
+-- the deck that a job is to assemble: its edits are made in order
+abbrev pub edited_deck : DeckWork → Deck
+edited_deck work = record { name = (begun_deck work).name; cards = edited_by work.edits (begun_deck work).cards }
+
+-- what keeps a record that is not spent from edits in order: the first of them that does not apply to what the ones before it leave
+abbrev pub edits_fault : List Edit → List Card → Option RecordFault
+edits_fault [] cards = None
+edits_fault (edit ∷ edits) cards = option_or (against edit false cards) (edits_fault edits (edited cards edit))
+
+-- the result of a deck job: record and object are of the deck that it assembled
+abbrev pub done_of : DeckWork → Done
+done_of work = record { lease = work.lease; deck = work.deck; version = work.version; kept = Some (record { deck = edited_deck work }); object = edited_deck work }
+
+-- what a deck job gives where nothing, or this, keeps its edits from being made
+abbrev pub done_unless : DeckWork → Option RecordFault → Made
+done_unless work None = made.Deck (done_of work)
+done_unless work (Some fault) = made.Lost work.lease fault
+
+-- what a deck job gives, where memory is found: it is lost with an edit that does not apply
+abbrev pub deck_made : DeckWork → Made
+deck_made work = done_unless work (edits_fault work.edits (begun_deck work).cards)
+
+-- what a link job gives, where memory is found: its objects under its version
+abbrev pub link_made : LinkWork → Made
+link_made work = made.Link work.lease (record { version = work.version; decks = work.objects })
+
+-- what a job gives; or it is lost for want of memory
+abbrev pub MayMakeDeck : DeckWork → Made → Type 0
+MayMakeDeck work result = (result ≡ deck_made work) ⊎ (result ≡ made.Lost work.lease OutOfMemory)
+
+abbrev pub MayMakeLink : LinkWork → Made → Type 0
+MayMakeLink work result = (result ≡ link_made work) ⊎ (result ≡ made.Lost work.lease OutOfMemory)
+
+abbrev pub MayMake : Job → Made → Type 0
+MayMake (job.Deck work) result = MayMakeDeck work result
+MayMake (job.Link work) result = MayMakeLink work result
+
+-- how many statements are sized at most, and coded, in making edits in order: those up to END of the cards after each
+abbrev pub edits_bound : List Edit → List Card → ℕ
+edits_bound [] cards = 0
+edits_bound (edit ∷ edits) cards = statement_count (edited cards edit) + edits_bound edits (edited cards edit)
+
+-- how many in beginning a job: none with a record, those of the cards without one
+abbrev pub start_bound : Start → ℕ
+start_bound (FromRecord kept) = 0
+start_bound (FromCards cards) = statement_count cards
+
+-- how many in a deck job
+abbrev pub deck_bound : DeckWork → ℕ
+deck_bound work = start_bound work.start + edits_bound work.edits (begun_deck work).cards
+
+-- how many in a job: a link sizes and codes nothing
+abbrev pub job_bound : Job → ℕ
+job_bound (job.Deck work) = deck_bound work
+job_bound (job.Link work) = 0
+
+-- whether something was made
+abbrev pub is_result : Made → Bool
+is_result (made.Deck done) = true
+is_result (made.Link lease publication) = true
+is_result (made.Lost lease fault) = false
+
+-- the lease of a job
+abbrev pub lease_of : Job → ℕ
+lease_of (job.Deck work) = work.lease
+lease_of (job.Link work) = work.lease

@@ -1,0 +1,48 @@
+-- What one who works for a desk asks of it (ours): rounds of a claim each, with one call that ends what the claim gave.
+use Rattle.std.specs.Prelude.{◌≡◌, ℕ, List, [], ◌∷◌, Option, Some, None}
+use Rattle.std.specs.List.{flat_map}
+use Rattle.turn_office.specs.declared.history.Entry.{Entry}
+use Rattle.turn_office.specs.Histories.{entry}
+use Rattle.deck_workers.specs.Language.{Call, Claim, DeliverDeck, DeliverLink, GiveUp, Reply, DeckJob, LinkJob}
+use Rattle.desk_core.specs.Runs.{History}
+use Rattle.deck_workers.specs.declared.jobs.Job.{Job}
+use Rattle.deck_workers.specs.declared.jobs.Job.TheVariants as job
+use Rattle.deck_workers.specs.declared.made.Made.{Made}
+use Rattle.deck_workers.specs.declared.made.Made.TheVariants as made
+use Rattle.deck_workers.specs.Jobs.{MayMake}
+
+-- the job that a reply gives, if it gives one
+abbrev pub job_in : Reply → Option Job
+job_in (DeckJob work) = Some (job.Deck work)
+job_in (LinkJob work) = Some (job.Link work)
+job_in _ = None
+
+-- the call that ends a job: its result is delivered, or its lease is given up
+abbrev pub call_of : Made → Call
+call_of (made.Deck done) = DeliverDeck done
+call_of (made.Link lease publication) = DeliverLink lease publication
+call_of (made.Lost lease fault) = GiveUp lease
+
+-- a round: a claim with a reply that gives no job; or one that gives a job, what was made of it, and the reply to the call that ends it
+pub data Round : Type 0 where
+  Resting : Reply → Round
+  Working : Reply → Made → Reply → Round
+
+-- a claim gave no job; or it gave one, and this may be made of it
+abbrev pub IsRound : Round → Type 0
+IsRound (Resting claimed) = job_in claimed ≡ None
+IsRound (Working claimed result answered) = (given : Job) × (job_in claimed ≡ Some given) × MayMake given result
+
+-- the last reply of a round
+abbrev pub last_reply : Round → Reply
+last_reply (Resting claimed) = claimed
+last_reply (Working claimed result answered) = answered
+
+-- the entries of a round, by a seat
+abbrev pub entries_of : ℕ → Round → History
+entries_of number (Resting claimed) = entry number Claim claimed ∷ []
+entries_of number (Working claimed result answered) = entry number Claim claimed ∷ entry number (call_of result) answered ∷ []
+
+-- the entries of rounds, one behind the other
+abbrev pub entries_in : ℕ → List Round → History
+entries_in number rounds = flat_map (entries_of number) rounds

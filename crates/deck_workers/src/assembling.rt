@@ -1,0 +1,102 @@
+//! A deck assembled from what a job begins with, and objects published.
+ghost use Rattle.std.specs.Prelude.{◌≡◌, ◌+◌, ◌≤◌, ◌⊎◌, false, None, Some, IfOk, IfErr};
+ghost use Rattle.deck_workers.specs.Language.{edited_by};
+ghost use Rattle.deck_workers.specs.Jobs.{start_deck, edits_fault, edits_bound, start_bound};
+
+use cards::{DeckName, Edit};
+use deck_assembler::SharedObject;
+use deck_linker::link;
+use desk_core::{Held, SharedPublication, Start};
+use edit_core::{Kept, RecordFault};
+use statement_coder::Meter;
+use std::alloc::{AllocError, Global};
+
+/// Record and object of the deck of a job, its edits made in order.
+pub(crate) fn assembled(
+    alloc: Global,
+    name: DeckName,
+    start: Start,
+    edits: &[Edit],
+    meter: &mut Meter,
+) -> Result<(Held, SharedObject), RecordFault>
+    ensures record { IfOk result (λ made. made.0 ≡ record { deck = record { name = (start_deck name start).name; cards = edited_by edits.now (start_deck name start).cards } }) }
+    ensures object { IfOk result (λ made. made.1 ≡ record { name = (start_deck name start).name; cards = edited_by edits.now (start_deck name start).cards }) }
+    ensures applied { IfOk result (λ made. edits_fault edits.now (start_deck name start).cards ≡ None) }
+    ensures fault { IfErr result (λ fault. (fault ≡ RecordFault.OutOfMemory) ⊎ (edits_fault edits.now (start_deck name start).cards ≡ Some fault)) }
+    ensures sized { meter.new.sized ≤ meter.old.sized + (start_bound start + edits_bound edits.now (start_deck name start).cards) }
+    ensures coded { meter.new.coded ≤ meter.old.coded + (start_bound start + edits_bound edits.now (start_deck name start).cards) }
+{
+    let mut kept = begun(alloc, name, start, meter)?;
+    edit_all(alloc, &mut kept, edits, meter)?;
+    finished(kept)
+}
+
+/// The record that a job begins with.
+fn begun(
+    alloc: Global,
+    name: DeckName,
+    start: Start,
+    meter: &mut Meter,
+) -> Result<Kept, RecordFault>
+    ensures deck { IfOk result (λ kept. (kept.name ≡ (start_deck name start).name) × (kept.cards ≡ (start_deck name start).cards)) }
+    ensures unspent { IfOk result (λ kept. kept.is_spent ≡ false) }
+    ensures fault { IfErr result (λ fault. fault ≡ RecordFault.OutOfMemory) }
+    ensures sized { meter.new.sized ≤ meter.old.sized + start_bound start }
+    ensures coded { meter.new.coded ≤ meter.old.coded + start_bound start }
+{
+    match start {
+        Start::FromRecord(held) => Ok(held.into_kept()),
+        Start::FromCards(cards) => match Kept::new(alloc, name, cards.into_items(), meter) {
+            Ok(kept) => Ok(kept),
+            Err(_) => Err(RecordFault::OutOfMemory),
+        },
+    }
+}
+
+/// Makes edits of a record in order, up to the first that does not apply.
+fn edit_all(
+    alloc: Global,
+    kept: &mut Kept,
+    edits: &[Edit],
+    meter: &mut Meter,
+) -> Result<(), RecordFault>
+    requires { kept.old.is_spent ≡ false }
+    ensures deck { IfOk result (λ _. (kept.new.name ≡ kept.old.name) × (kept.new.cards ≡ edited_by edits.now kept.old.cards)) }
+    ensures unspent { IfOk result (λ _. kept.new.is_spent ≡ false) }
+    ensures applied { IfOk result (λ _. edits_fault edits.now kept.old.cards ≡ None) }
+    ensures fault { IfErr result (λ fault. (fault ≡ RecordFault.OutOfMemory) ⊎ (edits_fault edits.now kept.old.cards ≡ Some fault)) }
+    ensures sized { meter.new.sized ≤ meter.old.sized + edits_bound edits.now kept.old.cards }
+    ensures coded { meter.new.coded ≤ meter.old.coded + edits_bound edits.now kept.old.cards }
+{
+    for edit in edits {
+        kept.edit(alloc, edit, meter)?;
+    }
+    Ok(())
+}
+
+/// A record that is not spent, with its object.
+fn finished(kept: Kept) -> Result<(Held, SharedObject), RecordFault>
+    requires { kept.is_spent ≡ false }
+    ensures record { IfOk result (λ made. made.0 ≡ record { deck = record { name = kept.name; cards = kept.cards } }) }
+    ensures object { IfOk result (λ made. made.1 ≡ record { name = kept.name; cards = kept.cards }) }
+    ensures fault { IfErr result (λ fault. fault ≡ RecordFault.OutOfMemory) }
+{
+    let Ok(object) = kept.finish() else {
+        return Err(RecordFault::OutOfMemory);
+    };
+    match Held::new(kept) {
+        Some(held) => Ok((held, object)),
+        None => unreachable!(),
+    }
+}
+
+/// The publication of objects under a version.
+pub(crate) fn published(
+    alloc: Global,
+    objects: Vec<SharedObject>,
+    version: u64,
+) -> Result<SharedPublication, AllocError>
+    ensures { IfOk result (λ publication. publication ≡ record { version = version; decks = objects.items }) }
+{
+    SharedPublication::new(alloc, link(alloc, objects, version)?)
+}

@@ -1,0 +1,47 @@
+//! What is made of a job.
+ghost use Rattle.std.specs.Prelude.{◌≡◌};
+ghost use Rattle.deck_workers.specs.Jobs.{is_result};
+ghost use Rattle.deck_workers.specs.Rounds.{call_of};
+
+use desk_core::{Call, Done, SharedPublication};
+use edit_core::RecordFault;
+
+/// What is made of a job.
+#[derive(Drop)]
+pub enum Made {
+    /// Record and object of the deck.
+    Deck(Done),
+    /// The publication of the objects.
+    Link {
+        lease: u64,
+        publication: SharedPublication,
+    },
+    /// Nothing, and the record is gone.
+    Lost {
+        lease: u64,
+        fault: RecordFault,
+    },
+}
+
+impl Made {
+    /// Whether something was made.
+    pub fn is_result(&self) -> bool
+        ensures { result ≡ is_result self.now }
+    {
+        match self {
+            Made::Deck(_) | Made::Link { .. } => true,
+            Made::Lost { .. } => false,
+        }
+    }
+
+    /// The call that ends the job: a result is delivered, and the lease of a lost job given up.
+    pub fn into_call(self) -> Call
+        ensures { result ≡ call_of self }
+    {
+        match self {
+            Made::Deck(done) => Call::DeliverDeck(done),
+            Made::Link { lease, publication } => Call::DeliverLink { lease, publication },
+            Made::Lost { lease, .. } => Call::GiveUp(lease),
+        }
+    }
+}

@@ -1,0 +1,103 @@
+//! What can be run, and jobs that are.
+ghost use Rattle.std.specs.Prelude.{◌≡◌, ◌+◌, ◌≤◌};
+
+use crate::assembling::{assembled, published};
+use crate::jobs::Job;
+use crate::made::Made;
+use desk_core::{DeckWork, Done, Held, LinkWork};
+use edit_core::RecordFault;
+use statement_coder::Meter;
+use std::alloc::Global;
+
+/// What can be run: what may be made of it, and how many statements that sizes and codes at most.
+pub trait Runs {
+    ghost use Rattle.std.specs.Prelude.{ℕ};
+    ghost use Rattle.deck_workers.specs.declared.made.Made.{Made};
+
+    /// What may be made of it.
+    ghost gives: { Self → Made → Type 0 };
+
+    /// How many statements are sized at most, and how many coded.
+    ghost at_most: { Self → ℕ };
+
+    /// Runs it. The meter counts what is sized and coded, also where memory runs out.
+    fn run(self, alloc: Global, meter: &mut Meter) -> Made
+        ensures made { gives self result }
+        ensures sized { meter.new.sized ≤ meter.old.sized + at_most self }
+        ensures coded { meter.new.coded ≤ meter.old.coded + at_most self };
+}
+
+/// A deck job makes record and object of the job's name (of its record's name where it begins with a
+/// record) and of its cards with its edits in order. It is lost with the first edit that does not
+/// apply, or for want of memory, and then with its record.
+impl Runs for DeckWork {
+    ghost use Rattle.deck_workers.specs.Jobs.{MayMakeDeck, deck_bound};
+
+    ghost gives = { MayMakeDeck };
+
+    ghost at_most = { deck_bound };
+
+    fn run(self, alloc: Global, meter: &mut Meter) -> Made {
+        let DeckWork {
+            lease,
+            deck,
+            version,
+            name,
+            start,
+            edits,
+        } = self;
+        match assembled(alloc, name, start, edits.as_slice(), meter) {
+            Ok((kept, object)) => Made::Deck(Done {
+                lease,
+                deck,
+                version,
+                kept: Some(kept),
+                object,
+            }),
+            Err(fault) => Made::Lost { lease, fault },
+        }
+    }
+}
+
+/// A link job makes the publication of its objects under its version, or is lost for want of memory.
+impl Runs for LinkWork {
+    ghost use Rattle.std.specs.Prelude.{ℕ};
+    ghost use Rattle.deck_workers.specs.Language.{LinkWork};
+    ghost use Rattle.deck_workers.specs.Jobs.{MayMakeLink};
+
+    ghost gives = { MayMakeLink };
+
+    ghost at_most = { λ _. 0 };
+
+    fn run(self, alloc: Global, meter: &mut Meter) -> Made {
+        let _ = meter;
+        let LinkWork {
+            lease,
+            version,
+            objects,
+        } = self;
+        match published(alloc, objects.into_items(), version) {
+            Ok(publication) => Made::Link { lease, publication },
+            Err(_) => Made::Lost {
+                lease,
+                fault: RecordFault::OutOfMemory,
+            },
+        }
+    }
+}
+
+/// A job gives what its deck or its link gives.
+impl Runs for Job {
+    ghost use Rattle.deck_workers.specs.Jobs.{MayMake, job_bound};
+
+    ghost gives = { MayMake };
+
+    ghost at_most = { job_bound };
+
+    fn run(self, alloc: Global, meter: &mut Meter) -> Made {
+        match self {
+            Job::Deck(work) => work.run(alloc, meter),
+            Job::Link(work) => work.run(alloc, meter),
+        }
+    }
+}

@@ -1,0 +1,18 @@
+-- Which statements stand in whole words.
+use Rattle.std.specs.Prelude.{◌≡◌, ◌≢◌, ◌≤◌, ◌+◌, ◌%◌, ⊤, List, [], ◌∷◌}
+use Rattle.definitions.specs.Kinds.{units}
+use Rattle.definitions.specs.Operations as op
+use Rattle.definitions.specs.Words.{Coded}
+use Rattle.definitions.specs.declared.deck_kind.DeckKind.{DeckKind}
+use Rattle.definitions.specs.Filling.{HasFields}
+
+-- a statement with fields reaches at most four units where it is an instruction, and from a word to a word where it is not
+pub record DoesReach (kind : DeckKind) (coded : Coded) : Type 0 where
+  pub instruction : HasFields coded.fields → coded.settled.read.operation ≡ op.Instruction → coded.settled.end ≤ coded.settled.place + 4
+  pub from_word : HasFields coded.fields → coded.settled.read.operation ≢ op.Instruction → coded.settled.place % units kind ≡ 0
+  pub to_word : HasFields coded.fields → coded.settled.read.operation ≢ op.Instruction → coded.settled.end % units kind ≡ 0
+
+-- each of these statements reaches so
+abbrev pub DoReach : DeckKind → List Coded → Type 0
+DoReach kind [] = ⊤
+DoReach kind (coded ∷ earlier) = DoesReach kind coded × DoReach kind earlier

@@ -1,0 +1,8 @@
+//! The base of numbers (COMPASS 60492600, BASE).
+
+/// The base of a number without a suffix.
+#[derive(Clone, Copy, Debug, PartialEq, Eq)]
+pub enum NumberBase {
+    Decimal,
+    Octal,
+}

@@ -1,2 +1,0 @@
-pub mod ShapeLaws
-pub mod SixBitLaws

@@ -1,2 +1,0 @@
-pub mod SortedLaws
-pub mod TableLaws

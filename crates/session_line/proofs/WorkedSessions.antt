@@ -1,0 +1,84 @@
+-- Worked commands with the lines that belong to them, and worked texts, computed.
+use Rattle.std.proofs.Common.{◌≡◌, [], ◌∷◌, None, codes, refl}
+use Rattle.std.specs.Fmt.{digits}
+use Rattle.cards.specs.declared.card.CardFault.TheVariants as card
+use Rattle.cards.specs.declared.edits.Edit.TheVariants.{Insert, Replace, Remove}
+use Rattle.cards.specs.declared.edits.EditFault.TheVariants as fault
+use Rattle.desk_core.specs.declared.calls.Call.TheVariants as call
+use Rattle.desk_core.specs.declared.replies.Reply.TheVariants as reply
+use Rattle.desk_core.specs.declared.replies.State.TheVariants.{Behind}
+use Rattle.desk_core.specs.declared.replies.Refusal.TheVariants as desk
+use Rattle.session_line.specs.declared.refusals.Refusal.TheVariants.{BadCommand, BadName, BadCard}
+use Rattle.session_line.specs.Commands.{command_of}
+use Rattle.session_line.specs.declared.tasks.PublishedText.TheVariants.{Image, Listing}
+use Rattle.session_line.specs.declared.tasks.Task.TheVariants.{Ask, LoadDeck, SaveDeck, Leave, Refuse}
+use Rattle.session_line.specs.Tasks.{lines_due, task_of}
+use Rattle.session_line.specs.Answers.{reply_text, session_reply}
+
+-- which call of the desk a line is
+pub add : task_of (codes "ADD M") [] ≡ Ask (call.AddDeck (record { name = codes "M"; cards = [] })) Listing
+add = refl
+
+pub insert : task_of (codes "INS M 2 1 *A") [] ≡ Ask (call.EditDeck (codes "M") 2 (Insert 1 (codes "*A"))) Listing
+insert = refl
+
+pub load : task_of (codes "LOAD M") [] ≡ LoadDeck (codes "M")
+load = refl
+
+pub save : task_of (codes "SAVE M") [] ≡ SaveDeck (codes "M")
+save = refl
+
+pub image : task_of (codes "IMAGE") [] ≡ Ask call.Show Image
+image = refl
+
+pub bye : task_of (codes "BYE") [] ≡ Leave
+bye = refl
+
+-- a batch is one call, whose edits stand in the order of the lines
+pub batch : task_of (codes "BATCH M 3 3") (codes "INS 1 *X" ∷ codes "DEL 3" ∷ codes "REP 2 *Y" ∷ [])
+    ≡ Ask (call.Batch (codes "M") 3 (Insert 1 (codes "*X") ∷ Remove 3 ∷ Replace 2 (codes "*Y") ∷ [])) Listing
+batch = refl
+
+-- a bad name takes the lines all the same, and counts before them
+pub lines_of_bad_name : lines_due (command_of (codes "BATCH M+ 4 2")) ≡ 2
+lines_of_bad_name = refl
+
+pub bad_name : task_of (codes "BATCH M+ 4 2") (codes "FOO" ∷ codes "DEL 1" ∷ []) ≡ Refuse BadName
+bad_name = refl
+
+-- of the lines the first that is no edit counts
+pub bad_line : task_of (codes "BATCH M 4 2") (codes "DEL 1" ∷ codes "FOO" ∷ []) ≡ Refuse BadCommand
+bad_line = refl
+
+pub bad_card : task_of (codes "BATCH M 4 2") (codes "INS 1 a" ∷ codes "FOO" ∷ []) ≡ Refuse (BadCard (card.BadCharacter 1))
+bad_card = refl
+
+-- a head that is malformed takes no lines
+pub lines_of_bad_head : lines_due (command_of (codes "BATCH M 4 0")) ≡ 0
+lines_of_bad_head = refl
+
+-- replies of the desk
+pub changed : reply_text Listing (reply.Changed 4) ≡ codes "OK 4\n"
+changed = unfold digits in refl
+
+pub cards : reply_text Listing (reply.CardsAre 5 (codes "*B" ∷ codes "*A" ∷ [])) ≡ codes "OK 5 2\n*B\n*A\n"
+cards = unfold digits in refl
+
+pub status : reply_text Listing (reply.StatusIs 1 None (record { name = codes "M"; version = 1; cards = 0; state = Behind } ∷ [])) ≡ codes "OK 1 2\nPUBLISHED NONE\nM 1 0 BEHIND\n"
+status = unfold digits in refl
+
+pub published : reply_text Image (reply.Shown (record { version = 0; decks = [] })) ≡ codes "OK 0 1\nEND\n"
+published = unfold digits in refl
+
+pub listed : reply_text Listing (reply.Shown (record { version = 0; decks = [] })) ≡ codes "OK 0 2\nMAP\nEND\n"
+listed = unfold digits in refl
+
+pub old_version : reply_text Listing (reply.Refused (desk.OldVersion 4)) ≡ codes "NO OldVersion 4\n"
+old_version = unfold digits in refl
+
+pub bad_edit : reply_text Listing (reply.Refused (desk.BadEdit 2 fault.NoSuchCard)) ≡ codes "NO BadEdit 2 NoSuchCard\n"
+bad_edit = unfold digits in refl
+
+-- what no desk answers to a session
+pub foreign : reply_text Listing (session_reply reply.AllOut) ≡ codes "NO Foreign\n"
+foreign = unfold digits in refl

@@ -1,0 +1,74 @@
+-- What one command makes of the desk and the shelf, and its answer (ours). The relations are those that the desk and the shelf name for one call.
+use Rattle.std.specs.Prelude.{ℕ, ◌≡◌, List, Result, Ok, Err}
+use Rattle.definitions.specs.Cards.{Card}
+use Rattle.deck_files.specs.declared.deck_shelf.ShelfLoadFault.{ShelfLoadFault}
+use Rattle.deck_files.specs.declared.deck_shelf.ShelfSaveFault.{ShelfSaveFault}
+use Rattle.desk_core.specs.declared.calls.Call.{Call}
+use Rattle.desk_core.specs.declared.replies.Reply.{Reply}
+use Rattle.desk_core.specs.declared.calls.Call.TheVariants.{AddDeck, Cards}
+use Rattle.desk_core.specs.declared.replies.Reply.TheVariants.{CardsAre}
+use Rattle.session_line.specs.declared.tasks.PublishedText.{PublishedText}
+use Rattle.session_line.specs.declared.tasks.PublishedText.TheVariants.{Listing}
+use Rattle.session_line.specs.declared.tasks.Task.{Task}
+use Rattle.session_line.specs.declared.tasks.Task.TheVariants.{Ask, LoadDeck, SaveDeck, Leave, Refuse}
+use Rattle.session_line.specs.declared.answers.Told.TheVariants as told
+use Rattle.session_line.specs.declared.answers.Answer.{Answer}
+use Rattle.session_line.specs.Reasons.{load_reason, save_reason}
+use Rattle.session_line.specs.Answers.{session_reply, called, uncalled}
+
+module _ {C : Type 0} (makes : C → Call → Reply → C → Type 0) where
+  -- one call of the desk, whose reply is told
+  pub record Asks (call : Call) (text : PublishedText) (desk next : C) (answer : Answer) : Type 0 where
+    pub reply : Reply
+    pub made : makes desk call reply next
+    pub answered : answer ≡ called (told.Replied (session_reply reply) text)
+
+  -- the deck that the shelf gave is added; or its fault is told, and the desk is not called
+  abbrev pub AddsLoaded : List ℕ → Result (List Card) ShelfLoadFault → C → C → Answer → Type 0
+  AddsLoaded name (Ok cards) desk next answer = Asks (AddDeck (record { name = name; cards = cards })) Listing desk next answer
+  AddsLoaded name (Err fault) desk next answer = (next ≡ desk) × (answer ≡ uncalled (told.Refused (load_reason fault)))
+
+module _ {S : Type 0} (loads : S → List ℕ → List Card → S → Type 0) (refuses_to_load : S → List ℕ → ShelfLoadFault → S → Type 0) where
+  -- what the shelf answers to one load
+  abbrev pub ShelfLoads : List ℕ → S → Result (List Card) ShelfLoadFault → S → Type 0
+  ShelfLoads name shelf (Ok cards) after = loads shelf name cards after
+  ShelfLoads name shelf (Err fault) after = refuses_to_load shelf name fault after
+
+module _ {S : Type 0} (saves : S → List ℕ → List Card → S → Type 0) (refuses_to_save : S → List ℕ → List Card → ShelfSaveFault → S → Type 0) where
+  -- one save on the shelf of what the desk replied with: its version is told, or the fault
+  pub data SavesCards (name : List ℕ) (version : ℕ) (cards : List Card) (shelf after : S) (answer : Answer) : Type 0 where
+    saved : saves shelf name cards after → answer ≡ called (told.Saved version) → SavesCards name version cards shelf after answer
+    refused : (fault : ShelfSaveFault) → refuses_to_save shelf name cards fault after → answer ≡ called (told.Refused (save_reason fault)) → SavesCards name version cards shelf after answer
+
+  -- the cards that the desk replied with are saved; another reply is told, and the shelf is not called
+  abbrev pub SavesReply : List ℕ → Reply → S → S → Answer → Type 0
+  SavesReply name (CardsAre version cards) shelf after answer = SavesCards name version cards shelf after answer
+  SavesReply name reply shelf after answer = (after ≡ shelf) × (answer ≡ called (told.Replied reply Listing))
+
+module _ {C S : Type 0} (makes : C → Call → Reply → C → Type 0) (loads : S → List ℕ → List Card → S → Type 0) (refuses_to_load : S → List ℕ → ShelfLoadFault → S → Type 0) where
+  -- LOAD: one load of the shelf, and then one addition to the desk
+  pub record LoadsDeck (name : List ℕ) (desk next : C) (shelf after : S) (answer : Answer) : Type 0 where
+    pub loaded : Result (List Card) ShelfLoadFault
+    pub shelved : ShelfLoads loads refuses_to_load name shelf loaded after
+    pub added : AddsLoaded makes name loaded desk next answer
+
+module _ {C S : Type 0} (makes : C → Call → Reply → C → Type 0) (saves : S → List ℕ → List Card → S → Type 0) (refuses_to_save : S → List ℕ → List Card → ShelfSaveFault → S → Type 0) where
+  -- SAVE: the desk is asked for the cards, and then the shelf saves them
+  pub record SavesDeck (name : List ℕ) (desk next : C) (shelf after : S) (answer : Answer) : Type 0 where
+    pub reply : Reply
+    pub made : makes desk (Cards name) reply next
+    pub kept : SavesReply saves refuses_to_save name (session_reply reply) shelf after answer
+
+module _ {C S : Type 0} (makes : C → Call → Reply → C → Type 0) (loads : S → List ℕ → List Card → S → Type 0) (refuses_to_load : S → List ℕ → ShelfLoadFault → S → Type 0)
+    (saves : S → List ℕ → List Card → S → Type 0) (refuses_to_save : S → List ℕ → List Card → ShelfSaveFault → S → Type 0) where
+  -- nothing is called, and this is told
+  abbrev pub OnlyTells : Answer → C → C → S → S → Answer → Type 0
+  OnlyTells what desk next shelf after answer = (next ≡ desk) × (after ≡ shelf) × (answer ≡ what)
+
+  -- a task is executed once
+  abbrev pub Executes : Task → C → C → S → S → Answer → Type 0
+  Executes (Ask call text) desk next shelf after answer = Asks makes call text desk next answer × (after ≡ shelf)
+  Executes (LoadDeck name) desk next shelf after answer = LoadsDeck makes loads refuses_to_load name desk next shelf after answer
+  Executes (SaveDeck name) desk next shelf after answer = SavesDeck makes saves refuses_to_save name desk next shelf after answer
+  Executes Leave desk next shelf after answer = OnlyTells (uncalled told.Bye) desk next shelf after answer
+  Executes (Refuse reason) desk next shelf after answer = OnlyTells (uncalled (told.Refused reason)) desk next shelf after answer

@@ -1,0 +1,74 @@
+//! Serves one line of a session.
+ghost use Rattle.std.specs.Prelude.{◌≡◌, ℕ};
+ghost use Rattle.session_line.specs.Answers.{IsTellable};
+ghost use Rattle.session_line.specs.Serving.{GoesOut, Serves, read_faults_after, sides, write_faults_after};
+
+use crate::answers::Answer;
+use crate::calls::Calls;
+use crate::executing::execute;
+use crate::reading::{Stop, read_task};
+use crate::write_reply;
+use deck_files::Shelf;
+use std::alloc::Global;
+use std::io::{Read, Write};
+use text_ports::Counted;
+
+/// How one line of a session was served.
+#[derive(Clone, Copy, Debug, PartialEq, Eq)]
+pub enum Outcome {
+    /// The command was executed, and its reply went out.
+    Served,
+    /// The session is over: the input ended or had a line that is too long, and nothing was done; or
+    /// the reply to `BYE` went out.
+    Ended,
+    /// The reader failed, and nothing was done.
+    ReadFault,
+    /// The writer failed: exactly the first `sent` bytes of the reply went out. Whether a call of the
+    /// desk was made before; it is not made again.
+    WriteFault { executed: bool, sent: usize },
+}
+
+/// Writes an answer.
+fn send<W: Write>(output: &mut Counted<W>, answer: &Answer) -> Outcome
+    requires { IsTellable answer.now.told }
+    ensures sent { GoesOut (W.contents output.old.0) (W.contents output.new.0) answer.now result }
+    ensures count { output.new.1 ≡ write_faults_after result output.old.1 }
+    ensures reader { (faults : ℕ) → read_faults_after result faults ≡ faults }
+{
+    match write_reply(output, &answer.told.as_reply()) {
+        Ok(()) if answer.told.is_bye() => Outcome::Ended,
+        Ok(()) => Outcome::Served,
+        Err(broken) => Outcome::WriteFault {
+            executed: answer.executed,
+            sent: broken.sent,
+        },
+    }
+}
+
+/// Serves one line of a session, with the lines that belong to it. A command whose lines were all
+/// read whole is executed exactly once: at most one call of the desk, with the call of the shelf that
+/// belongs to it, LOAD's before and SAVE's behind that of the desk; and its reply is written. Where
+/// the input ends or fails before that, or a line is too long, nothing is called and nothing is
+/// written. Want of memory is told as `NO OutOfMemory`.
+pub fn serve_one<R: Read, W: Write, C: Calls, S: Shelf>(
+    alloc: Global,
+    input: &mut Counted<R>,
+    output: &mut Counted<W>,
+    desk: &mut C,
+    shelf: &mut S,
+) -> Outcome
+    ensures serves { Serves C.makes S.loads S.refuses_to_load S.saves S.refuses_to_save
+        (sides (R.remaining input.old.0) (W.contents output.old.0) desk.old shelf.old)
+        (sides (R.remaining input.new.0) (W.contents output.new.0) desk.new shelf.new) result }
+    ensures read_faults { input.new.1 ≡ read_faults_after result input.old.1 }
+    ensures write_faults { output.new.1 ≡ write_faults_after result output.old.1 }
+{
+    match read_task(alloc, input) {
+        Ok(task) => {
+            let answer = execute(desk, shelf, task);
+            send(output, &answer)
+        }
+        Err(Stop::InputEnded) => Outcome::Ended,
+        Err(Stop::InputFailed) => Outcome::ReadFault,
+    }
+}

@@ -1,3 +1,0 @@
-pub mod TakingSteps
-pub mod SessionKinds
-pub mod WorkedSessions

@@ -1,5 +1,0 @@
-use Rattle.statement_laws.proofs.ObjectLaws.{object-shown}
-use Rattle.statement_laws.proofs.object_laws.coded_statements_are_shown.Goals as goal
-
-pub returns : goal.returns
-returns c = record { shown = object-shown }

@@ -1,8 +1,0 @@
-use Rattle.statement_laws.proofs.RiseLaws.{statements-laid_out, object-laid_out}
-use Rattle.statement_laws.proofs.place_laws.statements_are_laid_out.Goals as goal
-
-pub returns-clause-statements : goal.returns-clause-statements
-returns-clause-statements c = statements-laid_out
-
-pub returns-clause-objects : goal.returns-clause-objects
-returns-clause-objects c = object-laid_out

@@ -1,9 +1,0 @@
--- Each name so far has the slot, and the others can be given it still.
-use Rattle.std.proofs.Common.{◌≡◌, ℕ, ◌==◌, ◌||◌, ◌&&◌, take}
-use Rattle.std.specs.List.{list_any}
-use Rattle.symbol_book.specs.NameSlots.{has_slot, StaysReady}
-use Rattle.symbol_book.specs.Notes.{marks}
-use Rattle.symbol_book.proofs.piece_index.give_note.Given as goal
-
-abbrev pub invariant-loop-mark : goal.invariant-loop-mark
-invariant-loop-mark g l = ((n s : ℕ) → has_slot l.index n s ≡ ((s == l.slot && list_any (marks l.concern n) (take l.mark-index l.mark-items)) || has_slot l.initial.index n s)) × StaysReady l.slot l.initial.index l.index

@@ -1,0 +1,43 @@
+use Rattle.std.proofs.Common.{◌≡◌, ◌≤◌, ◌+◌, ◌-◌, ◌∙◌, sym, ap, ap₂, ◌++◌, drop, length, arith, rules}
+use Rattle.std.proofs.lemmas.List.{length-drop}
+use Rattle.definitions.specs.Numerals.{digits_of}
+use Rattle.text_ports.proofs.DigitSteps.{digits_of-step}
+use Rattle.text_ports.proofs.short_text.ShortText.put_digits.Goals as goal
+
+pub loop-left-init : goal.loop-left-init
+loop-left-init g c =
+    let begin = c.self.inside.begin in
+    let most : begin ≤ 48 = c.self.invariant in
+    let long : length c.args.self.now ≡ 48 - begin = ap length (sym c.self.view_is) ∙ length-drop begin c.self.inside.bytes ∙ ap (λ n. n - begin) c.self.told in
+    let room = c.requires.room in
+    let count : begin - (begin - c.args.count) ≡ c.args.count = omega arith in
+    record {
+      behind = omega arith;
+      within = most;
+      room = c.self.told;
+      split = ap₂ (λ n front. digits_of g.row.BASE n c.args.value ++ front) count c.self.view_is;
+    }
+
+pub loop-left-preserved : goal.loop-left-preserved
+loop-left-preserved g c =
+    let left = c.loop-left.left - 1 in
+    let begin = c.self.inside.begin - c.args.count in
+    let back : left + 1 ≡ c.loop-left.left = omega arith in
+    record {
+      behind = omega arith;
+      within = omega arith;
+      room = search rules;
+      split = digits_of-step g.row.BASE c.loop-left.self-inside.bytes left begin c.loop-left.rest (omega arith) (omega arith)
+          ∙ ap (λ n. digits_of g.row.BASE (n - begin) c.loop-left.rest ++ drop n c.loop-left.self-inside.bytes) back
+          ∙ c.loop-left.invariant.split;
+    }
+
+pub returns-clause-len : goal.returns-clause-len
+returns-clause-len g c =
+    let begin = c.self.inside.begin in
+    let most : begin ≤ 48 = c.self.invariant in
+    let old : length c.args.self.now ≡ 48 - begin = ap length (sym c.self.view_is) ∙ length-drop begin c.self.inside.bytes ∙ ap (λ n. n - begin) c.self.told in
+    let bytes = c.loop-left.self-inside.bytes in
+    let new : length (drop (begin - c.args.count) bytes) ≡ 48 - (begin - c.args.count) = length-drop (begin - c.args.count) bytes ∙ ap (λ n. n - (begin - c.args.count)) c.loop-left.invariant.room in
+    let room = c.requires.room in
+    omega arith
