@@ -13,11 +13,9 @@ mod writing;
 
 // A run.
 mod asm_fault;
-mod laws;
 mod running;
 
 pub use asm_fault::AsmFault;
-pub use laws::answers_are_builds;
 pub use running::{Tally, asm_run, asm_status};
 
 #[cfg(test)]

@@ -17,8 +17,6 @@ ghost use Rattle.definitions.specs.Literals.{literal_words};
 ghost use Rattle.definitions.specs.Blocks.{is_common};
 ghost use Rattle.definitions.specs.Lengths.{BlockRow, block_rows, total_length};
 ghost use Rattle.definitions.specs.Words.{Coded, Linking, StoredWord, stored_words};
-ghost use Rattle.definitions.specs.DeckInput.{Deck};
-ghost use Rattle.definitions.specs.Build.{build_of, listing_of, image_of};
 ghost use Rattle.definitions.specs.declared.deck_kind.DeckKind.{DeckKind};
 ghost use Rattle.definitions.specs.declared.number_base.NumberBase.{NumberBase};
 
@@ -69,9 +67,4 @@ pub fn words_fit()
     ensures literals { (settled : List Settled) → All (λ word. word < 2 ^ 60) (literal_words settled) }
     ensures blocks { (kind : DeckKind) (linking : Linking) (block : List ℕ) (coded : List Coded) →
         All (λ (word : StoredWord). word.value < 2 ^ word_bits kind) (stored_words kind linking block coded) }
-{}
-
-/// What a build writes is its listing, and then its image.
-pub fn builds_are_listing_and_image()
-    ensures { (decks : List Deck) → (build_of decks).text ≡ listing_of decks ++ image_of decks }
 {}

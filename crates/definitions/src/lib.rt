@@ -22,8 +22,8 @@ mod reach_laws;
 pub use deck_kind::DeckKind;
 pub use field_laws::{fields_fill, fields_fit, instructions_fill_parcels};
 pub use laws::{
-    bases_are_sums, builds_are_listing_and_image, octal_reads_back, one_cut_into_fields,
-    places_are_the_least, reads_the_grammar, statements_have_all_cards, words_fit,
+    bases_are_sums, octal_reads_back, one_cut_into_fields, places_are_the_least, reads_the_grammar,
+    statements_have_all_cards, words_fit,
 };
 pub use letter::Letter;
 pub use number_base::NumberBase;
