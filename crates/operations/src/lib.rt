@@ -19,10 +19,10 @@ mod letters;
 pub use kind_search::KindSearch;
 pub use letters::{LetterText, Letters};
 pub use operation::Operation;
-pub use pseudo_table::{operation_of, pseudo_instruction};
+pub use pseudo_table::pseudo_instruction;
 pub use row::Row;
 pub use row_search::rows_of;
-pub use settings::{asks_upper, is_end, number_base_set};
+pub use settings::{is_end, number_base_set};
 
 #[cfg(test)]
 mod tests;

@@ -1,6 +1,6 @@
 //! The pseudo-instructions by name (COMPASS 60492600, pseudo-instructions).
 ghost use Rattle.std.specs.Prelude.{◌≡◌, option_map};
-ghost use Rattle.definitions.specs.Operations.{pseudo_among, pseudo_instructions, is_instruction_name, operation_of};
+ghost use Rattle.definitions.specs.Operations.{pseudo_among, pseudo_instructions};
 ghost use Rattle.operations.specs.OperationsAs.{operation_as};
 
 use crate::operation::Operation;
@@ -35,21 +35,5 @@ pub fn pseudo_instruction(name: &[u8]) -> Option<Operation>
         [b'E', b'N', b'T', b'R', b'Y'] => Some(Operation::Entry),
         [b'E', b'X', b'T'] => Some(Operation::Ext),
         _ => None,
-    }
-}
-
-/// The operation that a field names in a deck whose instructions have its name or have not.
-pub fn operation_of(name: &[u8], is_instruction: bool) -> Operation
-    ensures { (kind : DeckKind) → is_instruction_name kind name.now ≡ is_instruction → operation_as result ≡ operation_of kind name.now }
-{
-    match pseudo_instruction(name) {
-        Some(operation) => operation,
-        None => {
-            if is_instruction {
-                Operation::Instruction
-            } else {
-                Operation::Unknown
-            }
-        }
     }
 }

@@ -1,10 +1,8 @@
-//! What single operations set: the number base, upper of the next instruction, and the end of the
-//! deck (COMPASS 60492600, BASE, END, forcing upper; which instructions force upper is ours).
+//! What single operations set: the number base, and the end of the deck (COMPASS 60492600, BASE, END).
 ghost use Rattle.std.specs.Prelude.{◌≡◌, codes};
 ghost use Rattle.definitions.specs.Characters.{same_text};
 ghost use Rattle.definitions.specs.Fields.{Fields};
 ghost use Rattle.definitions.specs.DeckKinds.{is_end, number_base_set};
-ghost use Rattle.definitions.specs.Places.{asks_upper};
 
 use definitions::NumberBase;
 
@@ -36,15 +34,4 @@ pub fn number_base_set(operation: &[u8], variable: &[u8]) -> Option<NumberBase>
         return Some(NumberBase::Decimal);
     }
     None
-}
-
-/// Whether an instruction with so many subfields asks that the next instruction of its block is
-/// upper: JP, RJ, PS, and EQ with one subfield.
-pub fn asks_upper(operation: &[u8], subfields: usize) -> bool
-    ensures { result ≡ asks_upper operation.now subfields }
-{
-    is_same(operation, b"JP")
-        || is_same(operation, b"RJ")
-        || is_same(operation, b"PS")
-        || is_same(operation, b"EQ") && subfields == 1
 }

@@ -4,7 +4,7 @@ use definitions::{DeckKind, Letter, NumberBase};
 use std::process::Abort;
 
 fn is_operation(rt: &impl Abort, name: &[u8], want: Operation) {
-    assert_eq!(rt; operation_of(name, false), want);
+    assert_eq!(rt; pseudo_instruction(name), Some(want));
 }
 
 #[test]
@@ -15,8 +15,7 @@ fn operations_by_name(rt: HostRuntime) {
     is_operation(&rt, b"=", Operation::Equ);
     is_operation(&rt, b"BSSZ", Operation::Bssz);
     is_operation(&rt, b"EXT", Operation::Ext);
-    is_operation(&rt, b"EXTE", Operation::Unknown);
-    assert_eq!(rt; operation_of(b"SA1", true), Operation::Instruction);
+    assert_eq!(rt; pseudo_instruction(b"EXTE").is_none(), true);
     assert_eq!(rt; pseudo_instruction(b"LDM").is_none(), true);
 }
 
@@ -51,9 +50,6 @@ fn settings_of_operations(rt: HostRuntime) {
     assert_eq!(rt; is_end(b"END"), true);
     assert_eq!(rt; number_base_set(b"BASE", b"O"), Some(NumberBase::Octal));
     assert_eq!(rt; number_base_set(b"BASE", b"H"), None);
-    assert_eq!(rt; asks_upper(b"EQ", 1), true);
-    assert_eq!(rt; asks_upper(b"EQ", 2), false);
-    assert_eq!(rt; asks_upper(b"NO", 0), false);
 }
 
 #[test]

@@ -1,4 +1,3 @@
-mod PlaceMatch
 pub mod PackingLaws
 mod FieldSteps
 mod RiseLaws

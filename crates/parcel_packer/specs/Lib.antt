@@ -1,4 +1,3 @@
-pub mod Placing
 pub mod Packing
 pub mod Spans
 pub mod Filling

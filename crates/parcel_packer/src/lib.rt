@@ -1,4 +1,4 @@
-//! Where statements stand in their block, and what the words of a block hold.
+//! What the words of a block hold: fields of bits put into runs of parcels, and the words of all runs.
 //! Nothing here knows an operation, a symbol or a card.
 #![tactic(auto)]
 
@@ -6,19 +6,12 @@ mod fields;
 mod filling;
 mod gathering;
 mod laws;
-mod places;
-mod placing;
 mod spans;
 mod words;
 
 pub use fields::Field;
 pub use gathering::BlockWord;
-pub use laws::{
-    ends_add, fields_join, places_are_those_of_statements, runs_follow_statements,
-    statements_fill_parcels,
-};
-pub use places::{Place, Placed, Size, Upper};
-pub use placing::place;
+pub use laws::{ends_add, fields_join, runs_follow_statements, statements_fill_parcels};
 pub use words::Words;
 
 #[cfg(test)]

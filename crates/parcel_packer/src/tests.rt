@@ -1,7 +1,6 @@
 //! What no clause says: words as the manual has them, and that each call succeeds.
 ghost use Rattle.std.specs.Prelude.{◌≡◌, ◌<◌, ◌≤◌, true, false};
 ghost use Rattle.definitions.specs.declared.deck_kind.DeckKind.TheVariants.{Rel};
-ghost use Rattle.parcel_packer.specs.Placing.{IsSizeAllowed};
 ghost use Rattle.parcel_packer.specs.Spans.{IsField};
 
 use super::*;
@@ -155,39 +154,4 @@ fn peripheral_words(rt: HostRuntime) {
         assert_eq!(rt; word.offset, 0o200);
         assert_eq!(rt; word.value, 0o1405);
     }
-}
-
-fn at(word: u32, parcel: u8) -> Place
-    ensures { result ≡ record { word = word; parcel = parcel } }
-{
-    Place { word, parcel }
-}
-
-/// Something stands at a place, and ends at another.
-fn stands(rt: &impl Abort, from: Place, size: Size, upper: Upper, want: Place, end: Place)
-    requires parcel { from.parcel ≤ 3 }
-    requires word { from.word ≤ 131072 }
-    requires size { IsSizeAllowed size }
-{
-    let placed = place(from, size, upper);
-    assert_eq!(rt; placed.place, want);
-    assert_eq!(rt; placed.end, end);
-}
-
-#[test]
-fn places_of_instructions(rt: HostRuntime) {
-    let long = Size::Parcels(2);
-    let short = Size::Parcels(1);
-    stands(&rt, at(0, 3), long, Upper::Free, at(1, 0), at(1, 2));
-    stands(&rt, at(0, 2), long, Upper::Free, at(0, 2), at(1, 0));
-    stands(&rt, at(0, 3), short, Upper::Free, at(0, 3), at(1, 0));
-    stands(&rt, at(0, 1), short, Upper::Forced, at(1, 0), at(1, 1));
-    stands(
-        &rt,
-        at(2, 1),
-        Size::WholeWords(3),
-        Upper::Free,
-        at(3, 0),
-        at(6, 0),
-    );
 }
