@@ -2,4 +2,3 @@ pub mod LoadSteps
 pub mod SaveSteps
 pub mod FileSteps
 pub mod FolderSteps
-pub mod SendSteps

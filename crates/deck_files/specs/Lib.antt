@@ -2,5 +2,4 @@ pub mod DeckFiles
 pub mod Loads
 pub mod FaultTexts
 pub mod Files
-pub mod Sending
 pub mod Folders

@@ -1,7 +1,7 @@
 //! Replies as bytes: to a writer, or in memory.
 ghost use Rattle.std.specs.Prelude.{◌≡◌, ◌≤◌, ◌<◌, ◌*◌, ◌^◌, ◌++◌, length, IfOk, IfErr};
 ghost use Rattle.session_line.specs.Replies.{line_of, published_text, row_text, rows_text, body_text, text_of_reply, IsWithinLimits};
-ghost use Rattle.deck_files.specs.Sending.{Sends, count_after_sending};
+ghost use Rattle.text_ports.specs.Sending.{Sends, count_after_sending};
 
 use crate::replies::Reply;
 use crate::reply_texts::{head_line, published_line, row_line};

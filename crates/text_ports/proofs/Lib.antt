@@ -1,6 +1,7 @@
 pub mod LineSteps
 pub mod OctalSteps
 pub mod WritingSteps
+pub mod SendSteps
 pub mod CharacterLaws
 pub mod LineLaws
 pub mod HeldLines

@@ -1,5 +1,5 @@
 use Rattle.std.proofs.Common.{refl}
-use Rattle.deck_files.proofs.SendSteps.{part-second}
+use Rattle.text_ports.proofs.SendSteps.{part-second}
 use Rattle.asm_main.proofs.writing.put_both.Goals as goal
 
 pub returns-in-Err-clause-sends : goal.returns-in-Err-clause-sends

@@ -1,6 +1,6 @@
 use Rattle.std.proofs.Common.{◌∙◌}
 use Rattle.session_line.specs.Replies.{body_text}
-use Rattle.deck_files.proofs.SendSteps.{part-second}
+use Rattle.text_ports.proofs.SendSteps.{part-second}
 use Rattle.session_line.proofs.writing.write_reply.Goals as goal
 
 pub returns-in-Err-clause-sends : goal.returns-in-Err-clause-sends

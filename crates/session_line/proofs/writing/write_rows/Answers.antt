@@ -1,6 +1,6 @@
 use Rattle.std.proofs.Common.{◌∙◌}
 use Rattle.session_line.specs.Replies.{line_of, row_text}
-use Rattle.deck_files.proofs.SendSteps.{part-text}
+use Rattle.text_ports.proofs.SendSteps.{part-text}
 use Rattle.session_line.proofs.writing.write_rows.Goals as goal
 
 pub returns-in-Err-clause-sends : goal.returns-in-Err-clause-sends
