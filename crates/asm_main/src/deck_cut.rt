@@ -10,14 +10,12 @@ ghost use Rattle.asm_main.specs.CardRoles.{role_of, begun_named};
 
 use crate::asm_fault::AsmFault;
 use crate::deck::Deck;
-use cards::{Card, DeckName, Fields};
+use cards::{Card, DeckName, Fields, MOST_CARDS};
+use definitions::is_same_text;
 use std::alloc::Global;
 
 /// How many decks a run has at most.
 const MOST_DECKS: usize = 64;
-
-/// How many cards a deck has at most.
-const MOST_CARDS: usize = 20_000;
 
 /// What a card is to the decks, told by the card alone.
 #[derive(Drop)]
@@ -80,7 +78,7 @@ fn role_of(card: &Card) -> CardRole
 fn is_ident(operation: &[u8]) -> bool
     ensures { result ≡ same_text operation.now (codes "IDENT") }
 {
-    is_same(operation, b"IDENT")
+    is_same_text(operation, b"IDENT")
 }
 
 /// What stands before the first comma or blank.
@@ -129,13 +127,7 @@ fn begin_deck(
 fn is_taken(name: &[u8], decks: &[Deck]) -> bool
     ensures { result ≡ is_taken name.now decks.now }
 {
-    decks.iter().any(|deck| is_same(deck.name(), name))
-}
-
-fn is_same(a: &[u8], b: &[u8]) -> bool
-    ensures { result ≡ same_text a.now b.now }
-{
-    a == b
+    decks.iter().any(|deck| is_same_text(deck.name(), name))
 }
 
 /// Adds a card to the latest deck.

@@ -7,7 +7,7 @@ ghost use Rattle.cards.specs.Edits.{is_place, fault_of, first_fault};
 use crate::edits::{Edit, EditFault};
 
 /// How many cards a deck has at most.
-const MOST_CARDS: usize = 20_000;
+pub const MOST_CARDS: usize = 20_000;
 
 /// Whether one of so many cards has this place.
 fn is_place(count: usize, place: u64) -> bool

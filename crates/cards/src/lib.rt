@@ -29,7 +29,7 @@ pub use card_fields::fields;
 pub use copies::{copied_cards, copied_edits, edited_copy};
 pub use deck_name::{BadName, DeckName};
 pub use edits::{Edit, EditFault};
-pub use faults::{fault_of, first_fault};
+pub use faults::{MOST_CARDS, fault_of, first_fault};
 pub use statement_fields::Fields;
 pub use statement_list::{Span, StatementList, statements};
 pub use statement_room::StatementRoom;

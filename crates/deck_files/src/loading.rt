@@ -6,13 +6,10 @@ ghost use Rattle.deck_files.specs.DeckFiles.{card_in};
 ghost use Rattle.deck_files.specs.Loads.{IsFaultOf, LoadsCards, LoadsFault, count_after_load};
 
 use crate::load_fault::LoadFault;
-use cards::{Card, CardFault};
+use cards::{Card, CardFault, MOST_CARDS};
 use std::alloc::Global;
 use std::io::Read;
 use text_ports::{Counted, LineBuf, LineIs, next_line};
-
-/// How many cards a file has at most.
-const MOST_CARDS: usize = 20_000;
 
 /// Loads the cards of a file, line by line up to its end or to the first fault. In one line a fault
 /// of the reader or of the line comes before the fault of a card too many, and want of memory last.

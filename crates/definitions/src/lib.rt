@@ -6,6 +6,7 @@
 mod deck_kind;
 mod letter;
 mod number_base;
+mod texts;
 
 // The laws of texts, fields, places, bases and builds.
 mod laws;
@@ -31,3 +32,4 @@ pub use object_laws::{coded_statements_are_shown, names_of_blocks_differ};
 pub use place_laws::{places_rise, statements_are_laid_out};
 pub use reach_laws::statements_reach_words;
 pub use state_laws::{lengths_follow, states_are_enough, states_step, tails_agree};
+pub use texts::is_same_text;

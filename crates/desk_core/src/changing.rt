@@ -12,14 +12,11 @@ use crate::desk::{Desk, against_next};
 use crate::new_deck::NewDeck;
 use crate::replies::{Refusal, Reply};
 use crate::stored_deck::StoredDeck;
-use cards::{DeckName, Edit, EditFault, fault_of, first_fault};
+use cards::{DeckName, Edit, EditFault, MOST_CARDS, fault_of, first_fault};
 use std::alloc::AllocError;
 
 /// How many decks a desk has at most.
 const MOST_DECKS: usize = 64;
-
-/// How many cards a deck has at most.
-const MOST_CARDS: usize = 20_000;
 
 /// How many edits a batch has at most.
 const MOST_EDITS: usize = 100;

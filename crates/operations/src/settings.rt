@@ -4,33 +4,26 @@ ghost use Rattle.definitions.specs.Characters.{same_text};
 ghost use Rattle.definitions.specs.Fields.{Fields};
 ghost use Rattle.definitions.specs.DeckKinds.{is_end, number_base_set};
 
-use definitions::NumberBase;
-
-/// Whether both texts are the same.
-fn is_same(text: &[u8], other: &[u8]) -> bool
-    ensures { result ≡ same_text text.now other.now }
-{
-    text == other
-}
+use definitions::{NumberBase, is_same_text};
 
 /// Whether an operation field names END.
 pub fn is_end(operation: &[u8]) -> bool
     ensures { (fields : Fields) → fields.operation ≡ operation.now → result ≡ is_end fields }
 {
-    is_same(operation, b"END")
+    is_same_text(operation, b"END")
 }
 
 /// The number base that a statement with these fields sets, if it is a BASE that is accepted.
 pub fn number_base_set(operation: &[u8], variable: &[u8]) -> Option<NumberBase>
     ensures { (fields : Fields) → fields.operation ≡ operation.now → fields.variable ≡ variable.now → result ≡ number_base_set fields }
 {
-    if !is_same(operation, b"BASE") {
+    if !is_same_text(operation, b"BASE") {
         return None;
     }
-    if is_same(variable, b"O") {
+    if is_same_text(variable, b"O") {
         return Some(NumberBase::Octal);
     }
-    if is_same(variable, b"D") {
+    if is_same_text(variable, b"D") {
         return Some(NumberBase::Decimal);
     }
     None

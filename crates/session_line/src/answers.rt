@@ -6,11 +6,9 @@ ghost use Rattle.session_line.specs.Answers.{is_for_session, session_reply, show
 use crate::Refusal;
 use crate::reasons::desk_reason;
 use crate::tasks::PublishedText;
+use cards::MOST_CARDS;
 use deck_linker::Publication;
 use desk_core::Reply;
-
-/// How many cards a deck has at most.
-const MOST_CARDS: usize = 20_000;
 
 /// How many decks a desk has at most.
 const MOST_DECKS: usize = 64;

@@ -3,6 +3,8 @@ ghost use Rattle.std.specs.Prelude.{◌≡◌};
 ghost use Rattle.definitions.specs.Characters.{same_text};
 ghost use Rattle.session_line.specs.Verbs.{edit_kind_of, other_verb_of, verb_of};
 
+use definitions::is_same_text;
+
 /// What an edit does: a card comes in, takes the place of another, or goes.
 #[derive(Clone, Copy, Debug, PartialEq, Eq)]
 pub(crate) enum EditKind {
@@ -27,21 +29,15 @@ pub(crate) enum Verb {
     Bye,
 }
 
-fn is_same(word: &[u8], other: &[u8]) -> bool
-    ensures { result ≡ same_text word.now other.now }
-{
-    word == other
-}
-
 /// The edit that a word asks for, if it asks for one.
 pub(crate) fn edit_kind_of(word: &[u8]) -> Option<EditKind>
     ensures { result ≡ edit_kind_of word.now }
 {
-    if is_same(word, b"INS") {
+    if is_same_text(word, b"INS") {
         Some(EditKind::Insert)
-    } else if is_same(word, b"REP") {
+    } else if is_same_text(word, b"REP") {
         Some(EditKind::Replace)
-    } else if is_same(word, b"DEL") {
+    } else if is_same_text(word, b"DEL") {
         Some(EditKind::Remove)
     } else {
         None
@@ -51,25 +47,25 @@ pub(crate) fn edit_kind_of(word: &[u8]) -> Option<EditKind>
 fn other_verb_of(word: &[u8]) -> Option<Verb>
     ensures { result ≡ other_verb_of word.now }
 {
-    if is_same(word, b"ADD") {
+    if is_same_text(word, b"ADD") {
         Some(Verb::Add)
-    } else if is_same(word, b"LOAD") {
+    } else if is_same_text(word, b"LOAD") {
         Some(Verb::Load)
-    } else if is_same(word, b"DROP") {
+    } else if is_same_text(word, b"DROP") {
         Some(Verb::Drop)
-    } else if is_same(word, b"CARDS") {
+    } else if is_same_text(word, b"CARDS") {
         Some(Verb::Cards)
-    } else if is_same(word, b"SAVE") {
+    } else if is_same_text(word, b"SAVE") {
         Some(Verb::Save)
-    } else if is_same(word, b"IMAGE") {
+    } else if is_same_text(word, b"IMAGE") {
         Some(Verb::Image)
-    } else if is_same(word, b"LIST") {
+    } else if is_same_text(word, b"LIST") {
         Some(Verb::List)
-    } else if is_same(word, b"STATUS") {
+    } else if is_same_text(word, b"STATUS") {
         Some(Verb::Status)
-    } else if is_same(word, b"BATCH") {
+    } else if is_same_text(word, b"BATCH") {
         Some(Verb::Batch)
-    } else if is_same(word, b"BYE") {
+    } else if is_same_text(word, b"BYE") {
         Some(Verb::Bye)
     } else {
         None

@@ -5,8 +5,7 @@ ghost use Rattle.definitions.specs.Settling.{letter_where, external_letters};
 ghost use Rattle.statement_coder.specs.Externals.{has_unlawful, is_listed, has_known};
 
 use crate::early_values::EarlySymbols;
-use crate::placing::is_same;
-use definitions::Letter;
+use definitions::{Letter, is_same_text};
 use expr_forms::LinkedNames;
 use operations::Letters;
 
@@ -34,7 +33,7 @@ fn is_listed(name: &[u8], names: LinkedNames<'_>) -> bool
             None => return false,
             Some(None) => {}
             Some(Some(other)) => {
-                if is_same(other, name) {
+                if is_same_text(other, name) {
                     return true;
                 }
             }

@@ -7,8 +7,8 @@ ghost use Rattle.definitions.specs.Settling.{letter_where, is_plain_location, lo
 ghost use Rattle.operations.specs.OperationsAs.{operation_as};
 ghost use Rattle.statement_coder.specs.LettersAs.{letters_as};
 
-use crate::placing::{is_no_minus, is_same};
-use definitions::{DeckKind, Letter};
+use crate::placing::is_no_minus;
+use definitions::{DeckKind, Letter, is_same_text};
 use expr_forms::is_symbol;
 use operations::Operation;
 
@@ -17,8 +17,8 @@ fn is_plain_location(kind: DeckKind, operation: Operation, location: &[u8]) -> b
     ensures { result ≡ is_plain_location kind (operation_as operation) location.now }
 {
     location.is_empty()
-        || is_same(location, b"+")
-        || is_same(location, b"-") && !is_no_minus(kind, operation)
+        || is_same_text(location, b"+")
+        || is_same_text(location, b"-") && !is_no_minus(kind, operation)
 }
 
 /// The letter, where it applies.

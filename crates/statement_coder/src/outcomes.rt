@@ -11,8 +11,7 @@ ghost use Rattle.operations.specs.OperationsAs.{operation_as};
 ghost use Rattle.statement_coder.specs.Outcomes.{outcome_as};
 ghost use Rattle.expr_forms.specs.FormsAs.{part_as, relocation_as};
 
-use crate::placing::is_same;
-use definitions::{DeckKind, Letter};
+use definitions::{DeckKind, Letter, is_same_text};
 use expr_forms::{Form, Name, Part, Relocation};
 use operations::Operation;
 use use_blocks::{Counting, LocationSetting};
@@ -78,7 +77,7 @@ fn is_origin_form(kind: DeckKind, block: &Name, form: Form) -> bool
     ensures { result ≡ is_origin_form kind block.now form }
 {
     let is_relocatable = matches!(kind, DeckKind::Rel);
-    if !is_relocatable && is_same(block.as_slice(), b"0") {
+    if !is_relocatable && is_same_text(block.as_slice(), b"0") {
         form.is_absolute()
     } else {
         is_in_block(block, form.part())

@@ -8,7 +8,7 @@ ghost use Rattle.definitions.specs.Places.{is_bad, is_long, is_no_minus, has_min
 ghost use Rattle.definitions.specs.Settling.{place_of};
 ghost use Rattle.operations.specs.OperationsAs.{operation_as};
 
-use definitions::DeckKind;
+use definitions::{DeckKind, is_same_text};
 use expr_forms::is_symbol;
 use operations::Operation;
 
@@ -18,13 +18,6 @@ use operations::Operation;
 pub(crate) struct OperandClass {
     pub(crate) is_bad: bool,
     pub(crate) is_long: bool,
-}
-
-/// Whether both texts are the same.
-pub(crate) fn is_same(text: &[u8], other: &[u8]) -> bool
-    ensures { result ≡ same_text text.now other.now }
-{
-    text == other
 }
 
 /// Whether a `-` in the location field counts as nothing: that of VFD outside peripheral decks.
@@ -41,14 +34,16 @@ pub(crate) fn is_no_minus(kind: DeckKind, operation: Operation) -> bool
 fn has_minus(kind: DeckKind, operation: Operation, location: &[u8]) -> bool
     ensures { result ≡ has_minus kind (operation_as operation) location.now }
 {
-    is_same(location, b"-") && !is_no_minus(kind, operation)
+    is_same_text(location, b"-") && !is_no_minus(kind, operation)
 }
 
 /// Whether an instruction is upper, where its block asks for it or not.
 fn is_upper(kind: DeckKind, operation: Operation, location: &[u8], asks: bool) -> bool
     ensures { result ≡ is_upper kind (operation_as operation) location.now asks }
 {
-    is_symbol(location) || is_same(location, b"+") || asks && !has_minus(kind, operation, location)
+    is_symbol(location)
+        || is_same_text(location, b"+")
+        || asks && !has_minus(kind, operation, location)
 }
 
 /// The next word at or behind a place.

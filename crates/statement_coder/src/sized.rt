@@ -20,13 +20,13 @@ use crate::definitions_made::definition_made;
 use crate::early_values::{EarlyNames, EarlySymbols, early_value, equated};
 use crate::meter::Meter;
 use crate::outcomes::outcome_of;
-use crate::placing::{OperandClass, is_same, place_of};
+use crate::placing::{OperandClass, place_of};
 use crate::readings::{Reading, read_operand};
 use crate::size_letters::size_letters;
 use crate::sizes::{is_bad, is_long, size_of};
 use crate::sizing::Sizing;
 use crate::statement::Statement;
-use definitions::DeckKind;
+use definitions::{DeckKind, is_same_text};
 use expr_forms::Subfields;
 use operations::Operation;
 use use_blocks::{BlockState, LocationSetting};
@@ -51,10 +51,10 @@ fn asks_upper(name: &[u8], text: &[u8]) -> bool
     requires { length text.now ≤ 711 }
     ensures { result ≡ asks_upper name.now (length (subfields_of (pieces_of text.now))) }
 {
-    is_same(name, b"JP")
-        || is_same(name, b"RJ")
-        || is_same(name, b"PS")
-        || is_same(name, b"EQ") && is_one(text)
+    is_same_text(name, b"JP")
+        || is_same_text(name, b"RJ")
+        || is_same_text(name, b"PS")
+        || is_same_text(name, b"EQ") && is_one(text)
 }
 
 /// Whether the block asks for upper behind a statement.
