@@ -13,18 +13,11 @@ use Rattle.definitions.specs.Sizes.{field_width}
 use Rattle.definitions.specs.declared.number_base.NumberBase.{NumberBase}
 use Rattle.definitions.proofs.WordLaws.{picked_cond}
 use Rattle.definitions.proofs.OperandShapes.{IsWhole}
+use Rattle.definitions.proofs.TestLaws.{and_left, and_right}
 
 -- the digits of registers are octal digits
 abbrev AreOctal : RegisterDigits → Type 0
 AreOctal ijk = (ijk.i < 8) × ((ijk.j < 8) × (ijk.k < 8))
-
-and_left : (a b : Bool) → (a && b) ≡ true → a ≡ true
-and_left true b e = refl
-and_left false b e = cc
-
-and_right : (a b : Bool) → (a && b) ≡ true → b ≡ true
-and_right true b e = e
-and_right false b e = cc
 
 octal_below : (c : ℕ) → is_octal_digit c ≡ true → c - 48 < 8
 octal_below c e = let most : c ≤ 55 = leb-true c 55 (and_right (nat_le 48 c) (nat_le c 55) e) in omega arith

@@ -1,4 +1,5 @@
 -- The laws, in the order of the definitions that they speak of.
+pub mod TestLaws
 pub mod TextLaws
 pub mod NumeralLaws
 pub mod StatementLaws
@@ -11,9 +12,13 @@ pub mod PlaceLaws
 pub mod LiteralLaws
 pub mod LengthLaws
 pub mod StateSteps
+pub mod NamesLaws
 pub mod ViewLaws
 pub mod TailLaws
 pub mod WordLaws
+pub mod BoundLaws
+pub mod ReboundLaws
+pub mod EditLaws
 -- Worked decks, computed.
 pub mod WorkedText
 pub mod WorkedInputs
@@ -26,6 +31,7 @@ pub mod WorkedRules
 pub mod WorkedLinks
 pub mod WorkedCommons
 pub mod WorkedExamples
+pub mod WorkedEdits
 -- What a value and an item leave in a field, and each field of an operand.
 pub mod CodingLaws
 pub mod ItemLaws

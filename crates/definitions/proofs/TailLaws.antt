@@ -34,7 +34,7 @@ defined-agree name behind other earlier before same e =
     ∙ ap₂ or_form (sym (defined-unnumbered name behind) ∙ ap (defined name) same ∙ defined-unnumbered name other) e
     ∙ sym (defined-append name other before)
 
-views-agree : (names : List (List ℕ)) (behind other earlier before : List Settled) → map unnumbered behind ≡ map unnumbered other →
+pub views-agree : (names : List (List ℕ)) (behind other earlier before : List Settled) → map unnumbered behind ≡ map unnumbered other →
     Agree (λ name. defined name earlier) (λ name. defined name before) names →
     Agree (λ name. defined name (behind ++ earlier)) (λ name. defined name (other ++ before)) names
 views-agree [] behind other earlier before same h = tt

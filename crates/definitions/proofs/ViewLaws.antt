@@ -1,11 +1,10 @@
 -- A statement rests on the early values of its own symbols and of those that its operand reads early, and on no others.
-use Rattle.std.proofs.Common.{◌≡◌, ℕ, Bool, true, false, ◌||◌, List, [], ◌∷◌, ◌++◌, Option, Some, None, refl, ap, ap₂, ◌∙◌, subst}
-use Rattle.std.specs.Prelude.{Result, Ok, Err, if◌then◌else◌, is_some, flat_map, map}
-use Rattle.std.proofs.lemmas.Grind.{flat_map-append}
+use Rattle.std.proofs.Common.{◌≡◌, ℕ, Bool, true, false, ◌||◌, List, [], ◌∷◌, ◌++◌, Option, Some, None, refl, ap, ap₂, ◌∙◌}
+use Rattle.std.specs.Prelude.{if◌then◌else◌, is_some, flat_map}
 use Rattle.definitions.specs.Statements.{Statement}
 use Rattle.definitions.specs.Symbols.{is_symbol}
-use Rattle.definitions.specs.Expressions.{Element, ANumber, ACountedItem, ASymbol, ARegister, LocationCounter, OriginCounter, ALiteral, OperatorElement, Term, Expression}
-use Rattle.definitions.specs.Forms.{Form, element_form, combined_with, product, Running, plus_term, sum_from, closed, symbol_form, value_of}
+use Rattle.definitions.specs.Expressions.{Element, ANumber, ACountedItem, ASymbol, ARegister, LocationCounter, OriginCounter, ALiteral, Expression, elements_of}
+use Rattle.definitions.specs.Forms.{Form, element_form, symbol_form, value_of}
 use Rattle.definitions.specs.Operations as op
 use Rattle.definitions.specs.Operations.{Operation, is_labelled}
 use Rattle.definitions.specs.Operands.{Operand, NamesOperand, ValueOperand}
@@ -18,29 +17,18 @@ use Rattle.definitions.specs.declared.deck_kind.DeckKind.{DeckKind}
 use Rattle.definitions.specs.declared.deck_kind.DeckKind.TheVariants.{Rel, Abs, Periph}
 use Rattle.definitions.specs.declared.letter.Letter.{Letter}
 use Rattle.definitions.specs.declared.letter.Letter.TheVariants as letter
+use Rattle.definitions.proofs.NamesLaws.{all-front, all-behind, Alike, value_of-alike}
 
 -- views that agree on two lists of names together agree on each
 agree-front : (v w : View) (a b : List (List ℕ)) → Agree v w (a ++ b) → Agree v w a
-agree-front v w [] b h = tt
-agree-front v w (name ∷ a) b h = (h.0, agree-front v w a b h.1)
+agree-front v w a b h = all-front (λ name. v name ≡ w name) a b h
 
 agree-behind : (v w : View) (a b : List (List ℕ)) → Agree v w (a ++ b) → Agree v w b
-agree-behind v w [] b h = h
-agree-behind v w (name ∷ a) b h = agree-behind v w a b h.1
+agree-behind v w a b h = all-behind (λ name. v name ≡ w name) a b h
 
 -- the symbols of elements
 abbrev symbols_of : List Element → List (List ℕ)
 symbols_of elements = flat_map symbols_of_element elements
-
--- the symbols of the elements behind operators
-abbrev symbols_of_pairs : List OperatorElement → List (List ℕ)
-symbols_of_pairs pairs = symbols_of (map (λ (pair : OperatorElement). pair.element) pairs)
-
-abbrev terms_elements : List Term → List Element
-terms_elements terms = flat_map (λ (term : Term). term.element ∷ map (λ (pair : OperatorElement). pair.element) term.factors) terms
-
-symbols_of-append : (a b : List Element) → symbols_of (a ++ b) ≡ symbols_of a ++ symbols_of b
-symbols_of-append a b = flat_map-append symbols_of_element a b
 
 element_form-agree : (v w : View) (counters : Counters) (element : Element) → Agree v w (symbols_of_element element) →
     element_form (early_names v counters) element ≡ element_form (early_names w counters) element
@@ -52,43 +40,15 @@ element_form-agree v w counters LocationCounter h = refl
 element_form-agree v w counters OriginCounter h = refl
 element_form-agree v w counters (ALiteral literal) h = refl
 
-product-agree : (v w : View) (counters : Counters) (form : Result Form Letter) (pairs : List OperatorElement) → Agree v w (symbols_of_pairs pairs) →
-    product (early_names v counters) form pairs ≡ product (early_names w counters) form pairs
-product-agree v w counters form [] h = refl
-product-agree v w counters (Err fault) (pair ∷ pairs) h = product-agree v w counters (Err fault) pairs (agree-behind v w (symbols_of_element pair.element) (symbols_of_pairs pairs) h)
-product-agree v w counters (Ok form) (pair ∷ pairs) h =
-    product-agree v w counters (combined_with pair.operator form (element_form (early_names v counters) pair.element)) pairs (agree-behind v w (symbols_of_element pair.element) (symbols_of_pairs pairs) h)
-    ∙ ap (λ second. product (early_names w counters) (combined_with pair.operator form second) pairs) (element_form-agree v w counters pair.element (agree-front v w (symbols_of_element pair.element) (symbols_of_pairs pairs) h))
-
-term-agree : (v w : View) (counters : Counters) (term : Term) → Agree v w (symbols_of (term.element ∷ map (λ (pair : OperatorElement). pair.element) term.factors)) →
-    product (early_names v counters) (element_form (early_names v counters) term.element) term.factors ≡ product (early_names w counters) (element_form (early_names w counters) term.element) term.factors
-term-agree v w counters term h =
-    ap (λ form. product (early_names v counters) form term.factors) (element_form-agree v w counters term.element (agree-front v w (symbols_of_element term.element) (symbols_of_pairs term.factors) h))
-    ∙ product-agree v w counters (element_form (early_names w counters) term.element) term.factors (agree-behind v w (symbols_of_element term.element) (symbols_of_pairs term.factors) h)
-
--- the elements of a term
-abbrev term_elements : Term → List Element
-term_elements term = term.element ∷ map (λ (pair : OperatorElement). pair.element) term.factors
-
-front_term : (v w : View) (term : Term) (terms : List Term) → Agree v w (symbols_of (terms_elements (term ∷ terms))) → Agree v w (symbols_of (term_elements term))
-front_term v w term terms h =
-    agree-front v w (symbols_of (term_elements term)) (symbols_of (terms_elements terms)) (subst (Agree v w) (symbols_of-append (term_elements term) (terms_elements terms)) h)
-
-behind_term : (v w : View) (term : Term) (terms : List Term) → Agree v w (symbols_of (terms_elements (term ∷ terms))) → Agree v w (symbols_of (terms_elements terms))
-behind_term v w term terms h =
-    agree-behind v w (symbols_of (term_elements term)) (symbols_of (terms_elements terms)) (subst (Agree v w) (symbols_of-append (term_elements term) (terms_elements terms)) h)
-
-sum_from-agree : (v w : View) (counters : Counters) (running : Result Running Letter) (terms : List Term) → Agree v w (symbols_of (terms_elements terms)) →
-    sum_from (early_names v counters) running terms ≡ sum_from (early_names w counters) running terms
-sum_from-agree v w counters running [] h = refl
-sum_from-agree v w counters (Err fault) (term ∷ terms) h =
-    sum_from-agree v w counters (Err fault) terms (behind_term v w term terms h)
-sum_from-agree v w counters (Ok running) (term ∷ terms) h =
-    sum_from-agree v w counters (plus_term term.operator running (product (early_names v counters) (element_form (early_names v counters) term.element) term.factors)) terms (behind_term v w term terms h)
-    ∙ ap (λ form. sum_from (early_names w counters) (plus_term term.operator running form) terms) (term-agree v w counters term (front_term v w term terms h))
+elements-agree : (v w : View) (counters : Counters) (elements : List Element) → Agree v w (symbols_of elements) → Alike (early_names v counters) (early_names w counters) elements
+elements-agree v w counters [] h = tt
+elements-agree v w counters (element ∷ elements) h = (
+  element_form-agree v w counters element (agree-front v w (symbols_of_element element) (symbols_of elements) h),
+  elements-agree v w counters elements (agree-behind v w (symbols_of_element element) (symbols_of elements) h),
+)
 
 value_of-agree : (v w : View) (counters : Counters) (e : Expression) → Agree v w (symbols_in e) → value_of (early_names v counters) e ≡ value_of (early_names w counters) e
-value_of-agree v w counters e h = ap closed (sum_from-agree v w counters _ e.terms h)
+value_of-agree v w counters e h = value_of-alike (early_names v counters) (early_names w counters) e (elements-agree v w counters (elements_of e) h)
 
 -- an EXT's names: whether each is known, the externals, and the letters
 is_known-agree : (v w : View) (name : List ℕ) (so_far : List Definition) → v name ≡ w name → is_known v name so_far ≡ is_known w name so_far

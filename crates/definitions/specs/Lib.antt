@@ -46,6 +46,9 @@ pub mod Entries
 pub mod Letters
 pub mod Words
 pub mod Objects
+-- An edit of a deck: what it leaves, and what is sized and coded again.
+pub mod Edits
+pub mod Rebound
 -- The texts: listing, link, map, image, and both together.
 pub mod Listing
 pub mod Link

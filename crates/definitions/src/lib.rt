@@ -20,7 +20,11 @@ mod object_laws;
 mod place_laws;
 mod reach_laws;
 
+// Those of the edits of a deck.
+mod edit_laws;
+
 pub use deck_kind::DeckKind;
+pub use edit_laws::{agreement_lasts, bindings_are_enough};
 pub use field_laws::{fields_fill, fields_fit, instructions_fill_parcels};
 pub use laws::{
     bases_are_sums, octal_reads_back, one_cut_into_fields, places_are_the_least, reads_the_grammar,

@@ -1,0 +1,120 @@
+-- Worked edits, computed: where two decks agree again, and which statements are coded again.
+use Rattle.std.proofs.Common.{◌≡◌, ◌≤◌, ℕ, List, [], ◌∷◌, refl, ap, codes, arith, take, drop, reverse}
+use Rattle.std.specs.Prelude.{map}
+use Rattle.definitions.specs.Cards.{Card}
+use Rattle.definitions.specs.Statements.{Statement, statements_of}
+use Rattle.definitions.specs.DeckKinds.{up_to_end}
+use Rattle.definitions.specs.Settled.{Settled}
+use Rattle.definitions.specs.Settling.{settled_all}
+use Rattle.definitions.specs.States.{UsedBlock, BlockState}
+use Rattle.definitions.specs.Edits.{Edited, IsUntouched, Split, DoAgree, IsWithinDue}
+use Rattle.definitions.specs.Rebound.{rebound_front, rebound_tail}
+use Rattle.definitions.specs.declared.deck_kind.DeckKind.TheVariants.{Rel}
+
+-- the statements of these cards up to END
+abbrev deck : List Card → List Statement
+deck cards = up_to_end (statements_of (reverse cards))
+
+-- both decks, split before so many statements of their ends
+abbrev split_at : ℕ → Edited → Split
+split_at count decks = record { old_front = drop count decks.old; old_tail = take count decks.old; new_front = drop count decks.new; new_tail = take count decks.new }
+
+-- the second of three instructions is replaced
+abbrev replaced : Edited
+replaced = record {
+  old = deck (codes "          BX6    X1" ∷ codes "          BX6    X1" ∷ codes "          BX6    X1" ∷ []);
+  new = deck (codes "          BX6    X1" ∷ codes "          BX6    X2" ∷ codes "          BX6    X1" ∷ []);
+  before = 1;
+  old_behind = 2;
+  new_behind = 2;
+}
+
+-- the first stays, and the decks agree behind the second
+replaced-untouched : IsUntouched replaced (drop 2 replaced.old)
+replaced-untouched = record { of_old = (take 2 replaced.old, refl); of_new = (take 2 replaced.new, refl); unchanged = omega arith }
+
+replaced-agrees : DoAgree replaced (split_at 1 replaced)
+replaced-agrees = record {
+  tail = record { of_old = refl; of_new = refl; old_reaches = omega arith; new_reaches = omega arith; same_place = refl; same_cards = (refl, tt) };
+  kinds = refl;
+  states = refl;
+  early = (tt, tt);
+}
+
+-- so one statement alone is due
+pub replaced-due : (count : ℕ) → IsWithinDue replaced 0 count → count ≤ 1
+replaced-due count h = let most = h.to_agreement (drop 2 replaced.old) (split_at 1 replaced) replaced-untouched replaced-agrees in omega (arith, most)
+
+-- an EQU in front is removed
+abbrev unequated : Edited
+unequated = record {
+  old = deck (codes "N         EQU    2" ∷ codes "          BSS    N" ∷ codes "A         DATA   7" ∷ []);
+  new = deck (codes "          BSS    N" ∷ codes "A         DATA   7" ∷ []);
+  before = 0;
+  old_behind = 1;
+  new_behind = 0;
+}
+
+-- what is behind moves
+pub unequated-places : map (λ (settled : Settled). settled.place) (settled_all Rel unequated.old) ≡ 8 ∷ 0 ∷ 0 ∷ []
+unequated-places = refl
+
+pub unequated-moved : map (λ (settled : Settled). settled.place) (settled_all Rel unequated.new) ≡ 0 ∷ 0 ∷ []
+unequated-moved = refl
+
+-- so the decks agree neither where the states are still equal, nor later
+pub unequated-early : DoAgree unequated (split_at 2 unequated) → ⊥
+unequated-early h = let value = h.early.1.0.0 in cc
+
+pub unequated-late : DoAgree unequated (split_at 1 unequated) → ⊥
+unequated-late h = let ends = ap (λ (state : BlockState). map (λ (block : UsedBlock). block.position.end) state.blocks) h.states in cc
+
+-- an instruction is put between a jump and its label
+abbrev relabelled : Edited
+relabelled = record {
+  old = deck (codes "          JP     A" ∷ codes "A         BX6    X1" ∷ []);
+  new = deck (codes "          JP     A" ∷ codes "          BX6    X2" ∷ codes "A         BX6    X1" ∷ []);
+  before = 1;
+  old_behind = 1;
+  new_behind = 2;
+}
+
+-- the jump is coded again
+pub relabelled-jump : rebound_front relabelled (drop 2 relabelled.new) ≡ 1
+relabelled-jump = refl
+
+-- the first of two literals becomes the second
+abbrev reused : Edited
+reused = record {
+  old = deck (codes "          SA1    =4" ∷ codes "          SA1    =5" ∷ codes "          SA1    A2" ∷ []);
+  new = deck (codes "          SA1    =5" ∷ codes "          SA1    =5" ∷ codes "          SA1    A2" ∷ []);
+  before = 0;
+  old_behind = 1;
+  new_behind = 1;
+}
+
+pub reused-agrees : DoAgree reused (split_at 2 reused)
+reused-agrees = record {
+  tail = record { of_old = refl; of_new = refl; old_reaches = omega arith; new_reaches = omega arith; same_place = refl; same_cards = (refl, (refl, tt)) };
+  kinds = refl;
+  states = refl;
+  early = (tt, (tt, tt));
+}
+
+-- the literal of the second statement stands first now, and that statement alone is coded again
+pub reused-literal : rebound_tail reused (drop 2 reused.new) (take 2 reused.new) ≡ 1
+reused-literal = refl
+
+-- a word is put into the first block of an absolute deck
+abbrev moved : Edited
+moved = record {
+  old = deck (codes "          ABS" ∷ codes "          JP     A" ∷ codes "          USE    B" ∷ codes "A         BX6    X1" ∷ []);
+  new = deck (codes "          ABS" ∷ codes "          JP     A" ∷ codes "          DATA   1" ∷ codes "          USE    B" ∷ codes "A         BX6    X1" ∷ []);
+  before = 2;
+  old_behind = 2;
+  new_behind = 3;
+}
+
+-- the label stands where it stood in its block, and its block stands a word later: the jump is coded again
+pub moved-base : rebound_front moved (drop 3 moved.new) ≡ 1
+moved-base = refl
