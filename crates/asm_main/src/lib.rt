@@ -1,5 +1,12 @@
 //! The main work of `compass asm`: `asm_run` takes decks from a reader to listing, link map and
 //! octal image.
+//!
+//! `read_decks` reads all lines up to the end or the first fault and puts each card to its deck,
+//! `publish` makes both texts in memory, `write_texts` sends them: so nothing is written before all
+//! is read. The contract of `asm_run` has two halves. Where the bytes of the ports are known,
+//! `answer`, `told` and `part` say that what went out, the fault's text and the status are those of
+//! `answer_of`. The other clauses say what was read and in which order, which faults are told, and
+//! when the ports' counts of faults rise.
 #![tactic(auto)]
 
 // From bytes to decks.

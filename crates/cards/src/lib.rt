@@ -1,5 +1,12 @@
 //! Cards and edits of cards, the names of decks, statements and their fields, exactly as the definitions
 //! have them. Nothing here knows an operation but DIS, or a symbol.
+//!
+//! `statements` gives spans of the deck's cards, in one pass, and copies none; it alone takes
+//! memory, and an edit that inserts. `fields` answers parts of the text where it lies: on the card,
+//! or in a `StatementRoom` that the caller lends where the statement has comma cards. A variable
+//! field has at most 711 characters. Which edit does not apply, and why, rests on the number of
+//! cards alone: `fault_of` and `first_fault` count along, take no memory, and cost nothing by the
+//! deck.
 #![tactic(auto)]
 
 // Cards, and the names of decks.

@@ -2,6 +2,17 @@
 //! piece, its symbols, literals and the lengths of its blocks; then its lines with their fields, its
 //! entries and its externals. Contracts see an object as its deck; all else of it is, by its type, what
 //! the definitions' object of that deck has.
+//!
+//! `SizedDeck::new` takes one statement after the other: reads it, sizes it behind the state so
+//! far, takes in its literals and what it defines, and steps lengths and state by its effect. A
+//! `Piece` has up to 128 statements, with the state before the first. `object_parts` goes over
+//! pieces and cards together and makes a `Line` of each; cards are read again only where what was
+//! read was not kept, or names are given or taken. Behind END a line has cards alone.
+//!
+//! A line keeps its fields as one number where they are known and have at most 60 bits, else in the
+//! object's list. That need not be the definitions' list of fields: it is as wide, has the same
+//! bits in every link, and is unfit in the same words, and nothing that reads an object can tell
+//! more. `Linking` is how a form gets its bits, and `Unlinked` the link of a listing.
 #![tactic(auto)]
 
 // Objects, and what a link makes of their fields.

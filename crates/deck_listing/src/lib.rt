@@ -1,6 +1,12 @@
 //! The texts of one deck: its listing, with its cards and their numbers, the letters and the octal of
 //! each statement, its blocks and the count of its errors; and its octal image, with the words that it
 //! stores in order of address.
+//!
+//! The listing walks lines and cards together; an instruction has one line, other fields are
+//! gathered until a word is full, and a BSSZ has none. The stored words of a block are the same in
+//! whatever link but for the bits that the link makes. A section leaves out words beyond memory and
+//! common blocks, whose words the link shows. Each text is made apart and appended in one call, so
+//! without memory the text before is as it was.
 #![tactic(auto)]
 
 // The listing.

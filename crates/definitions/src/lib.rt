@@ -1,5 +1,12 @@
 //! The language, in `specs/`: what a program and its definitions name alike (letters, kinds of decks,
 //! number bases), and the laws of the definitions, each the contract of a function.
+//!
+//! `specs/Lib.antt` is the table of contents. A reader of this project has to believe these files,
+//! and nothing else of the language. Statements are read newest first, so a definition searches all
+//! that stand before one without a counter. What a statement sees of those before it is one record
+//! (`Seen`), and what an assembler has to keep between two is `BlockState`: the laws of states say
+//! that this is enough, and that behind equal states the same cards become the same statements. The
+//! worked decks of `proofs/` compute whole outputs, those of `examples/` among them.
 #![tactic(auto)]
 
 // What code and definitions name alike.

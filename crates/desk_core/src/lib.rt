@@ -1,6 +1,15 @@
 //! The desk: decks that several people edit, jobs for those who assemble and link them, and the
 //! publication that everybody sees. Its definitions, the laws that hold over each run, and the code
 //! that makes each step. Nothing here assembles, links, reads or writes.
+//!
+//! `specs/Lib.antt` has what a desk may answer: `Changes` the decks that accepted changes leave,
+//! `Answers`, `Changing`, `Reading`, `Claiming` and `Delivering` the answer to each call, `Steps` a
+//! step, which is the answer, or, where that takes memory, the refusal for want of it; `Runs` and
+//! `Jobs` what is promised of each run (`every_run`, `jobs_once`). `Stored`, `OwnNames`, `Turns`
+//! and `Delivered` say how the code keeps a desk, and no law names them. The code has a method for
+//! each call, with its part of the relation as its clause. A deck is found by its name and changed
+//! at its place; a delivery compares cards by value; growth comes first. Not promised: that a job
+//! comes back, or that the desk becomes idle.
 #![tactic(auto)]
 
 // What is asked and answered.

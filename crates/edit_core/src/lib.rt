@@ -1,5 +1,10 @@
 //! The record of a deck: its name and its cards, and all that is kept of them, so that its object is
 //! at hand.
+//!
+//! `assemble` makes the object of a deck and lets go of the rest; `Kept::new` keeps the sized deck
+//! beside it. `finish` gives the object, which is at hand. `edit` finds the fault of an edit, or
+//! makes the record of the edited cards anew, and is spent where memory runs out on the way: the
+//! counted work is bounded by the whole deck.
 #![tactic(auto)]
 
 mod assembling;

@@ -1,6 +1,10 @@
 //! Operations by their names: the rows of a table of instructions that have a name, and the other
 //! operations; and what the fields of a statement say before any value is known, the kind of its deck,
 //! the number base, END, and the letters that flag it. The tables of instructions are not here.
+//!
+//! `KindSearch` is handed one operation after the other, and may be asked at any time; nothing
+//! changes what it found. `Letters` is a set, whose text is all that contracts see. `rows_of`
+//! halves a sorted table for both ends of a name's rows. Nothing here takes memory.
 #![tactic(auto)]
 
 // The rows of a name.

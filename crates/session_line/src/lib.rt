@@ -1,6 +1,14 @@
 //! One line of a session, read, executed and answered: which line is which command, or why it is
 //! refused; at most one call of the desk and one of the shelf; and the text of the reply. Nothing here
 //! knows what a desk does with a call, where a shelf keeps its files, or what a port is.
+//!
+//! All lines of a batch are read before the first is looked at, so a fault or an end among them
+//! makes no call. A `Task` is what a command asks for: one call of the desk, a load, a save, the
+//! end, or nothing, for a reason. LOAD reads the shelf first, so that a file that is no deck adds
+//! none; SAVE asks the desk first. A reply borrows its cards and texts, and takes no memory. What
+//! one call makes of a desk is named by the trait `Calls`: a `Desk` meets it with its own clause,
+//! `SeatCalls` with that of `Seat::call`. The lines are meant to stay: one is added only where it
+//! was `BadCommand` before.
 #![tactic(auto)]
 
 // Words and numbers.

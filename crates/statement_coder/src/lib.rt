@@ -1,5 +1,19 @@
 //! One statement: what it is once the state before it is known, and its fields and letters once all
 //! names have their values, exactly as the definitions have them.
+//!
+//! `size` takes a statement, the `BlockState` before it and the symbols that earlier statements
+//! define (`EarlySymbols`), and promises what the definitions settle of any such state, so an edit
+//! may begin anywhere; `size_reading` is the same for whoever has read the operand.
+//! `Sizing::effect` is what the statement does to the state. `code_read` takes what was read with
+//! the sizing, the values of all symbols and literals (`FinalSymbols`) and the bases, and gives
+//! fields and letters; `code` has the statement alone. `kept_operand` has the operand of the
+//! `KeptReading` that was made while the statement was sized, and what was not kept is read again.
+//! No other calls size or code, and each of the four adds one to the `Meter`. Only coding takes
+//! memory, and only for data.
+//!
+//! An `Item` has a width, at most one letter, and bits that are known or a form for the link: in
+//! ABS and PERIPH decks a form becomes a number here, in a REL deck one with a block or external
+//! stays. What is longer than a word is told word by word.
 #![tactic(auto)]
 
 // A statement, and what its variable field is to its operation.

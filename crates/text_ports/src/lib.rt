@@ -1,6 +1,11 @@
 //! Bytes in and out: texts in memory, octal and decimal digits, display code, lines, ports that count
 //! their faults, and ports over memory that fail on purpose. Nothing here knows what a card is, and only
 //! `Text` and `FaultyWriter` take memory.
+//!
+//! Contracts see a `Counted` port as the port with its count of faults. `next_held_line` answers as
+//! `next_line` does and asks for a reader that shows what it holds: a line that lies there whole is
+//! taken at once. `Text` takes what it appends in one call, so without memory it is as it was;
+//! `ShortText` is an array on the stack that grows at its front, for a line that is appended whole.
 #![tactic(auto)]
 
 // Characters and numbers.
