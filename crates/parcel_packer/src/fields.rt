@@ -57,7 +57,7 @@ fn joined_bits(next: OpenParcel, part: Field) -> u32
     (next.bits << part.width) + part.bits as u32
 }
 
-/// Puts a part that stays within the open parcel, or makes it whole.
+/// Puts a part that stays within the open parcel, or makes it whole, which alone takes memory.
 fn put_part(
     spans: &mut Vec<Span>,
     next: OpenParcel,
@@ -72,6 +72,7 @@ fn put_part(
     requires place { next.place ≤ 524288 }
     ensures put { IfOk result (λ after. IsPut size spans.old.items next part spans.new.items after) }
     ensures unchanged { OnErr result (spans.new.items ≡ spans.old.items) }
+    ensures whole { OnErr result (size ≤ next.filled + part.width) }
 {
     let bits = joined_bits(next, part);
     let filled = next.filled + part.width;
@@ -152,6 +153,7 @@ pub(crate) fn put_field(
     requires within { size * next.place + next.filled + field.width ≤ size * 524288 }
     ensures put { IfOk result (λ after. IsPut size spans.old.items next field spans.new.items after) }
     ensures unchanged { OnErr result (spans.new.items ≡ spans.old.items) }
+    ensures whole { OnErr result (size ≤ next.filled + field.width) }
 {
     let room = size - next.filled;
     if field.width <= room {

@@ -88,7 +88,7 @@ impl Words {
     /// one. The field has 1 to 60 bits that fit its width, and ends within the block. It begins
     /// where the last field of its run ended or, if that was the end of a parcel, at a parcel
     /// behind it, so the fields of a run do not overlap. It may cross words. Where no memory is
-    /// found, all is as before.
+    /// found, all is as before; a field that leaves its parcel open takes none.
     pub fn put(&mut self, at: u32, field: Field) -> Result<(), AllocError>
         requires field { IsField field }
         requires some { 0 < field.width }
@@ -100,6 +100,7 @@ impl Words {
           earlier = self.old.earlier;
         }) }
         ensures unchanged { OnErr result (self.new ≡ self.old) }
+        ensures whole { OnErr result (unit_bits self.old.kind ≤ self.old.run.filled + field.width) }
     {
         let size = parcel_bits(self.kind);
         let next = moved_to(self.next, size, at);

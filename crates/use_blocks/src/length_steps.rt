@@ -1,11 +1,11 @@
 //! The step of the lengths of blocks that a statement makes, beside that of the state (COMPASS
 //! 60492600, USE, blocks).
-ghost use Rattle.std.specs.Prelude.{◌≡◌, true, OnOk, OnErr, IfSome};
+ghost use Rattle.std.specs.Prelude.{◌≡◌, true, false, OnOk, OnErr, IfSome, IsSomeAnd};
 ghost use Rattle.std.specs.Option.{option_map};
 ghost use Rattle.definitions.specs.Blocks.{block_in_use, is_accepted};
 ghost use Rattle.definitions.specs.States as states;
 ghost use Rattle.definitions.specs.States.{names_of_blocks, advanced, lengths_advanced};
-ghost use Rattle.use_blocks.specs.BlockLengths.{block_names, opened_by};
+ghost use Rattle.use_blocks.specs.BlockLengths.{block_names, has_name, opened_by};
 ghost use Rattle.use_blocks.specs.Changes.{IsAccepted};
 ghost use Rattle.use_blocks.specs.EffectsAs.{change_as, effect_as};
 
@@ -29,14 +29,15 @@ fn opened_name(change: &BlockChange) -> Option<&Name>
 
 impl Lengths {
     /// Takes the step of a statement behind this state, which has the same blocks and accepts its
-    /// change: the block in use reaches what the statement does, and a USE opens its block. Without
-    /// memory all is as before.
+    /// change: the block in use reaches what the statement does, and a USE opens its block; a new one
+    /// alone takes memory. Without memory all is as before.
     pub fn follow(&mut self, state: &BlockState, effect: &Effect) -> Result<(), AllocError>
         requires same_blocks { block_names self.old ≡ names_of_blocks state.now.blocks }
         requires accepted { IsAccepted (change_as effect.now.change) state.now }
         ensures advanced { OnOk result (self.new ≡ lengths_advanced (block_in_use state.now.open_names) (effect_as effect.now) self.old) }
         ensures same_blocks { OnOk result (block_names self.new ≡ names_of_blocks (advanced (effect_as effect.now) state.now).blocks) }
         ensures without_memory { OnErr result (self.new ≡ self.old) }
+        ensures opens { OnErr result (IsSomeAnd (opened_by (change_as effect.now.change)) (λ name. has_name name self.old ≡ false)) }
     {
         let block = state.block_index();
         let opened = opened_name(&effect.change);

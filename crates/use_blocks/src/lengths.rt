@@ -1,5 +1,5 @@
 //! The words that each block of a deck reached (COMPASS 60492600, blocks).
-ghost use Rattle.std.specs.Prelude.{◌≡◌, ℕ, ◌<◌, ◌≤◌, List, [], ◌∷◌, Some, true, length, map, max, slice_get, OnOk, OnErr, IfOk, IfSome};
+ghost use Rattle.std.specs.Prelude.{◌≡◌, ℕ, ◌<◌, ◌≤◌, List, [], ◌∷◌, Some, true, false, length, map, max, slice_get, OnOk, OnErr, IfOk, IfSome, IsSomeAnd};
 ghost use Rattle.std.specs.Option.{option_map};
 ghost use Rattle.definitions.specs.Blocks.{is_accepted};
 ghost use Rattle.definitions.specs.Lengths as definitions;
@@ -109,11 +109,13 @@ impl Lengths {
         has_block(self.blocks.as_slice(), name) || self.blocks.len() < MOST_BLOCKS
     }
 
-    /// A USE opens a block, which is accepted. Without memory all is as before.
+    /// A USE opens a block, which is accepted; a new one alone takes memory. Without memory all is
+    /// as before.
     pub fn open(&mut self, name: &Name) -> Result<(), AllocError>
         requires { is_accepted name.now (block_names self.old) ≡ true }
         ensures opened { OnOk result (self.new ≡ lengths_behind (Opens name.now) self.old) }
         ensures without_memory { OnErr result (self.new ≡ self.old) }
+        ensures unused { OnErr result (has_name name.now self.old ≡ false) }
     {
         if has_block(self.blocks.as_slice(), name) {
             return Ok(());
@@ -126,7 +128,7 @@ impl Lengths {
     }
 
     /// What a statement in a block does: it reaches so many words, and may open a block, which is
-    /// accepted. Without memory all is as before.
+    /// accepted; a new one alone takes memory. Without memory all is as before.
     pub fn advance(
         &mut self,
         block: usize,
@@ -139,6 +141,7 @@ impl Lengths {
             slice_get self.old block ≡ Some b → effect.reached ≡ words → opened_by effect.change ≡ option_map (λ name. name.now) opened.entry →
             self.new ≡ lengths_advanced b.name effect self.old) }
         ensures without_memory { OnErr result (self.new ≡ self.old) }
+        ensures opens { OnErr result (IsSomeAnd opened.entry (λ name. has_name name.now self.old ≡ false)) }
     {
         match opened {
             Some(name) => self.open(name)?,

@@ -1,5 +1,6 @@
 //! The literals of a deck, each distinct word once, in order of first use (COMPASS 60492600, literals).
-ghost use Rattle.std.specs.Prelude.{◌≡◌, ◌≤◌, [], length, OnOk, OnErr};
+ghost use Rattle.std.specs.Prelude.{◌≡◌, ◌==◌, ◌<◌, ◌≤◌, [], false, length, OnOk, OnErr};
+ghost use Rattle.std.specs.List.{list_any};
 ghost use Rattle.definitions.specs.Literals.{offset_of, with_word};
 
 use indexmap::IndexSet;
@@ -36,10 +37,12 @@ impl Literals {
     }
 
     /// Takes in a word that is not yet there, if there is room for it. Without memory the words are
-    /// as before.
+    /// as before; nothing else takes memory.
     pub fn add(&mut self, word: u64) -> Result<(), AllocError>
         ensures added { OnOk result (self.new ≡ with_word word self.old) }
         ensures without_memory { OnErr result (self.new ≡ self.old) }
+        ensures absent { OnErr result (list_any (λ other. other == word) self.old ≡ false) }
+        ensures room { OnErr result (length self.old < 131072) }
     {
         if self.words.len() < MOST_LITERALS {
             self.words.insert(word)?;
