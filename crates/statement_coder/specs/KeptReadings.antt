@@ -1,5 +1,5 @@
 -- What is kept of an operand, in the words of what was read.
-use Rattle.std.specs.Prelude.{Option, Some, None, MatchOption, ⊤}
+use Rattle.std.specs.Prelude.{Bool, true, false, Option, Some, None, MatchOption, ⊤}
 use Rattle.definitions.specs.Operands.{Operand}
 use Rattle.expr_forms.specs.Kept.{shape_of}
 use Rattle.statement_coder.specs.Readings.{IsReading}
@@ -18,6 +18,13 @@ reading_of (kept.Data words) = Some (reading.Data words)
 reading_of (kept.Vfd fields) = Some (reading.Vfd fields)
 reading_of (kept.Value e) = Some (reading.Value e)
 reading_of (kept.Use field) = Some (reading.Use field)
+
+-- whether what was read has no text, so that it is kept always
+abbrev pub is_kept_always : Reading → Bool
+is_kept_always reading.Unread = true
+is_kept_always reading.Bad = true
+is_kept_always (reading.Use field) = true
+is_kept_always _ = false
 
 -- what was kept, if anything was, is this operand
 abbrev pub IsKeptReading : code.KeptReading → Operand → Type 0

@@ -13,3 +13,4 @@ pub mod FieldLetters
 pub mod Items
 pub mod Numbers
 pub mod FieldItems
+pub mod Meters

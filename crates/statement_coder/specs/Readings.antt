@@ -1,5 +1,5 @@
 -- What was read in a variable field, in the words of the definitions.
-use Rattle.std.specs.Prelude.{ℕ, ◌≡◌, ◌*◌, ◌/◌, ⊤, true, List, [], Option, Some, None, MatchOption, flat_map, length}
+use Rattle.std.specs.Prelude.{ℕ, ◌≡◌, ◌*◌, ◌/◌, ⊤, Bool, true, false, List, [], Option, Some, None, MatchOption, flat_map, length}
 use Rattle.std.specs.List.{AllByRecursion}
 use Rattle.definitions.specs.Kinds.{word_bits}
 use Rattle.definitions.specs.Literals.{datum_literals}
@@ -36,6 +36,14 @@ IsReading (reading.Use field) operand = operand ≡ use_as field
 abbrev pub text_in : code.Reading → Option DisText
 text_in (reading.Text text) = Some text
 text_in _ = None
+
+-- whether it has fields to be put behind a list: it is that of a DATA, CON, VFD or DIS
+abbrev pub is_listed : code.Reading → Bool
+is_listed (reading.Data words) = true
+is_listed (reading.Con words) = true
+is_listed (reading.Vfd fields) = true
+is_listed (reading.Text text) = true
+is_listed _ = false
 
 -- it fills its words
 abbrev pub IsWhole : DeckKind → code.Reading → Type 0

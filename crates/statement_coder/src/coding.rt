@@ -1,8 +1,9 @@
 //! What a sized statement is once all names have their values: its fields, and all its letters.
-ghost use Rattle.std.specs.Prelude.{◌≡◌, ◌≤◌, ◌+◌, ◌-◌, ◌^◌, [], List, ℕ, IfOk, OnErr, false, min, nat_le, if◌then◌else◌};
+ghost use Rattle.std.specs.Prelude.{◌≡◌, ◌≤◌, ◌+◌, ◌-◌, ◌^◌, [], List, ℕ, IfOk, OnErr, true, false, min, nat_le, if◌then◌else◌};
 ghost use Rattle.definitions.specs.Operands as operands;
 ghost use Rattle.definitions.specs.Letters.{in_order, letters_of};
 ghost use Rattle.definitions.specs.Literals.{literal_form};
+ghost use Rattle.definitions.specs.Operations.{is_data};
 ghost use Rattle.definitions.specs.Settled.{Settled, defined, read_of};
 ghost use Rattle.definitions.specs.Settling.{View};
 ghost use Rattle.definitions.specs.StatementItems as definitions;
@@ -14,6 +15,7 @@ ghost use Rattle.statement_coder.specs.declared.items.Item as fields;
 ghost use Rattle.operations.specs.OperationsAs.{operation_as};
 ghost use Rattle.statement_coder.specs.CodedItems.{AreTold, is_zeros, stores_zeros};
 ghost use Rattle.statement_coder.specs.ReadOperands.{IsReadOperand};
+ghost use Rattle.statement_coder.specs.Readings.{is_listed};
 ghost use Rattle.statement_coder.specs.Sizings.{IsSizing};
 ghost use Rattle.statement_coder.specs.StatementsRead.{IsRead};
 ghost use Rattle.statement_coder.specs.declared.sizing.Sizing as sizings;
@@ -110,6 +112,7 @@ fn coded<S: FinalSymbols, B: BlockBases>(
         coded.letters ≡ in_order (letters_of (deck_with read.now.kind (B.rows bases.now) all literals) settled)) }
     ensures zeros { IfOk result (λ coded. is_zeros coded.items ≡ stores_zeros (operation_as read.now.operation)) }
     ensures unchanged { OnErr result (list.new.items ≡ list.old.items) }
+    ensures listed { OnErr result (is_listed read.now.reading ≡ true) }
 {
     let kind = read.kind;
     let operation = read.operation;
@@ -130,8 +133,8 @@ fn coded<S: FinalSymbols, B: BlockBases>(
 
 /// The fields of a sized statement whose operand was read, and all its letters, once all symbols and
 /// literals have their values and all blocks their places, counted in the meter: exactly those of the
-/// definitions. The fields of data are put at the end of the list; where memory runs out the list is
-/// as it was.
+/// definitions. The fields of data are put at the end of the list, and they alone take memory; where
+/// it runs out the list is as it was.
 pub fn code_read<S: FinalSymbols, B: BlockBases>(
     read: &ReadOperand<'_>,
     sizing: &Sizing,
@@ -151,7 +154,9 @@ pub fn code_read<S: FinalSymbols, B: BlockBases>(
         coded.letters ≡ in_order (letters_of (deck_with read.now.kind (B.rows bases.now) all literals) settled)) }
     ensures zeros { IfOk result (λ coded. is_zeros coded.items ≡ stores_zeros (operation_as read.now.operation)) }
     ensures unchanged { OnErr result (list.new.items ≡ list.old.items) }
+    ensures listed { OnErr result (is_listed read.now.reading ≡ true) }
     ensures coded { meter.new.coded ≡ min (meter.old.coded + 1) (2 ^ 64 - 1) }
+    ensures rises { meter.old.coded ≤ meter.new.coded }
     ensures sized { meter.new.sized ≡ meter.old.sized }
 {
     meter.coded = meter.coded.saturating_add(1);
@@ -179,7 +184,9 @@ pub fn code<S: FinalSymbols, B: BlockBases>(
         coded.letters ≡ in_order (letters_of (deck_with kind (B.rows bases.now) all literals) settled)) }
     ensures zeros { IfOk result (λ coded. is_zeros coded.items ≡ stores_zeros (operation_as statement.now.operation)) }
     ensures unchanged { OnErr result (list.new.items ≡ list.old.items) }
+    ensures listed { OnErr result (is_data (operation_as statement.now.operation) ≡ true) }
     ensures coded { meter.new.coded ≡ min (meter.old.coded + 1) (2 ^ 64 - 1) }
+    ensures rises { meter.old.coded ≤ meter.new.coded }
     ensures sized { meter.new.sized ≡ meter.old.sized }
 {
     let read = statement.read_operand(sizing.number_base);

@@ -1,7 +1,7 @@
 //! What is kept of a statement's operand, so that coding does not read it again.
-ghost use Rattle.std.specs.Prelude.{◌≡◌};
+ghost use Rattle.std.specs.Prelude.{◌≡◌, true, Some};
 ghost use Rattle.definitions.specs.Operands as operands;
-ghost use Rattle.statement_coder.specs.KeptReadings.{IsKeptReading, reading_of};
+ghost use Rattle.statement_coder.specs.KeptReadings.{IsKeptReading, is_kept_always, reading_of};
 ghost use Rattle.statement_coder.specs.Readings.{IsReading};
 
 use crate::readings::Reading;
@@ -22,9 +22,11 @@ pub enum KeptReading {
 }
 
 impl Reading<'_> {
-    /// What is kept of it: nothing of names, of CON and DIS, and of a long text.
+    /// What is kept of it: nothing of names, of CON and DIS, and of a long text; what has no text is
+    /// kept always.
     pub fn kept(&self) -> KeptReading
-        ensures { (operand : operands.Operand) → IsReading self.now operand → IsKeptReading result operand }
+        ensures kept { (operand : operands.Operand) → IsReading self.now operand → IsKeptReading result operand }
+        ensures always { is_kept_always self.now ≡ true → reading_of result ≡ Some self.now }
     {
         match self {
             Reading::Unread => KeptReading::Unread,

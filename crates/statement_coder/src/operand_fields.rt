@@ -1,6 +1,6 @@
 //! The fields of an operand: those of an instruction, or a list of them (6600 reference 60100000,
 //! instruction formats; COMPASS 60492600, data generation).
-ghost use Rattle.std.specs.Prelude.{◌≡◌, ◌≤◌, ◌-◌, ℕ, List, IfOk, OnErr, false, length};
+ghost use Rattle.std.specs.Prelude.{◌≡◌, ◌≤◌, ◌-◌, ℕ, List, IfOk, OnErr, true, false, length};
 ghost use Rattle.definitions.specs.Letters.{in_order};
 ghost use Rattle.definitions.specs.Operands as operands;
 ghost use Rattle.definitions.specs.Settled.{Settled};
@@ -11,7 +11,7 @@ ghost use Rattle.statement_coder.specs.Items.{AreSeen, deck_with};
 ghost use Rattle.statement_coder.specs.declared.items.Item as fields;
 ghost use Rattle.statement_coder.specs.CodedItems.{AreTold, IsKept, is_zeros};
 ghost use Rattle.statement_coder.specs.FieldLetters.{field_letters};
-ghost use Rattle.statement_coder.specs.Readings.{IsReading, IsWhole};
+ghost use Rattle.statement_coder.specs.Readings.{IsReading, IsWhole, is_listed};
 ghost use Rattle.statement_coder.specs.declared.sizing.Sizing as sizings;
 
 use crate::coded::CodedItems;
@@ -48,6 +48,7 @@ fn operand_fields<B: BlockBases, N: Names>(
         AreSeen (N.names names.now) context statement → IsReading reading.now operand →
         AreTold kind operand sizing items list.old.items list.new.items (operand_items context statement operand)) }
     ensures some { IfOk result (λ items. is_zeros items ≡ false) }
+    ensures listed { OnErr result (is_listed reading.now ≡ true) }
 {
     let before = list.len();
     match reading {
@@ -93,6 +94,7 @@ pub(crate) fn fields_told<B: BlockBases, N: Names>(
         AreSeen (N.names names.now) context statement → IsReading reading.now operand →
         AreTold kind operand sizing items list.old.items list.new.items (operand_items context statement operand)) }
     ensures some { IfOk result (λ items. is_zeros items ≡ false) }
+    ensures listed { OnErr result (is_listed reading.now ≡ true) }
     ensures unchanged { OnErr result (list.new.items ≡ list.old.items) }
 {
     let before = list.len();

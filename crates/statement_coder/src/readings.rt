@@ -1,13 +1,14 @@
 //! What the variable field of a statement is to its operation, before any name is known
 //! (COMPASS 60492600, variable field).
-ghost use Rattle.std.specs.Prelude.{◌≡◌, ◌≤◌, length};
+ghost use Rattle.std.specs.Prelude.{◌≡◌, ◌≤◌, true, false, length};
 ghost use Rattle.definitions.specs.Pieces.{pieces_of, subfields_of};
 ghost use Rattle.definitions.specs.PeripheralTable.{peripheral_row};
 ghost use Rattle.definitions.specs.Operands.{operand_of, central_operand, peripheral_operand, base_operand, words_operand, bits_operand, all_words, data_word, con_word, all_fields, vfd_field, one_value, dis_operand, use_operand};
 ghost use Rattle.definitions.specs.Matching.{central_of};
 ghost use Rattle.definitions.specs.Kinds.{allows_literals};
+ghost use Rattle.definitions.specs.Operations.{is_data};
 ghost use Rattle.operations.specs.OperationsAs.{operation_as};
-ghost use Rattle.statement_coder.specs.Readings.{IsReading, IsLawful};
+ghost use Rattle.statement_coder.specs.Readings.{IsReading, IsLawful, is_listed};
 
 use definitions::{DeckKind, NumberBase};
 use expr_forms::{
@@ -40,6 +41,7 @@ fn read_central<'a>(base: NumberBase, name: &[u8], text: &'a [u8]) -> Reading<'a
     requires { length text.now ≤ 711 }
     ensures reading { IsReading result (central_operand (central_of base name.now (subfields_of (pieces_of text.now)))) }
     ensures lawful { IsLawful result }
+    ensures unlisted { is_listed result ≡ false }
 {
     if let Some(shape) = cpu_opcodes::ignoring(name) {
         return Reading::Instruction(shape);
@@ -59,6 +61,7 @@ fn read_peripheral<'a>(base: NumberBase, name: &[u8], text: &'a [u8]) -> Reading
     requires { length text.now ≤ 711 }
     ensures reading { IsReading result (peripheral_operand base (peripheral_row name.now) (subfields_of (pieces_of text.now))) }
     ensures lawful { IsLawful result }
+    ensures unlisted { is_listed result ≡ false }
 {
     match ppu_opcodes::ignoring(name) {
         Some(shape) => Reading::Instruction(shape),
@@ -134,6 +137,7 @@ fn read_value(base: NumberBase, text: &[u8]) -> Reading<'_>
     requires { length text.now ≤ 711 }
     ensures reading { IsReading result (one_value base (subfields_of (pieces_of text.now))) }
     ensures lawful { IsLawful result }
+    ensures unlisted { is_listed result ≡ false }
 {
     match one_value(text, base) {
         Ok(expression) => Reading::Value(expression),
@@ -145,6 +149,7 @@ fn read_value(base: NumberBase, text: &[u8]) -> Reading<'_>
 fn read_base(text: &[u8]) -> Reading<'_>
     ensures reading { IsReading result (base_operand text.now) }
     ensures lawful { IsLawful result }
+    ensures unlisted { is_listed result ≡ false }
 {
     match number_base(text) {
         Ok(_) => Reading::Unread,
@@ -156,6 +161,7 @@ fn read_base(text: &[u8]) -> Reading<'_>
 fn read_use(kind: DeckKind, text: &[u8]) -> Reading<'_>
     ensures reading { IsReading result (use_operand kind text.now) }
     ensures lawful { IsLawful result }
+    ensures unlisted { is_listed result ≡ false }
 {
     Reading::Use(use_field(text, kind))
 }
@@ -172,6 +178,7 @@ pub fn read_operand<'a>(
     requires { length text.now ≤ 711 }
     ensures reading { IsReading result (operand_of kind base (operation_as operation) name.now text.now) }
     ensures lawful { IsLawful result }
+    ensures listed { is_listed result ≡ true → is_data (operation_as operation) ≡ true }
 {
     match operation {
         Operation::Base => read_base(text),

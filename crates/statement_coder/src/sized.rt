@@ -170,6 +170,7 @@ pub fn size_reading<S: EarlySymbols>(
     ensures accepted { IsAccepted (change_as result.change) state.now }
     ensures number_base { result.number_base ≡ state.now.number_base }
     ensures sized { meter.new.sized ≡ min (meter.old.sized + 1) (2 ^ 64 - 1) }
+    ensures rises { meter.old.sized ≤ meter.new.sized }
     ensures coded { meter.new.coded ≡ meter.old.coded }
 {
     meter.sized = meter.sized.saturating_add(1);
@@ -189,6 +190,7 @@ pub fn size<S: EarlySymbols>(
     ensures accepted { IsAccepted (change_as result.change) state.now }
     ensures number_base { result.number_base ≡ state.now.number_base }
     ensures sized { meter.new.sized ≡ min (meter.old.sized + 1) (2 ^ 64 - 1) }
+    ensures rises { meter.old.sized ≤ meter.new.sized }
     ensures coded { meter.new.coded ≡ meter.old.coded }
 {
     let reading = read_operand(
