@@ -40,10 +40,3 @@ pub use faults::{MOST_CARDS, fault_of, first_fault};
 pub use statement_fields::Fields;
 pub use statement_list::{Span, StatementList, statements};
 pub use statement_room::StatementRoom;
-
-#[cfg(test)]
-mod tests_cards;
-#[cfg(test)]
-mod tests_edits;
-#[cfg(test)]
-mod tests_fields;

@@ -39,8 +39,3 @@ pub use pattern_laws::{patterns_fit_expressions, patterns_fit_pieces};
 pub use patterns::{OperandPattern, SumPattern};
 pub use registers_found::RegistersFound;
 pub use tables::{central_rows, ignoring_rows, is_central, sum_rows};
-
-#[cfg(test)]
-mod tests;
-#[cfg(test)]
-mod tests_rows;

@@ -100,14 +100,3 @@ pub use symbols::is_symbol;
 pub use use_fields::{UseField, use_field};
 pub use value_fields::one_value;
 pub use values::value;
-
-#[cfg(test)]
-mod tests_coding;
-#[cfg(test)]
-mod tests_fields;
-#[cfg(test)]
-mod tests_readings;
-#[cfg(test)]
-mod tests_sums;
-#[cfg(test)]
-mod tests_values;

@@ -27,6 +27,3 @@ pub use pseudo_table::pseudo_instruction;
 pub use row::Row;
 pub use row_search::rows_of;
 pub use settings::{is_end, number_base_set};
-
-#[cfg(test)]
-mod tests;

@@ -15,6 +15,3 @@ pub use code::{Code, Form};
 pub use shapes::{find, ignoring};
 pub use table::{is_peripheral, row_of};
 pub use table_law::the_table_is_the_definitions;
-
-#[cfg(test)]
-mod tests;

@@ -80,12 +80,3 @@ pub use sized::{size, size_reading};
 pub use sizing::Sizing;
 pub use statement::Statement;
 pub use values::{bit_field_item, expression_item, value_item};
-
-#[cfg(test)]
-mod tests_codes;
-#[cfg(test)]
-mod tests_effects;
-#[cfg(test)]
-mod tests_items;
-#[cfg(test)]
-mod tests_sizes;

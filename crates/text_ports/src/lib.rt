@@ -38,8 +38,3 @@ pub use octal_text::{OctalText, octal};
 pub use short_text::ShortText;
 pub use text::Text;
 pub use writing::{Broken, put_all};
-
-#[cfg(test)]
-mod tests;
-#[cfg(test)]
-mod tests_texts;

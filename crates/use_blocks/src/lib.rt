@@ -33,8 +33,3 @@ pub use lengths::{BlockLength, Lengths};
 pub use literals::Literals;
 pub use positions::{Counting, Position};
 pub use used_block::UsedBlock;
-
-#[cfg(test)]
-mod tests_lengths;
-#[cfg(test)]
-mod tests_state;

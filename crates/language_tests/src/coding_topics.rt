@@ -1,0 +1,109 @@
+//! Items and values as the manual's words, and the bits of instructions.
+
+use crate::inputs::{cut, signed, small};
+use crate::outputs::Answer;
+use definitions::{DeckKind, Letter, NumberBase};
+use expr_forms::{
+    CountedItem, Expr, Field, Shape, characters_number, coded_in, counted_item_in,
+    counted_item_word, item_literal, item_number, number_literal,
+};
+use std::alloc::{AllocError, Global};
+
+pub fn answer(alloc: Global, topic: &str, text: &str) -> Result<Option<String>, AllocError> {
+    let mut answer = Answer::new(alloc);
+    match topic {
+        "items" => counted_item(&mut answer, text)?,
+        "values_in_fields" => coded(&mut answer, text)?,
+        "number_literals" => answer.octal(number_literal(signed(text)))?,
+        "characters" => characters(&mut answer, text.as_bytes())?,
+        "widths" => width(&mut answer, text)?,
+        _ => return Ok(None),
+    }
+    Ok(Some(answer.into_text()))
+}
+
+/// What an item with this letter gives: in a field of 60 bits, as words, as a literal and as a number.
+fn counted_item(answer: &mut Answer, text: &str) -> Result<(), AllocError> {
+    let (letter, characters) = cut(text);
+    let letter = letter.as_bytes().first().copied().unwrap_or(b' ');
+    let Some(item) = CountedItem::read(letter, characters.as_bytes()) else {
+        return answer.word("no item");
+    };
+    match counted_item_in(60, &item) {
+        Some(bits) => answer.octal(bits)?,
+        None => answer.word("too long")?,
+    }
+    answer.octal(item_literal(&item))?;
+    match item_number(&item) {
+        Ok(number) => answer.octal(number)?,
+        Err(letter) => answer.debug(&letter)?,
+    }
+    words_of_item(answer, &item)
+}
+
+/// The words that an item fills.
+fn words_of_item(answer: &mut Answer, item: &CountedItem<'_>) -> Result<(), AllocError> {
+    let words = item.words_needed(DeckKind::Rel);
+    answer.word("words")?;
+    for index in 0..words {
+        answer.octal(counted_item_word(item, DeckKind::Rel, index))?;
+    }
+    Ok(())
+}
+
+/// A value in a field of so many bits.
+fn coded(answer: &mut Answer, text: &str) -> Result<(), AllocError> {
+    let (width, value) = cut(text);
+    let width = small(width);
+    let value = i64::from_str_radix(value, 8).unwrap_or(0);
+    if width < 1 || width > 60 {
+        return answer.word("no such row");
+    }
+    match coded_in(width, value) {
+        Some(bits) => answer.octal(bits),
+        None => answer.word("none"),
+    }
+}
+
+fn characters(answer: &mut Answer, characters: &[u8]) -> Result<(), AllocError> {
+    if characters.len() > 10 {
+        return answer.word("too long");
+    }
+    answer.octal(characters_number(characters))
+}
+
+pub fn expression(text: &str) -> Result<Expr<'_>, Letter> {
+    let bytes = text.as_bytes();
+    if bytes.len() > 711 {
+        return Err(Letter::C);
+    }
+    Expr::parse(bytes, NumberBase::Decimal)
+}
+
+/// An instruction with so many digits and a field of a kind, which an expression gives.
+pub fn shape_of(text: &str) -> Option<Shape<'_>> {
+    let (name, text) = cut(text);
+    let first = expression(text).ok()?;
+    let (digits, digit_count, field) = match name {
+        "absent" => (0, 5, Field::Absent),
+        "address" => (0, 4, Field::Address(first)),
+        "short" => (0, 2, Field::Short(first)),
+        "mask" => (0o430, 3, Field::Count(first)),
+        "long" => (0o50, 2, Field::Long(first, None)),
+        "long,5" => (0o50, 2, Field::Long(first, expression("5").ok())),
+        _ => return None,
+    };
+    Some(Shape {
+        digits,
+        digit_count,
+        field,
+    })
+}
+
+/// The bits of an instruction.
+fn width(answer: &mut Answer, text: &str) -> Result<(), AllocError> {
+    match shape_of(text) {
+        Some(shape) => answer.decimal(u64::from(shape.width())),
+        None => answer.word("no such row"),
+    }
+}

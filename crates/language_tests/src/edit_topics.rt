@@ -1,0 +1,65 @@
+//! Edits of a deck's cards, and their faults.
+
+use crate::inputs::{decimal, size};
+use crate::outputs::Answer;
+use cards::{Card, Edit, apply, fault_of, first_fault};
+use std::alloc::{AllocError, Global};
+
+pub fn answer(alloc: Global, topic: &str, text: &str) -> Result<Option<String>, AllocError> {
+    let mut answer = Answer::new(alloc);
+    match topic {
+        "edit_faults" => fault(alloc, &mut answer, text)?,
+        "first_faults" => first(alloc, &mut answer, text)?,
+        "edits" => edited(alloc, &mut answer, text)?,
+        _ => return Ok(None),
+    }
+    Ok(Some(answer.into_text()))
+}
+
+/// The edits of words such as `I2`, this card comes in at place 2, and `R2`, the card at place 2 goes.
+pub fn edits_of(alloc: Global, text: &str, line: &[u8]) -> Result<Vec<Edit>, AllocError> {
+    let mut edits = Vec::new(alloc);
+    for word in text.split_whitespace() {
+        if let Some(at) = word.strip_prefix("R") {
+            edits.push(Edit::Remove { at: decimal(at) })?;
+        } else if let (Some(at), Ok(card)) = (word.strip_prefix("I"), Card::read(line)) {
+            let at = decimal(at);
+            edits.push(Edit::Insert { at, card })?;
+        }
+    }
+    Ok(edits)
+}
+
+/// How many cards a deck has, and the edits of it.
+fn deck_and_edits(alloc: Global, text: &str) -> Result<(usize, Vec<Edit>), AllocError> {
+    let (count, words) = crate::inputs::cut(text);
+    Ok((size(count), edits_of(alloc, words, b" NO")?))
+}
+
+/// The fault of each edit of a deck with so many cards.
+fn fault(alloc: Global, answer: &mut Answer, text: &str) -> Result<(), AllocError> {
+    let (count, edits) = deck_and_edits(alloc, text)?;
+    for edit in &edits {
+        answer.debug(&fault_of(edit, count))?;
+    }
+    Ok(())
+}
+
+/// The first fault of edits that are made one behind the other.
+fn first(alloc: Global, answer: &mut Answer, text: &str) -> Result<(), AllocError> {
+    let (count, edits) = deck_and_edits(alloc, text)?;
+    answer.debug(&first_fault(&edits, count))
+}
+
+/// How many cards there are behind each edit of an empty deck.
+fn edited(alloc: Global, answer: &mut Answer, text: &str) -> Result<(), AllocError> {
+    let mut cards = Vec::new(alloc);
+    for edit in &edits_of(alloc, text, b" NO")? {
+        if fault_of(edit, cards.len()).is_some() {
+            return answer.word("does not apply");
+        }
+        apply(&mut cards, edit)?;
+        answer.decimal(cards.len() as u64)?;
+    }
+    Ok(())
+}

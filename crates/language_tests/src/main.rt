@@ -1,0 +1,200 @@
+//! Goes through tables of cases of the language: each row is a text and what a layer makes of it,
+//! worked by hand. A line tells each row that differs, and the last line how many rows there are; the
+//! status is 1 where one differs, and 2 where a table can't be read.
+//!
+//! A table is a file of `data/` with the name of its topic. The lines of a row's text stand in front
+//! of an arrow, and what is wanted behind it; a line that begins with `# ` says something of the rows
+//! below.
+#![tactic(auto)]
+
+mod block_topics;
+mod card_topics;
+mod coding_topics;
+mod edit_topics;
+mod expression_topics;
+mod field_topics;
+mod inputs;
+mod item_topics;
+mod known_bases;
+mod known_names;
+mod operation_topics;
+mod outputs;
+mod port_topics;
+mod statement_topics;
+mod tables;
+
+use std::alloc::{AllocError, AllocGlobal, Global};
+use std::io;
+use std::process::ExitCode;
+use std::rt::Files;
+use tables::{Row, Score, rows_of};
+
+/// The topics, lowest first.
+const TOPICS: [&str; 69] = [
+    "displays",
+    "octals",
+    "lines",
+    "writes",
+    "texts",
+    "short_texts",
+    "cards",
+    "deck_names",
+    "statements",
+    "fields",
+    "card_fields",
+    "edit_faults",
+    "first_faults",
+    "edits",
+    "operations",
+    "classes",
+    "deck_kinds",
+    "settings",
+    "letters",
+    "central_codes",
+    "central_tables",
+    "central_digits",
+    "central",
+    "central_ignoring",
+    "peripheral_codes",
+    "peripheral",
+    "peripheral_ignoring",
+    "values",
+    "octal_values",
+    "undefined_values",
+    "elements",
+    "sums",
+    "signs",
+    "signs_beside",
+    "whole_items",
+    "literals",
+    "symbols",
+    "plain",
+    "plain_literals",
+    "one_values",
+    "subfields",
+    "operands",
+    "data",
+    "octal_data",
+    "con",
+    "con_literals",
+    "vfd",
+    "dis",
+    "octal_dis_periph",
+    "entries",
+    "uses",
+    "bases",
+    "are_symbols",
+    "items",
+    "values_in_fields",
+    "number_literals",
+    "characters",
+    "item_fields",
+    "negative_numbers",
+    "zeros",
+    "widths",
+    "instruction_fields",
+    "literal_lists",
+    "sizes",
+    "codes",
+    "effects",
+    "states",
+    "block_bases",
+    "counters",
+];
+
+/// The status where a table can't be read.
+const NO_TABLE_STATUS: u8 = 2;
+
+/// What ports, cards, edits and operations make of a text.
+fn lower_answer(alloc: Global, topic: &str, text: &str) -> Result<Option<String>, AllocError> {
+    if let Some(found) = port_topics::answer(alloc, topic, text)? {
+        return Ok(Some(found));
+    }
+    if let Some(found) = card_topics::answer(alloc, topic, text)? {
+        return Ok(Some(found));
+    }
+    if let Some(found) = edit_topics::answer(alloc, topic, text)? {
+        return Ok(Some(found));
+    }
+    operation_topics::answer(alloc, topic, text)
+}
+
+/// What variable fields, items, blocks and places make of a text.
+fn field_answer(alloc: Global, topic: &str, text: &str) -> Result<Option<String>, AllocError> {
+    if let Some(found) = field_topics::answer(alloc, topic, text)? {
+        return Ok(Some(found));
+    }
+    if let Some(found) = coding_topics::answer(alloc, topic, text)? {
+        return Ok(Some(found));
+    }
+    block_topics::answer(alloc, topic, text)
+}
+
+/// What items, statements and, for all other topics, expressions make of a text.
+fn upper_answer(alloc: Global, topic: &str, text: &str) -> Result<Option<String>, AllocError> {
+    if let Some(found) = item_topics::answer(alloc, topic, text)? {
+        return Ok(Some(found));
+    }
+    if let Some(found) = statement_topics::answer(alloc, topic, text)? {
+        return Ok(Some(found));
+    }
+    expression_topics::answer(alloc, topic, text)
+}
+
+/// What the topic's layer makes of a text.
+fn answer(alloc: Global, topic: &str, text: &str) -> Result<String, AllocError> {
+    if let Some(found) = lower_answer(alloc, topic, text)? {
+        return Ok(found);
+    }
+    if let Some(found) = field_answer(alloc, topic, text)? {
+        return Ok(found);
+    }
+    if let Some(found) = upper_answer(alloc, topic, text)? {
+        return Ok(found);
+    }
+    String::from_str(alloc, "no such topic")
+}
+
+/// Whether what is found for a row is as wanted; a line tells where it is not.
+fn is_met<R: AllocGlobal + Print>(rt: &R, topic: &str, row: &Row) -> io::Result<bool> {
+    let found = answer(rt.alloc(), topic, row.text.as_str())?;
+    let is_met = found.as_str() == row.wanted.as_str();
+    if !is_met {
+        println!(rt; "{topic}: {} -> {found}, not {}", row.text, row.wanted)?;
+    }
+    Ok(is_met)
+}
+
+/// Goes through the table of a topic.
+fn run_topic<R: AllocGlobal + Files + Print>(
+    rt: &R,
+    topic: &str,
+    before: Score,
+) -> io::Result<Score> {
+    let rows = rows_of(rt, topic)?;
+    let mut score = before;
+    for row in &rows {
+        score = score.with(is_met(rt, topic, row)?);
+    }
+    Ok(score)
+}
+
+/// Goes through all tables, and tells how many rows there are and how many are as wanted.
+fn run<R: AllocGlobal + Files + Print>(rt: &R) -> io::Result<Score> {
+    let mut score = Score::none();
+    for topic in &TOPICS {
+        score = run_topic(rt, topic, score)?;
+    }
+    println!(rt; "{score}")?;
+    Ok(score)
+}
+
+fn main(rt: HostRuntime) -> ExitCode {
+    match run(&rt) {
+        Ok(score) => ExitCode::from(score.status()),
+        Err(error) => {
+            let _ = eprintln!(&rt; "language_tests: {error}");
+            ExitCode::from(NO_TABLE_STATUS)
+        }
+    }
+}

@@ -1,0 +1,158 @@
+//! Characters, digits, lines and writes: what the ports make of bytes.
+
+use crate::inputs::{bytes_of, cut, octal, size, small};
+use crate::outputs::Answer;
+use std::alloc::{AllocError, Global};
+use text_ports::{
+    Broken, Counted, FaultyReader, FaultyWriter, LineBuf, LineIs, ShortText, Text, char_of,
+    display_of, has_display_code, next_line, put_all,
+};
+
+pub fn answer(alloc: Global, topic: &str, text: &str) -> Result<Option<String>, AllocError> {
+    let found = match topic {
+        "displays" => display(alloc, text)?,
+        "octals" => digits(alloc, text)?,
+        "lines" => lines(alloc, text)?,
+        "writes" => write(alloc, text)?,
+        "texts" => grown_text(alloc, text)?,
+        "short_texts" => short_text(alloc, text)?,
+        _ => return Ok(None),
+    };
+    Ok(Some(found))
+}
+
+/// The display code of a byte, and the character of that code.
+fn display(alloc: Global, text: &str) -> Result<String, AllocError> {
+    let mut answer = Answer::new(alloc);
+    for byte in &bytes_of(alloc, text)? {
+        answer.either(has_display_code(*byte), "has", "none")?;
+        if let Some(code) = display_of(*byte) {
+            answer.octal(u64::from(code))?;
+            if code < 64 {
+                answer.quoted(&[char_of(code)])?;
+            }
+        }
+    }
+    Ok(answer.into_text())
+}
+
+/// So many octal digits of an octal number.
+fn digits(alloc: Global, text: &str) -> Result<String, AllocError> {
+    let (count, number) = cut(text);
+    let mut answer = Answer::new(alloc);
+    let number = octal(number);
+    match size(count) {
+        0 if number == 0 => answer.quoted(text_ports::octal(0, 0).as_slice())?,
+        3 if number < 512 => answer.quoted(text_ports::octal(number, 3).as_slice())?,
+        20 if number < 1 << 60 => answer.quoted(text_ports::octal(number, 20).as_slice())?,
+        _ => answer.word("no such row")?,
+    }
+    Ok(answer.into_text())
+}
+
+/// How often a line is asked for at most.
+const MOST_LINES: usize = 8;
+
+/// The lines that a reader gives, up to its end; it gives a byte a call and fails at one call.
+fn lines(alloc: Global, text: &str) -> Result<String, AllocError> {
+    let (fails_at, text) = cut(text);
+    let bytes = bytes_of(alloc, text)?;
+    let fails_at = u64::from(small(fails_at));
+    let mut input = Counted::new(FaultyReader::new(bytes.as_slice(), 1, fails_at));
+    let mut answer = Answer::new(alloc);
+    for _ in 0..MOST_LINES {
+        let mut line = LineBuf::new();
+        let outcome = next_line(&mut input, &mut line);
+        answer.debug(&outcome)?;
+        answer.quoted(line.as_slice())?;
+        if matches!(outcome, LineIs::End) {
+            break;
+        }
+    }
+    answer.decimal(input.faults())?;
+    Ok(answer.into_text())
+}
+
+/// What a writer takes of a text; it takes so many bytes a call and fails at one call.
+fn write(alloc: Global, text: &str) -> Result<String, AllocError> {
+    let (fails_at, rest) = cut(text);
+    let (piece, sent) = cut(rest);
+    let mut answer = Answer::new(alloc);
+    if piece == "room" {
+        let mut room = [0; 8];
+        let mut output = Counted::new(room.as_mut_slice());
+        told(
+            &mut answer,
+            put_all(&mut output, sent.as_bytes()),
+            output.faults(),
+        )?;
+        return Ok(answer.into_text());
+    }
+    let piece = size(piece).max(1);
+    let fails_at = u64::from(small(fails_at));
+    let mut output = Counted::new(FaultyWriter::new(alloc, piece, fails_at));
+    let outcome = put_all(&mut output, sent.as_bytes());
+    told(&mut answer, outcome, output.faults())?;
+    answer.quoted(output.into_inner().taken())?;
+    Ok(answer.into_text())
+}
+
+/// How a write ended, and how many faults there were.
+fn told(answer: &mut Answer, outcome: Result<(), Broken>, faults: u64) -> Result<(), AllocError> {
+    match outcome {
+        Ok(()) => answer.word("whole")?,
+        Err(Broken { sent }) => {
+            answer.word("broken")?;
+            answer.decimal(sent as u64)?;
+        }
+    }
+    answer.decimal(faults)
+}
+
+/// Appends what a word says: `_` a blank, `bA` the byte A, `o6:17` six octal digits of the octal
+/// number 17, `p5:17` five decimal digits of 17, `d17` the digits of 17.
+fn append(text: &mut Text, word: &str) -> Result<(), AllocError> {
+    if word == "_" {
+        return text.push_byte(b' ');
+    }
+    if let Some(bytes) = word.strip_prefix("b") {
+        return text.push_bytes(bytes.as_bytes());
+    }
+    if let Some(number) = word.strip_prefix("d") {
+        return text.push_decimal(crate::inputs::decimal(number));
+    }
+    let (digits, number) = word.split_once(":").unwrap_or(("", ""));
+    if let Some(digits) = digits.strip_prefix("o") {
+        text.push_octal(small(digits).min(20), octal(number))
+    } else {
+        text.push_padded(
+            small(digits.trim_start_matches("p")).min(20),
+            crate::inputs::decimal(number),
+        )
+    }
+}
+
+/// A text that grows by what its words say.
+fn grown_text(alloc: Global, words: &str) -> Result<String, AllocError> {
+    let mut text = Text::with_room(alloc, 8)?;
+    for word in words.split_whitespace() {
+        append(&mut text, word)?;
+    }
+    let mut answer = Answer::new(alloc);
+    answer.quoted(text.as_slice())?;
+    answer.decimal(text.len() as u64)?;
+    Ok(answer.into_text())
+}
+
+/// The line of a word and of a number, which grows in front.
+fn short_text(alloc: Global, text: &str) -> Result<String, AllocError> {
+    let (word, number) = cut(text);
+    let mut line = ShortText::new();
+    line.put_byte(b'\n');
+    line.put_octal(20, octal(word));
+    line.put_byte(b' ');
+    line.put_padded(5, crate::inputs::decimal(number));
+    let mut answer = Answer::new(alloc);
+    answer.quoted(line.as_slice())?;
+    Ok(answer.into_text())
+}
