@@ -1,23 +1,14 @@
 //! How long the layers of the language take: expressions read and valued, instructions found, words
-//! put into a block, names defined and found, and cards read, sized and coded. With the name of a layer it
-//! runs that layer a hundred times, for bench/language to measure; with no word it runs each once. It
-//! prints checksums.
-#![tactic(auto)]
+//! put into a block, names defined and found, and cards read, sized and coded. What is printed are
+//! checksums, so that no work is left out.
 
-mod expressions;
-mod instructions;
-mod names;
-mod packing;
-mod statements;
-
-use expressions::{parse_all, value_all};
-use instructions::find_all;
-use names::define_and_find;
-use packing::pack;
-use statements::{code_all, read_all, size_all};
+use crate::expressions::{parse_all, value_all};
+use crate::instructions::find_all;
+use crate::names::define_and_find;
+use crate::packing::pack;
+use crate::statements::{code_all, read_all, size_all};
 use std::alloc::{AllocGlobal, Global};
-use std::rt::Env;
-use std::{env, io};
+use std::io;
 
 /// How often a layer that is measured is run.
 const ROUNDS: u32 = 100;
@@ -81,7 +72,7 @@ fn run(alloc: Global, layer: Layer, rounds: u32) -> io::Result<u64> {
 }
 
 /// Each layer once.
-fn try_out<R: AllocGlobal + Print>(rt: &R) -> io::Result<()> {
+pub fn try_out<R: AllocGlobal + Print>(rt: &R) -> io::Result<()> {
     for layer in [
         Layer::Parse,
         Layer::Value,
@@ -98,17 +89,9 @@ fn try_out<R: AllocGlobal + Print>(rt: &R) -> io::Result<()> {
 }
 
 /// One layer, as often as it takes to measure it.
-fn measure<R: AllocGlobal + Print>(rt: &R, word: &str) -> io::Result<()> {
+pub fn measure<R: AllocGlobal + Print>(rt: &R, word: &str) -> io::Result<()> {
     match layer_named(word) {
         Some(layer) => println!(rt; "{}", run(rt.alloc(), layer, ROUNDS)?),
         None => Err(io::Error::other("no such layer")),
-    }
-}
-
-fn main(rt: HostRuntime) -> io::Result<()> {
-    let words: Vec<String> = env::args(&rt)?.collect(rt.alloc())?;
-    match words.get(1) {
-        Some(word) => measure(&rt, word.as_str()),
-        None => try_out(&rt),
     }
 }

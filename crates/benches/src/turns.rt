@@ -1,22 +1,15 @@
 //! How many turns a second an office gives, beside a lock round the same counter, and what it
 //! costs to wait for a turn. All threads of a run start together, and a run that is measured takes at
-//! least half a second. With the word `turns` it measures and prints a table; with no word it
-//! makes a small run that prints the same whatever the schedule.
-#![tactic(auto)]
-
+//! least half a second. Measured, it is a table; a small run prints the same whatever the schedule.
 ghost use Rattle.std.specs.Prelude.{◌≤◌};
 
-mod counting;
-mod holding;
-
-use counting::{Counted, count_by_lock, count_by_turns};
-use holding::wait_behind;
+use crate::counting::{Counted, count_by_lock, count_by_turns};
+use crate::holding::wait_behind;
 use std::alloc::{AllocGlobal, Global};
-use std::rt::Env;
 use std::sync::Wait;
 use std::thread::Threads;
 use std::time::{Clock, CpuClock, Duration};
-use std::{env, io, thread};
+use std::{io, thread};
 
 /// How many calls all threads of the first run of a measurement make together. Each further run
 /// makes `MORE` times as many.
@@ -95,9 +88,9 @@ fn print_line<R: AllocGlobal + Threads + Wait + Sync + Clock + Print>(
 }
 
 /// Measures, and prints the table.
-fn measure<R: AllocGlobal + Threads + Wait + Sync + Send + Drop + Clone + Clock + CpuClock + Print>(
-    rt: &R,
-) -> io::Result<()> {
+pub fn measure<
+    R: AllocGlobal + Threads + Wait + Sync + Send + Drop + Clone + Clock + CpuClock + Print,
+>(rt: &R) -> io::Result<()> {
     println!(rt; "{} processors", thread::available_parallelism(rt)?)?;
     println!(rt; "threads turns/s locks/s turns:locks")?;
     for threads in [1, 2, 4, 16] {
@@ -111,17 +104,8 @@ fn measure<R: AllocGlobal + Threads + Wait + Sync + Send + Drop + Clone + Clock 
 }
 
 /// A small run, which prints the same each time.
-fn try_out<R: AllocGlobal + Threads + Wait + Sync + Clock + Print>(rt: &R) -> io::Result<()> {
+pub fn try_out<R: AllocGlobal + Threads + Wait + Sync + Clock + Print>(rt: &R) -> io::Result<()> {
     let turns = count_by_turns(rt, rt.alloc(), 4, SMALL / 4)?;
     let locks = count_by_lock(rt, rt.alloc(), 4, SMALL / 4)?;
     println!(rt; "{} turns, {} locks", turns.count, locks.count)
-}
-
-fn main(rt: HostRuntime) -> io::Result<()> {
-    let words: Vec<String> = env::args(&rt)?.collect(rt.alloc())?;
-    if words.len() > 1 {
-        measure(&rt)
-    } else {
-        try_out(&rt)
-    }
 }
