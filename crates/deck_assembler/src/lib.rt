@@ -67,8 +67,3 @@ pub use sized_deck::SizedDeck;
 pub use sized_statement::SizedStatement;
 pub use statement_lines::coded_line;
 pub use symbol_table::SymbolTable;
-
-#[cfg(test)]
-mod tests;
-#[cfg(test)]
-mod tests_lines;

@@ -47,8 +47,3 @@ pub use layout::Layout;
 pub use linking::DeckLinking;
 pub use name_key::NameKey;
 pub use publication::{Publication, link};
-
-#[cfg(test)]
-mod tests;
-#[cfg(test)]
-mod tests_links;

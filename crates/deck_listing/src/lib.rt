@@ -30,8 +30,3 @@ pub use blocks::{block_words, stored_words};
 pub use image_lines::push_image_line;
 pub use sections::{image, push_section};
 pub use whole::{errors, listing, push_listing};
-
-#[cfg(test)]
-mod tests;
-#[cfg(test)]
-mod tests_image;

@@ -16,6 +16,3 @@ mod piece_counts;
 pub use assembling::assemble;
 pub use faults::RecordFault;
 pub use kept::{FinishFault, Kept};
-
-#[cfg(test)]
-mod tests;

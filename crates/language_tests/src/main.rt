@@ -10,6 +10,7 @@
 mod block_topics;
 mod card_topics;
 mod coding_topics;
+mod deck_topics;
 mod edit_topics;
 mod expression_topics;
 mod field_topics;
@@ -17,6 +18,7 @@ mod inputs;
 mod item_topics;
 mod known_bases;
 mod known_names;
+mod link_topics;
 mod operation_topics;
 mod outputs;
 mod port_topics;
@@ -30,7 +32,7 @@ use std::rt::Files;
 use tables::{Row, Score, rows_of};
 
 /// The topics, lowest first.
-const TOPICS: [&str; 69] = [
+const TOPICS: [&str; 79] = [
     "displays",
     "octals",
     "lines",
@@ -100,6 +102,16 @@ const TOPICS: [&str; 69] = [
     "states",
     "block_bases",
     "counters",
+    "sized_decks",
+    "symbols_of_decks",
+    "lines_of_decks",
+    "parts_of_decks",
+    "records",
+    "record_edits",
+    "listings",
+    "ends_of_listings",
+    "images",
+    "layouts",
 ];
 
 /// The status where a table can't be read.
@@ -130,12 +142,18 @@ fn field_answer(alloc: Global, topic: &str, text: &str) -> Result<Option<String>
     block_topics::answer(alloc, topic, text)
 }
 
-/// What items, statements and, for all other topics, expressions make of a text.
+/// What items, statements, decks, links and, for all other topics, expressions make of a text.
 fn upper_answer(alloc: Global, topic: &str, text: &str) -> Result<Option<String>, AllocError> {
     if let Some(found) = item_topics::answer(alloc, topic, text)? {
         return Ok(Some(found));
     }
     if let Some(found) = statement_topics::answer(alloc, topic, text)? {
+        return Ok(Some(found));
+    }
+    if let Some(found) = link_topics::answer(alloc, topic, text)? {
+        return Ok(Some(found));
+    }
+    if let Some(found) = deck_topics::answer(alloc, topic, text)? {
         return Ok(Some(found));
     }
     expression_topics::answer(alloc, topic, text)

@@ -17,6 +17,3 @@ pub use fields::Field;
 pub use gathering::BlockWord;
 pub use laws::{ends_add, fields_join, runs_follow_statements, statements_fill_parcels};
 pub use words::Words;
-
-#[cfg(test)]
-mod tests;

@@ -1,0 +1,85 @@
+//! Decks that are linked: the listing, the map and the image.
+
+use crate::deck_topics::repeated_cards;
+use crate::outputs::Answer;
+use cards::DeckName;
+use deck_assembler::SharedObject;
+use deck_linker::{Layout, Publication, link};
+use edit_core::assemble;
+use expr_forms::Name;
+use statement_coder::Meter;
+use std::alloc::{AllocError, Global};
+
+pub fn answer(alloc: Global, topic: &str, text: &str) -> Result<Option<String>, AllocError> {
+    let mut answer = Answer::new(alloc);
+    match topic {
+        "listings" => listing(&mut answer, &published(alloc, text)?)?,
+        "ends_of_listings" => end_of_listing(&mut answer, &published(alloc, text)?)?,
+        "images" => image(&mut answer, &published(alloc, text)?)?,
+        "layouts" => layout(alloc, &mut answer)?,
+        _ => return Ok(None),
+    }
+    Ok(Some(answer.into_text()))
+}
+
+/// The object of a deck.
+fn object_of(alloc: Global, name: &str, text: &str) -> Result<Option<SharedObject>, AllocError> {
+    let cards = repeated_cards(alloc, text)?;
+    let mut done = Meter { sized: 0, coded: 0 };
+    match DeckName::read(name.as_bytes()) {
+        Ok(name) if cards.len() <= 20_000 => Ok(Some(assemble(alloc, name, cards, &mut done)?)),
+        _ => Ok(None),
+    }
+}
+
+/// The link of decks as version 7: each begins with a line of its name behind `=`.
+fn published(alloc: Global, text: &str) -> Result<Publication, AllocError> {
+    let mut objects = Vec::new(alloc);
+    for deck in text.split("=") {
+        if let Some((name, lines)) = deck.split_once("\n") {
+            if let Some(object) = object_of(alloc, name, lines)? {
+                objects.push(object)?;
+            }
+        }
+    }
+    link(alloc, objects, 7)
+}
+
+/// The version, and how many decks, lines with errors and LINK lines there are.
+fn counts(answer: &mut Answer, publication: &Publication) -> Result<(), AllocError> {
+    answer.decimal(publication.version())?;
+    answer.decimal(publication.objects().len() as u64)?;
+    answer.decimal(publication.errors())?;
+    answer.decimal(publication.links() as u64)
+}
+
+fn listing(answer: &mut Answer, publication: &Publication) -> Result<(), AllocError> {
+    counts(answer, publication)?;
+    answer.quoted(publication.listing())
+}
+
+/// How many characters of a listing's end are looked at.
+const END: usize = 160;
+
+fn end_of_listing(answer: &mut Answer, publication: &Publication) -> Result<(), AllocError> {
+    let text = publication.listing();
+    answer.quoted(text.split_at(text.len().saturating_sub(END)).1)
+}
+
+fn image(answer: &mut Answer, publication: &Publication) -> Result<(), AllocError> {
+    counts(answer, publication)?;
+    answer.quoted(publication.image())
+}
+
+/// The layout of no decks: its decks and common blocks, an entry, and the base of a common block.
+fn layout(alloc: Global, answer: &mut Answer) -> Result<(), AllocError> {
+    let layout = Layout::new(alloc, Vec::new(alloc))?;
+    answer.decimal(layout.decks().len() as u64)?;
+    answer.decimal(layout.commons().len() as u64)?;
+    answer.either(
+        layout.entered(&Name::new(b"A")).is_none(),
+        "none",
+        "entered",
+    )?;
+    answer.debug(&layout.common_base(&Name::new(b"/C/")))
+}
