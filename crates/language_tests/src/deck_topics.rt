@@ -210,7 +210,7 @@ fn record(alloc: Global, answer: &mut Answer, cards: Vec<Card>) -> Result<(), Al
     }
 }
 
-/// Makes the edits of words such as `R2`, the card at place 2 goes, and `I2`, a card more at place 2.
+/// Makes the edits of words such as `R20`, the card at place 20 goes, and `I20`, a card more at place 20.
 fn edited(alloc: Global, answer: &mut Answer, kept: Kept, words: &str) -> Result<(), AllocError> {
     let mut kept = kept;
     let mut done = Meter { sized: 0, coded: 0 };

@@ -16,7 +16,7 @@ pub fn answer(alloc: Global, topic: &str, text: &str) -> Result<Option<String>, 
     Ok(Some(answer.into_text()))
 }
 
-/// The edits of words such as `I2`, this card comes in at place 2, and `R2`, the card at place 2 goes.
+/// The edits of words such as `I20`, this card comes in at place 20, and `R20`, the card at place 20 goes.
 pub fn edits_of(alloc: Global, text: &str, line: &[u8]) -> Result<Vec<Edit>, AllocError> {
     let mut edits = Vec::new(alloc);
     for word in text.split_whitespace() {
