@@ -1,5 +1,5 @@
 -- Ports that count their faults (ours).
-use Rattle.std.specs.Prelude.{ℕ, ◌+◌, ◌-◌, ◌^◌, ◌<◌, ◌≤◌, min, List, [], ◌∷◌, ◌++◌, Option, None, Some, length, take}
+use Rattle.std.specs.Prelude.{ℕ, ◌+◌, ◌-◌, ◌^◌, ◌<◌, ◌≤◌, min, List, [], ◌∷◌, ◌++◌, Bool, true, false, Option, None, Some, length, take}
 use Rattle.std.specs.Io.KnownBytes.{Appends, Consumes, IsAtEnd, Keeps}
 use Rattle.text_ports.specs.declared.counted.ByteIs.{ByteIs}
 use Rattle.text_ports.specs.declared.counted.ByteIs.TheVariants as byte
@@ -22,6 +22,10 @@ count_after_read byte.Fault faults = count_up faults
 abbrev pub count_after_write : Option ℕ → ℕ → ℕ
 count_after_write (Some taken) faults = faults
 count_after_write None faults = count_up faults
+
+abbrev pub count_after_flush : Bool → ℕ → ℕ
+count_after_flush true faults = faults
+count_after_flush false faults = count_up faults
 
 abbrev pub count_after_line : LineIs → ℕ → ℕ
 count_after_line line.Line faults = faults

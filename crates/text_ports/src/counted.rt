@@ -1,6 +1,7 @@
 //! A reader or a writer with the count of its faults.
 ghost use Rattle.std.specs.Prelude.{◌≡◌, take};
-ghost use Rattle.text_ports.specs.Faults.{GivesByte, Takes, TakesHeld, count_up, count_after_read, count_after_write, count_after_held};
+ghost use Rattle.std.specs.Io.KnownBytes.{Keeps};
+ghost use Rattle.text_ports.specs.Faults.{GivesByte, Takes, TakesHeld, count_up, count_after_read, count_after_write, count_after_flush, count_after_held};
 
 use crate::held_lines::{HeldIs, take_held};
 use crate::lines::LineBuf;
@@ -107,6 +108,20 @@ impl<W: Write> Counted<W> {
             _ => {
                 self.count_fault();
                 None
+            }
+        }
+    }
+
+    /// Sends on what the port keeps back: whether it did.
+    pub fn flush(&mut self) -> bool
+        ensures bytes { Keeps (W.contents self.old.0) (W.contents self.new.0) }
+        ensures count { self.new.1 ≡ count_after_flush result self.old.1 }
+    {
+        match self.port.flush() {
+            Ok(()) => true,
+            Err(_) => {
+                self.count_fault();
+                false
             }
         }
     }
