@@ -9,13 +9,13 @@ use Rattle.text_ports.specs.Lines.{line_feed, IsUnbroken, IsTakenAs}
 use Rattle.text_ports.specs.declared.lines.LineIs.TheVariants as is
 
 -- the bytes between line feeds
-abbrev pieces_of : List ℕ → List (List ℕ)
+abbrev pub pieces_of : List ℕ → List (List ℕ)
 pieces_of bytes = slice_split (λ b. b == 10) bytes
 
-passed_over : (bytes : List ℕ) → IsUnbroken bytes → All (λ b. (b == 10) ≡ false) bytes
+pub passed_over : (bytes : List ℕ) → IsUnbroken bytes → All (λ b. (b == 10) ≡ false) bytes
 passed_over bytes h = All-weaker (λ b. b ≢ line_feed) (λ b. (b == 10) ≡ false) (λ b n. ne_eqb b 10 n) bytes h
 
-some_piece : (bytes : List ℕ) → 0 < length (pieces_of bytes)
+pub some_piece : (bytes : List ℕ) → 0 < length (pieces_of bytes)
 some_piece bytes = omega (arith, length-slice_split (λ b. b == 10) bytes)
 
 lines_of_pieces-more : (bytes : List ℕ) (pieces : List (List ℕ)) → 0 < length pieces → lines_of_pieces (bytes ∷ pieces) ≡ line_of bytes ∷ lines_of_pieces pieces
@@ -48,13 +48,13 @@ lines_of-few bytes h =
     omega (arith, last_of-few bytes)
 
 -- what stands behind bytes without a line feed goes on their piece
-pieces_of-behind : (bytes rest first : List ℕ) (others : List (List ℕ)) → IsUnbroken bytes → pieces_of rest ≡ first ∷ others → pieces_of (bytes ++ rest) ≡ (bytes ++ first) ∷ others
+pub pieces_of-behind : (bytes rest first : List ℕ) (others : List (List ℕ)) → IsUnbroken bytes → pieces_of rest ≡ first ∷ others → pieces_of (bytes ++ rest) ≡ (bytes ++ first) ∷ others
 pieces_of-behind [] rest first others h e = e
 pieces_of-behind (b ∷ bs) rest first others h e =
     slice_split-cons_no (λ b. b == 10) b (bs ++ rest) (ne_eqb b 10 (All-head (λ b. b ≢ line_feed) b bs h))
     ∙ ap (onto_first b) (pieces_of-behind bs rest first others (All-tail (λ b. b ≢ line_feed) b bs h) e)
 
-first_piece : (pieces : List (List ℕ)) → 0 < length pieces → (first : List ℕ) × ((others : List (List ℕ)) × (pieces ≡ first ∷ others))
+pub first_piece : (pieces : List (List ℕ)) → 0 < length pieces → (first : List ℕ) × ((others : List (List ℕ)) × (pieces ≡ first ∷ others))
 first_piece [] h = absurd (omega arith)
 first_piece (first ∷ others) h = (first, (others, refl))
 

@@ -3,8 +3,7 @@ use Rattle.std.proofs.Common.{◌≡◌, ◌≢◌, ℕ, ◌+◌, ◌≤◌, Lis
 use Rattle.std.specs.Io.KnownBytes.{Consumes}
 use Rattle.std.proofs.KnownBytes.{Consumes-trans}
 use Rattle.std.proofs.lemmas.List.Elements.{All-push}
-use Rattle.definitions.specs.InputLines.{without_cr}
-use Rattle.text_ports.specs.Lines.{line_feed, IsUnbroken, ReadsLine}
+use Rattle.text_ports.specs.Lines.{line_feed, IsUnbroken, ReadsWholeLine}
 use Rattle.text_ports.specs.declared.lines.LineIs.TheVariants.{Line, TooLong}
 
 -- the line has all the bytes that the reader lost, `count` bytes, and none is a line feed
@@ -22,13 +21,13 @@ IsHeld-push old new next line count byte held taken other = record {
 }
 
 -- a line feed behind the line
-pub ReadsLine-line : (old new next : Option (List ℕ)) (line after : List ℕ) (count : ℕ) → IsHeld old new line count → Consumes new next (line_feed ∷ []) → count ≤ 256 → after ≡ without_cr line → ReadsLine old next Line after
-ReadsLine-line old new next line after count held taken few left =
+pub ReadsWholeLine-line : (old new next : Option (List ℕ)) (line : List ℕ) (count : ℕ) → IsHeld old new line count → Consumes new next (line_feed ∷ []) → count ≤ 256 → ReadsWholeLine old next Line line
+ReadsWholeLine-line old new next line count held taken few =
     let short : length line ≤ 256 = let e : length line ≡ count = held.count_is in omega arith in
-    (line ++ line_feed ∷ [], Consumes-trans old new next line (line_feed ∷ []) held.consumed taken, (line, refl, held.unbroken, short, left), tt)
+    (line ++ line_feed ∷ [], Consumes-trans old new next line (line_feed ∷ []) held.consumed taken, (refl, held.unbroken, short), tt)
 
 -- the 257th byte
-pub ReadsLine-too_long : (old new next : Option (List ℕ)) (line after : List ℕ) (count byte : ℕ) → IsHeld old new line count → Consumes new next (byte ∷ []) → byte ≢ line_feed → length line ≡ 256 → after ≡ [] → ReadsLine old next TooLong after
-ReadsLine-too_long old new next line after count byte held taken other full left =
+pub ReadsWholeLine-too_long : (old new next : Option (List ℕ)) (line after : List ℕ) (count byte : ℕ) → IsHeld old new line count → Consumes new next (byte ∷ []) → byte ≢ line_feed → length line ≡ 256 → after ≡ [] → ReadsWholeLine old next TooLong after
+ReadsWholeLine-too_long old new next line after count byte held taken other full left =
     let more = IsHeld-push old new next line count byte held taken other in
     (line ++ byte ∷ [], more.consumed, (omega (arith, length-append line (byte ∷ [])), more.unbroken, left), tt)

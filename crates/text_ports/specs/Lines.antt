@@ -35,3 +35,15 @@ IsEndedBy Fault rest = ⊤
 -- the reader lost the bytes of this answer and no others, and the buffer has this line
 abbrev pub ReadsLine : Option (List ℕ) → Option (List ℕ) → LineIs → List ℕ → Type 0
 ReadsLine old new answer line = (taken : List ℕ) × Consumes old new taken × IsTakenAs answer taken line × IsEndedBy answer new
+
+-- the same where the buffer has all that stands in front of the line feed, a carriage return among it
+abbrev pub IsTakenWhole : LineIs → List ℕ → List ℕ → Type 0
+IsTakenWhole Line taken line = (taken ≡ line ++ line_feed ∷ []) × IsUnbroken line × (length line ≤ 256)
+IsTakenWhole End taken line = IsTakenAs End taken line
+IsTakenWhole Cut taken line = IsTakenAs Cut taken line
+IsTakenWhole TooLong taken line = IsTakenAs TooLong taken line
+IsTakenWhole Fault taken line = IsTakenAs Fault taken line
+
+-- the reader lost the bytes of this answer and no others, and the buffer has all of this line
+abbrev pub ReadsWholeLine : Option (List ℕ) → Option (List ℕ) → LineIs → List ℕ → Type 0
+ReadsWholeLine old new answer line = (taken : List ℕ) × Consumes old new taken × IsTakenWhole answer taken line × IsEndedBy answer new

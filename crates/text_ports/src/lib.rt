@@ -33,7 +33,7 @@ pub use counted::Counted;
 pub use faulty_reader::FaultyReader;
 pub use faulty_writer::FaultyWriter;
 pub use held_lines::next_held_line;
-pub use lines::{LineBuf, LineIs, next_line};
+pub use lines::{LineBuf, LineIs, next_line, next_whole_line};
 pub use octal_text::{OctalText, octal};
 pub use short_text::ShortText;
 pub use text::Text;

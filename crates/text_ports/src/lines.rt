@@ -1,7 +1,7 @@
 //! Lines of a reader, byte by byte.
 ghost use Rattle.std.specs.Prelude.{◌≡◌, ◌+◌, ◌<◌, ◌≤◌, ◌++◌, ◌∷◌, [], length, IsTrue, ◌↔◌};
 ghost use Rattle.definitions.specs.InputLines.{without_cr};
-ghost use Rattle.text_ports.specs.Lines.{ReadsLine};
+ghost use Rattle.text_ports.specs.Lines.{ReadsLine, ReadsWholeLine};
 ghost use Rattle.text_ports.specs.Faults.{count_after_line};
 
 use crate::counted::{ByteIs, Counted};
@@ -106,19 +106,16 @@ pub enum LineIs {
     Fault,
 }
 
-/// Reads the next line, and no byte behind its line feed. At most 257 bytes are read. The buffer
-/// is empty after every answer but `Line`.
-pub fn next_line<R: Read>(input: &mut Counted<R>, line: &mut LineBuf) -> LineIs
-    ensures reads { ReadsLine (R.remaining input.old.0) (R.remaining input.new.0) result line.new }
+/// Reads the next line, and no byte behind its line feed. At most 257 bytes are read. The buffer has
+/// all that stands in front of the line feed, and is empty after every answer but `Line`.
+pub fn next_whole_line<R: Read>(input: &mut Counted<R>, line: &mut LineBuf) -> LineIs
+    ensures reads { ReadsWholeLine (R.remaining input.old.0) (R.remaining input.new.0) result line.new }
     ensures count { input.new.1 ≡ count_after_line result input.old.1 }
 {
     line.clear();
     for _ in 0..=MOST_BYTES {
         match input.read_byte() {
-            ByteIs::Byte(b'\n') => {
-                line.drop_cr();
-                return LineIs::Line;
-            }
+            ByteIs::Byte(b'\n') => return LineIs::Line,
             ByteIs::Byte(byte) => {
                 if line.is_full() {
                     line.clear();
@@ -139,4 +136,17 @@ pub fn next_line<R: Read>(input: &mut Counted<R>, line: &mut LineBuf) -> LineIs
     }
     line.clear();
     LineIs::TooLong
+}
+
+/// Reads the next line as `next_whole_line` does, without one carriage return directly before its line
+/// feed.
+pub fn next_line<R: Read>(input: &mut Counted<R>, line: &mut LineBuf) -> LineIs
+    ensures reads { ReadsLine (R.remaining input.old.0) (R.remaining input.new.0) result line.new }
+    ensures count { input.new.1 ≡ count_after_line result input.old.1 }
+{
+    let answer = next_whole_line(input, line);
+    if let LineIs::Line = answer {
+        line.drop_cr();
+    }
+    answer
 }

@@ -1,6 +1,6 @@
 use Rattle.std.proofs.Common.{◌≡◌}
 use Rattle.text_ports.proofs.LineSteps.{IsHeld}
-use Rattle.text_ports.proofs.lines.next_line.Given as goal
+use Rattle.text_ports.proofs.lines.next_whole_line.Given as goal
 
 -- the bytes so far are in the line, no line feed is among them, and the port has not failed
 abbrev pub invariant-loop : goal.invariant-loop
