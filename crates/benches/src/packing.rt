@@ -48,8 +48,8 @@ pub fn pack(alloc: Global) -> io::Result<u64> {
         return Ok(0);
     }
     let mut sum: u64 = 0;
-    for word in words.fill(alloc)? {
-        sum = sum.wrapping_add(word.value);
+    for span in words.fill(alloc)? {
+        sum = sum.wrapping_add(span.value.wrapping_mul(u64::from(span.count)));
     }
     Ok(sum)
 }

@@ -1,5 +1,5 @@
 -- The sections of common blocks.
-use Rattle.std.proofs.Common.{◌≡◌, ℕ, ◌+◌, List, [], ◌∷◌, ◌++◌, Bool, false, refl, sym, ap, ap₂, ◌∙◌, append_assoc, append-nil}
+use Rattle.std.proofs.Common.{◌≡◌, ℕ, zero, suc, ◌+◌, ◌-◌, ◌<◌, List, [], ◌∷◌, ◌++◌, Bool, false, eqb, length, refl, sym, ap, ap₂, ◌∙◌, append_assoc, append-nil, arith}
 use Rattle.std.specs.Prelude.{codes, flat_map, if◌then◌else◌}
 use Rattle.definitions.specs.Characters.{line_feed}
 use Rattle.definitions.specs.Numerals.{octal_of}
@@ -7,14 +7,23 @@ use Rattle.definitions.specs.Link.{Layout, Common, addressed}
 use Rattle.definitions.specs.Image.{word_line, common_words, common_section, common_section_by}
 use Rattle.definitions.specs.Words.{StoredWord}
 use Rattle.definitions.specs.declared.deck_kind.DeckKind.TheVariants.{Rel}
+use Rattle.parcel_packer.specs.Filling.{words_from}
 use Rattle.deck_linker.specs.Sections.{common_head, common_word, common_words_text}
 use Rattle.deck_linker.proofs.TextLaws.{four-ended}
 
--- a word is written
-pub word-written : (old : List ℕ) (base offset value address : ℕ) → address ≡ base + offset →
-    old ++ word_line Rel (record { address = address; value = value }) ≡ old ++ common_word base (record { offset = offset; value = value })
+-- a word of a span is written
+pub word-written : (before after all : List ℕ) (base offset count value address next left : ℕ) → address ≡ base + offset → next ≡ offset + 1 → left ≡ count - 1 → 0 < count →
+    before ++ common_words_text base (words_from offset count value) ≡ all → after ≡ before ++ word_line Rel (record { address = address; value = value }) →
+    after ++ common_words_text base (words_from next left value) ≡ all
 unfolding common_word
-word-written old base offset value address e = ap (λ (n : ℕ). old ++ word_line Rel (record { address = n; value = value })) e
+word-written before after all base offset zero value address next left e n l some h a = absurd (omega arith)
+word-written before after all base offset (suc count) value address next left e n l some h a =
+    let one_less : left ≡ count = omega arith in
+    let rest = common_words_text base (words_from (offset + 1) count value) in
+    ap₂ (λ m k. after ++ common_words_text base (words_from m k value)) n one_less
+    ∙ ap (λ t. t ++ rest) (a ∙ ap (λ (n : ℕ). before ++ word_line Rel (record { address = n; value = value })) e)
+    ∙ append_assoc before (word_line Rel (record { address = base + offset; value = value })) rest
+    ∙ h
 
 -- the first line is written
 pub head-written : (t u v w x name text : List ℕ) (base number : ℕ) → u ≡ t ++ codes "COMMON " → v ≡ u ++ text → w ≡ v ++ codes " " → x ≡ w ++ octal_of 6 number → text ≡ name → number ≡ base →
@@ -38,6 +47,12 @@ section-some common (word ∷ words) h = ap (λ (t : List ℕ). common_head comm
 section-by : (layout : Layout) (common : Common) (past : Bool) (words : List StoredWord) → past ≡ false → words ≡ common_words layout common.name layout.decks [] →
     common_section common words ≡ (if past then [] else common_section common (common_words layout common.name layout.decks []))
 section-by layout common past words e f = ap (common_section common) f ∙ sym (ap (λ (b : Bool). if b then [] else common_section common (common_words layout common.name layout.decks [])) e)
+
+-- words that are counted are there
+pub some_words : {X : Type 0} (words slice : List X) (count : ℕ) → false ≡ eqb count 0 → length slice ≡ count → slice ≡ words → words ≡ [] → ⊥
+some_words words slice count some counted same none =
+    let zero : count ≡ 0 = sym counted ∙ ap length same ∙ ap length none in
+    grind (arith, zero, some)
 
 -- the section of a common block is written
 pub section-written : (layout : Layout) (common : Common) (old headed name : List ℕ) (base place : ℕ) (words told : List StoredWord) (past : Bool) → past ≡ false → past ≡ common.is_past →

@@ -5,7 +5,6 @@ pub mod EntryLaws
 pub mod ValueLaws
 pub mod WordLaws
 pub mod BeyondLaws
-pub mod StoredLaws
 pub mod NameLaws
 pub mod LineLaws
 pub mod DigitLaws

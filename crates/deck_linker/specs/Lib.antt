@@ -16,5 +16,3 @@ pub mod MapLines
 pub mod Sections
 -- Publications.
 pub mod Publishing
--- Words of a block by offset.
-pub mod StoredOrder

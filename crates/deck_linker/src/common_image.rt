@@ -1,20 +1,19 @@
 //! The sections of common blocks in the image of a link.
-ghost use Rattle.std.specs.Prelude.{◌≡◌, ◌++◌, [], IfOk, OnOk};
+ghost use Rattle.std.specs.Prelude.{◌≡◌, ◌^◌, ◌++◌, [], IfOk, OnOk};
 ghost use Rattle.std.specs.List.{list_any};
 ghost use Rattle.definitions.specs.Characters.{same_text};
 ghost use Rattle.definitions.specs.Image.{common_section_by, common_words, with_all_stored};
 ghost use Rattle.definitions.specs.Link.{linking_of};
 ghost use Rattle.definitions.specs.Words.{stored_words};
-ghost use Rattle.deck_linker.specs.Sections.{common_head, common_word, common_words_text};
-ghost use Rattle.parcel_packer.specs.Filling.{as_stored};
+ghost use Rattle.deck_linker.specs.Sections.{common_head, common_words_text};
+ghost use Rattle.parcel_packer.specs.Filling.{DoSpansRise, as_stored, words_from};
 
 use crate::linked_deck::parts;
-use crate::merging::merged;
 use crate::{Based, Common, DeckLinking, Layout};
 use deck_listing::{push_image_line, stored_words};
 use definitions::DeckKind;
 use expr_forms::Name;
-use parcel_packer::BlockWord;
+use parcel_packer::{WordSpan, words_over};
 use std::alloc::{AllocError, Global};
 use text_ports::Text;
 use use_blocks::BlockRow;
@@ -37,9 +36,10 @@ fn words_of_deck(
     layout: &Layout,
     based: &Based,
     name: &Name,
-) -> Result<Vec<BlockWord>, AllocError>
-    ensures { IfOk result (λ words. as_stored words.items
+) -> Result<Vec<WordSpan>, AllocError>
+    ensures words { IfOk result (λ words. as_stored words.items
         ≡ stored_words based.now.object.kind (linking_of layout.now based.now) name.now based.now.object.coded) }
+    ensures rise { IfOk result (λ words. DoSpansRise 0 words.items (2 ^ 20)) }
 {
     let parts = parts(based);
     if !has_row(parts.bases.rows(), name) {
@@ -54,16 +54,18 @@ fn with_deck(
     layout: &Layout,
     based: &Based,
     name: &Name,
-    earlier: Vec<BlockWord>,
-) -> Result<Vec<BlockWord>, AllocError>
-    ensures { IfOk result (λ words. as_stored words.items
+    earlier: Vec<WordSpan>,
+) -> Result<Vec<WordSpan>, AllocError>
+    requires { DoSpansRise 0 earlier.items (2 ^ 20) }
+    ensures words { IfOk result (λ words. as_stored words.items
         ≡ with_all_stored (stored_words based.now.object.kind (linking_of layout.now based.now) name.now based.now.object.coded) (as_stored earlier.items)) }
+    ensures rise { IfOk result (λ words. DoSpansRise 0 words.items (2 ^ 20)) }
 {
     let newer = words_of_deck(alloc, layout, based, name)?;
     if newer.is_empty() {
         return Ok(earlier);
     }
-    merged(alloc, newer.as_slice(), earlier.as_slice())
+    words_over(alloc, newer.as_slice(), earlier.as_slice())
 }
 
 /// The words that decks store in the common block of a name: each is that of the last deck that stores
@@ -73,8 +75,9 @@ fn words_of_decks(
     layout: &Layout,
     name: &Name,
     decks: &[Based],
-) -> Result<Vec<BlockWord>, AllocError>
-    ensures { IfOk result (λ words. as_stored words.items ≡ common_words layout.now name.now decks.now []) }
+) -> Result<Vec<WordSpan>, AllocError>
+    ensures words { IfOk result (λ words. as_stored words.items ≡ common_words layout.now name.now decks.now []) }
+    ensures rise { IfOk result (λ words. DoSpansRise 0 words.items (2 ^ 20)) }
 {
     let mut words = Vec::new(alloc);
     for based in decks {
@@ -84,21 +87,24 @@ fn words_of_decks(
 }
 
 /// Writes the words of a common block that stands at a base.
-fn push_words(text: &mut Text, base: u32, words: &[BlockWord]) -> Result<(), AllocError>
+fn push_words(text: &mut Text, base: u32, words: &[WordSpan]) -> Result<(), AllocError>
     ensures { OnOk result (text.new ≡ text.old ++ common_words_text base (as_stored words.now)) }
 {
-    for word in words {
-        push_word(text, base, *word)?;
+    for span in words {
+        push_span(text, base, *span)?;
     }
     Ok(())
 }
 
-/// Writes a word of a common block that stands at a base.
-fn push_word(text: &mut Text, base: u32, word: BlockWord) -> Result<(), AllocError>
-    ensures { OnOk result (text.new ≡ text.old ++ common_word base (record { offset = word.offset; value = word.value })) }
+/// Writes the words of a span of a common block that stands at a base.
+fn push_span(text: &mut Text, base: u32, span: WordSpan) -> Result<(), AllocError>
+    ensures { OnOk result (text.new ≡ text.old ++ common_words_text base (words_from span.offset span.count span.value)) }
 {
-    let address = u64::from(base) + u64::from(word.offset);
-    push_image_line(text, DeckKind::Rel, address, word.value)
+    for index in 0..span.count {
+        let address = u64::from(base) + u64::from(span.offset) + u64::from(index);
+        push_image_line(text, DeckKind::Rel, address, span.value)?;
+    }
+    Ok(())
 }
 
 /// Writes the first line of the section of a common block: its name and its base.

@@ -36,7 +36,6 @@ mod unfit_fields;
 // The image.
 mod common_image;
 mod image;
-mod merging;
 
 // All of them.
 mod publication;

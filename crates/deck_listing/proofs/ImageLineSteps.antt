@@ -1,46 +1,97 @@
 -- The lines of words, one after the other.
-use Rattle.std.proofs.Common.{◌≡◌, ℕ, ◌+◌, ◌<◌, ◌≤◌, Bool, true, false, List, [], ◌∷◌, ◌++◌, not, flat_map, length, take, get_or, refl, sym, ap, ◌∙◌, append_assoc, append-nil}
+use Rattle.std.proofs.Common.{◌≡◌, ℕ, zero, suc, ◌+◌, ◌-◌, ◌<◌, ◌≤◌, Bool, true, false, List, [], ◌∷◌, ◌++◌, not, flat_map, length, take, get_or, refl, sym, ap, ◌∙◌, append_assoc, append-nil, ap₂, Some, None, nat_le, arith, inl, inr, true≢false}
 use Rattle.std.specs.Prelude.{filter, if◌then◌else◌}
+use Rattle.std.proofs.lemmas.Bool.Decides.{leb_tells}
 use Rattle.std.proofs.lemmas.List.{take_all, take_more}
 use Rattle.std.proofs.lemmas.List.Elements.{filter-append}
 use Rattle.std.proofs.lemmas.Grind.{flat_map-append}
 use Rattle.definitions.specs.Blocks.{is_common}
 use Rattle.definitions.specs.Image.{word_line}
+use Rattle.definitions.specs.Kinds.{memory_end}
 use Rattle.definitions.specs.Lengths.{BlockRow}
 use Rattle.definitions.specs.Link.{AddressedWord, addressed, block_words, is_beyond, object_words}
 use Rattle.definitions.specs.Objects.{Object}
 use Rattle.definitions.specs.Words.{Linking, StoredWord}
 use Rattle.definitions.specs.declared.deck_kind.DeckKind.{DeckKind}
-use Rattle.parcel_packer.specs.Filling.{as_stored}
-use Rattle.parcel_packer.specs.declared.gathering.BlockWord.{BlockWord}
-use Rattle.deck_listing.specs.ImageWordLines.{block_lines, lines_of, row_words}
+use Rattle.parcel_packer.specs.Filling.{as_stored, words_from}
+use Rattle.parcel_packer.specs.declared.word_spans.WordSpan.{WordSpan}
+use Rattle.deck_listing.specs.ImageWordLines.{block_lines, lines_of, row_words, span_lines}
 
 lines-append : (kind : DeckKind) (xs ys : List AddressedWord) → lines_of kind (xs ++ ys) ≡ lines_of kind xs ++ lines_of kind ys
 lines-append kind xs ys =
     ap (flat_map (word_line kind)) (filter-append (λ word. not (is_beyond kind word)) xs ys)
     ∙ flat_map-append (word_line kind) (filter (λ word. not (is_beyond kind word)) xs) (filter (λ word. not (is_beyond kind word)) ys)
 
-stored-append : (xs ys : List BlockWord) → as_stored (xs ++ ys) ≡ as_stored xs ++ as_stored ys
+stored-append : (xs ys : List WordSpan) → as_stored (xs ++ ys) ≡ as_stored xs ++ as_stored ys
 stored-append [] ys = refl
-stored-append (x ∷ xs) ys = ap (λ (rest : List StoredWord). record { offset = x.offset; value = x.value } ∷ rest) (stored-append xs ys)
+stored-append (x ∷ xs) ys =
+    ap (λ (rest : List StoredWord). words_from x.offset x.count x.value ++ rest) (stored-append xs ys) ∙ sym (append_assoc (words_from x.offset x.count x.value) (as_stored xs) (as_stored ys))
 
 addressed-append : (base : ℕ) (xs ys : List StoredWord) → addressed base (xs ++ ys) ≡ addressed base xs ++ addressed base ys
 addressed-append base [] ys = refl
 addressed-append base (x ∷ xs) ys = ap (λ (rest : List AddressedWord). record { address = base + x.offset; value = x.value } ∷ rest) (addressed-append base xs ys)
 
-block-append : (kind : DeckKind) (base block : ℕ) (xs ys : List BlockWord) → block_lines kind base block (xs ++ ys) ≡ block_lines kind base block xs ++ block_lines kind base block ys
+block-append : (kind : DeckKind) (base block : ℕ) (xs ys : List WordSpan) → block_lines kind base block (xs ++ ys) ≡ block_lines kind base block xs ++ block_lines kind base block ys
 block-append kind base block xs ys =
     ap (λ ws. lines_of kind (addressed (base + block) ws)) (stored-append xs ys)
     ∙ ap (lines_of kind) (addressed-append (base + block) (as_stored xs) (as_stored ys))
     ∙ lines-append kind (addressed (base + block) (as_stored xs)) (addressed (base + block) (as_stored ys))
 
--- one word more
-pub word_more : (kind : DeckKind) (base block : ℕ) (words : List BlockWord) (i : ℕ) (d : BlockWord) (start before after : List ℕ) → i < length words →
-    before ≡ start ++ block_lines kind base block (take i words) → after ≡ before ++ block_lines kind base block (get_or words i d ∷ []) →
+-- the lines of words, the first of which lies within the memory
+first_line : (kind : DeckKind) (base offset count value : ℕ) → nat_le (memory_end kind) (base + offset) ≡ false →
+    span_lines kind base offset (suc count) value ≡ word_line kind (record { address = base + offset; value = value }) ++ span_lines kind base (offset + 1) count value
+first_line kind base offset count value e = rw e refl
+
+is_within : (test : Bool) (n address : ℕ) → (if test then None else Some n) ≡ Some address → (test ≡ false) × (n ≡ address)
+is_within true n address e = cc
+is_within false n address e = (refl, cc)
+
+is_beyond_end : (test : Bool) (n : ℕ) → (if test then None else Some n) ≡ None → test ≡ true
+is_beyond_end true n e = refl
+is_beyond_end false n e = cc
+
+-- one word of a span
+pub line_more : (kind : DeckKind) (base offset count value word address next left : ℕ) (before after all : List ℕ) → word ≡ offset → next ≡ offset + 1 → left ≡ count - 1 → 0 < count →
+    before ++ span_lines kind base offset count value ≡ all →
+    (if nat_le (memory_end kind) (base + word) then None else Some (base + word)) ≡ Some address →
+    after ≡ before ++ word_line kind (record { address = address; value = value }) → after ++ span_lines kind base next left value ≡ all
+line_more kind base offset zero value word address next left before after all w n l some h within a = absurd (omega arith)
+line_more kind base offset (suc count) value word address next left before after all w n l some h within a =
+    let inside = is_within (nat_le (memory_end kind) (base + word)) (base + word) address within in
+    let test : nat_le (memory_end kind) (base + offset) ≡ false = ap (λ m. nat_le (memory_end kind) (base + m)) (sym w) ∙ inside.0 in
+    let same : base + offset ≡ address = ap (λ m. base + m) (sym w) ∙ inside.1 in
+    let rest = span_lines kind base (offset + 1) count value in
+    let one_less : left ≡ count = omega arith in
+    ap₂ (λ m k. after ++ span_lines kind base m k value) n one_less
+    ∙ ap (λ t. t ++ rest) (a ∙ ap (λ m. before ++ word_line kind (record { address = m; value = value })) (sym same))
+    ∙ append_assoc before (word_line kind (record { address = base + offset; value = value })) rest
+    ∙ ap (λ t. before ++ t) (sym (first_line kind base offset count value test))
+    ∙ h
+
+-- words beyond the memory have no lines
+beyond_none : (kind : DeckKind) (base offset count value : ℕ) → memory_end kind ≤ base + offset → span_lines kind base offset count value ≡ []
+beyond_none kind base offset zero value h = refl
+beyond_none kind base offset (suc count) value h = elim (leb_tells (memory_end kind) (base + offset)) [
+  | inl e ↦ rw e.0 (beyond_none kind base (offset + 1) count value (omega arith))
+  | inr e ↦ let k = e.1 in absurd (omega arith)
+]
+
+-- the rest of a span lies beyond the memory
+pub line_none : (kind : DeckKind) (base offset count value word : ℕ) (before all : List ℕ) → word ≡ offset → before ++ span_lines kind base offset count value ≡ all →
+    (if nat_le (memory_end kind) (base + word) then None else Some (base + word)) ≡ None → before ≡ all
+line_none kind base offset count value word before all w h beyond = elim (leb_tells (memory_end kind) (base + offset)) [
+  | inl e ↦ sym (append-nil before) ∙ ap (λ t. before ++ t) (sym (beyond_none kind base offset count value e.1)) ∙ h
+  | inr e ↦ absurd (true≢false (sym (is_beyond_end (nat_le (memory_end kind) (base + word)) (base + word) beyond) ∙ ap (λ m. nat_le (memory_end kind) (base + m)) w ∙ e.0))
+]
+
+-- one span more
+pub span_more : (kind : DeckKind) (base block : ℕ) (words : List WordSpan) (i : ℕ) (d : WordSpan) (start before after : List ℕ) → i < length words →
+    before ≡ start ++ block_lines kind base block (take i words) → after ≡ before ++ span_lines kind (base + block) (get_or words i d).offset (get_or words i d).count (get_or words i d).value →
     after ≡ start ++ block_lines kind base block (take (i + 1) words)
-word_more kind base block words i d start before after h b a =
+span_more kind base block words i d start before after h b a =
     let more = block_lines kind base block (get_or words i d ∷ []) in
-    a ∙ ap (λ t. t ++ more) b
+    a ∙ ap (λ l. before ++ lines_of kind (addressed (base + block) l)) (sym (append-nil (words_from (get_or words i d).offset (get_or words i d).count (get_or words i d).value)))
+    ∙ ap (λ t. t ++ more) b
     ∙ append_assoc start (block_lines kind base block (take i words)) more
     ∙ ap (λ l. start ++ l)
     (sym (block-append kind base block (take i words) (get_or words i d ∷ [])) ∙ ap (block_lines kind base block) (sym (take_more words i d h)))

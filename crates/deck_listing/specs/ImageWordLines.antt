@@ -10,15 +10,19 @@ use Rattle.definitions.specs.Numerals.{octal_of}
 use Rattle.definitions.specs.Objects.{Object}
 use Rattle.definitions.specs.Words.{Linking}
 use Rattle.definitions.specs.declared.deck_kind.DeckKind.{DeckKind}
-use Rattle.parcel_packer.specs.Filling.{as_stored}
-use Rattle.parcel_packer.specs.declared.gathering.BlockWord.{BlockWord}
+use Rattle.parcel_packer.specs.Filling.{as_stored, words_from}
+use Rattle.parcel_packer.specs.declared.word_spans.WordSpan.{WordSpan}
 
 -- the lines of words; one beyond the memory of the deck has none
 abbrev pub lines_of : DeckKind → List AddressedWord → List ℕ
 lines_of kind words = flat_map (word_line kind) (filter (λ word. not (is_beyond kind word)) words)
 
+-- the lines of so many words of one value, where their block stands at a base
+abbrev pub span_lines : DeckKind → ℕ → ℕ → ℕ → ℕ → List ℕ
+span_lines kind base offset count value = lines_of kind (addressed base (words_from offset count value))
+
 -- the lines of the words of a block that stands at a place behind a base
-abbrev pub block_lines : DeckKind → ℕ → ℕ → List BlockWord → List ℕ
+abbrev pub block_lines : DeckKind → ℕ → ℕ → List WordSpan → List ℕ
 block_lines kind base block words = lines_of kind (addressed (base + block) (as_stored words))
 
 -- the words of one of an object's own blocks with their addresses; a common block has none there

@@ -1,19 +1,19 @@
 //! The words of one block of an object.
-ghost use Rattle.std.specs.Prelude.{◌≡◌, List, IfOk};
+ghost use Rattle.std.specs.Prelude.{◌≡◌, ◌^◌, List, IfOk};
 ghost use Rattle.definitions.specs.Blocks.{literals_block};
 ghost use Rattle.definitions.specs.Cards.{Card};
 ghost use Rattle.definitions.specs.Characters.{same_text};
 ghost use Rattle.definitions.specs.Link.{block_words, literal_stored};
 ghost use Rattle.definitions.specs.Objects.{Object};
 ghost use Rattle.definitions.specs.Words.{stored_words};
-ghost use Rattle.parcel_packer.specs.Filling.{as_stored};
+ghost use Rattle.parcel_packer.specs.Filling.{DoSpansRise, as_stored};
 ghost use Rattle.deck_assembler.specs.PartsOf.{ArePartsOf};
 ghost use Rattle.deck_listing.specs.Walking.{HasObject};
 
 use crate::word_lines::put_lines;
 use deck_assembler::{Linking, ObjectParts};
 use expr_forms::Name;
-use parcel_packer::{BlockWord, Words};
+use parcel_packer::{WordSpan, Words};
 use std::alloc::{AllocError, Global};
 use use_blocks::BlockRow;
 
@@ -23,10 +23,11 @@ pub fn stored_words<L: Linking>(
     parts: &ObjectParts,
     linking: &L,
     name: &Name,
-) -> Result<Vec<BlockWord>, AllocError>
+) -> Result<Vec<WordSpan>, AllocError>
     requires { HasObject parts.now }
-    ensures { IfOk result (λ words. (cards : List Card) (object : Object) → ArePartsOf cards parts.now object →
+    ensures words { IfOk result (λ words. (cards : List Card) (object : Object) → ArePartsOf cards parts.now object →
         as_stored words.items ≡ stored_words object.kind (L.linking linking.now) name.now object.coded) }
+    ensures rise { IfOk result (λ words. DoSpansRise 0 words.items (2 ^ 20)) }
 {
     let mut words = Words::new(alloc, parts.kind);
     put_lines(&mut words, parts, linking, name)?;
@@ -35,7 +36,7 @@ pub fn stored_words<L: Linking>(
 
 /// The literals as the words of their block. A deck has at most 131,072; more than offsets can number
 /// would count as too many for memory.
-fn literal_words(alloc: Global, literals: &[u64]) -> Result<Vec<BlockWord>, AllocError>
+fn literal_words(alloc: Global, literals: &[u64]) -> Result<Vec<WordSpan>, AllocError>
     ensures { IfOk result (λ words. as_stored words.items ≡ literal_stored 0 literals.now) }
 {
     let mut words = Vec::with_capacity(alloc, literals.len())?;
@@ -43,8 +44,9 @@ fn literal_words(alloc: Global, literals: &[u64]) -> Result<Vec<BlockWord>, Allo
         let Ok(offset) = u32::try_from(index) else {
             return Err(AllocError);
         };
-        words.push(BlockWord {
+        words.push(WordSpan {
             offset,
+            count: 1,
             value: *value,
         })?;
     }
@@ -64,7 +66,7 @@ pub fn block_words<L: Linking>(
     parts: &ObjectParts,
     linking: &L,
     row: &BlockRow,
-) -> Result<Vec<BlockWord>, AllocError>
+) -> Result<Vec<WordSpan>, AllocError>
     requires { HasObject parts.now }
     ensures { IfOk result (λ words. (cards : List Card) (object : Object) → ArePartsOf cards parts.now object →
         as_stored words.items ≡ block_words (L.linking linking.now) object row.now) }

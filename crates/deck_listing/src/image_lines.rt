@@ -50,10 +50,10 @@ pub fn push_image_line(
 }
 
 /// The address of a word of a block, if it lies within the memory of the deck.
-pub(crate) fn address_within(kind: DeckKind, base: u64, block: u64, offset: u32) -> Option<u64>
+pub(crate) fn address_within(kind: DeckKind, base: u64, block: u64, offset: u64) -> Option<u64>
     ensures { result ≡ (if nat_le (memory_end kind) (base + block + offset) then None else Some (base + block + offset)) }
 {
-    let address = base.saturating_add(block).saturating_add(u64::from(offset));
+    let address = base.saturating_add(block).saturating_add(offset);
     if address < u64::from(kind.memory_end()) {
         Some(address)
     } else {

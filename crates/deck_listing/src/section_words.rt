@@ -1,35 +1,40 @@
 //! The words of blocks, as lines of the image.
-ghost use Rattle.std.specs.Prelude.{◌≡◌, ◌++◌, ◌∷◌, [], List, OnOk};
+ghost use Rattle.std.specs.Prelude.{◌≡◌, ◌+◌, ◌++◌, List, OnOk};
 ghost use Rattle.definitions.specs.Cards.{Card};
 ghost use Rattle.definitions.specs.Link.{object_words};
 ghost use Rattle.definitions.specs.Objects.{Object};
 ghost use Rattle.deck_assembler.specs.PartsOf.{ArePartsOf};
 ghost use Rattle.deck_listing.specs.Walking.{HasObject};
-ghost use Rattle.deck_listing.specs.ImageWordLines.{block_lines, lines_of, row_words};
+ghost use Rattle.deck_listing.specs.ImageWordLines.{block_lines, lines_of, row_words, span_lines};
 
 use crate::block_words;
 use crate::image_lines::{address_within, push_image_line};
 use deck_assembler::{Linking, ObjectParts};
 use definitions::DeckKind;
-use parcel_packer::BlockWord;
+use parcel_packer::WordSpan;
 use std::alloc::{AllocError, Global};
 use text_ports::Text;
 use use_blocks::{BlockRow, is_common};
 
-/// Appends the line of a word of a block, if it lies within the memory of the deck.
-fn push_word(
+/// Appends the lines of the words of a span of a block, as far as they lie within the memory of the
+/// deck; nothing is done for those beyond it.
+fn push_span(
     text: &mut Text,
     kind: DeckKind,
     base: u64,
     block: u64,
-    word: &BlockWord,
+    span: &WordSpan,
 ) -> Result<(), AllocError>
-    ensures { OnOk result (text.new ≡ text.old ++ block_lines kind base block (word.now ∷ [])) }
+    ensures { OnOk result (text.new ≡ text.old ++ span_lines kind (base + block) span.now.offset span.now.count span.now.value) }
 {
-    match address_within(kind, base, block, word.offset) {
-        Some(address) => push_image_line(text, kind, address, word.value),
-        None => Ok(()),
+    for index in 0..span.count {
+        let offset = u64::from(span.offset) + u64::from(index);
+        match address_within(kind, base, block, offset) {
+            Some(address) => push_image_line(text, kind, address, span.value)?,
+            None => return Ok(()),
+        }
     }
+    Ok(())
 }
 
 /// Appends the lines of the words of a block.
@@ -38,12 +43,12 @@ fn push_words(
     kind: DeckKind,
     base: u64,
     block: u64,
-    words: &[BlockWord],
+    words: &[WordSpan],
 ) -> Result<(), AllocError>
     ensures { OnOk result (text.new ≡ text.old ++ block_lines kind base block words.now) }
 {
-    for word in words {
-        push_word(text, kind, base, block, word)?;
+    for span in words {
+        push_span(text, kind, base, block, span)?;
     }
     Ok(())
 }

@@ -1,10 +1,9 @@
 -- The steps of putting a field into a run.
-use Rattle.std.proofs.Common.{◌≡◌, ℕ, zero, suc, ◌+◌, ◌-◌, ◌*◌, ◌/◌, ◌%◌, ◌^◌, ◌<◌, ◌≤◌, Bool, List, [], ◌∷◌, ◌++◌, length, replicate, refl, sym, ap, subst, ◌∙◌, arith, append_assoc, append-nil}
+use Rattle.std.proofs.Common.{◌≡◌, ℕ, ◌+◌, ◌-◌, ◌*◌, ◌/◌, ◌%◌, ◌^◌, ◌<◌, ◌≤◌, Bool, List, [], ◌∷◌, ◌++◌, refl, sym, ap, subst, ◌∙◌, arith, append_assoc, append-nil}
 use Rattle.std.proofs.Math.Nat.{mod-lt, pow-le-pow_right}
 use Rattle.std.proofs.lemmas.Nat.{pow-add, pow_pos, shr_below, shr_split, shl_whole, mul-add-lt}
-use Rattle.definitions.specs.Words.{Parcel}
-use Rattle.parcel_packer.specs.Packing.{OpenRun, put_bits, parcel_at}
-use Rattle.parcel_packer.specs.Spans.{IsOpen, IsField, IsPut, IsSplit, parcels_in, span_parcels, run_of}
+use Rattle.parcel_packer.specs.Packing.{put_bits, parcel_at}
+use Rattle.parcel_packer.specs.Spans.{IsField, IsPut, IsSplit, parcels_in, span_parcels, run_of}
 use Rattle.parcel_packer.specs.declared.spans.Span.{Span}
 use Rattle.parcel_packer.specs.declared.spans.OpenParcel.{OpenParcel}
 use Rattle.parcel_packer.specs.declared.fields.Field.{Field}

@@ -1,21 +1,20 @@
 -- The words of one run, gathered parcel by parcel.
-use Rattle.std.proofs.Common.{◌≡◌, ◌≢◌, ℕ, zero, suc, ◌+◌, ◌-◌, ◌*◌, ◌/◌, ◌%◌, ◌^◌, ◌<◌, ◌≤◌, Bool, true, false, ◌||◌, nat_eq, List, [], ◌∷◌, ◌++◌, Option, Some, None, get_or, refl, sym, ap, subst, ◌∙◌, arith, ◌⊎◌, inl, inr, append-nil, append_assoc}
-use Rattle.std.specs.Prelude.{if◌then◌else◌, unwrap_or, filter}
+use Rattle.std.proofs.Common.{◌≡◌, ◌≢◌, ℕ, ◌+◌, ◌*◌, ◌/◌, ◌%◌, ◌^◌, ◌<◌, Bool, true, false, ◌||◌, nat_eq, List, [], ◌∷◌, ◌++◌, Option, Some, None, get_or, refl, sym, ap, subst, ◌∙◌, arith, ◌⊎◌, inl, inr, append-nil}
+use Rattle.std.specs.Prelude.{if◌then◌else◌, unwrap_or}
 use Rattle.std.specs.List.{list_any}
 use Rattle.std.proofs.lemmas.Bool.{cases_order}
 use Rattle.std.proofs.lemmas.Bool.Decides.{eqb_tells}
 use Rattle.std.proofs.lemmas.List.Elements.{filter-append}
 use Rattle.std.proofs.lemmas.List.Folds.{list_any-append}
 use Rattle.definitions.specs.Kinds.{units}
-use Rattle.definitions.specs.Words.{Parcel, bits_at, in_word, filling_of, pass, word_of_parcels}
+use Rattle.definitions.specs.Words.{Parcel, bits_at, in_word, filling_of, word_of_parcels}
 use Rattle.definitions.specs.declared.deck_kind.DeckKind.{DeckKind}
 use Rattle.definitions.specs.declared.deck_kind.DeckKind.TheVariants.{Rel, Abs, Periph}
 use Rattle.parcel_packer.specs.Packing.{parcel_at}
-use Rattle.parcel_packer.specs.Spans.{RiseWithin}
-use Rattle.parcel_packer.specs.Filling.{IsFilled, IsGathered, IsOpenWord, found, is_none_there, offsets, or_else, value_in, value_of_parcels, word_made}
-use Rattle.parcel_packer.specs.declared.gathering.BlockWord.{BlockWord}
+use Rattle.parcel_packer.specs.Filling.{DoSpansRise, IsFilled, IsGathered, IsOpenWord, found, is_none_there, or_else, value_in, value_of_parcels, word_made}
+use Rattle.parcel_packer.specs.declared.word_spans.WordSpan.{WordSpan}
 use Rattle.parcel_packer.specs.declared.gathering.OpenWord.{OpenWord}
-use Rattle.parcel_packer.proofs.RiseLaws.{rise-wider, rise-push, rise-append, offsets-append, found-append, found-above, found-here, found-other, or_else-none, none-or_else}
+use Rattle.parcel_packer.proofs.RiseLaws.{spans-wider, spans-push, found-append, found-above, found-here, found-before, found-past, or_else-none, none-or_else}
 
 -- a parcel behind others is seen where they do not cover its place
 bits_at-push : (kind : DeckKind) (filling place : ℕ) (parcels : List Parcel) (parcel : Parcel) →
@@ -95,7 +94,7 @@ in_word-other kind word parcels parcel other = elim (eqb_tells (parcel.place / u
 ]
 
 -- one parcel more in the open word
-pub gathered_more : (kind : DeckKind) (parcels : List Parcel) (words : List BlockWord) (old new : OpenWord) (parcel : Parcel) →
+pub gathered_more : (kind : DeckKind) (parcels : List Parcel) (words : List WordSpan) (old new : OpenWord) (parcel : Parcel) →
     old.word ≡ parcel.place / units kind → new.word ≡ old.word →
     ((held : List Parcel) → IsOpenWord kind old held → IsOpenWord kind new (held ++ parcel ∷ [])) →
     IsGathered kind parcels words old → IsGathered kind (parcels ++ parcel ∷ []) words new
@@ -113,23 +112,24 @@ gathered_more kind parcels words old new parcel at same added h = record {
 -- the word that was made is found at its offset alone
 made-here : (kind : DeckKind) (word : ℕ) (parcels : List Parcel) → found word (word_made kind word parcels) ≡ value_of_parcels kind parcels
 made-here kind word [] = refl
-made-here kind word (parcel ∷ parcels) = found-here word (record { offset = word; value = word_of_parcels kind (parcel ∷ parcels) }) [] refl
+made-here kind word (parcel ∷ parcels) = found-here word (record { offset = word; count = 1; value = word_of_parcels kind (parcel ∷ parcels) }) [] (omega arith) (omega arith)
 
-made-other : (kind : DeckKind) (word offset : ℕ) (parcels : List Parcel) → word ≢ offset → found offset (word_made kind word parcels) ≡ None
+made-other : (kind : DeckKind) (word offset : ℕ) (parcels : List Parcel) → (offset < word) ⊎ (word < offset) → found offset (word_made kind word parcels) ≡ None
 made-other kind word offset [] other = refl
-made-other kind word offset (parcel ∷ parcels) other = found-other offset (record { offset = word; value = word_of_parcels kind (parcel ∷ parcels) }) [] other
+made-other kind word offset (parcel ∷ parcels) (inl before) = found-before offset (record { offset = word; count = 1; value = word_of_parcels kind (parcel ∷ parcels) }) [] (omega arith)
+made-other kind word offset (parcel ∷ parcels) (inr behind) = found-past offset (record { offset = word; count = 1; value = word_of_parcels kind (parcel ∷ parcels) }) [] (omega arith)
 
-made_rise : (kind : DeckKind) (word high : ℕ) (words : List BlockWord) (parcels : List Parcel) → RiseWithin 0 (offsets words) word → word < high →
-    RiseWithin 0 (offsets (words ++ word_made kind word parcels)) high
-made_rise kind word high words [] h k = rw append-nil (rise-wider 0 (offsets words) word high h (omega arith))
-made_rise kind word high words (parcel ∷ parcels) h k = rw offsets-append (rise-push 0 (offsets words) word high h k)
+made_rise : (kind : DeckKind) (word high : ℕ) (spans : List WordSpan) (parcels : List Parcel) → DoSpansRise 0 spans word → word < high →
+    DoSpansRise 0 (spans ++ word_made kind word parcels) high
+made_rise kind word high spans [] h k = rw append-nil (spans-wider 0 spans word high h (omega arith))
+made_rise kind word high spans (parcel ∷ parcels) h k = spans-push 0 spans (record { offset = word; count = 1; value = word_of_parcels kind (parcel ∷ parcels) }) high h (omega arith) (omega arith)
 
 -- once the open word is made, all words are there
-pub ended_rise : (kind : DeckKind) (parcels : List Parcel) (old new : List BlockWord) (next : OpenWord) (high : ℕ) → IsGathered kind parcels old next →
-    new ≡ old ++ word_made kind next.word (in_word kind next.word parcels) → next.word < high → RiseWithin 0 (offsets new) high
+pub ended_rise : (kind : DeckKind) (parcels : List Parcel) (old new : List WordSpan) (next : OpenWord) (high : ℕ) → IsGathered kind parcels old next →
+    new ≡ old ++ word_made kind next.word (in_word kind next.word parcels) → next.word < high → DoSpansRise 0 new high
 ended_rise kind parcels old new next high h e k = rw e (made_rise kind next.word high old (in_word kind next.word parcels) h.rise k)
 
-pub ended_has : (kind : DeckKind) (parcels : List Parcel) (old new : List BlockWord) (next : OpenWord) (offset : ℕ) → IsGathered kind parcels old next →
+pub ended_has : (kind : DeckKind) (parcels : List Parcel) (old new : List WordSpan) (next : OpenWord) (offset : ℕ) → IsGathered kind parcels old next →
     new ≡ old ++ word_made kind next.word (in_word kind next.word parcels) → found offset new ≡ value_in kind parcels offset
 ended_has kind parcels old new next offset h e =
     rw e (found-append offset old (word_made kind next.word held) ∙ by_order (cases_order offset next.word))
@@ -138,15 +138,15 @@ ended_has kind parcels old new next offset h e =
     held = in_word kind next.word parcels
 
     by_order : ((offset ≡ next.word) ⊎ ((offset < next.word) ⊎ (next.word < offset))) → or_else (found offset old) (found offset (word_made kind next.word held)) ≡ value_in kind parcels offset
-    by_order (inr (inl below)) = or_else-none _ _ (made-other kind next.word offset held (λ same. absurd (omega arith))) ∙ h.has offset below
+    by_order (inr (inl below)) = or_else-none _ _ (made-other kind next.word offset held (inl below)) ∙ h.has offset below
     by_order (inl same) = none-or_else _ _ (found-above offset 0 old next.word h.rise (omega arith)) ∙ rw same (made-here kind next.word held)
     by_order (inr (inr above)) =
-        none-or_else _ _ (found-above offset 0 old next.word h.rise (omega arith)) ∙ made-other kind next.word offset held (λ same. absurd (omega arith))
+        none-or_else _ _ (found-above offset 0 old next.word h.rise (omega arith)) ∙ made-other kind next.word offset held (inr above)
         ∙ ap (λ ps. value_of_parcels kind ps) (sym (h.behind offset above))
 
 -- going on to a later word
-pub gathered_on : (kind : DeckKind) (parcels : List Parcel) (old new : List BlockWord) (next later : OpenWord) → IsGathered kind parcels old next →
-    new ≡ old ++ word_made kind next.word (in_word kind next.word parcels) → next.word < later.word → later.word < 2 ^ 32 → IsOpenWord kind later [] → IsGathered kind parcels new later
+pub gathered_on : (kind : DeckKind) (parcels : List Parcel) (old new : List WordSpan) (next later : OpenWord) → IsGathered kind parcels old next →
+    new ≡ old ++ word_made kind next.word (in_word kind next.word parcels) → next.word < later.word → later.word < 2 ^ 20 → IsOpenWord kind later [] → IsGathered kind parcels new later
 gathered_on kind parcels old new next later h e before small none = record {
   small = small;
   rise = ended_rise kind parcels old new next later.word h e before;
@@ -155,10 +155,10 @@ gathered_on kind parcels old new next later h e before small none = record {
   behind = λ offset above. h.behind offset (omega arith);
 }
 
-pub gathered_all : (kind : DeckKind) (parcels : List Parcel) (old new : List BlockWord) (next : OpenWord) → IsGathered kind parcels old next →
+pub gathered_all : (kind : DeckKind) (parcels : List Parcel) (old new : List WordSpan) (next : OpenWord) → IsGathered kind parcels old next →
     new ≡ old ++ word_made kind next.word (in_word kind next.word parcels) → IsFilled (value_in kind parcels) new
 gathered_all kind parcels old new next h e = record {
-  rise = ended_rise kind parcels old new next (2 ^ 32) h e h.small;
+  rise = ended_rise kind parcels old new next (2 ^ 20) h e h.small;
   has = λ offset. ended_has kind parcels old new next offset h e;
 }
 
@@ -167,7 +167,7 @@ pub gathered_none : (kind : DeckKind) (next : OpenWord) → next.word ≡ 0 → 
 gathered_none kind next first h = record { small = omega arith; rise = omega arith; has = λ offset below. refl; holds = h; behind = λ offset above. refl }
 
 pub word_made-some : (kind : DeckKind) (word : ℕ) (parcels : List Parcel) → is_none_there parcels ≡ false →
-    word_made kind word parcels ≡ (let w : BlockWord = record { offset = word; value = word_of_parcels kind parcels } in w) ∷ []
+    word_made kind word parcels ≡ (let w : WordSpan = record { offset = word; count = 1; value = word_of_parcels kind parcels } in w) ∷ []
 word_made-some kind word [] e = cc
 word_made-some kind word (parcel ∷ parcels) e = refl
 
@@ -188,10 +188,10 @@ word_peripheral Abs next parcels filling one h e = absurd (omega arith)
 word_peripheral Periph next parcels filling one h e = omega (arith, filling_is Periph next parcels filling h e 0 (omega arith))
 
 -- nothing is made of no parcels
-pub made_none : (kind : DeckKind) (next : OpenWord) (parcels : List Parcel) (words : List BlockWord) → next.is_empty ≡ true → IsOpenWord kind next parcels → words ≡ words ++ word_made kind next.word parcels
+pub made_none : (kind : DeckKind) (next : OpenWord) (parcels : List Parcel) (words : List WordSpan) → next.is_empty ≡ true → IsOpenWord kind next parcels → words ≡ words ++ word_made kind next.word parcels
 made_none kind next parcels words none h = let e = no_parcels parcels (sym h.empty ∙ none) in rw e (sym (append-nil words))
 
-pub made_one : (kind : DeckKind) (next : OpenWord) (parcels : List Parcel) (old new : List BlockWord) (value : ℕ) → next.is_empty ≡ false → IsOpenWord kind next parcels → value ≡ word_of_parcels kind parcels →
-    new ≡ old ++ (let w : BlockWord = record { offset = next.word; value = value } in w) ∷ [] → new ≡ old ++ word_made kind next.word parcels
+pub made_one : (kind : DeckKind) (next : OpenWord) (parcels : List Parcel) (old new : List WordSpan) (value : ℕ) → next.is_empty ≡ false → IsOpenWord kind next parcels → value ≡ word_of_parcels kind parcels →
+    new ≡ old ++ (let w : WordSpan = record { offset = next.word; count = 1; value = value } in w) ∷ [] → new ≡ old ++ word_made kind next.word parcels
 made_one kind next parcels old new value some h e pushed =
-    pushed ∙ ap (λ v. old ++ (let w : BlockWord = record { offset = next.word; value = v } in w) ∷ []) e ∙ ap (λ ws. old ++ ws) (sym (word_made-some kind next.word parcels (sym h.empty ∙ some)))
+    pushed ∙ ap (λ v. old ++ (let w : WordSpan = record { offset = next.word; count = 1; value = v } in w) ∷ []) e ∙ ap (λ ws. old ++ ws) (sym (word_made-some kind next.word parcels (sym h.empty ∙ some)))

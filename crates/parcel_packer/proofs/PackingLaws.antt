@@ -1,13 +1,10 @@
 -- What putting bits one behind the other comes to: fields join, and whole parcels are a number cut.
-use Rattle.std.proofs.Common.{◌≡◌, ◌≢◌, ℕ, zero, suc, ◌+◌, ◌-◌, ◌*◌, ◌/◌, ◌%◌, ◌^◌, ◌<◌, ◌≤◌, Bool, true, false, nat_eq, List, [], ◌∷◌, ◌++◌, length, replicate, refl, sym, ap, ◌∙◌, cond, arith, add-suc, append_assoc, append-nil, length-append, ◌⊎◌, inl, inr, subst}
-use Rattle.std.specs.Prelude.{if◌then◌else◌}
+use Rattle.std.proofs.Common.{◌≡◌, ℕ, zero, suc, ◌+◌, ◌*◌, ◌/◌, ◌%◌, ◌^◌, ◌<◌, Bool, List, [], ◌∷◌, ◌++◌, length, refl, sym, ap, ◌∙◌, arith, add-suc, append_assoc, append-nil, length-append, inl, inr}
 use Rattle.std.proofs.Math.Nat.{mod-lt, pow-suc as pow-succ}
-use Rattle.std.proofs.lemmas.Nat.{pow-add, pow_pos, shr_below, shr_split}
-use Rattle.std.proofs.lemmas.Bool.Decides.{eqb_tells, nat_tests}
-use Rattle.std.proofs.lemmas.List.{replicate_more}
-use Rattle.definitions.specs.Words.{Parcel, Linking, cut, parcels_from, width_of, joined, content_bits}
-use Rattle.definitions.specs.StatementItems.{Item}
-use Rattle.parcel_packer.specs.Packing.{OpenRun, put_bit, put_bits, put_items, parcel_at, AreFieldsFitting}
+use Rattle.std.proofs.lemmas.Nat.{pow_pos, shr_below, shr_split}
+use Rattle.std.proofs.lemmas.Bool.Decides.{eqb_tells}
+use Rattle.definitions.specs.Words.{Parcel, cut, parcels_from}
+use Rattle.parcel_packer.specs.Packing.{OpenRun, put_bit, put_bits, parcel_at}
 
 -- a number below a power of two is one below half of it and a last bit
 half_below : (n w : ℕ) → n < 2 ^ suc w → n / 2 < 2 ^ w

@@ -1,5 +1,5 @@
 -- The steps of gathering a run, span by span.
-use Rattle.std.proofs.Common.{◌≡◌, ℕ, zero, suc, ◌+◌, ◌-◌, ◌/◌, ◌<◌, ◌≤◌, Bool, List, [], ◌∷◌, ◌++◌, length, take, drop, get_or, replicate, refl, sym, ap, ◌∙◌, subst, arith, append_assoc}
+use Rattle.std.proofs.Common.{◌≡◌, ℕ, ◌+◌, ◌/◌, ◌<◌, ◌≤◌, Bool, List, [], ◌∷◌, ◌++◌, length, take, drop, get_or, replicate, sym, ap, ◌∙◌, subst, append_assoc}
 use Rattle.std.proofs.lemmas.List.{drop_more, take_more, replicate_more, length-replicate}
 use Rattle.definitions.specs.Kinds.{units}
 use Rattle.definitions.specs.Words.{Parcel, parcels_from}
@@ -40,7 +40,7 @@ next_order kind word run index d h stands some =
     span_order kind from.0 s.place s.count s.bits s.is_instruction (parcels_in (drop (index + 1) run)) 524288 word from.1 from.2 some
 
 pub next_stands : (kind : DeckKind) (word after : ℕ) (run : List Span) (index : ℕ) (d : Span) → index < length run → StandsBefore kind word (drop index run) →
-    (0 < (get_or run index d).count → after ≡ ((get_or run index d).place + (get_or run index d).count - 1) / units kind) → ((get_or run index d).count ≡ 0 → after ≡ word) →
+    (0 < (get_or run index d).count → after ≤ ((get_or run index d).place + (get_or run index d).count) / units kind) → ((get_or run index d).count ≡ 0 → after ≡ word) →
     StandsBefore kind after (drop (index + 1) run)
 next_stands kind word after run index d h stands some none =
     let s = get_or run index d in

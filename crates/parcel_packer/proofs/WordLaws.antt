@@ -1,5 +1,5 @@
 -- The block as contracts see it, before and after a put.
-use Rattle.std.proofs.Common.{◌≡◌, ℕ, ◌+◌, ◌*◌, ◌<◌, ◌≤◌, List, [], ◌∷◌, ◌++◌, reverse, refl, sym, ap, subst, ◌∙◌, arith}
+use Rattle.std.proofs.Common.{◌≡◌, ℕ, ◌+◌, ◌*◌, ◌<◌, ◌≤◌, List, [], ◌∷◌, ◌++◌, reverse, sym, ap, subst, ◌∙◌}
 use Rattle.std.specs.Prelude.{Vec, false}
 use Rattle.definitions.specs.Kinds.{units, unit_bits, word_bits}
 use Rattle.definitions.specs.Kinds.{most_words}
@@ -8,7 +8,7 @@ use Rattle.definitions.specs.declared.deck_kind.DeckKind.{DeckKind}
 use Rattle.parcel_packer.specs.Packing.{MayBegin, OpenRun, Packed, empty_run, most_bits, moved, put_bits, runs_in}
 use Rattle.parcel_packer.specs.Spans.{DoRunsRise, IsKept, parcels_in, parcels_in_runs, run_of}
 use Rattle.parcel_packer.specs.Filling.{IsFilled, as_stored, found, latest_value, or_else, value_in}
-use Rattle.parcel_packer.specs.declared.gathering.BlockWord.{BlockWord}
+use Rattle.parcel_packer.specs.declared.word_spans.WordSpan.{WordSpan}
 use Rattle.parcel_packer.specs.declared.spans.Span.{Span}
 use Rattle.parcel_packer.specs.declared.spans.OpenParcel.{OpenParcel}
 use Rattle.parcel_packer.proofs.MergeLaws.{parcels_in_runs-append}
@@ -51,7 +51,7 @@ pub kept_filled : (packed : Packed) (kind : DeckKind) (spans : List Span) (next 
 kept_filled packed kind spans next earlier view h = let P : Packed → Type 0 = λ p. p.run.filled ≡ 0 in subst P (sym view) h
 
 -- what is filled from a block is what the definitions store of its runs
-pub fill_view : {Z : Type 0} (packed : Packed) (kind : DeckKind) (spans seen : List Span) (next : OpenParcel) (runs shown : List (Vec Span Z)) (newer newest older oldest words : List BlockWord) →
+pub fill_view : {Z : Type 0} (packed : Packed) (kind : DeckKind) (spans seen : List Span) (next : OpenParcel) (runs shown : List (Vec Span Z)) (newer newest older oldest words : List WordSpan) →
     block kind (run_of spans next) (reverse (parcels_in_runs runs)) ≡ packed → seen ≡ spans → shown ≡ runs → newest ≡ newer → oldest ≡ older →
     IsFilled (value_in kind (parcels_in seen)) newer → IsFilled (latest_value kind (parcels_in_runs shown)) older → IsFilled (λ offset. or_else (found offset newest) (found offset oldest)) words →
     as_stored words ≡ stored packed.kind (runs_in packed) (words_in packed.kind (runs_in packed))
@@ -59,8 +59,8 @@ fill_view packed kind spans seen next runs shown newer newest older oldest words
     let After : Packed → Type 0 = λ p. as_stored words ≡ stored p.kind (runs_in p) (words_in p.kind (runs_in p)) in
     let Latest : List Span → Type 0 = λ ss. IsFilled (value_in kind (parcels_in ss)) newest in
     let Earlier : List (List Parcel) → Type 0 = λ rs. IsFilled (latest_value kind rs) oldest in
-    let New : List BlockWord → Type 0 = λ ws. IsFilled (value_in kind (parcels_in seen)) ws in
-    let Old : List BlockWord → Type 0 = λ ws. IsFilled (latest_value kind (parcels_in_runs shown)) ws in
+    let New : List WordSpan → Type 0 = λ ws. IsFilled (value_in kind (parcels_in seen)) ws in
+    let Old : List WordSpan → Type 0 = λ ws. IsFilled (latest_value kind (parcels_in_runs shown)) ws in
     subst After view
     (filled_stored kind (parcels_in spans) (parcels_in_runs runs) newest oldest words (subst Latest s (subst New (sym n) latest)) (subst Earlier (ap parcels_in_runs r) (subst Old (sym o) earlier)) both)
 

@@ -1,6 +1,6 @@
 -- What is put into a block, run by run: fields one behind the other, bit by bit, cut into parcels
 -- (COMPASS 60492600, ORG and data generation). A peripheral word is one parcel of 12 bits.
-use Rattle.std.specs.Prelude.{ℕ, zero, suc, ◌≡◌, ◌+◌, ◌*◌, ◌/◌, ◌%◌, ◌^◌, ◌<◌, ◌≤◌, ◌==◌, List, [], ◌∷◌, ◌++◌, Bool, true, false, if◌then◌else◌}
+use Rattle.std.specs.Prelude.{ℕ, zero, suc, ◌≡◌, ◌+◌, ◌*◌, ◌/◌, ◌%◌, ◌^◌, ◌<◌, ◌≤◌, ◌==◌, List, [], ◌∷◌, ◌++◌, Bool, if◌then◌else◌}
 use Rattle.definitions.specs.Kinds.{units, unit_bits}
 use Rattle.definitions.specs.Kinds.{most_words}
 use Rattle.definitions.specs.StatementItems.{Item}

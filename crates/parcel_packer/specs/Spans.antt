@@ -1,5 +1,5 @@
 -- How the code keeps a run: parcels of equal bits one behind the other, as one span (ours).
-use Rattle.std.specs.Prelude.{ℕ, ◌≡◌, ◌+◌, ◌*◌, ◌^◌, ◌<◌, ◌≤◌, List, [], ◌∷◌, ◌++◌, replicate, length, Vec}
+use Rattle.std.specs.Prelude.{ℕ, ◌≡◌, ◌+◌, ◌*◌, ◌^◌, ◌<◌, ◌≤◌, List, [], ◌∷◌, ◌++◌, replicate, Vec}
 use Rattle.definitions.specs.Kinds.{unit_bits}
 use Rattle.definitions.specs.Words.{Parcel, parcels_from}
 use Rattle.definitions.specs.declared.deck_kind.DeckKind.{DeckKind}

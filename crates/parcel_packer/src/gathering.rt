@@ -1,25 +1,19 @@
 //! The words of one run: its parcels gathered word by word.
-ghost use Rattle.std.specs.Prelude.{◌≡◌, ℕ, ◌+◌, ◌-◌, ◌*◌, ◌/◌, ◌%◌, ◌^◌, ◌<◌, ◌≤◌, ◌||◌, List, [], ◌∷◌, ◌++◌, IfOk, OnOk, unwrap_or, slice_index_or, length};
+ghost use Rattle.std.specs.Prelude.{◌≡◌, ℕ, ◌+◌, ◌-◌, ◌*◌, ◌/◌, ◌%◌, ◌^◌, ◌<◌, ◌≤◌, ◌||◌, true, List, [], ◌∷◌, ◌++◌, IfOk, OnOk, unwrap_or, slice_index_or, length};
 ghost use Rattle.definitions.specs.Kinds.{units, unit_bits};
 ghost use Rattle.definitions.specs.Words.{Parcel, filling_of, word_of_parcels};
 ghost use Rattle.definitions.specs.declared.deck_kind.DeckKind.{DeckKind};
 ghost use Rattle.parcel_packer.specs.Packing.{parcel_at};
 ghost use Rattle.parcel_packer.specs.Spans.{RiseWithin, places, parcels_in, span_parcels};
-ghost use Rattle.parcel_packer.specs.Filling.{IsFilled, IsOpenWord, IsGathered, value_in, word_made};
+ghost use Rattle.parcel_packer.specs.Filling.{AreZeroWords, IsFilled, IsOpenWord, IsGathered, value_in, word_made, zero_parcels};
 
 use crate::spans::Span;
+use crate::word_spans::WordSpan;
 use definitions::DeckKind;
 use std::alloc::{AllocError, Global};
 
 /// The pass instruction, which fills the parcels that no item covers.
 const PASS: u16 = 0o46000;
-
-/// A finished word: its offset in the block, in words, and its bits, 60 or in a peripheral deck 12.
-#[derive(Clone, Copy, Debug, PartialEq, Eq)]
-pub struct BlockWord {
-    pub offset: u32,
-    pub value: u64,
-}
 
 /// What lies in the word that is being gathered; a peripheral word has one parcel.
 #[derive(Clone, Copy, Debug)]
@@ -33,7 +27,7 @@ pub(crate) struct OpenWord {
 /// The finished words of a run so far, and the word behind them.
 #[derive(Drop)]
 pub(crate) struct Gathered {
-    pub(crate) words: Vec<BlockWord>,
+    pub(crate) words: Vec<WordSpan>,
     pub(crate) next: OpenWord,
 }
 
@@ -51,6 +45,18 @@ fn either(a: bool, b: bool) -> bool
     ensures { result ≡ (a || b) }
 {
     a || b
+}
+
+/// Whether a span is that of whole words of zeros, one or more.
+fn is_zero_words(kind: DeckKind, span: Span) -> bool
+    ensures { result ≡ true → AreZeroWords kind span }
+{
+    let units = units_of(kind);
+    span.count != 0
+        && span.place % units == 0
+        && span.count % units == 0
+        && span.bits == 0
+        && !span.is_instruction
 }
 
 impl OpenWord {
@@ -141,13 +147,18 @@ impl Gathered {
             return Ok(());
         }
         let value = self.next.value(kind);
-        self.words.push(BlockWord { offset, value })?;
+        self.words.push(WordSpan {
+            offset,
+            count: 1,
+            value,
+        })?;
         Ok(())
     }
 
     /// Goes on to a word at or behind the open one.
     fn go_to(&mut self, kind: DeckKind, word: u32) -> Result<(), AllocError>
-        requires { self.old.next.word ≤ word }
+        requires order { self.old.next.word ≤ word }
+        requires room { word < 2 ^ 20 }
         ensures gathered { OnOk result ((parcels : List Parcel) → IsGathered kind parcels self.old.words.items self.old.next → IsGathered kind parcels self.new.words.items self.new.next) }
         ensures word { OnOk result (self.new.next.word ≡ word) }
     {
@@ -165,7 +176,8 @@ impl Gathered {
         bits: u16,
         is_instruction: bool,
     ) -> Result<(), AllocError>
-        requires { self.old.next.word ≤ place / units kind }
+        requires order { self.old.next.word ≤ place / units kind }
+        requires room { place < 2 ^ 20 }
         ensures gathered { OnOk result ((parcels : List Parcel) → IsGathered kind parcels self.old.words.items self.old.next →
             IsGathered kind (parcels ++ parcel_at is_instruction place bits ∷ []) self.new.words.items self.new.next) }
         ensures word { OnOk result (self.new.next.word ≡ place / units kind) }
@@ -177,9 +189,10 @@ impl Gathered {
         Ok(())
     }
 
-    fn add_span(&mut self, kind: DeckKind, span: Span) -> Result<(), AllocError>
+    /// The parcels of a span, one by one.
+    fn add_parcels(&mut self, kind: DeckKind, span: Span) -> Result<(), AllocError>
         requires order { 0 < span.count → self.old.next.word ≤ span.place / units kind }
-        requires room { 0 < span.count → span.place + span.count < 2 ^ 32 }
+        requires room { 0 < span.count → span.place + span.count ≤ 524288 }
         ensures gathered { OnOk result ((parcels : List Parcel) → IsGathered kind parcels self.old.words.items self.old.next →
             IsGathered kind (parcels ++ span_parcels span) self.new.words.items self.new.next) }
         ensures word { OnOk result (0 < span.count → self.new.next.word ≡ (span.place + span.count - 1) / units kind) }
@@ -191,7 +204,45 @@ impl Gathered {
         Ok(())
     }
 
-    fn finish(mut self, kind: DeckKind) -> Result<Vec<BlockWord>, AllocError>
+    /// So many zero words from the open word on, in which nothing lies.
+    fn add_zeros(&mut self, count: u32) -> Result<(), AllocError>
+        requires empty { self.old.next.is_empty ≡ true }
+        requires some { 0 < count }
+        requires room { self.old.next.word + count ≤ 524288 }
+        ensures gathered { OnOk result ((kind : DeckKind) (parcels : List Parcel) → IsGathered kind parcels self.old.words.items self.old.next →
+            IsGathered kind (parcels ++ zero_parcels kind self.old.next.word count) self.new.words.items self.new.next) }
+        ensures word { OnOk result (self.new.next.word ≡ self.old.next.word + count) }
+    {
+        let offset = self.next.word;
+        self.words.push(WordSpan {
+            offset,
+            count,
+            value: 0,
+        })?;
+        self.next = OpenWord::at(offset + count);
+        Ok(())
+    }
+
+    /// A span more. Whole words of zeros are finished at once, however many they are.
+    fn add_span(&mut self, kind: DeckKind, span: Span) -> Result<(), AllocError>
+        requires order { 0 < span.count → self.old.next.word ≤ span.place / units kind }
+        requires room { 0 < span.count → span.place + span.count ≤ 524288 }
+        ensures gathered { OnOk result ((parcels : List Parcel) → IsGathered kind parcels self.old.words.items self.old.next →
+            IsGathered kind (parcels ++ span_parcels span) self.new.words.items self.new.next) }
+        ensures word { OnOk result (0 < span.count → self.new.next.word ≤ (span.place + span.count) / units kind) }
+        ensures same { OnOk result (span.count ≡ 0 → self.new.next.word ≡ self.old.next.word) }
+    {
+        if !is_zero_words(kind, span) {
+            return self.add_parcels(kind, span);
+        }
+        self.go_to(kind, span.place / units_of(kind))?;
+        if !self.next.is_empty {
+            return self.add_parcels(kind, span);
+        }
+        self.add_zeros(span.count / units_of(kind))
+    }
+
+    fn finish(mut self, kind: DeckKind) -> Result<Vec<WordSpan>, AllocError>
         ensures { IfOk result (λ words. (parcels : List Parcel) → IsGathered kind parcels self.words.items self.next → IsFilled (value_in kind parcels) words.items) }
     {
         self.end_word(kind)?;
@@ -204,7 +255,7 @@ pub(crate) fn run_words(
     alloc: Global,
     kind: DeckKind,
     run: &[Span],
-) -> Result<Vec<BlockWord>, AllocError>
+) -> Result<Vec<WordSpan>, AllocError>
     requires { RiseWithin 0 (places (parcels_in run.now)) 524288 }
     ensures { IfOk result (λ words. IsFilled (value_in kind (parcels_in run.now)) words.items) }
 {

@@ -10,10 +10,13 @@ mod fields;
 mod filling;
 mod gathering;
 mod laws;
+mod merging;
 mod spans;
+mod word_spans;
 mod words;
 
 pub use fields::Field;
-pub use gathering::BlockWord;
 pub use laws::{ends_add, fields_join, runs_follow_statements, statements_fill_parcels};
+pub use merging::words_over;
+pub use word_spans::WordSpan;
 pub use words::Words;

@@ -5,12 +5,14 @@ ghost use Rattle.definitions.specs.Kinds.{most_words};
 ghost use Rattle.definitions.specs.Words.{stored, words_in};
 ghost use Rattle.parcel_packer.specs.Packing.{MayBegin, empty_run, end_bit, most_bits, moved, put_bits, runs_in};
 ghost use Rattle.parcel_packer.specs.Spans.{IsField};
-ghost use Rattle.parcel_packer.specs.Filling.{as_stored};
+ghost use Rattle.parcel_packer.specs.Filling.{DoSpansRise, as_stored};
 
 use crate::fields::{Field, moved_to, parcel_bits, put_field};
-use crate::filling::{merged, runs_words};
-use crate::gathering::{BlockWord, run_words, units_of};
+use crate::filling::runs_words;
+use crate::gathering::{run_words, units_of};
+use crate::merging::merged;
 use crate::spans::{OpenParcel, Span};
+use crate::word_spans::WordSpan;
 use definitions::DeckKind;
 use std::alloc::{AllocError, Global};
 use std::marker::Model;
@@ -149,10 +151,12 @@ impl Words {
 
     /// The words in which something lies, by increasing offset: the sum of what the latest run has
     /// there, and the pass instruction in each parcel that it leaves open in a central word with an
-    /// instruction. Each parcel that was begun is whole.
-    pub fn fill(&self, alloc: Global) -> Result<Vec<BlockWord>, AllocError>
+    /// instruction. Each parcel that was begun is whole. Zeros are one span, however many they are,
+    /// and are never made where a later run lies over them.
+    pub fn fill(&self, alloc: Global) -> Result<Vec<WordSpan>, AllocError>
         requires { self.now.run.filled ≡ 0 }
-        ensures { IfOk result (λ words. as_stored words.items ≡ stored self.now.kind (runs_in self.now) (words_in self.now.kind (runs_in self.now))) }
+        ensures words { IfOk result (λ spans. as_stored spans.items ≡ stored self.now.kind (runs_in self.now) (words_in self.now.kind (runs_in self.now))) }
+        ensures rise { IfOk result (λ spans. DoSpansRise 0 spans.items (2 ^ 20)) }
     {
         let older = runs_words(alloc, self.kind, self.earlier.as_slice())?;
         let newer = run_words(alloc, self.kind, self.run.as_slice())?;

@@ -4,5 +4,5 @@ use Rattle.parcel_packer.specs.Filling.{as_stored}
 use Rattle.deck_linker.specs.Sections.{common_words_text}
 use Rattle.deck_linker.proofs.common_image.push_words.Given as goal
 
-abbrev pub invariant-loop-word : goal.invariant-loop-word
-invariant-loop-word l = l.text ++ common_words_text l.base (as_stored (drop l.word-index l.words)) ≡ l.fn.text ++ common_words_text l.base (as_stored l.words)
+abbrev pub invariant-loop-span : goal.invariant-loop-span
+invariant-loop-span l = l.text ++ common_words_text l.base (as_stored (drop l.span-index l.words)) ≡ l.fn.text ++ common_words_text l.base (as_stored l.words)

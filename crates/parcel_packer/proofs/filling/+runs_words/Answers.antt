@@ -1,7 +1,7 @@
 use Rattle.std.proofs.Common.{arith, rules, List, sym, subst}
 use Rattle.parcel_packer.specs.Spans.{parcels_in_runs}
 use Rattle.parcel_packer.specs.Filling.{IsFilled, latest_value}
-use Rattle.parcel_packer.specs.declared.gathering.BlockWord.{BlockWord}
+use Rattle.parcel_packer.specs.declared.word_spans.WordSpan.{WordSpan}
 use Rattle.parcel_packer.proofs.MergeLaws.{halves_rise, halves_filled, if_ok}
 use Rattle.parcel_packer.proofs.filling.+runs_words.Goals as goal
 
@@ -18,8 +18,8 @@ runs_words-requires-2 t c =
 pub returns : goal.returns
 returns t c =
     let kind = c.args.kind in
-    let Early : List BlockWord → Type 0 = λ words. IsFilled (latest_value kind (parcels_in_runs c.split_at.result.0.now)) words in
-    let Late : List BlockWord → Type 0 = λ words. IsFilled (latest_value kind (parcels_in_runs c.split_at.result.1.now)) words in
+    let Early : List WordSpan → Type 0 = λ words. IsFilled (latest_value kind (parcels_in_runs c.split_at.result.0.now)) words in
+    let Late : List WordSpan → Type 0 = λ words. IsFilled (latest_value kind (parcels_in_runs c.split_at.result.1.now)) words in
     let older = subst Early (sym c.as_slice-3.ensures.value) c.in_ok-older.ensures in
     let newer = subst Late (sym c.as_slice-2.ensures.value) c.in_ok-newer.ensures in
     if_ok c.merged.result _ _

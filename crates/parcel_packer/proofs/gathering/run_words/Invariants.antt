@@ -1,4 +1,4 @@
-use Rattle.std.proofs.Common.{◌≡◌, ℕ, ◌/◌, ◌≤◌, take, drop}
+use Rattle.std.proofs.Common.{ℕ, ◌/◌, ◌≤◌, take, drop}
 use Rattle.definitions.specs.Kinds.{units}
 use Rattle.parcel_packer.specs.Spans.{RiseWithin, places, parcels_in}
 use Rattle.parcel_packer.specs.Filling.{IsGathered}

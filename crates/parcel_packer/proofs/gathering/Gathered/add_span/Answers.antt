@@ -1,20 +1,18 @@
-use Rattle.std.proofs.Common.{arith, ◌≡◌, ◌+◌, ◌-◌, ◌/◌, List, ◌++◌, ap, ◌∙◌, subst, replicate}
-use Rattle.definitions.specs.Kinds.{units}
-use Rattle.definitions.specs.Words.{Parcel, parcels_from}
+use Rattle.std.proofs.Common.{◌++◌, List, refl, subst, sym}
+use Rattle.std.proofs.lemmas.Result.{on_ok_weaker}
+use Rattle.definitions.specs.Words.{Parcel}
 use Rattle.parcel_packer.specs.Filling.{IsGathered}
-use Rattle.parcel_packer.proofs.RunSteps.{span_more}
+use Rattle.parcel_packer.proofs.ZeroLaws.{zeros-span}
 use Rattle.parcel_packer.proofs.gathering.Gathered.add_span.Goals as goal
 
-pub loop-index-preserved : goal.loop-index-preserved
-loop-index-preserved c =
+pub returns-clause-gathered : goal.returns-clause-gathered
+returns-clause-gathered c =
+    let kind = c.args.kind in
     let span = c.args.span in
-    let index = c.loop-index.index in
-    let after = c.add.new.self in
-    let Holds : List Parcel → Type 0 = λ ps. IsGathered c.args.kind ps after.words.items after.next in
-    let one_on : span.place + index ≡ span.place + (index + 1) - 1 = omega arith in
-    record {
-      gathered = λ parcels h. subst Holds (span_more parcels span.is_instruction span.place index span.bits)
-          (c.in_ok-add.ensures.gathered (parcels ++ parcels_from span.is_instruction span.place (replicate index span.bits)) (c.loop-index.invariant.gathered parcels h));
-      word = λ some. c.in_ok-add.ensures.word ∙ ap (λ n. n / units c.args.kind) one_on;
-      same = λ none. absurd (omega arith);
-    }
+    let after = c.add_zeros.new.self in
+    let same = zeros-span kind span c.go_to.new.self.next.word c.units_of.result c.units_of-2.result (c.if-not-is_zero_words.ensures refl) c.units_of.ensures c.units_of-2.ensures c.in_ok-go_to.ensures.word in
+    on_ok_weaker c.add_zeros.result
+    (λ put parcels h.
+    let Holds : List Parcel → Type 0 = λ more. IsGathered kind (parcels ++ more) after.words.items after.next in
+    subst Holds (sym same) (put kind parcels (c.in_ok-go_to.ensures.gathered parcels h)))
+    c.add_zeros.ensures.gathered

@@ -1,8 +1,8 @@
-use Rattle.std.proofs.Common.{◌≡◌, ℕ, ◌+◌, ◌-◌, ◌/◌, ◌<◌, List, ◌++◌, replicate}
+use Rattle.std.proofs.Common.{◌≡◌, ◌+◌, ◌-◌, ◌/◌, ◌<◌, List, ◌++◌, replicate}
 use Rattle.definitions.specs.Kinds.{units}
 use Rattle.definitions.specs.Words.{Parcel, parcels_from}
 use Rattle.parcel_packer.specs.Filling.{IsGathered}
-use Rattle.parcel_packer.proofs.gathering.Gathered.add_span.Given as goal
+use Rattle.parcel_packer.proofs.gathering.Gathered.add_parcels.Given as goal
 
 abbrev pub invariant-loop-index : goal.invariant-loop-index
 invariant-loop-index l = record {
