@@ -1,7 +1,8 @@
 -- The first edit that does not apply is told by the number of cards.
-use Rattle.std.proofs.Common.{ℕ, ◌≡◌, ◌+◌, ◌-◌, ◌≤◌, ◌<◌, Bool, true, false, not, List, [], ◌∷◌, length, drop, get_or, Option, Some, None, refl, sym, ap, ◌∙◌, arith, option_map, nat_le}
+use Rattle.std.specs.Prelude.{remove}
+use Rattle.std.proofs.Common.{ℕ, zero, suc, ◌≡◌, ◌+◌, ◌-◌, ◌≤◌, ◌<◌, Bool, true, false, not, List, [], ◌∷◌, ◌++◌, length, take, drop, get_or, Option, Some, None, refl, sym, ap, ◌∙◌, arith, option_map, nat_le}
 use Rattle.std.proofs.lemmas.Bool.{leb-true, leb-false, and_parts}
-use Rattle.std.proofs.lemmas.List.{length-set, at_drop_more}
+use Rattle.std.proofs.lemmas.List.{length-set, at_drop_more, take-set, take-take, take-append-le, length-take-le}
 use Rattle.std.proofs.lemmas.List.Edits.{length-insert, length-remove}
 use Rattle.definitions.specs.Cards.{Card}
 use Rattle.cards.specs.declared.edits.Edit.{Edit}
@@ -33,6 +34,25 @@ edited-length (Replace place card) cards none = length-set cards (place - 1) car
 edited-length (Remove place) cards none =
     let within = placed (length cards) place (absent _ _ none) in
     let less = length-remove cards (place - 1) (omega arith) in omega arith
+
+-- the cards before the one that an edit is of stay
+front-stays : (n : ℕ) (cards rest : List Card) → n ≤ length cards → take n (take n cards ++ rest) ≡ take n cards
+front-stays n cards rest h = let full = length-take-le n cards h in take-append-le n (take n cards) rest (omega (arith, full)) ∙ take-take n n cards (omega arith)
+
+pub insert-front : (place : ℕ) (card : Card) (cards : List Card) → fault_of (Insert place card) cards ≡ None → take (place - 1) (edited cards (Insert place card)) ≡ take (place - 1) cards
+insert-front place card cards none =
+    let within = placed (length cards + 1) place (first-absent _ _ _ none) in front-stays (place - 1) cards (card ∷ drop (place - 1) cards) (omega arith)
+
+pub replace-front : (place : ℕ) (card : Card) (cards : List Card) → take (place - 1) (edited cards (Replace place card)) ≡ take (place - 1) cards
+replace-front place card cards = take-set cards (place - 1) card
+
+take-removed : (n : ℕ) (cards : List Card) → take n (remove cards n) ≡ take n cards
+take-removed zero cards = refl
+take-removed (suc n) [] = refl
+take-removed (suc n) (card ∷ cards) = ap (λ l. card ∷ l) (take-removed n cards)
+
+pub remove-front : (place : ℕ) (cards : List Card) → take (place - 1) (edited cards (Remove place)) ≡ take (place - 1) cards
+remove-front place cards = take-removed (place - 1) cards
 
 -- what keeps an edit from applying is told by the number of cards
 pub fault-of-count : (edit : Edit) (cards : List Card) → fault_of edit cards ≡ fault_at edit (length cards)

@@ -20,13 +20,8 @@ use Rattle.statement_coder.specs.declared.definitions_made.Defines as code
 use Rattle.statement_coder.specs.declared.definitions_made.Defines.TheVariants as defines
 use Rattle.statement_coder.specs.declared.readings.Reading as readings
 use Rattle.statement_coder.specs.declared.readings.Reading.TheVariants as reading
-use Rattle.deck_assembler.specs.FirstSymbols.{is_known_name, with_symbol, with_externals, with_names, with_defined}
+use Rattle.deck_assembler.specs.FirstSymbols.{is_known_name, with_symbol, with_externals, with_names, with_defined, IsLawfulOperand}
 use Rattle.deck_assembler.proofs.NameTexts.{symbol-known, linked-known}
-
--- names that an operand has are lawful
-abbrev pub IsLawfulOperand : Operand → Type 0
-IsLawfulOperand (NamesOperand names) = AllByRecursion IsLawfulName names
-IsLawfulOperand _ = Unit {0}
 
 pub lawful-shape : (operand : Operand) (read : readings.Reading) → IsReading read operand → IsLawful read → IsLawfulOperand operand
 lawful-shape operand (reading.Names names) h l = subst IsLawfulOperand (sym h) l
@@ -188,16 +183,15 @@ defined-joined v location operand (defines.Symbol form) l h = symbol-joined v lo
 defined-joined v location operand defines.Externals l h = names-joined v operand l
 
 -- the first definitions behind one statement more
-pub defined-step : (kind : DeckKind) (earlier : List Settled) (statement : Statement) (what : code.Defines) (read : readings.Reading) →
+pub defined-step : (kind : DeckKind) (earlier : List Settled) (statement : Statement) (what : code.Defines) →
     let settled = settle kind earlier statement in
     let v : View = λ name. defined name earlier in
-    IsReading read settled.read.operand → IsLawful read →
+    IsLawfulOperand settled.read.operand →
     defined_by v settled.read.fields.location settled.read.operand what ≡ settled.definitions →
     with_defined settled.read.fields.location settled.read.operand what v ≡ (λ name. defined name (settled ∷ earlier))
-defined-step kind earlier statement what read is l e =
+defined-step kind earlier statement what lawful e =
     let settled = settle kind earlier statement in
     let v : View = λ name. defined name earlier in
-    let lawful = lawful-shape settled.read.operand read is l in
     let fresh : AreFresh v settled.definitions = fresh-of v kind settled.read.operation settled.read.operand settled.read.fields.location _ _ lawful in
     defined-joined v settled.read.fields.location settled.read.operand what lawful (subst (AreFresh v) (sym e) fresh)
     ∙ ap (joined v) e

@@ -155,6 +155,10 @@ ending-none cards spans count most few e =
       behind = both.1 ∙ ap (λ rest. reverse (statements_at cards rest)) (sym (drop_all count spans most));
     }
 
+-- so many statements are those up to END
+pub ending-length : (cards : List Card) (spans : List Span) (count : ℕ) → IsEnding cards spans count → length (up_to_end (all_statements cards spans)) ≡ count
+ending-length cards spans count ending = ap length ending.front ∙ length-first cards spans count ending.within
+
 -- where no END stands, all statements are those up to END
 pub few-all : (cards : List Card) (spans : List Span) (count : ℕ) → count ≡ length spans → has_end (first_statements cards spans count) ≡ false → count ≤ length (up_to_end (all_statements cards spans))
 few-all cards spans count n e =

@@ -17,8 +17,8 @@ use Rattle.definitions.specs.declared.deck_kind.DeckKind.{DeckKind}
 use Rattle.definitions.specs.declared.deck_kind.DeckKind.TheVariants.{Rel, Abs, Periph}
 use Rattle.statement_coder.specs.Definitions as made
 use Rattle.statement_coder.specs.Readings.{IsLawfulName}
-use Rattle.deck_assembler.specs.FirstSymbols.{symbol_in, with_symbol, with_names}
-use Rattle.deck_assembler.proofs.DefinitionLaws.{IsLawfulOperand, AreFresh, fresh-of, joined, joined-fresh, or_form-none, is_some-or, external-step, names-joined, symbol-joined}
+use Rattle.deck_assembler.specs.FirstSymbols.{symbol_in, with_symbol, with_names, IsLawfulOperand}
+use Rattle.deck_assembler.proofs.DefinitionLaws.{AreFresh, fresh-of, joined, joined-fresh, or_form-none, is_some-or, external-step, names-joined, symbol-joined}
 use Rattle.deck_assembler.proofs.NameTexts.{linked-known}
 use Rattle.deck_assembler.specs.SharedNames.{with_new, with_new_of, is_ext, AreExternals}
 

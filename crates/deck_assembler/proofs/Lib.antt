@@ -17,6 +17,7 @@ pub mod EndLaws
 pub mod KindLaws
 -- One statement more.
 pub mod SizerSteps
+pub mod HeadLaws
 -- All of a deck.
 pub mod DeckLaws
 -- Known fields as one number.

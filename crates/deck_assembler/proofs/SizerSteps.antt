@@ -1,30 +1,31 @@
 -- One statement more, sized behind those before it.
-use Rattle.std.proofs.Common.{◌≡◌, List, ◌∷◌, sym, ap, ap₂, ◌∙◌, subst}
+use Rattle.std.proofs.Common.{◌≡◌, ℕ, Bool, true, false, List, ◌∷◌, refl, sym, ap, ap₂, ◌∙◌, subst, if◌then◌else◌}
 use Rattle.std.specs.Prelude.{IfSome, reverse}
-use Rattle.definitions.specs.Blocks.{block_in_use}
+use Rattle.definitions.specs.Blocks.{block_in_use, is_accepted, change_of}
 use Rattle.definitions.specs.Cards.{Card}
 use Rattle.definitions.specs.Literals.{operand_literals, with_literals}
-use Rattle.definitions.specs.Operands.{operand_of}
-use Rattle.definitions.specs.Settled.{defined}
-use Rattle.definitions.specs.Settling.{View, number_base_of, settle, settled_all, settled_from}
+use Rattle.definitions.specs.Operands.{Operand, UseName, UseBefore, operand_of}
+use Rattle.definitions.specs.Settled.{BlockChange, NoChange, Opens, defined}
+use Rattle.definitions.specs.Settling.{View, Seen, seen_of, number_base_of, settle, settled_all, settled_from}
 use Rattle.definitions.specs.Statements.{Statement}
 use Rattle.definitions.specs.States.{BlockState, Effect, state_after, seen_from, effect_of, advanced, lengths_advanced, names_of_blocks}
 use Rattle.definitions.specs.declared.deck_kind.DeckKind.{DeckKind}
 use Rattle.definitions.specs.declared.number_base.NumberBase.{NumberBase}
 use Rattle.definitions.proofs.StateSteps.{seen_of-state, state_after-step, lengths_of-step, settled_all-in_use}
 use Rattle.operations.specs.OperationsAs.{operation_as}
-use Rattle.use_blocks.specs.BlockLengths.{block_names}
+use Rattle.use_blocks.specs.Changes.{IsAccepted}
+use Rattle.use_blocks.specs.EffectsAs.{change_as}
 use Rattle.statement_coder.specs.KeptReadings.{IsKeptReading}
-use Rattle.statement_coder.specs.Readings.{IsReading, IsLawful}
+use Rattle.statement_coder.specs.Readings.{IsReading}
 use Rattle.statement_coder.specs.Sizings.{read_as, settled_read, IsSizing}
 use Rattle.statement_coder.specs.StatementsRead.{IsRead}
 use Rattle.statement_coder.specs.declared.readings.Reading as readings
 use Rattle.statement_coder.specs.declared.sizing.Sizing.{Sizing}
 use Rattle.statement_coder.specs.declared.statement.Statement as statements
 use Rattle.statement_coder.proofs.ReadLaws.{settled-sizing}
-use Rattle.deck_assembler.specs.FirstSymbols.{symbol_in, with_defined}
+use Rattle.deck_assembler.specs.FirstSymbols.{with_defined}
 use Rattle.deck_assembler.specs.PieceSteps.{with_statement, sized_newest}
-use Rattle.deck_assembler.specs.Sizers.{stood, ahead, IsNext, AreSized, HaveStates, AreFilledNewest, IsSizer}
+use Rattle.deck_assembler.specs.Sizers.{stood, ahead, IsNext, IsNoted, AreSized, HaveStates, AreFilledNewest, IsSizer}
 use Rattle.deck_assembler.specs.SizedDecks.{IsSizedStatement}
 use Rattle.deck_assembler.specs.declared.sized_statement.SizedStatement.{SizedStatement}
 use Rattle.deck_assembler.specs.declared.sizer.Sizer.{Sizer}
@@ -54,26 +55,21 @@ settled-sized kind earlier given code state view sizing read s v h =
     subst (λ seen. IsSizing (λ name. defined name all) (settled_from kind seen given) sizing) (sym (seen_of-state all)) there
 
 -- what one statement does to all that is kept
-pub record IsStep (kind : DeckKind) (earlier : List Statement) (given : Statement) (r : readings.Reading) (effect : Effect) (sized : SizedStatement) (old new : Sizer) : Type 0 where
-  pub lawful : IsLawful r
-  pub operand : IsReading r (settle kind (settled_all kind earlier) given).read.operand
+pub record IsStep (kind : DeckKind) (earlier : List Statement) (given : Statement) (effect : Effect) (sized : SizedStatement) (old new : Sizer) : Type 0 where
   pub sizing : IsSizing (λ name. defined name (settled_all kind earlier)) (settle kind (settled_all kind earlier) given) sized.sizing
   pub number_base : sized.sizing.number_base ≡ number_base_of (settled_all kind earlier)
   pub operation : (settle kind (settled_all kind earlier) given).read.operation ≡ operation_as sized.operation
   pub label : IfSome sized.label (λ label. label ≡ (settle kind (settled_all kind earlier) given).read.fields.location)
   pub kept : IsKeptReading sized.kept (settle kind (settled_all kind earlier) given).read.operand
   pub made : effect ≡ effect_of kind (settle kind (settled_all kind earlier) given)
-  pub literals : new.literals ≡ with_literals (operand_literals (settle kind (settled_all kind earlier) given).read.operand) old.literals
-  pub symbols : symbol_in new.symbols ≡ with_defined (settle kind (settled_all kind earlier) given).read.fields.location (settle kind (settled_all kind earlier) given).read.operand sized.sizing.defines (symbol_in old.symbols)
-  pub lengths : new.lengths ≡ lengths_advanced (block_in_use old.state.open_names) effect old.lengths
-  pub same_blocks : block_names new.lengths ≡ names_of_blocks (advanced effect old.state).blocks
+  pub noted : IsNoted (settle kind (settled_all kind earlier) given).read.fields.location (settle kind (settled_all kind earlier) given).read.operand sized.sizing.defines effect old new
   pub pieces : reverse new.pieces.items ≡ with_statement old.state sized (reverse old.pieces.items)
   pub state : new.state ≡ advanced effect old.state
 
 -- and that is what the statements make with it
-pub sizer-step : (kind : DeckKind) (cards : List Card) (earlier : List Statement) (given : Statement) (r : readings.Reading) (effect : Effect) (sized : SizedStatement) (old new : Sizer) →
-    IsNext cards earlier sized.cards given → IsSizer kind cards earlier old → IsStep kind earlier given r effect sized old new → IsSizer kind cards (given ∷ earlier) new
-sizer-step kind cards earlier given r effect sized old new next is step =
+pub sizer-step : (kind : DeckKind) (cards : List Card) (earlier : List Statement) (given : Statement) (effect : Effect) (sized : SizedStatement) (old new : Sizer) →
+    IsNext cards earlier sized.cards given → IsSizer kind cards earlier old → IsStep kind earlier given effect sized old new → IsSizer kind cards (given ∷ earlier) new
+sizer-step kind cards earlier given effect sized old new next is step =
     let all = settled_all kind earlier in
     let settled = settle kind all given in
     let in_use = settled_all-in_use kind (given ∷ earlier) in
@@ -92,14 +88,35 @@ sizer-step kind cards earlier given r effect sized old new next is step =
     record {
       state = step.state ∙ ap₂ advanced step.made is.state ∙ sym (state_after-step kind settled all in_use);
       symbols =
-          step.symbols ∙ ap (with_defined settled.read.fields.location settled.read.operand sized.sizing.defines) is.symbols
-          ∙ defined-step kind all given sized.sizing.defines r step.operand step.lawful step.sizing.definitions;
-      literals = step.literals ∙ ap (with_literals (operand_literals settled.read.operand)) is.literals;
+          step.noted.symbols ∙ ap (with_defined settled.read.fields.location settled.read.operand sized.sizing.defines) is.symbols
+          ∙ defined-step kind all given sized.sizing.defines step.noted.lawful step.sizing.definitions;
+      literals = step.noted.literals ∙ ap (with_literals (operand_literals settled.read.operand)) is.literals;
       lengths =
-          step.lengths ∙ (λ i. lengths_advanced (block_in_use (is.state i).open_names) (step.made i) (is.lengths i))
+          step.noted.lengths ∙ (λ i. lengths_advanced (block_in_use (is.state i).open_names) (step.made i) (is.lengths i))
           ∙ sym (lengths_of-step kind settled all in_use);
-      same_blocks = step.same_blocks ∙ ap (λ (state : BlockState). names_of_blocks state.blocks) (sym step.state);
+      same_blocks = step.noted.same_blocks ∙ ap (λ (state : BlockState). names_of_blocks state.blocks) (sym step.state);
       sized = subst (AreSized kind cards (given ∷ earlier)) (sym (ap sized_newest step.pieces ∙ sized-step old.state sized (reverse old.pieces.items))) (here, is.sized);
       states = subst (HaveStates kind (given ∷ earlier)) (sym step.pieces) (states-step kind given earlier old.state sized (reverse old.pieces.items) is.state is.states);
       filled = subst AreFilledNewest (sym step.pieces) (filled-step old.state sized (reverse old.pieces.items) is.filled);
     }
+
+-- the block that a statement opens is accepted
+change-accepted : (operand : Operand) (state : BlockState) → IsAccepted (change_of operand (names_of_blocks state.blocks)) state
+change-accepted (UseName name) state = by (is_accepted name (names_of_blocks state.blocks)) refl
+  where
+    by : (b : Bool) → is_accepted name (names_of_blocks state.blocks) ≡ b → IsAccepted (if b then Opens name else NoChange) state
+    by true e = e
+    by false e = tt
+change-accepted UseBefore state = tt
+change-accepted operand state = tt
+
+-- a statement that was sized behind these has a change that the state behind them accepts
+pub sized-accepted : (kind : DeckKind) (cards : List Card) (earlier : List Statement) (given : Statement) (count : ℕ) (ahead' : List Card) (sized : SizedStatement) (sizer : Sizer) →
+    IsSizer kind cards earlier sizer → IsSizedStatement kind earlier count ahead' sized given → IsAccepted (change_as sized.sizing.change) sizer.state
+sized-accepted kind cards earlier given count ahead' sized sizer is sized_is =
+    let all = settled_all kind earlier in
+    let settled = settle kind all given in
+    let there : IsAccepted (change_of settled.read.operand (names_of_blocks (state_after all).blocks)) (state_after all) = change-accepted settled.read.operand (state_after all) in
+    let named : names_of_blocks (state_after all).blocks ≡ (seen_of all).blocks = ap (λ (seen : Seen). seen.blocks) (sym (seen_of-state all)) in
+    let here : IsAccepted settled.change (state_after all) = subst (λ names. IsAccepted (change_of settled.read.operand names) (state_after all)) named there in
+    subst (λ (both : BlockChange × BlockState). IsAccepted both.0 both.1) (λ i. (sym sized_is.sizing.change i, sym is.state i)) here

@@ -1,13 +1,14 @@
 -- The first definition of each symbol, by the number that its name is.
-use Rattle.std.specs.Prelude.{ℕ, ◌&&◌, nat_lt, nat_eq, Bool, List, [], ◌∷◌, Option, Some, None, if◌then◌else◌}
+use Rattle.std.specs.Prelude.{ℕ, ⊤, ◌&&◌, nat_lt, nat_eq, Bool, List, [], ◌∷◌, Option, Some, None, if◌then◌else◌}
 use Rattle.std.specs.Int.{w64, from_be_bytes}
-use Rattle.std.specs.List.{list_all}
+use Rattle.std.specs.List.{AllByRecursion, list_all}
 use Rattle.std.specs.Map.{lookup}
 use Rattle.definitions.specs.Characters.{same_text}
 use Rattle.definitions.specs.Forms.{Form}
 use Rattle.definitions.specs.Operands.{Operand, NamesOperand}
 use Rattle.definitions.specs.Settled.{or_form}
 use Rattle.definitions.specs.Settling.{View, external}
+use Rattle.statement_coder.specs.Readings.{IsLawfulName}
 use Rattle.statement_coder.specs.declared.definitions_made.Defines as code
 use Rattle.statement_coder.specs.declared.definitions_made.Defines.TheVariants as defines
 use Rattle.deck_assembler.specs.SymbolKeys.{is_name, padded}
@@ -44,3 +45,8 @@ abbrev pub with_defined : List ℕ → Operand → code.Defines → View → Vie
 with_defined location operand defines.Nothing symbols = symbols
 with_defined location operand (defines.Symbol form) symbols = with_symbol location form symbols
 with_defined location operand defines.Externals symbols = with_names operand symbols
+
+-- the names that an operand has are lawful
+abbrev pub IsLawfulOperand : Operand → Type 0
+IsLawfulOperand (NamesOperand names) = AllByRecursion IsLawfulName names
+IsLawfulOperand _ = ⊤

@@ -13,6 +13,7 @@ pub mod SizedDecks
 pub mod LiteralsRead
 pub mod PieceSteps
 pub mod Sizers
+pub mod Heads
 pub mod FirstStatements
 -- The fields of a statement, as a line keeps them.
 pub mod KeptFields

@@ -3,15 +3,18 @@ use Rattle.std.specs.Prelude.{ℕ, ◌≡◌, ⊤, ◌<◌, ◌≤◌, List, [],
 use Rattle.std.specs.List.{AllByRecursion}
 use Rattle.definitions.specs.Cards.{Card}
 use Rattle.definitions.specs.Lengths.{lengths_of}
-use Rattle.definitions.specs.Literals.{literal_words}
+use Rattle.definitions.specs.Blocks.{block_in_use}
+use Rattle.definitions.specs.Literals.{literal_words, operand_literals, with_literals}
+use Rattle.definitions.specs.Operands.{Operand}
 use Rattle.definitions.specs.Settled.{defined}
 use Rattle.definitions.specs.Settling.{settled_all}
 use Rattle.definitions.specs.Statements.{Statement, cards_in}
-use Rattle.definitions.specs.States.{state_after, names_of_blocks}
+use Rattle.definitions.specs.States.{Effect, state_after, advanced, lengths_advanced, names_of_blocks}
 use Rattle.definitions.specs.declared.deck_kind.DeckKind.{DeckKind}
+use Rattle.statement_coder.specs.declared.definitions_made.Defines.{Defines}
 use Rattle.use_blocks.specs.BlockLengths.{block_names}
 use Rattle.deck_assembler.specs.DeckParts.{DeckPiece}
-use Rattle.deck_assembler.specs.FirstSymbols.{symbol_in}
+use Rattle.deck_assembler.specs.FirstSymbols.{symbol_in, with_defined, IsLawfulOperand}
 use Rattle.deck_assembler.specs.PieceSteps.{most_statements, sized_newest}
 use Rattle.deck_assembler.specs.SizedDecks.{IsSizedStatement, IsListedStatement}
 use Rattle.deck_assembler.specs.declared.sized_statement.SizedStatement.{SizedStatement}
@@ -62,3 +65,11 @@ pub record IsSizer (kind : DeckKind) (cards : List Card) (statements : List Stat
   pub sized : AreSized kind cards statements (sized_newest (reverse sizer.pieces.items))
   pub states : HaveStates kind statements (reverse sizer.pieces.items)
   pub filled : AreFilledNewest (reverse sizer.pieces.items)
+
+-- what a statement with this location field and this operand gives is taken in
+pub record IsNoted (location : List ℕ) (operand : Operand) (defines : Defines) (effect : Effect) (old new : Sizer) : Type 0 where
+  pub lawful : IsLawfulOperand operand
+  pub literals : new.literals ≡ with_literals (operand_literals operand) old.literals
+  pub symbols : symbol_in new.symbols ≡ with_defined location operand defines (symbol_in old.symbols)
+  pub lengths : new.lengths ≡ lengths_advanced (block_in_use old.state.open_names) effect old.lengths
+  pub same_blocks : block_names new.lengths ≡ names_of_blocks (advanced effect old.state).blocks

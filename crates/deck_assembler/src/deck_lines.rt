@@ -66,6 +66,7 @@ impl DeckLines {
             has_row (settle whole.deck.kind before given).block whole.rows ≡ true → AreLined whole earlier self.old → AreLined whole (given ∷ earlier) self.new) }
         ensures stood { OnOk result (self.new.stood ≡ min (self.old.stood + sized.now.cards) (2 ^ 64 - 1)) }
         ensures coded { meter.new.coded ≡ min (meter.old.coded + 1) (2 ^ 64 - 1) }
+        ensures rises { meter.old.coded ≤ meter.new.coded }
         ensures sized { meter.new.sized ≡ meter.old.sized }
     {
         let block = block_index(view.bases.rows(), &sized.sizing.block, self.block);

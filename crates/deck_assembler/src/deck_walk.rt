@@ -1,6 +1,7 @@
 //! All statements of a deck, one after the other: their lines and their names.
 ghost use Rattle.std.specs.Prelude.{◌≡◌, ◌≤◌, ◌+◌, ◌∷◌, ◌++◌, [], List, IfOk, OnOk, length};
 ghost use Rattle.definitions.specs.Statements as statements;
+ghost use Rattle.statement_coder.specs.Meters.{RisesBy};
 ghost use Rattle.deck_assembler.specs.DeckParts.{sized_in};
 ghost use Rattle.deck_assembler.specs.declared.sized_statement.SizedStatement as code;
 ghost use Rattle.deck_assembler.specs.Walks.{IsWhole, Whole, whole_of};
@@ -49,6 +50,8 @@ impl Making {
         ensures walked { OnOk result ((known others : List statements.Statement) (left : List code.SizedStatement) → let whole = whole_of view.now known others in
             IsWhole whole → IsWalked whole (sized.now ∷ left) self.old → IsWalked whole left self.new) }
         ensures coded { meter.new.coded ≤ meter.old.coded + 1 }
+        ensures rises { meter.old.coded ≤ meter.new.coded }
+        ensures all { OnOk result (RisesBy 1 meter.old.coded meter.new.coded) }
         ensures sized { meter.new.sized ≡ meter.old.sized }
     {
         let cards = next_cards(view.cards, self.lines.stood, sized.cards);
@@ -70,6 +73,8 @@ impl Making {
         ensures walked { OnOk result ((known others : List statements.Statement) (left : List code.SizedStatement) → let whole = whole_of view.now known others in
             IsWhole whole → IsWalked whole (sized.now ∷ left) self.old → IsWalked whole left self.new) }
         ensures coded { meter.new.coded ≤ meter.old.coded + 1 }
+        ensures rises { meter.old.coded ≤ meter.new.coded }
+        ensures all { OnOk result (RisesBy 1 meter.old.coded meter.new.coded) }
         ensures sized { meter.new.sized ≡ meter.old.sized }
     {
         let kind = view.deck.kind();
@@ -92,6 +97,8 @@ impl Making {
         ensures walked { OnOk result ((known others : List statements.Statement) (left : List code.SizedStatement) → let whole = whole_of view.now known others in
             IsWhole whole → IsWalked whole (piece.now ++ left) self.old → IsWalked whole left self.new) }
         ensures coded { meter.new.coded ≤ meter.old.coded + length piece.now }
+        ensures rises { meter.old.coded ≤ meter.new.coded }
+        ensures all { OnOk result (RisesBy (length piece.now) meter.old.coded meter.new.coded) }
         ensures sized { meter.new.sized ≡ meter.old.sized }
     {
         for sized in piece {
@@ -111,6 +118,8 @@ impl Making {
         ensures walked { OnOk result ((known others : List statements.Statement) → let whole = whole_of view.now known others in
             IsWhole whole → IsWalked whole (sized_in pieces.now) self.old → IsWalked whole [] self.new) }
         ensures coded { meter.new.coded ≤ meter.old.coded + length (sized_in pieces.now) }
+        ensures rises { meter.old.coded ≤ meter.new.coded }
+        ensures all { OnOk result (RisesBy (length (sized_in pieces.now)) meter.old.coded meter.new.coded) }
         ensures sized { meter.new.sized ≡ meter.old.sized }
     {
         for piece in pieces {
@@ -130,8 +139,8 @@ fn list_all(lines: &mut DeckLines, counts: &[u32]) -> Result<(), AllocError>
     Ok(())
 }
 
-/// The lines and the names of a deck. At most the statements up to END are coded, also where memory
-/// runs out.
+/// The lines and the names of a deck. The statements up to END are coded, each once; where memory
+/// runs out, some of them.
 pub(crate) fn walk(
     alloc: Global,
     view: &DeckView<'_>,
@@ -139,6 +148,8 @@ pub(crate) fn walk(
 ) -> Result<Making, AllocError>
     ensures done { IfOk result (λ made. (known others : List statements.Statement) → let whole = whole_of view.now known others in IsWhole whole → IsDone whole made) }
     ensures coded { meter.new.coded ≤ meter.old.coded + length (sized_in view.now.deck.now.pieces) }
+    ensures rises { meter.old.coded ≤ meter.new.coded }
+    ensures all { OnOk result (RisesBy (length (sized_in view.now.deck.now.pieces)) meter.old.coded meter.new.coded) }
     ensures sized { meter.new.sized ≡ meter.old.sized }
 {
     let mut made = Making::new(alloc, view)?;

@@ -33,6 +33,7 @@ mod symbol_key;
 mod symbol_table;
 
 // All statements of a deck, sized.
+mod head;
 mod sized_deck;
 mod sizer;
 mod up_to_end;

@@ -1,5 +1,5 @@
 //! The line of one statement of a deck.
-ghost use Rattle.std.specs.Prelude.{ℕ, ◌≡◌, ◌+◌, ◌-◌, ◌^◌, List, IfOk, min, slice_get};
+ghost use Rattle.std.specs.Prelude.{ℕ, ◌≡◌, ◌≤◌, ◌+◌, ◌-◌, ◌^◌, List, IfOk, min, slice_get};
 ghost use Rattle.definitions.specs.Cards.{Card};
 ghost use Rattle.definitions.specs.Objects.{shown_of};
 ghost use Rattle.definitions.specs.Settling.{settle, settled_all};
@@ -35,6 +35,7 @@ pub(crate) fn statement_line(
         IsShown kind whole.rows items.new.items stood ahead line (shown_of (context_in whole) settled) × IsKept items.old.items items.new.items) }
     ensures cards { IfOk result (λ line. line.cards ≡ sized.now.cards) }
     ensures coded { meter.new.coded ≡ min (meter.old.coded + 1) (2 ^ 64 - 1) }
+    ensures rises { meter.old.coded ≤ meter.new.coded }
     ensures sized { meter.new.sized ≡ meter.old.sized }
 {
     let bases = Unlinked { bases: view.bases };

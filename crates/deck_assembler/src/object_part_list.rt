@@ -1,9 +1,10 @@
 //! The parts of the object of a deck whose statements are sized.
-ghost use Rattle.std.specs.Prelude.{ℕ, ◌≡◌, ◌≤◌, ◌+◌, List, IfOk, length, reverse};
+ghost use Rattle.std.specs.Prelude.{ℕ, ◌≡◌, ◌≤◌, ◌+◌, List, IfOk, OnOk, length, reverse};
 ghost use Rattle.definitions.specs.DeckInput.{Deck};
 ghost use Rattle.definitions.specs.DeckKinds.{up_to_end};
 ghost use Rattle.definitions.specs.Objects.{object_of};
 ghost use Rattle.definitions.specs.Statements.{statements_of};
+ghost use Rattle.statement_coder.specs.Meters.{RisesBy};
 ghost use Rattle.deck_assembler.specs.PartsOf.{ArePartsOf};
 ghost use Rattle.deck_assembler.specs.SizedDecks.{IsSizedDeck};
 
@@ -27,6 +28,8 @@ pub fn object_parts<'a>(
     requires few { length cards.now ≤ 20000 }
     ensures parts { IfOk result (λ parts. (name : List ℕ) → let given : Deck = record { name = name; cards = cards.now } in ArePartsOf cards.now parts (object_of given)) }
     ensures coded { meter.new.coded ≤ meter.old.coded + length (up_to_end (statements_of (reverse cards.now))) }
+    ensures rises { meter.old.coded ≤ meter.new.coded }
+    ensures all { OnOk result (RisesBy (length (up_to_end (statements_of (reverse cards.now)))) meter.old.coded meter.new.coded) }
     ensures sized { meter.new.sized ≡ meter.old.sized }
 {
     let literals = Vec::from_slice(alloc, deck.literals().words())?;

@@ -45,6 +45,14 @@ impl Piece {
         self.statements.as_slice()
     }
 
+    /// Its statements in order, for their own sake.
+    pub(crate) fn into_statements(self) -> Vec<SizedStatement>
+        ensures statements { result.items ≡ self.statements }
+        ensures some { 0 < length self.statements }
+    {
+        self.statements
+    }
+
     /// A piece of one statement behind this state, with memory for all others.
     #[inline(never)]
     fn begin(alloc: Global, state: &BlockState, sized: SizedStatement) -> Result<Piece, AllocError>

@@ -1,14 +1,19 @@
 //! All of a deck: its statements up to END, sized one behind the other.
-ghost use Rattle.std.specs.Prelude.{◌≡◌, ◌≤◌, ◌+◌, length, reverse, IfOk};
-ghost use Rattle.definitions.specs.DeckKinds.{up_to_end};
+ghost use Rattle.std.specs.Prelude.{◌≡◌, ◌≤◌, ◌+◌, true, List, [], All, length, take, reverse, IfOk, OnOk};
+ghost use Rattle.cards.specs.Spans.{IsSpan, statements_at};
+ghost use Rattle.definitions.specs.Cards as deck_cards;
+ghost use Rattle.definitions.specs.DeckKinds.{up_to_end, kind_of_statements};
 ghost use Rattle.definitions.specs.Statements.{statements_of};
+ghost use Rattle.statement_coder.specs.Meters.{RisesBy};
+ghost use Rattle.deck_assembler.specs.Heads.{AreKeptFrom};
 ghost use Rattle.deck_assembler.specs.SizedDecks.{IsSizedDeck};
 
+use crate::head::Head;
 use crate::pieces::Piece;
 use crate::sizer::Sizer;
 use crate::symbol_table::SymbolTable;
 use crate::up_to_end::{card_counts, kind_of};
-use cards::{Card, statements};
+use cards::{Card, Span, statements};
 use definitions::DeckKind;
 use statement_coder::Meter;
 use std::alloc::{AllocError, Global};
@@ -41,22 +46,48 @@ impl SizedDeck {
     pub fn new(alloc: Global, cards: &[Card], meter: &mut Meter) -> Result<SizedDeck, AllocError>
         ensures deck { IfOk result (IsSizedDeck cards.now) }
         ensures sized { meter.new.sized ≤ meter.old.sized + length (up_to_end (statements_of (reverse cards.now))) }
+        ensures rises { meter.old.sized ≤ meter.new.sized }
+        ensures all { OnOk result (RisesBy (length (up_to_end (statements_of (reverse cards.now)))) meter.old.sized meter.new.sized) }
         ensures coded { meter.new.coded ≡ meter.old.coded }
     {
         let list = statements(alloc, cards)?;
-        let spans = list.as_slice();
-        let kind = kind_of(cards, spans);
-        let mut sizer = Sizer::new(alloc)?;
-        let count = sizer.take_up_to_end(alloc, kind, cards, spans, meter)?;
-        let behind = card_counts(alloc, spans.split_at(count).1)?;
-        Ok(SizedDeck {
-            kind,
-            pieces: sizer.pieces,
-            behind,
-            symbols: sizer.symbols,
-            literals: sizer.literals,
-            lengths: sizer.lengths,
-        })
+        let kind = kind_of(cards, list.as_slice());
+        let head = Head::of(alloc, Vec::new(alloc), 0);
+        made(alloc, kind, cards, list.as_slice(), head, meter)
+    }
+
+    /// What these cards make, of which so many are the first ones of the deck that this was made of:
+    /// the statements of these cards stay as they were sized, and the others are sized once. An error
+    /// where memory runs out: then some of them were counted.
+    pub fn edited(
+        self,
+        alloc: Global,
+        cards: &[Card],
+        before: usize,
+        meter: &mut Meter,
+    ) -> Result<SizedDeck, AllocError>
+        requires { (old : List deck_cards.Card) × (IsSizedDeck old self × (take before old ≡ take before cards.now)) }
+        ensures deck { IfOk result (IsSizedDeck cards.now) }
+        ensures sized { meter.new.sized ≤ meter.old.sized + length (up_to_end (statements_of (reverse cards.now))) }
+        ensures rises { meter.old.sized ≤ meter.new.sized }
+        ensures coded { meter.new.coded ≡ meter.old.coded }
+    {
+        let list = statements(alloc, cards)?;
+        let kind = kind_of(cards, list.as_slice());
+        let head = self.into_head(alloc, kind, before);
+        made(alloc, kind, cards, list.as_slice(), head, meter)
+    }
+
+    /// Its statements, of which those of so many cards stay in a deck of this kind, and none in one of
+    /// another kind.
+    fn into_head(self, alloc: Global, kind: DeckKind, before: usize) -> Head
+        ensures { (old cards : List deck_cards.Card) → IsSizedDeck old self → take before old ≡ take before cards → AreKeptFrom kind cards result.before [] 0 result.statements }
+    {
+        if is_same(self.kind, kind) {
+            Head::of(alloc, self.pieces, before)
+        } else {
+            Head::of(alloc, self.pieces, 0)
+        }
     }
 
     pub fn kind(&self) -> DeckKind
@@ -96,4 +127,43 @@ impl SizedDeck {
     {
         &self.lengths
     }
+}
+
+/// Whether two kinds are one.
+fn is_same(first: DeckKind, second: DeckKind) -> bool
+    ensures { result ≡ true → first ≡ second }
+{
+    first == second
+}
+
+/// What these statements make, in a deck of this kind.
+fn made(
+    alloc: Global,
+    kind: DeckKind,
+    cards: &[Card],
+    spans: &[Span],
+    head: Head,
+    meter: &mut Meter,
+) -> Result<SizedDeck, AllocError>
+    requires statements { statements_at cards.now spans.now ≡ reverse (statements_of (reverse cards.now)) }
+    requires spans { All (IsSpan (length cards.now)) spans.now }
+    requires kind { kind ≡ kind_of_statements (up_to_end (statements_of (reverse cards.now))) }
+    requires head { AreKeptFrom kind cards.now head.before [] 0 head.statements }
+    ensures deck { IfOk result (IsSizedDeck cards.now) }
+    ensures sized { meter.new.sized ≤ meter.old.sized + length (up_to_end (statements_of (reverse cards.now))) }
+    ensures rises { meter.old.sized ≤ meter.new.sized }
+    ensures all { OnOk result (head.before ≡ 0 → RisesBy (length (up_to_end (statements_of (reverse cards.now)))) meter.old.sized meter.new.sized) }
+    ensures coded { meter.new.coded ≡ meter.old.coded }
+{
+    let mut sizer = Sizer::new(alloc)?;
+    let count = sizer.take_up_to_end(alloc, kind, cards, spans, head, meter)?;
+    let behind = card_counts(alloc, spans.split_at(count).1)?;
+    Ok(SizedDeck {
+        kind,
+        pieces: sizer.pieces,
+        behind,
+        symbols: sizer.symbols,
+        literals: sizer.literals,
+        lengths: sizer.lengths,
+    })
 }

@@ -1,21 +1,32 @@
 //! The statements of a deck, sized one behind the other.
-ghost use Rattle.std.specs.Prelude.{◌≡◌, ◌≤◌, ◌+◌, ◌-◌, ◌^◌, ◌∷◌, [], List, min, IfOk, OnOk};
+ghost use Rattle.std.specs.Prelude.{◌≡◌, ◌≤◌, ◌+◌, ◌-◌, ◌^◌, ◌∷◌, [], List, min, reverse, IfOk, IfSome, OnOk};
 ghost use Rattle.definitions.specs.Cards as cards;
+ghost use Rattle.definitions.specs.Operands as operands;
+ghost use Rattle.definitions.specs.Operands.{operand_of};
 ghost use Rattle.definitions.specs.Statements as statements;
-ghost use Rattle.definitions.specs.States.{names_of_blocks};
+ghost use Rattle.definitions.specs.States.{names_of_blocks, advanced};
 ghost use Rattle.definitions.specs.declared.deck_kind.DeckKind as kinds;
+ghost use Rattle.operations.specs.OperationsAs.{operation_as};
+ghost use Rattle.statement_coder.specs.KeptReadings.{IsKeptReading};
+ghost use Rattle.statement_coder.specs.Readings.{IsReading, IsLawful};
 ghost use Rattle.statement_coder.specs.StatementsRead.{IsRead};
+ghost use Rattle.use_blocks.specs.Changes.{IsAccepted};
+ghost use Rattle.use_blocks.specs.EffectsAs.{change_as, effect_as};
 ghost use Rattle.use_blocks.specs.BlockLengths.{block_names};
-ghost use Rattle.deck_assembler.specs.Sizers.{IsNext, IsSizer};
+ghost use Rattle.deck_assembler.specs.PieceSteps.{with_statement};
+ghost use Rattle.deck_assembler.specs.SizedDecks.{IsSizedStatement};
+ghost use Rattle.deck_assembler.specs.Sizers.{stood, ahead, IsNext, IsNoted, IsSizer};
 
 use crate::definitions_kept::define;
 use crate::literal_words::add_literals;
 use crate::pieces::{Piece, add_statement};
 use crate::sized_statement::{SizedStatement, label_of};
 use crate::symbol_table::SymbolTable;
-use statement_coder::{Meter, Statement, read_operand, size_reading};
+use statement_coder::{
+    Defines, KeptReading, Meter, Reading, Statement, read_operand, size_reading,
+};
 use std::alloc::{AllocError, Global};
-use use_blocks::{BlockState, Lengths, Literals};
+use use_blocks::{BlockState, Effect, Lengths, Literals};
 
 /// What the first statements of a deck make.
 #[derive(Drop)]
@@ -55,6 +66,7 @@ impl Sizer {
         ensures taken { OnOk result ((kind : kinds.DeckKind) (cards : List cards.Card) (earlier : List statements.Statement) (given : statements.Statement) →
             IsRead kind given.cards statement.now → IsNext cards earlier count given → IsSizer kind cards earlier self.old → IsSizer kind cards (given ∷ earlier) self.new) }
         ensures sized { meter.new.sized ≡ min (meter.old.sized + 1) (2 ^ 64 - 1) }
+        ensures rises { meter.old.sized ≤ meter.new.sized }
         ensures coded { meter.new.coded ≡ meter.old.coded }
     {
         let reading = read_operand(
@@ -65,15 +77,8 @@ impl Sizer {
             statement.variable,
         );
         let sizing = size_reading(statement, &reading, &self.state, &self.symbols, meter);
-        add_literals(&mut self.literals, &reading)?;
-        define(
-            &mut self.symbols,
-            statement.location,
-            &reading,
-            sizing.defines,
-        )?;
         let effect = sizing.effect(statement);
-        self.lengths.follow(&self.state, &effect)?;
+        self.note(&reading, statement.location, sizing.defines, &effect)?;
         let sized = SizedStatement {
             cards: count,
             operation: statement.operation,
@@ -81,8 +86,110 @@ impl Sizer {
             kept: reading.kept(),
             sizing,
         };
-        add_statement(alloc, &mut self.pieces, &self.state, sized)?;
-        self.state.advance(&effect)?;
+        self.put(alloc, sized, &effect)?;
         Ok(())
+    }
+
+    /// Puts a statement behind the others that was sized behind these statements before: nothing of it
+    /// is sized again.
+    pub(crate) fn keep(
+        &mut self,
+        alloc: Global,
+        statement: &Statement<'_>,
+        sized: SizedStatement,
+    ) -> Result<(), AllocError>
+        requires blocks { block_names self.old.lengths ≡ names_of_blocks self.old.state.blocks }
+        requires accepted { IsAccepted (change_as sized.sizing.change) self.old.state }
+        ensures { OnOk result ((kind : kinds.DeckKind) (cards : List cards.Card) (earlier : List statements.Statement) (given : statements.Statement) →
+            IsRead kind given.cards statement.now → IsNext cards earlier sized.cards given → IsSizer kind cards earlier self.old →
+            IsSizedStatement kind earlier (stood earlier) (ahead cards earlier) sized given → IsSizer kind cards (given ∷ earlier) self.new) }
+    {
+        let effect = sized.sizing.effect(statement);
+        self.note_kept(statement, &sized, &effect)?;
+        self.put(alloc, sized, &effect)?;
+        Ok(())
+    }
+
+    /// Puts a statement of this effect behind the others. Where memory runs out it may stand there
+    /// without its effect.
+    fn put(
+        &mut self,
+        alloc: Global,
+        sized: SizedStatement,
+        effect: &Effect,
+    ) -> Result<(), AllocError>
+        requires accepted { IsAccepted (change_as effect.now.change) self.old.state }
+        ensures pieces { OnOk result (reverse self.new.pieces.items ≡ with_statement self.old.state sized (reverse self.old.pieces.items)) }
+        ensures state { OnOk result (self.new.state ≡ advanced (effect_as effect.now) self.old.state) }
+        ensures symbols { self.new.symbols ≡ self.old.symbols }
+        ensures literals { self.new.literals ≡ self.old.literals }
+        ensures lengths { self.new.lengths ≡ self.old.lengths }
+    {
+        add_statement(alloc, &mut self.pieces, &self.state, sized)?;
+        self.state.advance(effect)?;
+        Ok(())
+    }
+
+    /// Takes in the literals of a statement that was sized before, what it defines, and the words that
+    /// it reaches: its operand is read again where it was not kept.
+    fn note_kept(
+        &mut self,
+        statement: &Statement<'_>,
+        sized: &SizedStatement,
+        effect: &Effect,
+    ) -> Result<(), AllocError>
+        requires blocks { block_names self.old.lengths ≡ names_of_blocks self.old.state.blocks }
+        requires accepted { IsAccepted (change_as effect.now.change) self.old.state }
+        ensures noted { OnOk result ((operand : operands.Operand) → IsKeptReading sized.now.kept operand →
+            operand ≡ operand_of statement.now.kind sized.now.sizing.number_base (operation_as statement.now.operation) statement.now.name.now statement.now.variable.now →
+            IsNoted statement.now.location.now operand sized.now.sizing.defines (effect_as effect.now) self.old self.new) }
+        ensures state { self.new.state ≡ self.old.state }
+        ensures pieces { self.new.pieces ≡ self.old.pieces }
+    {
+        let defines = sized.sizing.defines;
+        if let Some(reading) = bare_reading(&sized.kept) {
+            return self.note(&reading, statement.location, defines, effect);
+        }
+        let read = statement.read_operand(sized.sizing.number_base);
+        self.note(&read.reading, statement.location, defines, effect)
+    }
+
+    /// Takes in what a statement gives to its deck: its literals, what it defines, and the words that
+    /// it reaches. Some of it is taken in where memory runs out.
+    fn note(
+        &mut self,
+        reading: &Reading<'_>,
+        location: &[u8],
+        defines: Defines,
+        effect: &Effect,
+    ) -> Result<(), AllocError>
+        requires blocks { block_names self.old.lengths ≡ names_of_blocks self.old.state.blocks }
+        requires accepted { IsAccepted (change_as effect.now.change) self.old.state }
+        requires lawful { IsLawful reading.now }
+        ensures noted { OnOk result ((operand : operands.Operand) → IsReading reading.now operand → IsNoted location.now operand defines (effect_as effect.now) self.old self.new) }
+        ensures state { self.new.state ≡ self.old.state }
+        ensures pieces { self.new.pieces ≡ self.old.pieces }
+    {
+        add_literals(&mut self.literals, reading)?;
+        define(&mut self.symbols, location, reading, defines)?;
+        self.lengths.follow(&self.state, effect)?;
+        Ok(())
+    }
+}
+
+/// What was kept of an operand that is no DATA, if anything was.
+fn bare_reading(kept: &KeptReading) -> Option<Reading<'_>>
+    ensures reading { IfSome result (λ reading. (operand : operands.Operand) → IsKeptReading kept.now operand → IsReading reading operand) }
+    ensures lawful { IfSome result IsLawful }
+{
+    match kept {
+        KeptReading::Data(_) => None,
+        KeptReading::Again => None,
+        KeptReading::Unread => kept.reading(),
+        KeptReading::Bad => kept.reading(),
+        KeptReading::Instruction(_) => kept.reading(),
+        KeptReading::Vfd(_) => kept.reading(),
+        KeptReading::Value(_) => kept.reading(),
+        KeptReading::Use(_) => kept.reading(),
     }
 }

@@ -8,10 +8,17 @@ ghost use Rattle.definitions.specs.Statements as statements;
 ghost use Rattle.definitions.specs.Statements.{AreNumbered};
 ghost use Rattle.definitions.specs.States.{names_of_blocks};
 ghost use Rattle.operations.specs.KindsFound.{kind_found};
+ghost use Rattle.statement_coder.specs.Meters.{RisesBy};
 ghost use Rattle.use_blocks.specs.BlockLengths.{block_names};
+ghost use Rattle.use_blocks.specs.Changes.{IsAccepted};
+ghost use Rattle.use_blocks.specs.EffectsAs.{change_as};
 ghost use Rattle.deck_assembler.specs.FirstStatements.{all_statements, first_statements, IsEnding};
-ghost use Rattle.deck_assembler.specs.Sizers.{IsNext, IsSizer};
+ghost use Rattle.deck_assembler.specs.Heads.{AreKeptFrom, IsReady};
+ghost use Rattle.deck_assembler.specs.SizedDecks.{IsSizedStatement};
+ghost use Rattle.deck_assembler.specs.Sizers.{stood, ahead, IsNext, IsSizer};
 
+use crate::head::Head;
+use crate::sized_statement::SizedStatement;
 use crate::sizer::Sizer;
 use cards::{Card, Span, StatementRoom, fields};
 use definitions::DeckKind;
@@ -61,6 +68,7 @@ impl Sizer {
         ensures taken { OnOk result ((earlier : List statements.Statement) → IsNext cards.now earlier span.count (statement_at cards.now span) → IsSizer kind cards.now earlier self.old →
             IsSizer kind cards.now (statement_at cards.now span ∷ earlier) self.new) }
         ensures sized { meter.new.sized ≡ min (meter.old.sized + 1) (2 ^ 64 - 1) }
+        ensures rises { meter.old.sized ≤ meter.new.sized }
         ensures coded { meter.new.coded ≡ meter.old.coded }
     {
         let statement = Statement::read(kind, span.of(cards), room);
@@ -69,27 +77,86 @@ impl Sizer {
         Ok(ended)
     }
 
-    /// Sizes the statements of these spans up to END, and tells how many they are. Where memory runs
-    /// out some of them are sized.
+    /// The statement of a span, which is the next one, as it was sized; and tells whether it is END.
+    fn keep_span(
+        &mut self,
+        alloc: Global,
+        kind: DeckKind,
+        cards: &[Card],
+        span: Span,
+        room: &mut StatementRoom,
+        sized: SizedStatement,
+    ) -> Result<bool, AllocError>
+        requires blocks { block_names self.old.lengths ≡ names_of_blocks self.old.state.blocks }
+        requires span { IsSpan (length cards.now) span }
+        requires accepted { IsAccepted (change_as sized.sizing.change) self.old.state }
+        ensures end { IfOk result (λ ended. ended ≡ is_end (fields_of (statement_at cards.now span).cards)) }
+        ensures kept { OnOk result ((earlier : List statements.Statement) → IsNext cards.now earlier sized.cards (statement_at cards.now span) → IsSizer kind cards.now earlier self.old →
+            IsSizedStatement kind earlier (stood earlier) (ahead cards.now earlier) sized (statement_at cards.now span) →
+            IsSizer kind cards.now (statement_at cards.now span ∷ earlier) self.new) }
+    {
+        let statement = Statement::read(kind, span.of(cards), room);
+        let ended = is_end(statement.name);
+        self.keep(alloc, &statement, sized)?;
+        Ok(ended)
+    }
+
+    /// The statement of a span, which is the next one: it is kept where it is one of the head, and else
+    /// sized. Tells whether it is END.
+    fn take_next(
+        &mut self,
+        alloc: Global,
+        kind: DeckKind,
+        cards: &[Card],
+        span: Span,
+        head: &mut Head,
+        room: &mut StatementRoom,
+        meter: &mut Meter,
+    ) -> Result<bool, AllocError>
+        requires span { IsSpan (length cards.now) span }
+        requires ready { (earlier : List statements.Statement) × IsReady kind cards.now earlier span self.old head.old }
+        ensures end { IfOk result (λ ended. ended ≡ is_end (fields_of (statement_at cards.now span).cards)) }
+        ensures taken { OnOk result ((earlier : List statements.Statement) → IsReady kind cards.now earlier span self.old head.old →
+            let now = statement_at cards.now span ∷ earlier in
+            IsSizer kind cards.now now self.new × AreKeptFrom kind cards.now head.new.before now (stood now) head.new.statements) }
+        ensures before { head.new.before ≤ head.old.before }
+        ensures sized { meter.new.sized ≤ meter.old.sized + 1 }
+        ensures rises { meter.old.sized ≤ meter.new.sized }
+        ensures all { OnOk result (head.old.before ≡ 0 → meter.new.sized ≡ min (meter.old.sized + 1) (2 ^ 64 - 1)) }
+        ensures coded { meter.new.coded ≡ meter.old.coded }
+    {
+        match head.kept(span) {
+            Some(sized) => self.keep_span(alloc, kind, cards, span, room, sized),
+            None => self.take_span(alloc, kind, cards, span, room, meter),
+        }
+    }
+
+    /// Takes the statements of these spans up to END, and tells how many they are: those of the head
+    /// stay as they are, the others are sized. Where memory runs out some of them are taken.
     pub(crate) fn take_up_to_end(
         &mut self,
         alloc: Global,
         kind: DeckKind,
         cards: &[Card],
         spans: &[Span],
+        head: Head,
         meter: &mut Meter,
     ) -> Result<usize, AllocError>
         requires none { IsSizer kind cards.now [] self.old }
         requires spans { All (IsSpan (length cards.now)) spans.now }
         requires numbered { AreNumbered (all_statements cards.now spans.now) }
+        requires head { AreKeptFrom kind cards.now head.before [] 0 head.statements }
         ensures ended { IfOk result (λ count. IsEnding cards.now spans.now count) }
         ensures taken { IfOk result (λ count. IsSizer kind cards.now (first_statements cards.now spans.now count) self.new) }
         ensures sized { meter.new.sized ≤ meter.old.sized + length (up_to_end (all_statements cards.now spans.now)) }
+        ensures rises { meter.old.sized ≤ meter.new.sized }
+        ensures all { OnOk result (head.before ≡ 0 → RisesBy (length (up_to_end (all_statements cards.now spans.now))) meter.old.sized meter.new.sized) }
         ensures coded { meter.new.coded ≡ meter.old.coded }
     {
+        let mut kept = head;
         let mut room = StatementRoom::new();
         for (k, span) in spans.iter().enumerate() {
-            if self.take_span(alloc, kind, cards, *span, &mut room, meter)? {
+            if self.take_next(alloc, kind, cards, *span, &mut kept, &mut room, meter)? {
                 return Ok(k + 1);
             }
         }

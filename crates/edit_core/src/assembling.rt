@@ -1,7 +1,8 @@
-//! A deck assembled, with all that is kept of it.
-ghost use Rattle.std.specs.Prelude.{◌≡◌, ◌≤◌, ◌+◌, length, reverse, IfOk};
+//! A deck assembled.
+ghost use Rattle.std.specs.Prelude.{◌≡◌, ◌≤◌, ◌+◌, length, reverse, IfOk, OnOk};
 ghost use Rattle.definitions.specs.DeckKinds.{up_to_end};
 ghost use Rattle.definitions.specs.Statements.{statements_of};
+ghost use Rattle.statement_coder.specs.Meters.{RisesBy};
 ghost use Rattle.deck_assembler.specs.SizedDecks.{IsSizedDeck};
 
 use cards::{Card, DeckName};
@@ -9,34 +10,29 @@ use deck_assembler::{Object, SharedObject, SizedDeck, object_parts};
 use statement_coder::Meter;
 use std::alloc::{AllocError, Global};
 
-/// A deck with its sized statements and its object.
-#[derive(Drop)]
-pub(crate) struct Assembly {
-    pub(crate) sized: SizedDeck,
-    pub(crate) object: SharedObject,
-}
-
-/// The deck of a name and its cards, sized and coded.
-pub(crate) fn assembled(
+/// The object of the deck of this name and these cards, whose statements are sized. Each up to END is
+/// coded once.
+pub(crate) fn object_of(
     alloc: Global,
     name: DeckName,
     cards: Vec<Card>,
+    sized: &SizedDeck,
     meter: &mut Meter,
-) -> Result<Assembly, AllocError>
-    requires { length cards.items ≤ 20000 }
-    ensures object { IfOk result (λ deck. deck.object ≡ record { name = name; cards = cards.items }) }
-    ensures deck { IfOk result (λ deck. IsSizedDeck cards.items deck.sized) }
-    ensures sized { meter.new.sized ≤ meter.old.sized + length (up_to_end (statements_of (reverse cards.items))) }
+) -> Result<SharedObject, AllocError>
+    requires few { length cards.items ≤ 20000 }
+    requires deck { IsSizedDeck cards.items sized.now }
+    ensures object { IfOk result (λ object. object ≡ record { name = name; cards = cards.items }) }
+    ensures sized { meter.new.sized ≡ meter.old.sized }
     ensures coded { meter.new.coded ≤ meter.old.coded + length (up_to_end (statements_of (reverse cards.items))) }
+    ensures coded_rises { meter.old.coded ≤ meter.new.coded }
+    ensures coded_all { OnOk result (RisesBy (length (up_to_end (statements_of (reverse cards.items)))) meter.old.coded meter.new.coded) }
 {
-    let sized = SizedDeck::new(alloc, &cards, meter)?;
-    let parts = object_parts(alloc, &cards, &sized, meter)?;
-    let object = SharedObject::new(alloc, Object::new(name, cards, parts))?;
-    Ok(Assembly { sized, object })
+    let parts = object_parts(alloc, &cards, sized, meter)?;
+    SharedObject::new(alloc, Object::new(name, cards, parts))
 }
 
 /// The object of the deck of this name and these cards, of which there are at most 20,000. The meter
-/// counts at most one statement sized, and one coded, for each up to END, also where memory runs out.
+/// counts one statement sized, and one coded, for each up to END; where memory runs out, for some.
 pub fn assemble(
     alloc: Global,
     name: DeckName,
@@ -46,7 +42,12 @@ pub fn assemble(
     requires { length cards.items ≤ 20000 }
     ensures object { IfOk result (λ object. object ≡ record { name = name; cards = cards.items }) }
     ensures sized { meter.new.sized ≤ meter.old.sized + length (up_to_end (statements_of (reverse cards.items))) }
+    ensures sized_rises { meter.old.sized ≤ meter.new.sized }
+    ensures sized_all { OnOk result (RisesBy (length (up_to_end (statements_of (reverse cards.items)))) meter.old.sized meter.new.sized) }
     ensures coded { meter.new.coded ≤ meter.old.coded + length (up_to_end (statements_of (reverse cards.items))) }
+    ensures coded_rises { meter.old.coded ≤ meter.new.coded }
+    ensures coded_all { OnOk result (RisesBy (length (up_to_end (statements_of (reverse cards.items)))) meter.old.coded meter.new.coded) }
 {
-    Ok(assembled(alloc, name, cards, meter)?.object)
+    let sized = SizedDeck::new(alloc, &cards, meter)?;
+    object_of(alloc, name, cards, &sized, meter)
 }

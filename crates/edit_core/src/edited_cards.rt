@@ -1,6 +1,7 @@
 //! Cards with an edit.
-ghost use Rattle.std.specs.Prelude.{◌≡◌, None, IfOk};
+ghost use Rattle.std.specs.Prelude.{◌≡◌, List, None, IfOk, take};
 ghost use Rattle.cards.specs.Edits.{fault_of, edited};
+ghost use Rattle.definitions.specs.Cards as deck_cards;
 
 use cards::{Card, Edit, apply, copied_cards};
 use std::alloc::{AllocError, Global};
@@ -17,4 +18,15 @@ pub(crate) fn edited_cards(
     let mut copies = copied_cards(alloc, cards)?;
     apply(&mut copies, edit)?;
     Ok(copies)
+}
+
+/// How many cards stand before the one that an edit is of: they stay.
+pub(crate) fn cards_before(edit: &Edit) -> usize
+    ensures { (cards : List deck_cards.Card) → fault_of edit.now cards ≡ None → take result (edited cards edit.now) ≡ take result cards }
+{
+    match edit {
+        Edit::Insert { at, card: _ } => at.saturating_sub(1) as usize,
+        Edit::Replace { at, card: _ } => at.saturating_sub(1) as usize,
+        Edit::Remove { at } => at.saturating_sub(1) as usize,
+    }
 }

@@ -17,7 +17,8 @@ pub enum RecordFault {
     OutOfMemory,
 }
 
-pub(crate) fn record_fault(fault: EditFault) -> RecordFault
+/// What keeps a record from an edit that does not apply to its cards.
+pub fn record_fault(fault: EditFault) -> RecordFault
     ensures { result ≡ record_fault fault }
 {
     match fault {

@@ -1,15 +1,17 @@
 //! What is kept of a deck from one edit to the next.
-ghost use Rattle.std.specs.Prelude.{◌≡◌, ◌≤◌, ◌+◌, true, false, length, reverse, None, Err, IfOk, IfErr, ◌↔◌};
+ghost use Rattle.std.specs.Prelude.{◌≡◌, ◌≤◌, ◌+◌, true, false, length, reverse, None, Err, IfOk, IfErr, OnOk, ◌↔◌};
 ghost use Rattle.std.specs.Option.{ForSome};
 ghost use Rattle.definitions.specs.DeckKinds.{up_to_end};
 ghost use Rattle.definitions.specs.Statements.{statements_of};
 ghost use Rattle.cards.specs.Edits.{fault_of, edited};
+ghost use Rattle.statement_coder.specs.Meters.{RisesBy};
+ghost use Rattle.deck_assembler.specs.SizedDecks.{IsSizedDeck};
 ghost use Rattle.edit_core.specs.Edited.{statement_count, IsRecordOf};
 ghost use Rattle.edit_core.specs.Faults.{against};
 ghost use Rattle.edit_core.specs.Records.{ArePieces};
 
-use crate::assembling::assembled;
-use crate::edited_cards::edited_cards;
+use crate::assembling::object_of;
+use crate::edited_cards::{cards_before, edited_cards};
 use crate::faults::{RecordFault, record_fault};
 use crate::piece_counts::piece_counts;
 use cards::{Card, DeckName, Edit, fault_of};
@@ -25,9 +27,9 @@ use std::marker::Model;
 #[derive(Drop)]
 pub struct Kept {
     object: SharedObject,
-    sized: SizedDeck,
+    /// None where the record is spent.
+    sized: Option<SizedDeck>,
     pieces: Vec<u32>,
-    spent: bool,
 }
 
 /// Why a record gives no object.
@@ -40,21 +42,21 @@ pub enum FinishFault {
 }
 
 impl Model for Kept {
-    ghost use Rattle.std.specs.Prelude.{◌≡◌, ◌≤◌, false, length};
+    ghost use Rattle.std.specs.Prelude.{◌≡◌, ◌≤◌, IfSome, is_none, length};
     ghost use Rattle.deck_assembler.specs.SizedDecks.{IsSizedDeck};
     ghost use Rattle.edit_core.specs.Records.{Record, piece_counts};
 
     ghost Value = { Record };
 
-    ghost view = { λ k. record { name = k.object.name; cards = k.object.cards; is_spent = k.spent; pieces = k.pieces.items } };
+    ghost view = { λ k. record { name = k.object.name; cards = k.object.cards; is_spent = is_none k.sized; pieces = k.pieces.items } };
 
-    ghost invariant = { λ k. (length k.object.cards ≤ 20000) × (k.spent ≡ false → IsSizedDeck k.object.cards k.sized × (k.pieces.items ≡ piece_counts k.sized.pieces)) };
+    ghost invariant = { λ k. (length k.object.cards ≤ 20000) × IfSome k.sized (λ deck. IsSizedDeck k.object.cards deck × (k.pieces.items ≡ piece_counts deck.pieces)) };
 }
 
 impl Kept {
     /// The record of the deck of this name and these cards, of which there are at most 20,000. The
-    /// meter counts at most one statement sized, and one coded, for each up to END, also where memory
-    /// runs out.
+    /// meter counts one statement sized, and one coded, for each up to END; where memory runs out, for
+    /// some.
     pub fn new(
         alloc: Global,
         name: DeckName,
@@ -67,41 +69,68 @@ impl Kept {
         ensures unspent { IfOk result (λ kept. kept.is_spent ≡ false) }
         ensures pieces { IfOk result (λ kept. ArePieces (length (up_to_end (statements_of (reverse cards.items)))) kept.pieces) }
         ensures sized { meter.new.sized ≤ meter.old.sized + length (up_to_end (statements_of (reverse cards.items))) }
+        ensures sized_rises { meter.old.sized ≤ meter.new.sized }
+        ensures sized_all { OnOk result (RisesBy (length (up_to_end (statements_of (reverse cards.items)))) meter.old.sized meter.new.sized) }
         ensures coded { meter.new.coded ≤ meter.old.coded + length (up_to_end (statements_of (reverse cards.items))) }
+        ensures coded_rises { meter.old.coded ≤ meter.new.coded }
+        ensures coded_all { OnOk result (RisesBy (length (up_to_end (statements_of (reverse cards.items)))) meter.old.coded meter.new.coded) }
     {
-        let deck = assembled(alloc, name, cards, meter)?;
-        let pieces = piece_counts(alloc, deck.sized.pieces())?;
+        let sized = SizedDeck::new(alloc, &cards, meter)?;
+        Kept::of(alloc, name, cards, sized, meter)
+    }
+
+    /// The record of a deck whose statements are sized: each up to END is coded once.
+    fn of(
+        alloc: Global,
+        name: DeckName,
+        cards: Vec<Card>,
+        sized: SizedDeck,
+        meter: &mut Meter,
+    ) -> Result<Kept, AllocError>
+        requires few { length cards.items ≤ 20000 }
+        requires deck { IsSizedDeck cards.items sized }
+        ensures made { IfOk result (IsRecordOf name cards.items) }
+        ensures sized { meter.new.sized ≡ meter.old.sized }
+        ensures coded { meter.new.coded ≤ meter.old.coded + statement_count cards.items }
+        ensures coded_rises { meter.old.coded ≤ meter.new.coded }
+        ensures coded_all { OnOk result (RisesBy (statement_count cards.items) meter.old.coded meter.new.coded) }
+    {
+        let pieces = piece_counts(alloc, sized.pieces())?;
+        let object = object_of(alloc, name, cards, &sized, meter)?;
         Ok(Kept {
-            object: deck.object,
-            sized: deck.sized,
+            object,
+            sized: Some(sized),
             pieces,
-            spent: false,
         })
     }
 
-    /// Makes an edit: the record is made anew of the edited cards. Where it is spent, or else where the
-    /// edit doesn't apply, it says so and changes nothing; where memory runs out it is spent. The meter
-    /// counts at most one statement sized, and one coded, for each up to END of the edited cards.
+    /// Makes an edit: the statements in front of the edited card stay as they were sized, and the
+    /// others are sized once, unless the kind of the deck changes. Where the record is spent, or else
+    /// where the edit doesn't apply, it says so and changes nothing; where memory runs out it is spent.
+    /// The meter counts at most one statement sized, and one coded, for each up to END of the edited
+    /// cards.
     pub fn edit(&mut self, alloc: Global, edit: &Edit, meter: &mut Meter) -> Result<(), RecordFault>
         ensures refused { ForSome (against edit.now self.old.is_spent self.old.cards) (λ fault. (result ≡ Err fault) × (self.new ≡ self.old) × (meter.new ≡ meter.old)) }
         ensures accepted { against edit.now self.old.is_spent self.old.cards ≡ None → IfErr result (λ fault. fault ≡ RecordFault.OutOfMemory) }
         ensures made { IfOk result (λ _. IsRecordOf self.old.name (edited self.old.cards edit.now) self.new) }
         ensures lost { result ≡ Err RecordFault.OutOfMemory → self.new.is_spent ≡ true }
         ensures sized { meter.new.sized ≤ meter.old.sized + statement_count (edited self.old.cards edit.now) }
+        ensures sized_rises { meter.old.sized ≤ meter.new.sized }
         ensures coded { meter.new.coded ≤ meter.old.coded + statement_count (edited self.old.cards edit.now) }
+        ensures coded_rises { meter.old.coded ≤ meter.new.coded }
     {
         if let Some(fault) = self.fault_against(edit) {
             return Err(fault);
         }
-        match self.remade(alloc, edit, meter) {
+        let Some(sized) = self.sized.take() else {
+            return Err(RecordFault::Spent);
+        };
+        match self.remade(alloc, sized, edit, meter) {
             Ok(made) => {
                 *self = made;
                 Ok(())
             }
-            Err(_) => {
-                self.spent = true;
-                Err(RecordFault::OutOfMemory)
-            }
+            Err(_) => Err(RecordFault::OutOfMemory),
         }
     }
 
@@ -117,15 +146,25 @@ impl Kept {
         }
     }
 
-    /// The record of the edited cards.
-    fn remade(&self, alloc: Global, edit: &Edit, meter: &mut Meter) -> Result<Kept, AllocError>
-        requires { fault_of edit.now self.now.cards ≡ None }
-        ensures made { IfOk result (λ made. IsRecordOf self.now.name (edited self.now.cards edit.now) made) }
+    /// The record of the edited cards; the statements of its own cards are these.
+    fn remade(
+        &self,
+        alloc: Global,
+        sized: SizedDeck,
+        edit: &Edit,
+        meter: &mut Meter,
+    ) -> Result<Kept, AllocError>
+        requires applies { fault_of edit.now self.now.cards ≡ None }
+        requires deck { IsSizedDeck self.now.cards sized }
+        ensures made { IfOk result (IsRecordOf self.now.name (edited self.now.cards edit.now)) }
         ensures sized { meter.new.sized ≤ meter.old.sized + statement_count (edited self.now.cards edit.now) }
+        ensures sized_rises { meter.old.sized ≤ meter.new.sized }
         ensures coded { meter.new.coded ≤ meter.old.coded + statement_count (edited self.now.cards edit.now) }
+        ensures coded_rises { meter.old.coded ≤ meter.new.coded }
     {
         let cards = edited_cards(alloc, self.cards(), edit)?;
-        Kept::new(alloc, self.name().copied(), cards, meter)
+        let sized = sized.edited(alloc, &cards, cards_before(edit), meter)?;
+        Kept::of(alloc, self.name().copied(), cards, sized, meter)
     }
 
     pub fn name(&self) -> &DeckName
@@ -146,7 +185,7 @@ impl Kept {
     pub fn is_spent(&self) -> bool
         ensures { result ≡ self.now.is_spent }
     {
-        self.spent
+        self.sized.is_none()
     }
 
     /// The object of its deck, which is at hand: nothing is sized or coded. `Spent` where the record
@@ -155,7 +194,7 @@ impl Kept {
         ensures object { IfOk result (λ object. object ≡ record { name = self.now.name; cards = self.now.cards }) }
         ensures spent { (result ≡ Err FinishFault.Spent) ↔ (self.now.is_spent ≡ true) }
     {
-        if self.spent {
+        if self.is_spent() {
             return Err(FinishFault::Spent);
         }
         match self.object.share() {

@@ -3,8 +3,8 @@
 //!
 //! `assemble` makes the object of a deck and lets go of the rest; `Kept::new` keeps the sized deck
 //! beside it. `finish` gives the object, which is at hand. `edit` finds the fault of an edit, or
-//! makes the record of the edited cards anew, and is spent where memory runs out on the way: the
-//! counted work is bounded by the whole deck.
+//! makes the record of the edited cards, and is spent where memory runs out on the way: what was
+//! sized in front of the edited card stays, and the counted work is bounded by the whole deck.
 #![tactic(auto)]
 
 mod assembling;
@@ -14,5 +14,5 @@ mod kept;
 mod piece_counts;
 
 pub use assembling::assemble;
-pub use faults::RecordFault;
+pub use faults::{RecordFault, record_fault};
 pub use kept::{FinishFault, Kept};

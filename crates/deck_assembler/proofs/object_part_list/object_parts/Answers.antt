@@ -28,6 +28,14 @@ returns-clause-coded c =
     let coded = c.in_ok-made.ensures.coded in
     omega (arith, counted, turned, coded)
 
+pub returns-clause-all : goal.returns-clause-all
+returns-clause-all c =
+    let all = statements_of (reverse c.args.cards.now) in
+    let deck = c.args.deck.now in
+    let counted = sized-length deck.kind _ 0 c.args.cards.now (sized_in deck.pieces) (reverse (up_to_end all)) deck.behind (reverse (behind_end all)) c.requires.deck.sized in
+    let turned = length-reverse (up_to_end all) in
+    λ room. let coded = c.in_ok-made.ensures.all (omega (arith, room, counted, turned)) in omega (arith, counted, turned, coded)
+
 pub returns-clause-parts : goal.returns-clause-parts
 returns-clause-parts c =
     λ name.

@@ -1,5 +1,6 @@
 use Rattle.std.proofs.Common.{◌≡◌, ◌≤◌, ◌+◌, ◌++◌, List, drop}
 use Rattle.definitions.specs.Statements.{Statement}
+use Rattle.statement_coder.specs.Meters.{RisesBy}
 use Rattle.deck_assembler.specs.declared.sized_statement.SizedStatement as code
 use Rattle.deck_assembler.specs.Walks.{IsWhole, whole_of}
 use Rattle.deck_assembler.specs.DeckWalks.{IsWalked}
@@ -11,5 +12,7 @@ invariant-loop-sized l = record {
   walked : (known others : List Statement) (left : List code.SizedStatement) → IsWhole (whole_of l.view known others) → IsWalked (whole_of l.view known others) (l.piece ++ left) l.fn.self →
       IsWalked (whole_of l.view known others) (drop l.sized-index l.piece ++ left) l.self;
   coded : l.meter.coded ≤ l.fn.meter.coded + l.sized-index;
+  rises : l.fn.meter.coded ≤ l.meter.coded;
+  all : RisesBy l.sized-index l.fn.meter.coded l.meter.coded;
   same : l.meter.sized ≡ l.fn.meter.sized;
 }

@@ -1,12 +1,15 @@
 -- One statement more is a step of all that is kept.
 use Rattle.std.proofs.Common.{◌≡◌, ℕ, List, refl, sym, ap, ◌∙◌, subst}
-use Rattle.std.specs.Prelude.{IfSome}
+use Rattle.std.specs.Prelude.{IfSome, reverse}
 use Rattle.definitions.specs.Operands.{operand_of}
 use Rattle.definitions.specs.Settling.{number_base_of, settle, settled_all}
-use Rattle.definitions.specs.States.{BlockState}
+use Rattle.definitions.specs.States.{BlockState, advanced}
 use Rattle.operations.specs.OperationsAs.{operation_as}
 use Rattle.use_blocks.specs.EffectsAs.{effect_as}
-use Rattle.deck_assembler.specs.FirstSymbols.{symbol_in, with_defined}
+use Rattle.deck_assembler.specs.FirstSymbols.{symbol_in}
+use Rattle.deck_assembler.specs.PieceSteps.{with_statement}
+use Rattle.use_blocks.specs.BlockLengths.{block_names}
+use Rattle.deck_assembler.specs.Sizers.{IsNoted}
 use Rattle.deck_assembler.specs.declared.sized_statement.SizedStatement.{SizedStatement}
 use Rattle.deck_assembler.proofs.SizerSteps.{operand_in, settled-operand, settled-sized, sizer-step}
 use Rattle.deck_assembler.proofs.sizer.Sizer.take.Goals as goal
@@ -27,20 +30,22 @@ returns-clause-taken c = λ kind cards earlier given read next is.
     let is_sizing = settled-sized kind earlier given code old.state (symbol_in old.symbols) sizing read is.state is.symbols
     (c.size_reading-sizing.ensures.sizing given (operand_of code.kind old.state.number_base (operation_as code.operation) code.name.now code.variable.now) (sym read.stray) read_here) in
     let number_base = c.size_reading-sizing.ensures.number_base ∙ ap (λ (state : BlockState). state.number_base) is.state in
-    let located = ap (λ location. with_defined location settled.read.operand sizing.defines (symbol_in old.symbols)) read.location in
-    sizer-step kind cards earlier given r (effect_as c.effect-effect.result) sized old _ next is (record {
-      lawful = c.read_operand-reading.ensures.lawful;
-      operand = operand;
+    let effect = effect_as c.effect-effect.result in
+    let noted = subst (λ (l : List ℕ). IsNoted l settled.read.operand sizing.defines effect old c.note.new.self) read.location (c.in_ok-note.ensures.noted settled.read.operand operand) in
+    sizer-step kind cards earlier given effect sized old c.put.new.self next is (record {
       sizing = is_sizing;
       number_base = number_base;
       operation = sym read.operation;
       label = subst (λ (l : List ℕ). IfSome c.label_of.result (λ label. label ≡ l)) read.location c.label_of.ensures;
       kept = c.kept.ensures.kept settled.read.operand operand;
       made = c.effect-effect.ensures.effect kind given (number_base_of all) _ settled read refl is_sizing;
-      literals = c.in_ok-add_literals.ensures settled.read.operand operand;
-      symbols = c.in_ok-define.ensures settled.read.operand operand ∙ located;
-      lengths = c.in_ok-follow.ensures.advanced;
-      same_blocks = c.in_ok-follow.ensures.same_blocks;
-      pieces = c.in_ok-add_statement.ensures;
-      state = c.in_ok-advance.ensures.advanced;
+      noted = record {
+        lawful = noted.lawful;
+        literals = c.put.ensures.literals ∙ noted.literals;
+        symbols = ap (λ forms. symbol_in forms) c.put.ensures.symbols ∙ noted.symbols;
+        lengths = c.put.ensures.lengths ∙ noted.lengths;
+        same_blocks = ap (λ lengths. block_names lengths) c.put.ensures.lengths ∙ noted.same_blocks;
+      };
+      pieces = c.in_ok-put.ensures.pieces ∙ (λ i. with_statement (c.note.ensures.state i) sized (reverse (c.note.ensures.pieces i).items));
+      state = c.in_ok-put.ensures.state ∙ ap (advanced effect) c.note.ensures.state;
     })

@@ -4,26 +4,32 @@ use Rattle.cards.specs.declared.statement_list.Span.{Span}
 use Rattle.definitions.specs.DeckKinds.{has_end}
 use Rattle.definitions.specs.Statements.{Statement}
 use Rattle.deck_assembler.specs.FirstStatements.{first_statements, IsEnding}
-use Rattle.deck_assembler.specs.Sizers.{IsSizer}
-use Rattle.deck_assembler.proofs.EndLaws.{first-step, next-at, few-sized, ending-here, open-step, ending-none, few-all}
+use Rattle.deck_assembler.specs.Heads.{AreKeptFrom}
+use Rattle.deck_assembler.specs.Sizers.{stood, IsSizer}
+use Rattle.deck_assembler.proofs.EndLaws.{first-step, next-at, few-sized, ending-here, open-step, ending-none, ending-length, few-all}
 use Rattle.deck_assembler.proofs.sizer.Sizer.take_up_to_end.Goals as goal
 
 -- what stands where there is no span
 abbrev other : Span
 other = record { start = 0; count = 0 }
 
-pub returns-in_err-take_span-clause-sized : goal.returns-in_err-take_span-clause-sized
-returns-in_err-take_span-clause-sized c =
+pub returns-in_err-take_next-clause-sized : goal.returns-in_err-take_next-clause-sized
+returns-in_err-take_next-clause-sized c =
     let few = few-sized c.args.cards.now c.args.spans.now c.loop-k.k other c.loop-k-test.true c.loop-k.invariant.open' in
     let sized = c.loop-k.invariant.sized in
-    let more = c.take_span.ensures.sized in
+    let more = c.take_next.ensures.sized in
     omega (arith, few, sized, more)
+
+pub take_next-requires-clause-ready : goal.take_next-requires-clause-ready
+take_next-requires-clause-ready c =
+    let next = next-at c.args.cards.now c.args.spans.now c.loop-k.k other c.loop-k-test.true c.requires.spans c.requires.numbered in
+    (first_statements c.args.cards.now c.args.spans.now c.loop-k.k, record { sizer_is = c.loop-k.invariant.taken; next = next; kept = c.loop-k.invariant.kept })
 
 pub returns-then-branch-clause-ended : goal.returns-then-branch-clause-ended
 returns-then-branch-clause-ended c =
     let one : suc c.loop-k.k ≡ c.loop-k.k + 1 = omega arith in
     subst (IsEnding c.args.cards.now c.args.spans.now) one
-    (ending-here c.args.cards.now c.args.spans.now c.loop-k.k other c.loop-k-test.true c.loop-k.invariant.open' (sym c.in_ok-take_span.ensures.end ∙ c.if-branch.true))
+    (ending-here c.args.cards.now c.args.spans.now c.loop-k.k other c.loop-k-test.true c.loop-k.invariant.open' (sym c.in_ok-take_next.ensures.end ∙ c.if-branch.true))
 
 pub returns-then-branch-clause-taken : goal.returns-then-branch-clause-taken
 returns-then-branch-clause-taken c =
@@ -31,15 +37,25 @@ returns-then-branch-clause-taken c =
     let spans = c.args.spans.now in
     let one : suc c.loop-k.k ≡ c.loop-k.k + 1 = omega arith in
     let step = sym (first-step cards spans c.loop-k.k other c.loop-k-test.true) ∙ ap (first_statements cards spans) one in
-    subst (λ (statements : List Statement). IsSizer c.args.kind cards statements c.take_span.new.self) step
-    (c.in_ok-take_span.ensures.taken (first_statements cards spans c.loop-k.k) (next-at cards spans c.loop-k.k other c.loop-k-test.true c.requires.spans c.requires.numbered) c.loop-k.invariant.taken)
+    let next = next-at cards spans c.loop-k.k other c.loop-k-test.true c.requires.spans c.requires.numbered in
+    subst (λ (statements : List Statement). IsSizer c.args.kind cards statements c.take_next.new.self) step
+    (c.in_ok-take_next.ensures.taken (first_statements cards spans c.loop-k.k) (record { sizer_is = c.loop-k.invariant.taken; next = next; kept = c.loop-k.invariant.kept })).0
 
 pub returns-then-branch-clause-sized : goal.returns-then-branch-clause-sized
 returns-then-branch-clause-sized c =
     let few = few-sized c.args.cards.now c.args.spans.now c.loop-k.k other c.loop-k-test.true c.loop-k.invariant.open' in
     let sized = c.loop-k.invariant.sized in
-    let more = c.in_ok-take_span.ensures.sized in
+    let more = c.in_ok-take_next.ensures.sized in
     omega (arith, few, sized, more)
+
+pub returns-then-branch-clause-all : goal.returns-then-branch-clause-all
+returns-then-branch-clause-all c =
+    let counted = ending-length c.args.cards.now c.args.spans.now (c.loop-k.k + 1) (returns-then-branch-clause-ended c) in
+    λ none room.
+    let all = c.loop-k.invariant.all none (omega (arith, room, counted)) in
+    let few = c.loop-k.invariant.few in
+    let more = c.in_ok-take_next.ensures.all (omega (arith, none, few)) in
+    omega (arith, room, counted, all, more)
 
 pub loop-k-preserved : goal.loop-k-preserved
 loop-k-preserved c =
@@ -48,14 +64,23 @@ loop-k-preserved c =
     let one : suc c.loop-k.k ≡ c.loop-k.k + 1 = omega arith in
     let step = sym (first-step cards spans c.loop-k.k other c.loop-k-test.true) ∙ ap (first_statements cards spans) one in
     let so_far = c.loop-k.invariant.sized in
-    let more = c.in_ok-take_span.ensures.sized in
+    let more = c.in_ok-take_next.ensures.sized in
+    let next = next-at cards spans c.loop-k.k other c.loop-k-test.true c.requires.spans c.requires.numbered in
+    let both = c.in_ok-take_next.ensures.taken (first_statements cards spans c.loop-k.k) (record { sizer_is = c.loop-k.invariant.taken; next = next; kept = c.loop-k.invariant.kept }) in
     record {
-      taken = subst (λ (statements : List Statement). IsSizer c.args.kind cards statements c.take_span.new.self) step
-          (c.in_ok-take_span.ensures.taken (first_statements cards spans c.loop-k.k) (next-at cards spans c.loop-k.k other c.loop-k-test.true c.requires.spans c.requires.numbered) c.loop-k.invariant.taken);
+      taken = subst (λ (statements : List Statement). IsSizer c.args.kind cards statements c.take_next.new.self) step both.0;
+      kept = subst (λ (statements : List Statement). AreKeptFrom c.args.kind cards c.take_next.new.head.before statements (stood statements) c.take_next.new.head.statements) step both.1;
       open' = ap (λ n. has_end (first_statements cards spans n)) (sym one)
-          ∙ open-step cards spans c.loop-k.k other c.loop-k-test.true c.loop-k.invariant.open' (sym c.in_ok-take_span.ensures.end ∙ c.if-branch.false);
+          ∙ open-step cards spans c.loop-k.k other c.loop-k-test.true c.loop-k.invariant.open' (sym c.in_ok-take_next.ensures.end ∙ c.if-branch.false);
       sized = omega (arith, so_far, more);
-      coded = c.in_ok-take_span.ensures.coded ∙ c.loop-k.invariant.coded;
+      rises = let rises = c.loop-k.invariant.rises in let here = c.in_ok-take_next.ensures.rises in omega (arith, rises, here);
+      few = let few = c.loop-k.invariant.few in let here = c.in_ok-take_next.ensures.before in omega (arith, few, here);
+      all = λ none room.
+          let all = c.loop-k.invariant.all none (omega (arith, room)) in
+          let few = c.loop-k.invariant.few in
+          let here = c.in_ok-take_next.ensures.all (omega (arith, none, few)) in
+          omega (arith, room, all, here);
+      coded = c.in_ok-take_next.ensures.coded ∙ c.loop-k.invariant.coded;
     }
 
 pub returns-clause-ended : goal.returns-clause-ended
@@ -70,3 +95,10 @@ returns-clause-sized c =
     let few = few-all c.args.cards.now c.args.spans.now c.loop-k.k n c.loop-k.invariant.open' in
     let sized = c.loop-k.invariant.sized in
     omega (arith, few, sized)
+
+pub returns-clause-all : goal.returns-clause-all
+returns-clause-all c =
+    let spans = c.args.spans.now in
+    let n : c.loop-k.k ≡ length spans = omega (arith, c.loop-k.auto.k-end, c.loop-k-test.false) in
+    let counted = ending-length c.args.cards.now spans (length spans) (returns-clause-ended c) in
+    λ none room. let all = c.loop-k.invariant.all none (omega (arith, room, counted, n)) in omega (arith, counted, all, n)

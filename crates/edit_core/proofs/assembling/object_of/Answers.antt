@@ -3,9 +3,9 @@ use Rattle.definitions.specs.Cards.{Card}
 use Rattle.definitions.specs.DeckInput.{Deck}
 use Rattle.definitions.specs.Objects.{object_of}
 use Rattle.deck_assembler.specs.PartsOf.{ArePartsOf}
-use Rattle.edit_core.proofs.assembling.assembled.Goals as goal
+use Rattle.edit_core.proofs.assembling.object_of.Goals as goal
 
-pub new-requires-2 : goal.new-requires-2
-new-requires-2 c =
+pub new-requires : goal.new-requires
+new-requires c =
     subst (λ (cards : List Card). let deck : Deck = record { name = c.args.name; cards = cards } in ArePartsOf cards c.in_ok-parts.parts (object_of deck))
-    c.deref-2.ensures.value (c.in_ok-parts.ensures.parts c.args.name)
+    c.deref.ensures.value (c.in_ok-parts.ensures.parts c.args.name)

@@ -1,0 +1,25 @@
+-- What is kept of a deck is what its cards make.
+use Rattle.std.proofs.Common.{◌∙◌, All, List, length, sym, ap, subst}
+use Rattle.cards.specs.Spans.{IsSpan}
+use Rattle.definitions.specs.DeckKinds.{up_to_end, kind_of_statements}
+use Rattle.definitions.specs.Statements.{Statement}
+use Rattle.deck_assembler.proofs.DeckLaws.{all-statements, all-numbered, all-behind, deck-made, counts_of}
+use Rattle.deck_assembler.proofs.sized_deck.made.Goals as goal
+
+pub take_up_to_end-requires-clause-numbered : goal.take_up_to_end-requires-clause-numbered
+take_up_to_end-requires-clause-numbered c = all-numbered c.args.cards.now c.args.spans.now c.requires.statements
+
+pub card_counts-requires : goal.card_counts-requires
+card_counts-requires c =
+    let spans = c.args.spans.now in
+    let cards = length c.args.cards.now in
+    (cards, subst (All (IsSpan cards)) (sym c.split_at.ensures.back) (all-behind cards c.in_ok-count.count spans c.requires.spans))
+
+pub returns-clause-deck : goal.returns-clause-deck
+returns-clause-deck c =
+    let cards = c.args.cards.now in
+    let spans = c.args.spans.now in
+    let kind = c.requires.kind ∙ ap (λ (l : List Statement). kind_of_statements (up_to_end l)) (sym (all-statements cards spans c.requires.statements)) in
+    deck-made cards spans c.in_ok-count.count c.args.kind c.take_up_to_end.new.self c.in_ok-behind.behind.items
+    c.requires.statements c.requires.spans kind c.in_ok-count.ensures.ended c.in_ok-count.ensures.taken
+    (c.in_ok-behind.ensures ∙ ap counts_of c.split_at.ensures.back)
