@@ -1,12 +1,12 @@
 -- A desk that settling leaves idle.
-use Rattle.std.proofs.Common.{◌≡◌, ℕ, ◌≤◌, List, [], ◌∷◌, ◌++◌, take, length, Option, Some, None, option_map, refl, sym, ap, ◌∙◌, subst}
+use Rattle.std.proofs.Common.{◌≡◌, ℕ, List, [], ◌∷◌, ◌++◌, take, Option, Some, None, option_map, sym, ap, ◌∙◌, subst}
 use Rattle.std.proofs.Math.Seq.{take-length}
 use Rattle.definitions.specs.Build.{listing_of, image_of}
 use Rattle.turn_office.specs.Histories.{Leads, entry}
 use Rattle.desk_core.specs.Desks.{Desk, Publication, decks_of}
 use Rattle.desk_core.specs.Changes.{Change, decks_after}
 use Rattle.desk_core.specs.Steps.{Steps}
-use Rattle.desk_core.specs.Runs.{History, Runs, changes_in, IsPublishedAt}
+use Rattle.desk_core.specs.Runs.{History, Runs, changes_in}
 use Rattle.desk_core.specs.declared.replies.Reply.TheVariants as reply
 use Rattle.desk_core.proofs.Outcomes.{Outcome, by_staying, by_changing, by_publishing}
 use Rattle.desk_core.proofs.Publishing.{step_comes}

@@ -2,3 +2,4 @@ pub mod Seen
 pub mod Turns
 pub mod Unchanged
 pub mod IdleDesk
+pub mod FirstFaults

@@ -1,7 +1,6 @@
 -- What a seat has seen after its calls.
-use Rattle.std.proofs.Common.{◌≡◌, ℕ, ◌==◌, Bool, cond, List, [], ◌∷◌, ◌++◌, All, refl, sym, ap, ◌∙◌, subst, append_assoc, append-nil, eq-eqb}
+use Rattle.std.proofs.Common.{◌≡◌, ℕ, ◌==◌, Bool, cond, [], ◌∷◌, ◌++◌, refl, sym, ap, ◌∙◌, subst, append_assoc, append-nil, eq-eqb}
 use Rattle.std.proofs.lemmas.List.Elements.{All-nil, All-push, filter-append}
-use mathlib.Core.List.{IsPrefix}
 use Rattle.turn_office.specs.declared.history.Entry.{Entry}
 use Rattle.turn_office.specs.Histories.{Answers, entry, entries_by}
 use Rattle.desk_core.specs.declared.calls.Call.{Call}
@@ -11,7 +10,7 @@ use Rattle.desk_core.specs.Desks.{Desk}
 use Rattle.desk_core.specs.Steps.{Steps}
 use Rattle.desk_core.specs.Runs.{History}
 use Rattle.deck_workers.specs.declared.made.Made.{Made}
-use Rattle.deck_workers.specs.Rounds.{Round, Working, IsRound, call_of, entries_of, entries_in}
+use Rattle.deck_workers.specs.Rounds.{Working, IsRound, call_of, entries_of, entries_in}
 use Rattle.deck_workers.proofs.Turns.{entries-more}
 use Rattle.deck_workers.specs.Working.{Calls, MakesRound, Works}
 

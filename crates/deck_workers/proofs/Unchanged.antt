@@ -1,5 +1,5 @@
 -- Claims, deliveries and leases given up change no card and no version.
-use Rattle.std.proofs.Common.{◌≡◌, ℕ, List, [], ◌∷◌, ◌++◌, Some, None, refl, sym, ap, ◌∙◌, append_assoc, subst}
+use Rattle.std.proofs.Common.{◌≡◌, ℕ, List, [], ◌∷◌, ◌++◌, None, refl, sym, ap, ◌∙◌, subst}
 use Rattle.turn_office.specs.Histories.{Leads}
 use Rattle.desk_core.specs.Desks.{Desk, decks_of}
 use Rattle.deck_workers.specs.Language.{Call, Claim, Reply}

@@ -1,6 +1,8 @@
 -- What a job gives (ours): a function of the job, and one free choice.
-use Rattle.std.specs.Prelude.{◌≡◌, ◌⊎◌, ℕ, ◌+◌, Bool, true, false, List, [], ◌∷◌, Option, Some, None}
+use Rattle.std.specs.Prelude.{◌≡◌, ◌⊎◌, ℕ, ◌+◌, ◌^◌, ◌<◌, ◌≤◌, Bool, true, false, List, [], ◌∷◌, Option, Some, None}
 use Rattle.std.specs.Option.{option_or}
+use Rattle.statement_coder.specs.Meters.{CountsAtMost}
+use Rattle.statement_coder.specs.declared.meter.Meter.{Meter}
 use Rattle.deck_workers.specs.Language.{Card, Deck, Edit, edited, edited_by, statement_count, against, RecordFault, OutOfMemory, Done, DeckWork, LinkWork, Start, FromRecord, FromCards}
 use Rattle.deck_workers.specs.declared.jobs.Job.{Job}
 use Rattle.deck_workers.specs.declared.jobs.Job.TheVariants as job
@@ -11,6 +13,11 @@ use Rattle.deck_workers.specs.declared.made.Made.TheVariants as made
 abbrev pub start_deck : List ℕ → Start → Deck
 start_deck name (FromRecord kept) = kept.deck
 start_deck name (FromCards cards) = record { name = name; cards = cards }
+
+-- the cards of a job's start
+abbrev pub start_cards : Start → List Card
+start_cards (FromRecord kept) = kept.deck.cards
+start_cards (FromCards cards) = cards
 
 -- the deck that a job begins with
 abbrev pub begun_deck : DeckWork → Deck
@@ -36,15 +43,15 @@ done_unless work (Some fault) = made.Lost work.lease fault
 
 -- what a deck job gives, where memory is found: it is lost with an edit that does not apply
 abbrev pub deck_made : DeckWork → Made
-deck_made work = done_unless work (edits_fault work.edits (begun_deck work).cards)
+deck_made work = done_unless work (edits_fault work.edits (start_cards work.start))
 
 -- what a link job gives, where memory is found: its objects under its version
 abbrev pub link_made : LinkWork → Made
 link_made work = made.Link work.lease (record { version = work.version; decks = work.objects })
 
--- what a job gives; or it is lost for want of memory
+-- what a job gives; or it is lost for want of memory, where all its edits apply
 abbrev pub MayMakeDeck : DeckWork → Made → Type 0
-MayMakeDeck work result = (result ≡ deck_made work) ⊎ (result ≡ made.Lost work.lease OutOfMemory)
+MayMakeDeck work result = (result ≡ deck_made work) ⊎ ((result ≡ made.Lost work.lease OutOfMemory) × (edits_fault work.edits (start_cards work.start) ≡ None))
 
 abbrev pub MayMakeLink : LinkWork → Made → Type 0
 MayMakeLink work result = (result ≡ link_made work) ⊎ (result ≡ made.Lost work.lease OutOfMemory)
@@ -71,6 +78,23 @@ deck_bound work = start_bound work.start + edits_bound work.edits (begun_deck wo
 abbrev pub job_bound : Job → ℕ
 job_bound (job.Deck work) = deck_bound work
 job_bound (job.Link work) = 0
+
+-- how many in a job at least that is not lost: those of the cards that it begins with
+abbrev pub job_least : Job → ℕ
+job_least (job.Deck work) = start_bound work.start
+job_least (job.Link work) = 0
+
+-- so many, where something was made
+abbrev pub if_made : Made → ℕ → ℕ
+if_made (made.Deck done) count = count
+if_made (made.Link lease publication) count = count
+if_made (made.Lost lease fault) count = 0
+
+-- neither count fell, and each rose by so many at least and at most; unless it may be at its greatest value
+pub record CountsWithin (least most : ℕ) (old new : Meter) : Type 0 where
+  pub few : CountsAtMost most old new
+  pub sized_all : old.sized + most < 2 ^ 64 → old.sized + least ≤ new.sized
+  pub coded_all : old.coded + most < 2 ^ 64 → old.coded + least ≤ new.coded
 
 -- whether something was made
 abbrev pub is_result : Made → Bool

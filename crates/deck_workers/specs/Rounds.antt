@@ -1,7 +1,6 @@
 -- What one who works for a desk asks of it (ours): rounds of a claim each, with one call that ends what the claim gave.
 use Rattle.std.specs.Prelude.{◌≡◌, ℕ, List, [], ◌∷◌, Option, Some, None}
 use Rattle.std.specs.List.{flat_map}
-use Rattle.turn_office.specs.declared.history.Entry.{Entry}
 use Rattle.turn_office.specs.Histories.{entry}
 use Rattle.deck_workers.specs.Language.{Call, Claim, DeliverDeck, DeliverLink, GiveUp, Reply, DeckJob, LinkJob}
 use Rattle.desk_core.specs.Runs.{History}

@@ -1,5 +1,6 @@
 -- What one caller alone makes of a desk by claiming, running and delivering (ours).
-use Rattle.std.specs.Prelude.{◌≡◌, ⊤, ℕ, ◌<◌, List, ◌++◌, length, All, Option, Some, None, option_map}
+use Rattle.std.specs.Prelude.{◌≡◌, ⊤, ℕ, ◌+◌, ◌<◌, List, [], ◌∷◌, ◌++◌, length, All, Option, Some, None, option_map}
+use Rattle.statement_coder.specs.declared.meter.Meter.{Meter}
 use Rattle.definitions.specs.Build.{listing_of, image_of}
 use Rattle.turn_office.specs.Histories.{Leads}
 use Rattle.desk_core.specs.Desks.{Desk, Publication, decks_of}
@@ -7,7 +8,9 @@ use Rattle.desk_core.specs.declared.replies.Reply.TheVariants as reply
 use Rattle.deck_workers.specs.Language.{Reply, Refusal}
 use Rattle.desk_core.specs.Steps.{Steps}
 use Rattle.desk_core.specs.Runs.{History, Runs}
-use Rattle.deck_workers.specs.Rounds.{Round, Resting, Working, IsRound, entries_of, entries_in}
+use Rattle.deck_workers.specs.declared.jobs.Job.{Job}
+use Rattle.deck_workers.specs.Jobs.{job_bound, job_least, if_made, CountsWithin}
+use Rattle.deck_workers.specs.Rounds.{Round, Resting, Working, IsRound, job_in, entries_of, entries_in}
 use Rattle.deck_workers.specs.declared.settling.Settled.{Settled}
 use Rattle.deck_workers.specs.declared.settling.Settled.TheVariants.{Idle, Refused, Waiting, Turns}
 
@@ -38,6 +41,45 @@ pub data Settles (turns : ℕ) (first : Desk) (settled : Settled) (last : Desk) 
   ended : (rounds : List Round) (round : Round) → All GoesOn rounds → length rounds < turns → IsRound round → end_of round ≡ Some settled →
       Leads Steps first (entries_in 0 rounds ++ entries_of 0 round) last → Settles turns first settled last
 
+-- how many statements a job sizes at most, and codes; none where there is no job
+abbrev pub bound_if_given : Option Job → ℕ
+bound_if_given None = 0
+bound_if_given (Some given) = job_bound given
+
+-- how many it does at least, where it is not lost
+abbrev pub least_if_given : Option Job → ℕ
+least_if_given None = 0
+least_if_given (Some given) = job_least given
+
+-- how many a round does
+abbrev pub round_bound : Round → ℕ
+round_bound (Resting claimed) = 0
+round_bound (Working claimed result answered) = bound_if_given (job_in claimed)
+
+-- how many it does at least
+abbrev pub round_least : Round → ℕ
+round_least (Resting claimed) = 0
+round_least (Working claimed result answered) = if_made result (least_if_given (job_in claimed))
+
+-- how many rounds do together
+abbrev pub rounds_bound : List Round → ℕ
+rounds_bound [] = 0
+rounds_bound (round ∷ rounds) = round_bound round + rounds_bound rounds
+
+-- how many they do at least
+abbrev pub rounds_least : List Round → ℕ
+rounds_least [] = 0
+rounds_least (round ∷ rounds) = round_least round + rounds_least rounds
+
+-- the rounds of settling
+abbrev pub rounds_in : {turns : ℕ} {first last : Desk} {settled : Settled} → Settles turns first settled last → List Round
+rounds_in (used_up rounds go_on all is leads) = rounds
+rounds_in (ended rounds round go_on less is_round end leads) = rounds ++ round ∷ []
+
+-- settling, on a meter that counts what its jobs do
+abbrev pub SettlesOn : ℕ → Desk → Settled → Desk → Meter → Meter → Type 0
+SettlesOn turns first settled last old new = (settles : Settles turns first settled last) × CountsWithin (rounds_least (rounds_in settles)) (rounds_bound (rounds_in settles)) old new
+
 -- a desk that is idle: its publication is of its version, and of its present decks where the first desk comes from a new one
 pub record IsIdleAt (version : ℕ) (first desk : Desk) : Type 0 where
   pub version_is : desk.version ≡ version
@@ -55,9 +97,10 @@ IsSettled first (Refused refusal) desk = ⊤
 IsSettled first Waiting desk = ⊤
 IsSettled first Turns desk = ⊤
 
--- one turn: a round that the desk allows, and what it ends settling with
-pub record IsTurn (first : Desk) (end : Option Settled) (last : Desk) : Type 0 where
+-- one turn: a round that the desk allows, what it ends settling with, and a meter that counts what its job does
+pub record IsTurn (first : Desk) (end : Option Settled) (last : Desk) (old new : Meter) : Type 0 where
   pub round : Round
   pub is_round : IsRound round
   pub end_is : end_of round ≡ end
   pub leads : Leads Steps first (entries_of 0 round) last
+  pub counts : CountsWithin (round_least round) (round_bound round) old new

@@ -1,17 +1,39 @@
 //! A deck assembled from what a job begins with, and objects published.
-ghost use Rattle.std.specs.Prelude.{◌≡◌, ◌+◌, ◌≤◌, ◌⊎◌, false, None, Some, IfOk, IfErr};
+ghost use Rattle.std.specs.Prelude.{◌≡◌, ◌+◌, ◌⊎◌, false, None, Some, length, IfOk, IfErr, OnOk};
+ghost use Rattle.statement_coder.specs.Meters.{CountsAtMost, RisesBy};
 ghost use Rattle.deck_workers.specs.Language.{edited_by};
-ghost use Rattle.deck_workers.specs.Jobs.{start_deck, edits_fault, edits_bound, start_bound};
+ghost use Rattle.deck_workers.specs.Jobs.{start_deck, start_cards, edits_fault, edits_bound, start_bound, CountsWithin};
 
-use cards::{DeckName, Edit};
+use cards::{DeckName, Edit, first_fault};
 use deck_assembler::SharedObject;
 use deck_linker::link;
 use desk_core::{Held, SharedPublication, Start};
-use edit_core::{Kept, RecordFault};
+use edit_core::{Kept, RecordFault, record_fault};
 use statement_coder::Meter;
 use std::alloc::{AllocError, Global};
 
-/// Record and object of the deck of a job, its edits made in order.
+/// How many cards a job begins with.
+fn start_len(start: &Start) -> usize
+    ensures { length (start_cards start.now) ≡ result }
+{
+    match start {
+        Start::FromRecord(held) => held.kept().cards().len(),
+        Start::FromCards(cards) => cards.as_slice().len(),
+    }
+}
+
+/// Why the first edit of a job does not apply that doesn't; this takes no memory.
+fn edits_fault(start: &Start, edits: &[Edit]) -> Option<RecordFault>
+    ensures { result ≡ edits_fault edits.now (start_cards start.now) }
+{
+    match first_fault(edits, start_len(start)) {
+        Some(found) => Some(record_fault(found.1)),
+        None => None,
+    }
+}
+
+/// Record and object of the deck of a job, its edits made in order. An edit that does not apply is
+/// told before anything takes memory.
 pub(crate) fn assembled(
     alloc: Global,
     name: DeckName,
@@ -21,11 +43,14 @@ pub(crate) fn assembled(
 ) -> Result<(Held, SharedObject), RecordFault>
     ensures record { IfOk result (λ made. made.0 ≡ record { deck = record { name = (start_deck name start).name; cards = edited_by edits.now (start_deck name start).cards } }) }
     ensures object { IfOk result (λ made. made.1 ≡ record { name = (start_deck name start).name; cards = edited_by edits.now (start_deck name start).cards }) }
-    ensures applied { IfOk result (λ made. edits_fault edits.now (start_deck name start).cards ≡ None) }
-    ensures fault { IfErr result (λ fault. (fault ≡ RecordFault.OutOfMemory) ⊎ (edits_fault edits.now (start_deck name start).cards ≡ Some fault)) }
-    ensures sized { meter.new.sized ≤ meter.old.sized + (start_bound start + edits_bound edits.now (start_deck name start).cards) }
-    ensures coded { meter.new.coded ≤ meter.old.coded + (start_bound start + edits_bound edits.now (start_deck name start).cards) }
+    ensures applied { IfOk result (λ made. edits_fault edits.now (start_cards start) ≡ None) }
+    ensures fault { IfErr result (λ fault. ((fault ≡ RecordFault.OutOfMemory) × (edits_fault edits.now (start_cards start) ≡ None)) ⊎ (edits_fault edits.now (start_cards start) ≡ Some fault)) }
+    ensures meter { CountsAtMost (start_bound start + edits_bound edits.now (start_deck name start).cards) meter.old meter.new }
+    ensures all { OnOk result (CountsWithin (start_bound start) (start_bound start + edits_bound edits.now (start_deck name start).cards) meter.old meter.new) }
 {
+    if let Some(fault) = edits_fault(&start, edits) {
+        return Err(fault);
+    }
     let mut kept = begun(alloc, name, start, meter)?;
     edit_all(alloc, &mut kept, edits, meter)?;
     finished(kept)
@@ -39,10 +64,11 @@ fn begun(
     meter: &mut Meter,
 ) -> Result<Kept, RecordFault>
     ensures deck { IfOk result (λ kept. (kept.name ≡ (start_deck name start).name) × (kept.cards ≡ (start_deck name start).cards)) }
+    ensures cards { IfOk result (λ kept. kept.cards ≡ start_cards start) }
     ensures unspent { IfOk result (λ kept. kept.is_spent ≡ false) }
     ensures fault { IfErr result (λ fault. fault ≡ RecordFault.OutOfMemory) }
-    ensures sized { meter.new.sized ≤ meter.old.sized + start_bound start }
-    ensures coded { meter.new.coded ≤ meter.old.coded + start_bound start }
+    ensures meter { CountsAtMost (start_bound start) meter.old meter.new }
+    ensures all { OnOk result (RisesBy (start_bound start) meter.old.sized meter.new.sized × RisesBy (start_bound start) meter.old.coded meter.new.coded) }
 {
     match start {
         Start::FromRecord(held) => Ok(held.into_kept()),
@@ -53,20 +79,19 @@ fn begun(
     }
 }
 
-/// Makes edits of a record in order, up to the first that does not apply.
+/// Makes edits of a record in order, each of which applies.
 fn edit_all(
     alloc: Global,
     kept: &mut Kept,
     edits: &[Edit],
     meter: &mut Meter,
 ) -> Result<(), RecordFault>
-    requires { kept.old.is_spent ≡ false }
+    requires unspent { kept.old.is_spent ≡ false }
+    requires applies { edits_fault edits.now kept.old.cards ≡ None }
     ensures deck { IfOk result (λ _. (kept.new.name ≡ kept.old.name) × (kept.new.cards ≡ edited_by edits.now kept.old.cards)) }
     ensures unspent { IfOk result (λ _. kept.new.is_spent ≡ false) }
-    ensures applied { IfOk result (λ _. edits_fault edits.now kept.old.cards ≡ None) }
-    ensures fault { IfErr result (λ fault. (fault ≡ RecordFault.OutOfMemory) ⊎ (edits_fault edits.now kept.old.cards ≡ Some fault)) }
-    ensures sized { meter.new.sized ≤ meter.old.sized + edits_bound edits.now kept.old.cards }
-    ensures coded { meter.new.coded ≤ meter.old.coded + edits_bound edits.now kept.old.cards }
+    ensures fault { IfErr result (λ fault. fault ≡ RecordFault.OutOfMemory) }
+    ensures meter { CountsAtMost (edits_bound edits.now kept.old.cards) meter.old meter.new }
 {
     for edit in edits {
         kept.edit(alloc, edit, meter)?;

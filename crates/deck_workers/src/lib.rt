@@ -27,8 +27,3 @@ pub use made::Made;
 pub use runs::Runs;
 pub use settling::{Settled, settle};
 pub use working::worker;
-
-#[cfg(test)]
-mod tests;
-#[cfg(test)]
-mod tests_jobs;

@@ -1,5 +1,5 @@
 //! What can be run, and jobs that are.
-ghost use Rattle.std.specs.Prelude.{◌≡◌, ◌+◌, ◌≤◌};
+ghost use Rattle.deck_workers.specs.Jobs.{CountsWithin, if_made};
 
 use crate::assembling::{assembled, published};
 use crate::jobs::Job;
@@ -9,7 +9,8 @@ use edit_core::RecordFault;
 use statement_coder::Meter;
 use std::alloc::Global;
 
-/// What can be run: what may be made of it, and how many statements that sizes and codes at most.
+/// What can be run: what may be made of it, and how many statements that sizes and codes, at least where
+/// it is not lost, and at most.
 pub trait Runs {
     ghost use Rattle.std.specs.Prelude.{ℕ};
     ghost use Rattle.deck_workers.specs.declared.made.Made.{Made};
@@ -17,23 +18,28 @@ pub trait Runs {
     /// What may be made of it.
     ghost gives: { Self → Made → Type 0 };
 
+    /// How many statements are sized at least where it is not lost, and how many coded.
+    ghost at_least: { Self → ℕ };
+
     /// How many statements are sized at most, and how many coded.
     ghost at_most: { Self → ℕ };
 
     /// Runs it. The meter counts what is sized and coded, also where memory runs out.
     fn run(self, alloc: Global, meter: &mut Meter) -> Made
         ensures made { gives self result }
-        ensures sized { meter.new.sized ≤ meter.old.sized + at_most self }
-        ensures coded { meter.new.coded ≤ meter.old.coded + at_most self };
+        ensures meter { CountsWithin (if_made result (at_least self)) (at_most self) meter.old meter.new };
 }
 
 /// A deck job makes record and object of the job's name (of its record's name where it begins with a
 /// record) and of its cards with its edits in order. It is lost with the first edit that does not
-/// apply, or for want of memory, and then with its record.
+/// apply, or, where all apply, for want of memory, and then with its record.
 impl Runs for DeckWork {
-    ghost use Rattle.deck_workers.specs.Jobs.{MayMakeDeck, deck_bound};
+    ghost use Rattle.deck_workers.specs.Language.{DeckWork};
+    ghost use Rattle.deck_workers.specs.Jobs.{MayMakeDeck, deck_bound, start_bound};
 
     ghost gives = { MayMakeDeck };
+
+    ghost at_least = { λ (work : DeckWork). start_bound work.start };
 
     ghost at_most = { deck_bound };
 
@@ -67,6 +73,8 @@ impl Runs for LinkWork {
 
     ghost gives = { MayMakeLink };
 
+    ghost at_least = { λ _. 0 };
+
     ghost at_most = { λ _. 0 };
 
     fn run(self, alloc: Global, meter: &mut Meter) -> Made {
@@ -88,9 +96,11 @@ impl Runs for LinkWork {
 
 /// A job gives what its deck or its link gives.
 impl Runs for Job {
-    ghost use Rattle.deck_workers.specs.Jobs.{MayMake, job_bound};
+    ghost use Rattle.deck_workers.specs.Jobs.{MayMake, job_bound, job_least};
 
     ghost gives = { MayMake };
+
+    ghost at_least = { job_least };
 
     ghost at_most = { job_bound };
 

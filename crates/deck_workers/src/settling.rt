@@ -4,7 +4,7 @@ ghost use Rattle.desk_core.specs.Desks.{decks_of};
 ghost use Rattle.desk_core.specs.Steps.{Steps};
 ghost use Rattle.deck_workers.specs.Language.{Reply};
 ghost use Rattle.deck_workers.specs.Rounds.{call_of};
-ghost use Rattle.deck_workers.specs.Settling.{Settles, IsSettled, IsTurn, end_of_claim, refusal_in};
+ghost use Rattle.deck_workers.specs.Settling.{SettlesOn, IsSettled, IsTurn, end_of_claim, refusal_in};
 
 use crate::jobs::job_in;
 use crate::made::Made;
@@ -28,9 +28,10 @@ pub enum Settled {
 
 /// Does what is due at a desk, in so many turns at most: each is a claim and, where that gives a job,
 /// the job and its delivery, or the lease given up where the job is lost. No card and no version
-/// changes, and at `Idle` the publication is of the present version and decks.
+/// changes, and at `Idle` the publication is of the present version and decks. The meter counts at
+/// most what the bounds of its jobs allow.
 pub fn settle(alloc: Global, desk: &mut Desk, meter: &mut Meter, turns: u32) -> Settled
-    ensures steps { Settles turns desk.old result desk.new }
+    ensures steps { SettlesOn turns desk.old result desk.new meter.old meter.new }
     ensures version { desk.new.version ≡ desk.old.version }
     ensures decks { decks_of desk.new ≡ decks_of desk.old }
     ensures settled { IsSettled desk.old result desk.new }
@@ -45,7 +46,7 @@ pub fn settle(alloc: Global, desk: &mut Desk, meter: &mut Meter, turns: u32) -> 
 
 /// One turn, and what it ends settling with, if it ends it.
 fn settle_turn(alloc: Global, desk: &mut Desk, meter: &mut Meter) -> Option<Settled>
-    ensures { IsTurn desk.old result desk.new }
+    ensures { IsTurn desk.old result desk.new meter.old meter.new }
 {
     let claimed = desk.step(Call::Claim);
     let end = end_of_claim(&claimed);

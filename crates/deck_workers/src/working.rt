@@ -5,7 +5,7 @@ ghost use Rattle.desk_core.specs.Steps.{Steps};
 ghost use Rattle.deck_workers.specs.Jobs.{MayMake};
 ghost use Rattle.deck_workers.specs.Working.{MakesRound, Works};
 
-use crate::bells::{Bell, hears_of_work};
+use crate::bells::{Bell, Patience, Round, goes_on};
 use crate::gates::Gate;
 use crate::{Job, Made, Runs, job_in};
 use crossbeam_channel::Receiver;
@@ -13,16 +13,18 @@ use desk_core::{Call, Desk};
 use statement_coder::Meter;
 use std::alloc::Global;
 use std::sync::Wait;
+use std::time::Clock;
 use turn_office::{Office, Seat};
 
 /// Works at a seat of the office until it is told to stop, and hands the seat back. It claims; a job
 /// that it gets it runs between `enter` and `leave` of the gate, and then delivers what it made, or
-/// gives the lease up. After a delivery, refused or not, it claims again; after all else it sleeps
-/// until a bell comes. `Stop` ends it, and so does a channel that no bell can come from.
+/// gives the lease up. After a delivery, refused or not, it claims again; after it gave a lease up it
+/// sleeps for a while, the longer the more often, or until a bell comes; after all else until a bell comes.
+/// `Stop` ends it, and so does a channel that no bell can come from.
 ///
 /// What the seat had seen begins what it has seen then, and its calls since are rounds: each is a
 /// claim, followed by one call that ends the job, where the claim gave one.
-pub fn worker<R: Wait, G: Gate>(
+pub fn worker<R: Wait + Clock, G: Gate>(
     rt: &R,
     alloc: Global,
     office: &Office<Desk>,
@@ -36,16 +38,17 @@ pub fn worker<R: Wait, G: Gate>(
     ensures legal { IsLegal Steps office.now.seats office.now.first result.seen }
 {
     let mut meter = Meter { sized: 0, coded: 0 };
+    let mut patience = Patience::new();
     for _ in rt.forever() {
-        let delivered = make_round(rt, alloc, office, &mut seat, gate, &mut meter);
-        if !delivered && !hears_of_work(rt, &bells) {
+        let round = make_round(rt, alloc, office, &mut seat, gate, &mut meter);
+        if !goes_on(rt, &bells, round, &mut patience) {
             return seat;
         }
     }
     unreachable!()
 }
 
-/// Claims, and does the job that the claim gives, if it gives one. Tells whether it delivered something.
+/// Claims, and does the job that the claim gives, if it gives one.
 fn make_round<R: Wait, G: Gate>(
     rt: &R,
     alloc: Global,
@@ -53,7 +56,7 @@ fn make_round<R: Wait, G: Gate>(
     seat: &mut Seat<Desk>,
     gate: &G,
     meter: &mut Meter,
-) -> bool
+) -> Round
     requires { seat.old.office ≡ office.now.id }
     ensures same { (seat.new.office ≡ seat.old.office) × (seat.new.number ≡ seat.old.number) }
     ensures round { MakesRound seat.old.number seat.old.seen seat.new.seen }
@@ -64,9 +67,9 @@ fn make_round<R: Wait, G: Gate>(
             let made = run(alloc, gate, job, meter);
             let is_result = made.is_result();
             seat.call(rt, office, made.into_call());
-            is_result
+            Round::with_job(is_result)
         }
-        None => false,
+        None => Round::NoJob,
     }
 }
 

@@ -7,6 +7,7 @@ pub mod Publishing
 pub mod Told
 pub mod EveryRun
 pub mod IdleClaims
+pub mod Progress
 pub mod Published
 pub mod JobsTold
 pub mod TellingDecks

@@ -13,6 +13,7 @@ pub mod Delivering
 pub mod Steps
 pub mod Runs
 pub mod Jobs
+pub mod Progress
 pub mod Stored
 pub mod OwnNames
 pub mod Turns

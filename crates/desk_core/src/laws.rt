@@ -1,11 +1,12 @@
 //! What holds in every run of a desk, each law as the contract of a function that does nothing.
-ghost use Rattle.std.specs.Prelude.{◌≡◌, ℕ, Some, reverse};
+ghost use Rattle.std.specs.Prelude.{◌≡◌, ℕ, true, false, Some, reverse};
 ghost use Rattle.turn_office.specs.Histories.{Leads};
 ghost use Rattle.desk_core.specs.Desks.{Desk, Publication};
-ghost use Rattle.desk_core.specs.Calls.{Call, Refusal, Show, Shown, Claim, Idle, DeckJob, DeckWork, Refused};
+ghost use Rattle.desk_core.specs.Calls.{Call, Refusal, Reply, Show, Shown, Claim, Idle, DeckJob, DeckWork, Refused};
 ghost use Rattle.desk_core.specs.Steps.{Steps};
 ghost use Rattle.desk_core.specs.Runs.{History, Runs, IsBuildOf, IsUnchanged, IsOfItsChanges, IsPublishedAt, IsPublishedFrom};
 ghost use Rattle.desk_core.specs.Jobs.{IsDue, IsPartOf, accepted_edits, handed_edits};
+ghost use Rattle.desk_core.specs.Progress.{has_leases, has_work, hands_a_deck, hands_a_link};
 
 /// After every list of calls and replies that a new desk allows one after the other: what is shown
 /// is the build of the decks after as many accepted changes as its version says; a refused call
@@ -34,4 +35,14 @@ pub fn jobs_once()
         Runs history desk → Steps desk Claim (DeckJob job) next → IsDue job (reverse history) }
     ensures once { (history : History) (desk : Desk) (deck : ℕ) →
         Runs history desk → IsPartOf (accepted_edits deck (reverse history)) (handed_edits deck (reverse history)) }
+{}
+
+/// Work is handed out: on a desk of which no lease is out, a claim gives a job of a deck where one is
+/// behind, and else the link job or Idle, unless there is no memory for the job or no number for its
+/// lease. So a claim that is answered AllOut tells that a lease is out.
+pub fn work_is_handed_out()
+    ensures deck { (desk next : Desk) (reply : Reply) →
+        Steps desk Claim reply next → has_leases desk ≡ false → has_work desk ≡ true → hands_a_deck reply ≡ true }
+    ensures link { (desk next : Desk) (reply : Reply) →
+        Steps desk Claim reply next → has_leases desk ≡ false → has_work desk ≡ false → hands_a_link reply ≡ true }
 {}

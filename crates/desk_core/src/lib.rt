@@ -45,18 +45,9 @@ pub use deck_cards::DeckCards;
 pub use desk::Desk;
 pub use held::Held;
 pub use jobs::{DeckWork, LinkWork, Start};
-pub use laws::{every_run, jobs_once};
+pub use laws::{every_run, jobs_once, work_is_handed_out};
 pub use leases::Lease;
 pub use listed::Listed;
 pub use new_deck::NewDeck;
 pub use replies::{Refusal, Reply, Row, State};
 pub use shared_publication::SharedPublication;
-
-#[cfg(test)]
-mod tests;
-#[cfg(test)]
-mod tests_batches;
-#[cfg(test)]
-mod tests_results;
-#[cfg(test)]
-mod tests_steps;

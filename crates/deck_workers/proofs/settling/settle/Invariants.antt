@@ -3,4 +3,4 @@ use Rattle.deck_workers.proofs.settling.settle.Given as goal
 
 -- each turn so far left something to do
 abbrev pub invariant-loop-turn : goal.invariant-loop-turn
-invariant-loop-turn l = WentOn l.turn l.initial.desk l.desk
+invariant-loop-turn l = WentOn l.turn l.initial.desk l.desk l.initial.meter l.meter

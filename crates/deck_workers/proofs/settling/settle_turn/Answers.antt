@@ -1,4 +1,7 @@
-use Rattle.std.proofs.Common.{refl, sym, ◌∙◌}
+use Rattle.std.proofs.Common.{Option, refl, sym, ◌∙◌, subst, arith}
+use Rattle.deck_workers.specs.declared.jobs.Job.{Job}
+use Rattle.deck_workers.specs.Jobs.{if_made, CountsWithin}
+use Rattle.deck_workers.specs.Settling.{bound_if_given, least_if_given}
 use Rattle.deck_workers.specs.Rounds.{Resting, Working}
 use Rattle.deck_workers.proofs.settling.settle_turn.Goals as goal
 
@@ -9,6 +12,11 @@ returns-in-None c = record {
   is_round = sym c.job_in.ensures ∙ c.in-None.is;
   end_is = sym c.end_of_claim-end.ensures;
   leads = (c.step-claimed.new.self, c.step-claimed.ensures, refl);
+  counts = record {
+    few = record { sized_rises = omega arith; sized_few = omega arith; coded_rises = omega arith; coded_few = omega arith };
+    sized_all = λ room. omega arith;
+    coded_all = λ room. omega arith;
+  };
 }
 
 -- it gave one, which is ended
@@ -18,4 +26,5 @@ returns-in-Some c = record {
   is_round = (c.in-Some.job, sym c.job_in.ensures ∙ c.in-Some.is, c.run.ensures.made);
   end_is = sym c.end_job.ensures.2;
   leads = (c.step-claimed.new.self, c.step-claimed.ensures, (c.end_job.new.desk, c.end_job.ensures.1, refl));
+  counts = subst (λ (given : Option Job). CountsWithin (if_made c.run.result (least_if_given given)) (bound_if_given given) c.args.meter.now c.run.new.meter) (sym c.in-Some.is ∙ c.job_in.ensures) c.run.ensures.meter;
 }

@@ -7,13 +7,13 @@ loop-init g c = record { office = refl; number = refl; works = no-calls c.args.s
 
 pub loop-preserved : goal.loop-preserved
 loop-preserved g c =
-    let round = c.make_round-delivered.ensures in
+    let round = c.make_round-round.ensures in
     record {
       office = round.same.0 ∙ c.loop.invariant.office;
       number = round.same.1 ∙ c.loop.invariant.number;
-      works = more-work c.args.seat.number c.loop.seat.number c.args.seat.seen c.loop.seat.seen c.make_round-delivered.new.seat.seen c.loop.invariant.number c.loop.invariant.works round.round;
+      works = more-work c.args.seat.number c.loop.seat.number c.args.seat.seen c.loop.seat.seen c.make_round-round.new.seat.seen c.loop.invariant.number c.loop.invariant.works round.round;
     }
 
-pub returns-then-not-hears_of_work-clause-works : goal.returns-then-not-hears_of_work-clause-works
-returns-then-not-hears_of_work-clause-works g c =
-    more-work c.args.seat.number c.loop.seat.number c.args.seat.seen c.loop.seat.seen c.make_round-delivered.new.seat.seen c.loop.invariant.number c.loop.invariant.works c.make_round-delivered.ensures.round
+pub returns-then-not-goes_on-clause-works : goal.returns-then-not-goes_on-clause-works
+returns-then-not-goes_on-clause-works g c =
+    more-work c.args.seat.number c.loop.seat.number c.args.seat.seen c.loop.seat.seen c.make_round-round.new.seat.seen c.loop.invariant.number c.loop.invariant.works c.make_round-round.ensures.round
