@@ -5,21 +5,29 @@ ghost use Rattle.desk_service.specs.Services.{AreInRange};
 use clap::{Arg, ArgAction, ArgMatches, Command};
 use desk_service::{ServeFault, Settings, serve};
 use std::alloc::{AllocError, Global};
+use std::fs::File;
 use std::net::{Net, TcpListener, TcpStream};
 use std::process::ExitCode;
 use std::rt::Files;
 use std::sync::Wait;
+use std::thread;
 use std::thread::Threads;
 use std::time::Clock;
 
 /// How many workers, and how many sessions, a service has at most.
 const MOST_THREADS: usize = 16;
 
+/// How many seconds a client may be idle where nothing else is said.
+const IDLE_SECONDS: u64 = 900;
+
 /// The status of want of memory.
 const MEMORY_STATUS: u8 = 4;
 
 /// The status of a socket fault before the first accept.
 const SOCKET_STATUS: u8 = 6;
+
+/// The status of a folder that can't be had.
+const FOLDER_STATUS: u8 = 7;
 
 /// What stands below the help.
 const EXAMPLE: &str = "Example:
@@ -37,24 +45,28 @@ pub(crate) fn serve_words<'a>(alloc: Global) -> Result<Command<'a>, AllocError> 
     let port = Arg::new(alloc, "port")
         .long("port")
         .value_name("P")
-        .help("The port on 127.0.0.1, 1 to 65535")
+        .help("The port on 127.0.0.1, 1 to 65535; 0 takes one that is free")
         .required(true)
         .action(ArgAction::Set)
-        .value_parser(clap::value_parser!(u16).range(1..));
+        .value_parser(clap::value_parser!(u16));
     let workers = Arg::new(alloc, "workers")
         .long("workers")
         .value_name("W")
-        .help("How many threads assemble and link, 1 to 16")
-        .required(true)
+        .help("How many threads assemble and link, 1 to 16; one for each processor unless said")
         .action(ArgAction::Set)
         .value_parser(clap::value_parser!(u64).range(1..17));
     let sessions = Arg::new(alloc, "sessions")
         .long("sessions")
         .value_name("S")
-        .help("How many connections are served at once, 1 to 16")
-        .required(true)
+        .help("How many connections are served at once, 1 to 16; 16 unless said")
         .action(ArgAction::Set)
         .value_parser(clap::value_parser!(u64).range(1..17));
+    let idle = Arg::new(alloc, "idle")
+        .long("idle")
+        .value_name("SECONDS")
+        .help("How long a client may be silent before its session ends; 900 unless said")
+        .action(ArgAction::Set)
+        .value_parser(clap::value_parser!(u64).range(1..1_000_000_000));
     let once = Arg::new(alloc, "once")
         .long("once")
         .help("Ends when each session has served one connection")
@@ -66,19 +78,39 @@ pub(crate) fn serve_words<'a>(alloc: Global) -> Result<Command<'a>, AllocError> 
         .arg(port)?
         .arg(workers)?
         .arg(sessions)?
+        .arg(idle)?
         .arg(once)
+}
+
+/// A number of the words, or else what it is unless said.
+fn number_or(words: &ArgMatches<'_>, name: &str, unless_said: usize) -> usize {
+    words.get_one(name).unwrap_or(unless_said)
+}
+
+/// How many processors the system lets the process have; 1 where it doesn't tell.
+fn processors(rt: &impl Threads) -> usize {
+    match thread::available_parallelism(rt) {
+        Ok(count) => count.get(),
+        Err(_) => 1,
+    }
 }
 
 /// What the words of `compass serve` ask for. None comes only where `clap` let through what it was
 /// told to refuse.
-pub(crate) fn settings_of<'a>(words: &ArgMatches<'a>) -> Option<Settings<'a>>
+pub(crate) fn settings_of<'a>(rt: &impl Threads, words: &ArgMatches<'a>) -> Option<Settings<'a>>
     ensures { IfSome result AreInRange }
 {
     let root = words.get_str("root")?;
     let port = words.get_one("port")?;
-    let workers = words.get_one("workers")?;
-    let sessions = words.get_one("sessions")?;
-    if workers < 1 || workers > MOST_THREADS || sessions < 1 || sessions > MOST_THREADS {
+    let workers = number_or(words, "workers", processors(rt).min(MOST_THREADS));
+    let sessions = number_or(words, "sessions", MOST_THREADS);
+    let idle = words.get_one("idle").unwrap_or(IDLE_SECONDS);
+    if workers < 1
+        || workers > MOST_THREADS
+        || sessions < 1
+        || sessions > MOST_THREADS
+        || idle < 1
+    {
         return None;
     }
     Some(Settings {
@@ -86,6 +118,7 @@ pub(crate) fn settings_of<'a>(words: &ArgMatches<'a>) -> Option<Settings<'a>>
         port,
         workers,
         sessions,
+        idle,
         once: words.get_flag("once"),
     })
 }
@@ -97,7 +130,8 @@ where
         + Threads
         + Wait
         + Sync
-        + Files
+        + Files<File = File>
+        + Clone
         + Drop
         + Clock
         + Eprint
@@ -109,20 +143,27 @@ where
     match serve(rt, rt.alloc(), settings) {
         Ok(()) => ExitCode::SUCCESS,
         Err(fault) => {
-            tell(rt, fault, settings.port);
+            tell(rt, fault, settings);
             ExitCode::from(status_of(fault))
         }
     }
 }
 
 /// The line of a fault, with what can be done.
-fn tell<R: Eprint>(rt: &R, fault: ServeFault, port: u16) {
+fn tell<R: Eprint>(rt: &R, fault: ServeFault, settings: &Settings<'_>) {
+    let Settings { root, port, .. } = *settings;
     let _ = match fault {
         ServeFault::SocketFault => eprintln!(rt;
             "compass: {fault}: 127.0.0.1:{port} can't be listened on; another program may have the port, choose another with --port"
         ),
         ServeFault::OutOfMemory => eprintln!(rt;
             "compass: {fault}: free some, or take fewer --workers and --sessions"
+        ),
+        ServeFault::NoFolder => eprintln!(rt;
+            "compass: {fault}: {root} is not there, is no folder, or can't be written in; make it, or choose another with --root"
+        ),
+        ServeFault::FolderTaken => eprintln!(rt;
+            "compass: {fault}: another service runs on {root}; stop it, or choose another folder with --root"
         ),
     };
 }
@@ -131,9 +172,12 @@ fn tell<R: Eprint>(rt: &R, fault: ServeFault, port: u16) {
 fn status_of(fault: ServeFault) -> u8
     ensures socket { fault ≡ ServeFault.SocketFault → result ≡ 6 }
     ensures memory { fault ≡ ServeFault.OutOfMemory → result ≡ 4 }
+    ensures none { fault ≡ ServeFault.NoFolder → result ≡ 7 }
+    ensures taken { fault ≡ ServeFault.FolderTaken → result ≡ 7 }
 {
     match fault {
         ServeFault::SocketFault => SOCKET_STATUS,
         ServeFault::OutOfMemory => MEMORY_STATUS,
+        ServeFault::NoFolder | ServeFault::FolderTaken => FOLDER_STATUS,
     }
 }

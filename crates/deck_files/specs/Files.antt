@@ -1,4 +1,4 @@
--- Files under the names of decks (ours).
+-- Files, and other things, under the names of decks (ours).
 use Rattle.std.specs.Prelude.{ℕ, ◌≡◌, List, [], ◌∷◌, Option, Some, None, Ok, if◌then◌else◌}
 use Rattle.definitions.specs.Characters.{same_text}
 use Rattle.definitions.specs.Cards.{Card}
@@ -7,19 +7,23 @@ use Rattle.deck_files.specs.declared.deck_shelf.ShelfLoadFault.TheVariants.{Cann
 use Rattle.deck_files.specs.DeckFiles.{cards_of_file}
 use Rattle.deck_files.specs.Loads.{FaultsSo}
 
--- the names with their files, no name twice
+-- things under the names of decks, no name twice
+abbrev pub Named : Type 0 → Type 0
+Named X = List (List ℕ × X)
+
+-- the names with their files
 abbrev pub Files : Type 0
-Files = List (List ℕ × List ℕ)
+Files = Named (List ℕ)
 
--- the file with this name, if there is one
-abbrev pub file_named : List ℕ → Files → Option (List ℕ)
-file_named name [] = None
-file_named name (file ∷ others) = if same_text name file.0 then Some file.1 else file_named name others
+-- what stands under this name, if anything does
+abbrev pub named : {X : Type 0} → List ℕ → Named X → Option X
+named name [] = None
+named name (first ∷ others) = if same_text name first.0 then Some first.1 else named name others
 
--- the files with one under this name, in place of what stood there
-abbrev pub with_file : List ℕ → List ℕ → Files → Files
-with_file name bytes [] = (name, bytes) ∷ []
-with_file name bytes (file ∷ others) = if same_text name file.0 then (file.0, bytes) ∷ others else file ∷ with_file name bytes others
+-- the things with one under this name, in place of what stood there
+abbrev pub with_named : {X : Type 0} → List ℕ → X → Named X → Named X
+with_named name thing [] = (name, thing) ∷ []
+with_named name thing (first ∷ others) = if same_text name first.0 then (first.0, thing) ∷ others else first ∷ with_named name thing others
 
 -- the file is there and has these cards
 abbrev pub LoadsFrom : Option (List ℕ) → List Card → Type 0

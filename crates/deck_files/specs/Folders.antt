@@ -18,9 +18,13 @@ path_in (c ∷ folder) file = (c ∷ folder) ++ (codes "/" ++ file)
 abbrev pub deck_file : List ℕ → List ℕ
 deck_file name = name ++ codes ".DECK"
 
--- the file that a save on the shelf with this number writes first
-abbrev pub new_file : List ℕ → ℕ → List ℕ
-new_file name number = name ++ (codes ".NEW" ++ decimal number)
+-- the file that keeps what a save was told to write over
+abbrev pub old_file : List ℕ → List ℕ
+old_file name = name ++ codes ".OLD"
+
+-- the file that a save on the shelf with this number writes first, at a try
+abbrev pub new_file : List ℕ → ℕ → ℕ → List ℕ
+new_file name number tries = name ++ (codes ".NEW" ++ (decimal number ++ (codes "." ++ decimal tries)))
 
 -- these are the cards of a file
 abbrev pub AreOfSomeFile : List Card → Type 0
@@ -38,5 +42,6 @@ IsLoadFaultOfSomeFile (loading.BadFile fault) = IsFaultOfSomeFile fault
 -- a save of this file ends so: a fault of the writer comes before the last byte
 abbrev pub IsSaveFaultOf : List ℕ → ShelfSaveFault → Type 0
 IsSaveFaultOf file saving.CannotOpen = ⊤
+IsSaveFaultOf file saving.FileExists = ⊤
 IsSaveFaultOf file (saving.WriteFault sent) = sent < length file
 IsSaveFaultOf file saving.OutOfMemory = ⊤

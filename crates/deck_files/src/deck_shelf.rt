@@ -12,11 +12,22 @@ pub enum ShelfLoadFault {
     BadFile(LoadFault),
 }
 
+/// What a save may write over.
+#[derive(Clone, Copy, Debug, PartialEq, Eq)]
+pub enum SaveOver {
+    /// A file that was loaded or saved on this shelf.
+    Known,
+    /// Any file.
+    Any,
+}
+
 /// Why a deck was not saved on a shelf.
 #[derive(Clone, Copy, Debug, PartialEq, Eq)]
 pub enum ShelfSaveFault {
     /// The deck's file can't be made.
     CannotOpen,
+    /// A file stands there that was neither loaded nor saved on this shelf.
+    FileExists,
     /// The writer failed when it had taken `sent` bytes.
     WriteFault { sent: usize },
     /// No memory was left.
@@ -29,6 +40,7 @@ pub trait Shelf {
     ghost use Rattle.std.specs.Prelude.{ℕ, List};
     ghost use Rattle.deck_files.specs.declared.deck_shelf.ShelfLoadFault.{ShelfLoadFault};
     ghost use Rattle.deck_files.specs.declared.deck_shelf.ShelfSaveFault.{ShelfSaveFault};
+    ghost use Rattle.deck_files.specs.Savings.{Saving, saving};
     ghost use Rattle.std.specs.Prelude.{◌≤◌, length, IfOk, OnOk, IfErr};
 
     // The shelf before, the name, the cards, and the shelf after.
@@ -37,20 +49,28 @@ pub trait Shelf {
     // The shelf before, the name, the fault, and the shelf after.
     ghost refuses_to_load: { Self → List ℕ → ShelfLoadFault → Self → Type 0 };
 
-    // The shelf before, the name, the cards, and the shelf after.
-    ghost saves: { Self → List ℕ → List (List ℕ) → Self → Type 0 };
+    // The shelf before, what is saved, and the shelf after.
+    ghost saves: { Self → Saving → Self → Type 0 };
 
-    // The shelf before, the name, the cards, the fault, and the shelf after.
-    ghost refuses_to_save: { Self → List ℕ → List (List ℕ) → ShelfSaveFault → Self → Type 0 };
+    // The shelf before, what is saved, the fault, and the shelf after.
+    ghost refuses_to_save: { Self → Saving → ShelfSaveFault → Self → Type 0 };
 
     /// Loads the deck with this name.
     fn load(&mut self, name: &DeckName) -> Result<Vec<Card>, ShelfLoadFault>
         ensures cards { IfOk result (λ cards. loads self.old name.now cards.items self.new) }
         ensures fault { IfErr result (λ fault. refuses_to_load self.old name.now fault self.new) };
 
-    /// Saves a deck under this name, in place of what stood there.
-    fn save(&mut self, name: &DeckName, cards: &[Card]) -> Result<(), ShelfSaveFault>
+    /// Saves the deck of this name, with the cards that it had at this version, in place of what stood
+    /// there, if it may be written over. Where others save on the shelf too, an older version never takes
+    /// the place of a newer.
+    fn save(
+        &mut self,
+        name: &DeckName,
+        over: SaveOver,
+        version: u64,
+        cards: &[Card],
+    ) -> Result<(), ShelfSaveFault>
         requires { length cards.now ≤ 20000 }
-        ensures saved { OnOk result (saves self.old name.now cards.now self.new) }
-        ensures fault { IfErr result (λ fault. refuses_to_save self.old name.now cards.now fault self.new) };
+        ensures saved { OnOk result (saves self.old (saving name.now over version cards.now) self.new) }
+        ensures fault { IfErr result (λ fault. refuses_to_save self.old (saving name.now over version cards.now) fault self.new) };
 }

@@ -1,26 +1,37 @@
 //! A shelf over a folder of the file system.
-ghost use Rattle.std.specs.Prelude.{◌≡◌, ◌≢◌, string_bytes, IfOk, IfErr, IfSome};
-ghost use Rattle.deck_files.specs.Folders.{AreOfSomeFile, IsFaultOfSomeFile, IsSaveFaultOf, deck_file, new_file, path_in};
+ghost use Rattle.std.specs.Prelude.{ℕ, List, ◌≡◌, ◌≢◌, ◌≤◌, Ok, IsTrue, length, string_bytes, IfOk, IfErr, IfSome, OnErr, OnOk};
+ghost use Rattle.deck_files.specs.DeckFiles.{file_of};
+ghost use Rattle.deck_files.specs.Folders.{AreOfSomeFile, IsFaultOfSomeFile, IsLoadFaultOfSomeFile, IsSaveFaultOf, deck_file, path_in};
+ghost use Rattle.deck_files.specs.KnownFiles.{after_save, has_newer};
 
-use crate::deck_shelf::{Shelf, ShelfLoadFault, ShelfSaveFault};
+use crate::deck_shelf::{SaveOver, Shelf, ShelfLoadFault, ShelfSaveFault};
+use crate::folder_saves::{make_way, standing};
+use crate::known_files::KnownFiles;
 use crate::load_fault::LoadFault;
 use crate::loading::load;
+use crate::new_files::{Anew, make_anew};
 use crate::saving::save_file;
 use cards::{Card, DeckName};
 use std::alloc::{AllocError, Global};
 use std::fs;
+use std::fs::Metadata;
 use std::io::{BufReader, ErrorKind, Read};
 use std::marker::Model;
 use std::rt::Files;
-use text_ports::{Counted, put_all};
+use std::sync::{Mutex, Wait};
+use text_ports::Counted;
 
 /// A shelf over a folder: deck NAME is the file `NAME.DECK` in it. No name leads out of the folder,
 /// since a name has letters and digits alone.
 ///
-/// A save makes the file anew. It writes a file `NAME.NEW` with the shelf's number behind it, and once
-/// all bytes went out, this takes the place of the deck's file. So who loads the deck meanwhile finds
-/// the file that was there, or the new one whole. Shelves that save at the same time in one folder have
-/// different numbers. What a folder holds after the machine failed is not promised.
+/// A save makes the file anew. It writes a file of a name that no file has, `NAME.NEW` with the shelf's
+/// number and that of a try behind it, also where another service writes in the folder. Once the system
+/// has kept all its bytes it takes the place of the deck's file, and the save waits until that is kept,
+/// too. So who loads the deck meanwhile, or after the machine failed, finds the file that was there, or
+/// the new one whole, with the mode and the owner that the old one had. Only a plain file is loaded or
+/// written over. Saves are made one after the other, and the cards of an older version than one that was
+/// saved are not written any more. A file that no shelf of the service loaded or saved is not written over
+/// but where any may be; what stood there is `NAME.OLD` then.
 ///
 /// Contracts see the text of the folder. No contract says what a file of the system has or takes: what
 /// is loaded are the cards of some file, and a fault of a line is one of some file.
@@ -30,6 +41,7 @@ pub struct FolderShelf<'a, R> {
     alloc: Global,
     folder: &'a str,
     number: usize,
+    known: &'a Mutex<KnownFiles>,
 }
 
 impl<'a, R> Model for FolderShelf<'a, R> {
@@ -42,8 +54,15 @@ impl<'a, R> Model for FolderShelf<'a, R> {
 
 impl<'a, R> FolderShelf<'a, R> {
     /// A shelf over this folder, whether it is there or not; the empty text is the folder that the
-    /// process runs in. The number is its own among the shelves of the folder.
-    pub fn new(rt: &'a R, alloc: Global, folder: &'a str, number: usize) -> FolderShelf<'a, R>
+    /// process runs in. The number is its own among the shelves of the folder, and the known files are
+    /// those of them all.
+    pub fn new(
+        rt: &'a R,
+        alloc: Global,
+        folder: &'a str,
+        number: usize,
+        known: &'a Mutex<KnownFiles>,
+    ) -> FolderShelf<'a, R>
         ensures { result ≡ folder.now }
     {
         FolderShelf {
@@ -51,6 +70,20 @@ impl<'a, R> FolderShelf<'a, R> {
             alloc,
             folder,
             number,
+            known,
+        }
+    }
+}
+
+impl<'a, R: Wait> FolderShelf<'a, R> {
+    /// The cards of a file, which is known from now on.
+    fn note_loaded(&self, name: &DeckName, cards: Vec<Card>) -> Result<Vec<Card>, ShelfLoadFault>
+        ensures cards { IfOk result (λ same. same ≡ cards) }
+        ensures fault { IfErr result (λ fault. fault ≡ ShelfLoadFault.BadFile LoadFault.OutOfMemory) }
+    {
+        match self.known.lock(self.rt).note_loaded(name) {
+            Ok(()) => Ok(cards),
+            Err(_) => Err(ShelfLoadFault::BadFile(LoadFault::OutOfMemory)),
         }
     }
 }
@@ -70,17 +103,6 @@ fn deck_path(alloc: Global, folder: &str, name: &str) -> Result<String, AllocErr
         format!(in alloc; "{name}.DECK")
     } else {
         format!(in alloc; "{folder}/{name}.DECK")
-    }
-}
-
-/// The path of the file that a save writes.
-fn new_path(alloc: Global, folder: &str, name: &str, number: usize) -> Result<String, AllocError>
-    ensures { IfOk result (λ path. string_bytes path ≡ path_in folder.now (new_file name.now number)) }
-{
-    if folder.is_empty() {
-        format!(in alloc; "{name}.NEW{number}")
-    } else {
-        format!(in alloc; "{folder}/{name}.NEW{number}")
     }
 }
 
@@ -108,50 +130,107 @@ fn load_fault(kind: ErrorKind) -> ShelfLoadFault
     }
 }
 
-/// Why the file of a deck was not made.
-fn save_fault(kind: ErrorKind) -> ShelfSaveFault
-    ensures memory { kind ≡ ErrorKind.OutOfMemory → result ≡ ShelfSaveFault.OutOfMemory }
-    ensures other { kind ≢ ErrorKind.OutOfMemory → result ≡ ShelfSaveFault.CannotOpen }
+/// Opens a plain file. What is none is not opened: a pipe would wait for a writer.
+fn open_plain<R: Files>(rt: &R, path: &str) -> Result<R::File, ShelfLoadFault>
+    ensures { IfErr result IsLoadFaultOfSomeFile }
 {
-    if kind == ErrorKind::OutOfMemory {
-        ShelfSaveFault::OutOfMemory
-    } else {
-        ShelfSaveFault::CannotOpen
+    match fs::metadata(rt, path) {
+        Ok(about) if about.is_file() => {}
+        Ok(_) => return Err(ShelfLoadFault::CannotOpen),
+        Err(error) => return Err(load_fault(error.kind())),
+    }
+    match fs::open(rt, path) {
+        Ok(file) => Ok(file),
+        Err(error) => Err(load_fault(error.kind())),
     }
 }
 
-/// Writes a file of these bytes, in place of what stood there.
-fn write_file<R: Files>(rt: &R, path: &str, bytes: &[u8]) -> Result<(), ShelfSaveFault>
-    ensures { IfErr result (IsSaveFaultOf bytes.now) }
+/// What the system tells of the file that stands at a path, where it may be written over.
+fn old_at<R: Files>(
+    shelf: &FolderShelf<'_, R>,
+    name: &str,
+    path: &str,
+    over: SaveOver,
+    is_known: bool,
+) -> Result<Option<Metadata>, ShelfSaveFault>
+    ensures { IfErr result (λ fault. (file : List ℕ) → IsSaveFaultOf file fault) }
 {
-    let file = match fs::create(rt, path) {
-        Ok(file) => file,
-        Err(error) => return Err(save_fault(error.kind())),
+    let about = match standing(shelf.rt, path) {
+        Ok(Some(about)) => about,
+        Ok(None) => return Ok(None),
+        Err(fault) => return Err(fault),
     };
-    match put_all(&mut Counted::new(file), bytes) {
-        Ok(()) => Ok(()),
-        Err(broken) => Err(ShelfSaveFault::WriteFault { sent: broken.sent }),
+    let (rt, alloc) = (shelf.rt, shelf.alloc);
+    match make_way(rt, alloc, shelf.folder, name, path, over, is_known) {
+        Ok(()) => Ok(Some(about)),
+        Err(fault) => Err(fault),
     }
 }
 
-/// Makes the file anew: writes the other one, and gives it the file's name once all bytes went out.
-/// After a fault the other one is taken away, as far as that can be done.
-fn make_anew<R: Files>(rt: &R, path: &str, other: &str, bytes: &[u8]) -> Result<(), ShelfSaveFault>
-    ensures { IfErr result (IsSaveFaultOf bytes.now) }
+/// Makes the file of a deck anew, where it may be written over.
+fn save_cards<R: Files>(
+    shelf: &FolderShelf<'_, R>,
+    name: &DeckName,
+    over: SaveOver,
+    is_known: bool,
+    cards: &[Card],
+) -> Result<(), ShelfSaveFault>
+    requires { length cards.now ≤ 20000 }
+    ensures { IfErr result (IsSaveFaultOf (file_of cards.now)) }
 {
-    let mut outcome = write_file(rt, other, bytes);
-    if outcome.is_ok()
-        && let Err(error) = fs::rename(rt, other, path)
-    {
-        outcome = Err(save_fault(error.kind()));
-    }
-    if outcome.is_err() {
-        let _ = fs::remove_file(rt, other);
-    }
-    outcome
+    let Some(name) = text_of(name) else {
+        return Err(ShelfSaveFault::CannotOpen);
+    };
+    let Ok(path) = deck_path(shelf.alloc, shelf.folder, name) else {
+        return Err(ShelfSaveFault::OutOfMemory);
+    };
+    let Ok(file) = save_file(shelf.alloc, cards) else {
+        return Err(ShelfSaveFault::OutOfMemory);
+    };
+    let old = match old_at(shelf, name, path.as_str(), over, is_known) {
+        Ok(old) => old,
+        Err(fault) => return Err(fault),
+    };
+    let anew = Anew {
+        rt: shelf.rt,
+        alloc: shelf.alloc,
+        folder: shelf.folder,
+        name,
+        number: shelf.number,
+        path: path.as_str(),
+        old,
+    };
+    make_anew(&anew, file.as_slice())
 }
 
-impl<'a, R: Files> Shelf for FolderShelf<'a, R> {
+/// Makes the file of a deck anew and notes the version of its cards; where a newer one was saved, that
+/// stays.
+fn save_in_order<R: Files>(
+    shelf: &FolderShelf<'_, R>,
+    known: &mut KnownFiles,
+    name: &DeckName,
+    over: SaveOver,
+    version: u64,
+    cards: &[Card],
+) -> Result<(), ShelfSaveFault>
+    requires { length cards.now ≤ 20000 }
+    ensures newest { OnOk result (known.new.files ≡ after_save name.now version known.old.files) }
+    ensures unchanged { OnErr result (known.new.files ≡ known.old.files) }
+    ensures older { IsTrue (has_newer name.now version known.old.files) → result ≡ Ok tt }
+    ensures fault { IfErr result (IsSaveFaultOf (file_of cards.now)) }
+{
+    if known.has_newer(name, version) {
+        return Ok(());
+    }
+    let Ok(key) = known.make_room(name) else {
+        return Err(ShelfSaveFault::OutOfMemory);
+    };
+    save_cards(shelf, name, over, known.is_known(name), cards)?;
+    known.note(key, version);
+    Ok(())
+}
+
+impl<'a, R: Files + Wait> Shelf for FolderShelf<'a, R> {
     ghost use Rattle.deck_files.specs.DeckFiles.{file_of};
     ghost use Rattle.deck_files.specs.Folders.{AreOfSomeFile, IsLoadFaultOfSomeFile, IsSaveFaultOf};
 
@@ -159,36 +238,32 @@ impl<'a, R: Files> Shelf for FolderShelf<'a, R> {
 
     ghost refuses_to_load = { λ old name fault new. (new ≡ old) × IsLoadFaultOfSomeFile fault };
 
-    ghost saves = { λ old name cards new. new ≡ old };
+    ghost saves = { λ old saving new. new ≡ old };
 
-    ghost refuses_to_save = { λ old name cards fault new. (new ≡ old) × IsSaveFaultOf (file_of cards) fault };
+    ghost refuses_to_save = { λ old saving fault new. (new ≡ old) × IsSaveFaultOf (file_of saving.cards) fault };
 
     fn load(&mut self, name: &DeckName) -> Result<Vec<Card>, ShelfLoadFault> {
-        let Some(name) = text_of(name) else {
+        let Some(text) = text_of(name) else {
             return Err(ShelfLoadFault::CannotOpen);
         };
-        let Ok(path) = deck_path(self.alloc, self.folder, name) else {
+        let Ok(path) = deck_path(self.alloc, self.folder, text) else {
             return Err(ShelfLoadFault::BadFile(LoadFault::OutOfMemory));
         };
-        match fs::open(self.rt, path.as_str()) {
-            Ok(file) => load_from(self.alloc, file).map_err(ShelfLoadFault::BadFile),
-            Err(error) => Err(load_fault(error.kind())),
+        let file = open_plain(self.rt, path.as_str())?;
+        match load_from(self.alloc, file) {
+            Ok(cards) => self.note_loaded(name, cards),
+            Err(fault) => Err(ShelfLoadFault::BadFile(fault)),
         }
     }
 
-    fn save(&mut self, name: &DeckName, cards: &[Card]) -> Result<(), ShelfSaveFault> {
-        let Some(name) = text_of(name) else {
-            return Err(ShelfSaveFault::CannotOpen);
-        };
-        let Ok(path) = deck_path(self.alloc, self.folder, name) else {
-            return Err(ShelfSaveFault::OutOfMemory);
-        };
-        let Ok(other) = new_path(self.alloc, self.folder, name, self.number) else {
-            return Err(ShelfSaveFault::OutOfMemory);
-        };
-        let Ok(file) = save_file(self.alloc, cards) else {
-            return Err(ShelfSaveFault::OutOfMemory);
-        };
-        make_anew(self.rt, path.as_str(), other.as_str(), file.as_slice())
+    fn save(
+        &mut self,
+        name: &DeckName,
+        over: SaveOver,
+        version: u64,
+        cards: &[Card],
+    ) -> Result<(), ShelfSaveFault> {
+        let mut known = self.known.lock(self.rt);
+        save_in_order(self, &mut known, name, over, version, cards)
     }
 }

@@ -3,9 +3,9 @@ ghost use Rattle.std.specs.Prelude.{◌≡◌, ◌≤◌, [], length, Ok, OnOk, 
 ghost use Rattle.std.specs.Option.{option_map};
 ghost use Rattle.deck_files.specs.DeckFiles.{cards_of_file, file_of};
 ghost use Rattle.deck_files.specs.Loads.{FaultsSo};
-ghost use Rattle.deck_files.specs.Files.{file_named, with_file};
+ghost use Rattle.deck_files.specs.Files.{named, with_named};
 
-use crate::deck_shelf::{Shelf, ShelfLoadFault, ShelfSaveFault};
+use crate::deck_shelf::{SaveOver, Shelf, ShelfLoadFault, ShelfSaveFault};
 use crate::load_fault::LoadFault;
 use crate::loading::load;
 use crate::saving::save_file;
@@ -15,7 +15,7 @@ use std::alloc::{AllocError, Global};
 use std::marker::Model;
 use text_ports::Counted;
 
-/// Files in memory, each under the name of its deck. Contracts see the list of names and files.
+/// Files in memory, each under the name of its deck; a save writes over any. Contracts see the list of names and files.
 #[derive(Drop)]
 pub struct MemoryShelf {
     alloc: Global,
@@ -44,7 +44,7 @@ impl MemoryShelf {
 
     /// Puts a file under the name of a deck, whatever its bytes are.
     pub fn put(&mut self, name: &DeckName, file: Vec<u8>) -> Result<(), AllocError>
-        ensures put { OnOk result (self.new ≡ with_file name.now file.items self.old) }
+        ensures put { OnOk result (self.new ≡ with_named name.now file.items self.old) }
         ensures unchanged { OnErr result (self.new ≡ self.old) }
     {
         let key = Vec::from_slice(self.alloc, name.as_slice())?;
@@ -54,7 +54,7 @@ impl MemoryShelf {
 
     /// The file under the name of a deck.
     pub fn file(&self, name: &DeckName) -> Option<&[u8]>
-        ensures { option_map (λ file. file.now) result ≡ file_named name.now self.now }
+        ensures { option_map (λ file. file.now) result ≡ named name.now self.now }
     {
         match self.files.get(name.as_slice()) {
             Some(file) => Some(file.as_slice()),
@@ -75,13 +75,13 @@ impl Shelf for MemoryShelf {
     ghost use Rattle.deck_files.specs.Files.{LoadsFrom, LoadsNotFrom};
     ghost use Rattle.deck_files.specs.declared.deck_shelf.ShelfSaveFault.TheVariants.{OutOfMemory};
 
-    ghost loads = { λ old name cards new. (new ≡ old) × LoadsFrom (file_named name old) cards };
+    ghost loads = { λ old name cards new. (new ≡ old) × LoadsFrom (named name old) cards };
 
-    ghost refuses_to_load = { λ old name fault new. (new ≡ old) × LoadsNotFrom (file_named name old) fault };
+    ghost refuses_to_load = { λ old name fault new. (new ≡ old) × LoadsNotFrom (named name old) fault };
 
-    ghost saves = { λ old name cards new. new ≡ with_file name (file_of cards) old };
+    ghost saves = { λ old saving new. new ≡ with_named saving.name (file_of saving.cards) old };
 
-    ghost refuses_to_save = { λ old name cards fault new. (new ≡ old) × (fault ≡ OutOfMemory) };
+    ghost refuses_to_save = { λ old saving fault new. (new ≡ old) × (fault ≡ OutOfMemory) };
 
     fn load(&mut self, name: &DeckName) -> Result<Vec<Card>, ShelfLoadFault> {
         let Some(file) = self.file(name) else {
@@ -93,7 +93,13 @@ impl Shelf for MemoryShelf {
         }
     }
 
-    fn save(&mut self, name: &DeckName, cards: &[Card]) -> Result<(), ShelfSaveFault> {
+    fn save(
+        &mut self,
+        name: &DeckName,
+        _over: SaveOver,
+        _version: u64,
+        cards: &[Card],
+    ) -> Result<(), ShelfSaveFault> {
         let Ok(file) = save_file(self.alloc, cards) else {
             return Err(ShelfSaveFault::OutOfMemory);
         };

@@ -2,13 +2,15 @@
 use Rattle.std.specs.Prelude.{ℕ, ◌≡◌, ◌+◌, ◌<◌, Bool, true, false, List, Option, Some, None}
 use Rattle.std.specs.Io.KnownBytes.{Keeps}
 use Rattle.definitions.specs.Cards.{Card}
+use Rattle.text_ports.specs.Faults.{count_up, count_after_flush}
 use Rattle.deck_files.specs.declared.deck_shelf.ShelfLoadFault.{ShelfLoadFault}
 use Rattle.deck_files.specs.declared.deck_shelf.ShelfSaveFault.{ShelfSaveFault}
+use Rattle.deck_files.specs.Savings.{Saving}
 use Rattle.desk_core.specs.declared.calls.Call.{Call}
 use Rattle.desk_core.specs.declared.replies.Reply.{Reply}
 use Rattle.session_line.specs.declared.serving.Outcome.{Outcome}
 use Rattle.session_line.specs.declared.serving.Outcome.TheVariants.{Served, Ended, ReadFault, WriteFault}
-use Rattle.session_line.specs.Serving.{Sides, Serves}
+use Rattle.session_line.specs.Serving.{Sides, Serves, read_faults_after, write_faults_after}
 use Rattle.desk_service.specs.declared.sessions.Ending.{Ending}
 use Rattle.desk_service.specs.declared.sessions.Ending.TheVariants as ending
 
@@ -25,31 +27,61 @@ ending_after Ended false = Some ending.WriteFault
 ending_after ReadFault flushed = Some ending.ReadFault
 ending_after (WriteFault executed sent) flushed = Some ending.WriteFault
 
+-- whether the reader or the writer failed
+abbrev pub is_fault : Outcome → Bool
+is_fault Served = false
+is_fault Ended = false
+is_fault ReadFault = true
+is_fault (WriteFault executed sent) = true
+
+-- what a session stands between, and how many faults its reader and its writer passed on
+pub record Standing (C S : Type 0) : Type 0 where
+  pub sides : Sides C S
+  pub read_faults : ℕ
+  pub write_faults : ℕ
+
+abbrev pub standing : {C S : Type 0} → Sides C S → ℕ → ℕ → Standing C S
+standing sides reads writes = record { sides = sides; read_faults = reads; write_faults = writes }
+
+-- the reader's count of faults once a line was served, by how the session ends there, if it ends: it rises where the session ends by the reader's fault
+abbrev pub read_faults_at : Option Ending → ℕ → ℕ
+read_faults_at (Some ending.ReadFault) faults = count_up faults
+read_faults_at told faults = faults
+
+-- and the writer's
+abbrev pub write_faults_at : Option Ending → ℕ → ℕ
+write_faults_at (Some ending.WriteFault) faults = count_up faults
+write_faults_at told faults = faults
+
 module _ {C S : Type 0} where
-  -- what the writer kept back is sent on, and nothing else is changed
-  pub record SendsOn (old new : Sides C S) : Type 0 where
-    pub output : Keeps old.output new.output
-    pub input : new.input ≡ old.input
-    pub desk : new.desk ≡ old.desk
-    pub shelf : new.shelf ≡ old.shelf
+  -- what the writer kept back is sent on, or the writer failed, and nothing else is changed
+  pub record SendsOn (sent : Bool) (old new : Standing C S) : Type 0 where
+    pub output : Keeps old.sides.output new.sides.output
+    pub input : new.sides.input ≡ old.sides.input
+    pub desk : new.sides.desk ≡ old.sides.desk
+    pub shelf : new.sides.shelf ≡ old.sides.shelf
+    pub reader : new.read_faults ≡ old.read_faults
+    pub writer : new.write_faults ≡ count_after_flush sent old.write_faults
 
 module _ {C S : Type 0} (makes : C → Call → Reply → C → Type 0) (loads : S → List ℕ → List Card → S → Type 0) (refuses_to_load : S → List ℕ → ShelfLoadFault → S → Type 0)
-    (saves : S → List ℕ → List Card → S → Type 0) (refuses_to_save : S → List ℕ → List Card → ShelfSaveFault → S → Type 0) where
+    (saves : S → Saving → S → Type 0) (refuses_to_save : S → Saving → ShelfSaveFault → S → Type 0) where
   -- one line is served, its reply is sent on, and this is how the session ends there, if it ends
-  pub record ServesLine (old new : Sides C S) (told : Option Ending) : Type 0 where
-    pub middle : Sides C S
+  pub record ServesLine (old new : Standing C S) (told : Option Ending) : Type 0 where
+    pub middle : Standing C S
     pub outcome : Outcome
     pub flushed : Bool
-    pub served : Serves makes loads refuses_to_load saves refuses_to_save old middle outcome
-    pub sent : SendsOn middle new
+    pub served : Serves makes loads refuses_to_load saves refuses_to_save old.sides middle.sides outcome
+    pub reads : middle.read_faults ≡ read_faults_after outcome old.read_faults
+    pub writes : middle.write_faults ≡ write_faults_after outcome old.write_faults
+    pub sent : SendsOn flushed middle new
     pub ends : told ≡ ending_after outcome flushed
 
   -- so many lines are served one after the other, none of which ends the session
-  pub data ServesLines (first : Sides C S) : Sides C S → ℕ → Type 0 where
+  pub data ServesLines (first : Standing C S) : Standing C S → ℕ → Type 0 where
     no_line : ServesLines first first 0
-    next_line : (middle last : Sides C S) (count : ℕ) → ServesLines first middle count → ServesLine middle last None → ServesLines first last (count + 1)
+    next_line : (middle last : Standing C S) (count : ℕ) → ServesLines first middle count → ServesLine middle last None → ServesLines first last (count + 1)
 
   -- a session: fewer lines than it may have, and then one that ends it; or all that it may have
-  pub data ServesSession (first last : Sides C S) : Ending → Type 0 where
-    ended : (middle : Sides C S) (count : ℕ) (ending : Ending) → ServesLines first middle count → count < most_commands → ServesLine middle last (Some ending) → ServesSession first last ending
+  pub data ServesSession (first last : Standing C S) : Ending → Type 0 where
+    ended : (middle : Standing C S) (count : ℕ) (ending : Ending) → ServesLines first middle count → count < most_commands → ServesLine middle last (Some ending) → ServesSession first last ending
     full : ServesLines first last most_commands → ServesSession first last ending.Full

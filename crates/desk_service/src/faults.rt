@@ -10,6 +10,10 @@ pub enum ServeFault {
     SocketFault,
     /// No memory was left, for a thread among others.
     OutOfMemory,
+    /// The folder is not there, or can't be written in.
+    NoFolder,
+    /// Another service has the folder.
+    FolderTaken,
 }
 
 impl fmt::Display for ServeFault {
@@ -22,6 +26,8 @@ impl fmt::Display for ServeFault {
         match self {
             ServeFault::SocketFault => write!(f, "SocketFault"),
             ServeFault::OutOfMemory => write!(f, "OutOfMemory"),
+            ServeFault::NoFolder => write!(f, "NoFolder"),
+            ServeFault::FolderTaken => write!(f, "FolderTaken"),
         }
     }
 }

@@ -3,7 +3,8 @@
 //!
 //! | Thread | How many | What it does | Where it sleeps |
 //! |---|---|---|---|
-//! | session | 1 to 16 | accepts a connection, serves it to its end, accepts the next | in `accept`, in a read of the connection |
+//! | receiving | 1 | accepts connections, gives each to a session that is free | in `accept` |
+//! | session | 1 to 16 | takes a connection, serves it to its end, takes the next | till one comes, in a read of the connection |
 //! | worker | 1 to 16 | claims what is due, runs it, delivers it | on the bell |
 //!
 //! Each has a seat of one office over the desk, and waits while others have their turn at it. The bell
@@ -13,8 +14,11 @@
 //! bell of their own. When the last session has ended no bell can come any more, which ends the workers.
 //!
 //! A client that goes away, sends a line that is too long or never ends, or sends what is no command,
-//! ends its session or is told so, and nothing else. A bell that finds no memory is not rung; the change
-//! stands, and is assembled after the next one. So is a job that a worker gave up for want of memory.
+//! ends its session or is told so, and nothing else; so does one that sends nothing for longer than it may
+//! be idle, takes longer than half a minute for a line that has begun, or does not read on. One that finds
+//! all sessions taken is told `NO Busy`. A bell that finds no memory is not rung; the change stands, and is
+//! assembled after the next one. A job that a worker gave up for want of memory it claims again by itself,
+//! at growing intervals.
 //!
 //! Not promised: that a connection is accepted, that a bell is heard, in which order sessions get their
 //! turns, or in what time. What sockets and files of the system take and give is known to no contract.
@@ -25,9 +29,12 @@ mod bells;
 mod sessions;
 
 // Threads and sockets.
+mod arrivals;
 mod connections;
 mod faults;
+mod patience;
 mod places;
+mod root;
 mod running;
 mod settings;
 
@@ -36,6 +43,3 @@ pub use faults::ServeFault;
 pub use running::{serve, serve_on};
 pub use sessions::{Ending, serve_session};
 pub use settings::Settings;
-
-#[cfg(test)]
-mod tests;

@@ -6,15 +6,15 @@ use crate::bells::{Ringing, WorkBell};
 use crate::connections::serve_connections;
 use crate::settings::Settings;
 use crossbeam_channel::{Receiver, Sender};
-use deck_files::FolderShelf;
+use deck_files::{FolderShelf, KnownFiles};
 use deck_workers::{Bell, OpenGate, worker};
 use desk_core::Desk;
 use session_line::SeatCalls;
 use std::alloc::{AllocError, Global};
-use std::net::TcpListener;
+use std::net::TcpStream;
 use std::rt::Files;
-use std::sync::Wait;
-use std::time::Clock;
+use std::sync::{Mutex, Wait};
+use std::time::{Clock, Duration};
 use turn_office::{Office, Seat, SeatList};
 
 /// What a worker works with: a seat of the office, and the end of the bell that it hears.
@@ -28,7 +28,7 @@ pub(crate) struct WorkerPlace<'a, R> {
     ghost seated: { seat.office ≡ office.now.id },
 }
 
-impl<R: Wait> WorkerPlace<'_, R> {
+impl<R: Wait + Clock> WorkerPlace<'_, R> {
     /// Works until no bell can come any more.
     pub(crate) fn work(self) {
         worker(
@@ -42,37 +42,31 @@ impl<R: Wait> WorkerPlace<'_, R> {
     }
 }
 
-/// The start of all sessions. Where it can't come any more, the service did not start.
-#[derive(Clone, Copy)]
-pub(crate) struct Start;
-
 /// What a session thread works with.
 #[derive(Drop)]
 pub(crate) struct SessionPlace<'a, R> {
     rt: &'a R,
     alloc: Global,
-    listener: &'a TcpListener,
+    arrivals: Receiver<TcpStream>,
+    idle: Duration,
     once: bool,
-    start: Receiver<Start>,
     desk: Ringing<SeatCalls<'a, R>, WorkBell<'a, R>>,
     shelf: FolderShelf<'a, R>,
 }
 
 impl<R: Wait + Clock + Files> SessionPlace<'_, R> {
-    /// Waits for the start, and serves connections.
+    /// Serves connections until none can come any more.
     pub(crate) fn serve(self) {
         let SessionPlace {
             rt,
             alloc,
-            listener,
+            arrivals,
+            idle,
             once,
-            start,
             mut desk,
             mut shelf,
         } = self;
-        if start.recv(rt).is_ok() {
-            serve_connections(rt, alloc, listener, once, &mut desk, &mut shelf);
-        }
+        serve_connections(rt, alloc, &arrivals, idle, once, &mut desk, &mut shelf);
     }
 }
 
@@ -119,16 +113,17 @@ pub(crate) fn worker_places<'a, R>(
 }
 
 /// Places for the sessions of a service, with seats from the list; each has an end of the bell, waits
-/// for the start, and has a shelf of a number of its own over the folder.
+/// for connections, and has a shelf of a number of its own over the folder; all note what they loaded
+/// and saved at one place.
 pub(crate) fn session_places<'a, R>(
     rt: &'a R,
     alloc: Global,
     office: &'a Office<Desk>,
     seats: &mut SeatList<Desk>,
-    listener: &'a TcpListener,
     settings: &Settings<'a>,
     bells: &Sender<Bell>,
-    start: &Receiver<Start>,
+    arrivals: &Receiver<TcpStream>,
+    known: &'a Mutex<KnownFiles>,
 ) -> Result<Vec<SessionPlace<'a, R>>, AllocError>
     requires own { AreOf office.now.id seats.old.items }
     requires enough { settings.now.sessions ≤ length seats.old.items }
@@ -140,11 +135,11 @@ pub(crate) fn session_places<'a, R>(
         places.push(SessionPlace {
             rt,
             alloc,
-            listener,
+            arrivals: arrivals.clone()?,
+            idle: Duration::from_secs(settings.idle),
             once: settings.once,
-            start: start.clone()?,
             desk: Ringing::new(seat, WorkBell::new(rt, bells.clone()?)),
-            shelf: FolderShelf::new(rt, alloc, settings.root, number),
+            shelf: FolderShelf::new(rt, alloc, settings.root, number, known),
         })?;
     }
     Ok(places)

@@ -1,7 +1,9 @@
 //! One session: line after line, until the client or a fault ends it.
-ghost use Rattle.std.specs.Prelude.{◌≡◌};
+ghost use Rattle.std.specs.Prelude.{◌≡◌, true, Some};
+ghost use Rattle.std.specs.Io.KnownBytes.{Keeps};
+ghost use Rattle.text_ports.specs.Faults.{count_after_flush};
 ghost use Rattle.session_line.specs.Serving.{sides};
-ghost use Rattle.desk_service.specs.Sessions.{ServesLine, ServesSession, ending_after};
+ghost use Rattle.desk_service.specs.Sessions.{ServesLine, ServesSession, ending_after, is_fault, standing, read_faults_at, write_faults_at};
 
 use deck_files::Shelf;
 use session_line::{Calls, Outcome, serve_one};
@@ -37,44 +39,59 @@ fn ending_after(outcome: Outcome, flushed: bool) -> Option<Ending>
     }
 }
 
-/// Serves one line, and sends on what the writer keeps back. The writer comes back.
+/// Sends on what the writer keeps back of a reply, and nothing after a fault: whether the writer did
+/// not fail.
+fn send_on<W: Write>(output: &mut Counted<W>, outcome: Outcome) -> bool
+    ensures bytes { Keeps (W.contents output.old.0) (W.contents output.new.0) }
+    ensures count { output.new.1 ≡ count_after_flush result output.old.1 }
+    ensures fault { is_fault outcome ≡ true → result ≡ true }
+{
+    match outcome {
+        Outcome::Served | Outcome::Ended => output.flush(),
+        Outcome::ReadFault | Outcome::WriteFault { .. } => true,
+    }
+}
+
+/// Serves one line, and sends on what the writer keeps back. A fault of the reader or the writer is
+/// told only where its count rose.
 fn serve_line<R: Read, W: Write, C: Calls, S: Shelf>(
     alloc: Global,
     input: &mut Counted<R>,
-    writer: W,
+    output: &mut Counted<W>,
     desk: &mut C,
     shelf: &mut S,
-) -> (Option<Ending>, W)
-    ensures { ServesLine C.makes S.loads S.refuses_to_load S.saves S.refuses_to_save
-        (sides (R.remaining input.old.0) (W.contents writer) desk.old shelf.old)
-        (sides (R.remaining input.new.0) (W.contents result.1) desk.new shelf.new) result.0 }
+) -> Option<Ending>
+    ensures line { ServesLine C.makes S.loads S.refuses_to_load S.saves S.refuses_to_save
+        (standing (sides (R.remaining input.old.0) (W.contents output.old.0) desk.old shelf.old) input.old.1 output.old.1)
+        (standing (sides (R.remaining input.new.0) (W.contents output.new.0) desk.new shelf.new) input.new.1 output.new.1) result }
+    ensures read_faults { input.new.1 ≡ read_faults_at result input.old.1 }
+    ensures write_faults { output.new.1 ≡ write_faults_at result output.old.1 }
 {
-    let mut output = Counted::new(writer);
-    let outcome = serve_one(alloc, input, &mut output, desk, shelf);
-    let mut writer = output.into_inner();
-    let flushed = writer.flush().is_ok();
-    (ending_after(outcome, flushed), writer)
+    let outcome = serve_one(alloc, input, output, desk, shelf);
+    let flushed = send_on(output, outcome);
+    ending_after(outcome, flushed)
 }
 
 /// Serves a session: its lines one after the other, each once and each reply sent on before the next
-/// line is read, up to the first that ends it, or to the millionth command. The writer comes back.
+/// line is read, up to the first that ends it, or to the millionth command. It ends by a fault of the
+/// reader or the writer only where that one's count rose.
 pub fn serve_session<R: Read, W: Write, C: Calls, S: Shelf>(
     alloc: Global,
     input: &mut Counted<R>,
-    mut writer: W,
+    output: &mut Counted<W>,
     desk: &mut C,
     shelf: &mut S,
-) -> (Ending, W)
-    ensures { ServesSession C.makes S.loads S.refuses_to_load S.saves S.refuses_to_save
-        (sides (R.remaining input.old.0) (W.contents writer) desk.old shelf.old)
-        (sides (R.remaining input.new.0) (W.contents result.1) desk.new shelf.new) result.0 }
+) -> Ending
+    ensures session { ServesSession C.makes S.loads S.refuses_to_load S.saves S.refuses_to_save
+        (standing (sides (R.remaining input.old.0) (W.contents output.old.0) desk.old shelf.old) input.old.1 output.old.1)
+        (standing (sides (R.remaining input.new.0) (W.contents output.new.0) desk.new shelf.new) input.new.1 output.new.1) result }
+    ensures read_faults { input.new.1 ≡ read_faults_at (Some result) input.old.1 }
+    ensures write_faults { output.new.1 ≡ write_faults_at (Some result) output.old.1 }
 {
     for _ in 0..MOST_COMMANDS {
-        let (ending, next) = serve_line(alloc, input, writer, desk, shelf);
-        writer = next;
-        if let Some(ending) = ending {
-            return (ending, writer);
+        if let Some(ending) = serve_line(alloc, input, output, desk, shelf) {
+            return ending;
         }
     }
-    (Ending::Full, writer)
+    Ending::Full
 }

@@ -1,5 +1,5 @@
 -- The line of each command reads back.
-use Rattle.std.proofs.Common.{ℕ, ◌≡◌, ◌≤◌, ◌&&◌, arith, Bool, true, List, [], ◌∷◌, ◌++◌, Option, Result, Ok, Err, refl, ap, ◌∙◌, if◌then◌else◌}
+use Rattle.std.proofs.Common.{ℕ, ◌≡◌, ◌≤◌, ◌&&◌, arith, Bool, true, List, [], ◌∷◌, ◌++◌, Option, Some, Result, Ok, Err, codes, refl, ap, ◌∙◌, if◌then◌else◌}
 use Rattle.std.specs.Prelude.{nat_le, decimal}
 use Rattle.std.proofs.lemmas.Bool.{and_parts, leb-true}
 use Rattle.definitions.specs.Cards.{CardRead}
@@ -8,13 +8,15 @@ use Rattle.session_line.specs.declared.verbs.EditKind.{EditKind}
 use Rattle.session_line.specs.declared.verbs.EditKind.TheVariants as kind
 use Rattle.cards.specs.declared.edits.Edit.{Edit}
 use Rattle.cards.specs.declared.edits.Edit.TheVariants.{Insert, Replace, Remove}
+use Rattle.deck_files.specs.declared.deck_shelf.SaveOver.{SaveOver}
+use Rattle.deck_files.specs.declared.deck_shelf.SaveOver.TheVariants.{Known, Any}
 use Rattle.session_line.specs.declared.commands.Command.{Command}
 use Rattle.session_line.specs.declared.commands.Command.TheVariants as command
 use Rattle.session_line.specs.declared.refusals.Refusal.{Refusal}
 use Rattle.session_line.specs.declared.refusals.Refusal.TheVariants.{BadName}
 use Rattle.session_line.specs.Words.{first_word, behind_word, first_number, greatest_number}
 use Rattle.session_line.specs.Edits.{needs, only_if, made_of, is_end, card_or_fault, fits_edit, edit_at}
-use Rattle.session_line.specs.Commands.{name_in, only_name, drop_in, edit_of, edit_in, batch_in, is_batch_size, command_of}
+use Rattle.session_line.specs.Commands.{name_in, only_name, save_over_in, save_in, drop_in, edit_of, edit_in, batch_in, is_batch_size, command_of}
 use Rattle.session_line.specs.Lines.{name_and_number, line_of_edit, line_of_batch, line_of_command, IsLawfulEdit, IsLawfulName, IsLawful}
 use Rattle.session_line.proofs.ReadBack.{IsRest, word-name, word-decimal, first-word, behind-word, first-number}
 
@@ -47,6 +49,16 @@ both-made {B} made name n rest is within none =
     ap (λ (o : Option (List ℕ)). needs {A = List ℕ} {B = B} o (λ w. needs (first_number (behind_word line)) (λ m. made w m (behind_word (behind_word line))))) (first-word name more (word-name name is) refl)
     ∙ ap (λ (l : List ℕ). needs {A = ℕ} {B = B} (first_number l) (λ m. made name m (behind_word l))) (behind-word name more (word-name name is) refl)
     ∙ number-made (made name) n rest within none
+
+-- SAVE
+save-back : (name rest : List ℕ) (over : SaveOver) → is_deck_name name ≡ true → IsRest rest → save_over_in rest ≡ Some over →
+    save_in (32 ∷ (name ++ rest)) ≡ Ok (command.Save name over)
+save-back name rest over is none which =
+    let line = 32 ∷ (name ++ rest) in
+    ap (λ (o : Option (List ℕ)). needs o (λ n. needs (save_over_in (behind_word line)) (λ v. made_of (λ m. command.Save m v) (name_in n)))) (first-word name rest (word-name name is) none)
+    ∙ ap (λ (l : List ℕ). needs (save_over_in l) (λ v. made_of (λ m. command.Save m v) (name_in name))) (behind-word name rest (word-name name is) none)
+    ∙ ap (λ (o : Option SaveOver). needs o (λ v. made_of (λ m. command.Save m v) (name_in name))) which
+    ∙ ap (λ (r : Result (List ℕ) Refusal). made_of (λ m. command.Save m over) r) (name-is name is)
 
 -- DROP
 drop-back : (name : List ℕ) (version : ℕ) → is_deck_name name ≡ true → version ≤ greatest_number → drop_in (name_and_number name version []) ≡ Ok (command.Drop name version)
@@ -96,7 +108,8 @@ line-back (command.Load name) is = ap (λ (r : Result (List ℕ) Refusal). made_
 line-back (command.Drop name version) lawful = drop-back name version lawful.0 lawful.1
 line-back (command.Edit name version edit) lawful = edit-back name version edit lawful.0 lawful.1 lawful.2
 line-back (command.Cards name) is = ap (λ (r : Result (List ℕ) Refusal). made_of command.Cards r) (only-name name is)
-line-back (command.Save name) is = ap (λ (r : Result (List ℕ) Refusal). made_of command.Save r) (only-name name is)
+line-back (command.Save name Known) is = save-back name [] Known is refl refl
+line-back (command.Save name Any) is = save-back name (codes " FORCE") Any is refl refl
 line-back command.Image _ = refl
 line-back command.List _ = refl
 line-back command.Status _ = refl

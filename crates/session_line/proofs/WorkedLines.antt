@@ -2,6 +2,7 @@
 use Rattle.std.proofs.Common.{◌≡◌, Ok, Err, codes, refl}
 use Rattle.cards.specs.declared.card.CardFault.TheVariants as card
 use Rattle.cards.specs.declared.edits.Edit.TheVariants.{Insert, Replace, Remove}
+use Rattle.deck_files.specs.declared.deck_shelf.SaveOver.TheVariants.{Known, Any}
 use Rattle.session_line.specs.declared.commands.Command.TheVariants as command
 use Rattle.session_line.specs.declared.refusals.Refusal.TheVariants.{BadCommand, BadName, BadCard}
 use Rattle.session_line.specs.Edits.{edit_in_batch}
@@ -29,8 +30,17 @@ delete = refl
 pub cards : command_of (codes "CARDS M") ≡ Ok (command.Cards (codes "M"))
 cards = refl
 
-pub save : command_of (codes "SAVE M") ≡ Ok (command.Save (codes "M"))
+pub save : command_of (codes "SAVE M") ≡ Ok (command.Save (codes "M") Known)
 save = refl
+
+pub save-force : command_of (codes "SAVE M FORCE") ≡ Ok (command.Save (codes "M") Any)
+save-force = refl
+
+pub save-more : command_of (codes "SAVE M FORCE ") ≡ Err BadCommand
+save-more = refl
+
+pub save-bad_name : command_of (codes "SAVE M+ FORCE") ≡ Err BadName
+save-bad_name = refl
 
 pub image : command_of (codes "IMAGE") ≡ Ok command.Image
 image = refl

@@ -8,6 +8,7 @@ use Rattle.desk_core.specs.declared.calls.Call.TheVariants as call
 use Rattle.desk_core.specs.declared.replies.Reply.TheVariants as reply
 use Rattle.desk_core.specs.declared.replies.State.TheVariants.{Behind}
 use Rattle.desk_core.specs.declared.replies.Refusal.TheVariants as desk
+use Rattle.deck_files.specs.declared.deck_shelf.SaveOver.TheVariants.{Known}
 use Rattle.session_line.specs.declared.refusals.Refusal.TheVariants.{BadCommand, BadName, BadCard}
 use Rattle.session_line.specs.Commands.{command_of}
 use Rattle.session_line.specs.declared.tasks.PublishedText.TheVariants.{Image, Listing}
@@ -25,7 +26,7 @@ insert = refl
 pub load : task_of (codes "LOAD M") [] ≡ LoadDeck (codes "M")
 load = refl
 
-pub save : task_of (codes "SAVE M") [] ≡ SaveDeck (codes "M")
+pub save : task_of (codes "SAVE M") [] ≡ SaveDeck (codes "M") Known
 save = refl
 
 pub image : task_of (codes "IMAGE") [] ≡ Ask call.Show Image

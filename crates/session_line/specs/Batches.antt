@@ -1,5 +1,5 @@
 -- What is known of a batch's edits while its lines are read (ours).
-use Rattle.std.specs.Prelude.{ℕ, ◌≡◌, ◌<◌, List, [], ◌∷◌, ◌++◌, Option, Result, Ok, Err, IsOk, length}
+use Rattle.std.specs.Prelude.{ℕ, ◌≡◌, ◌<◌, Bool, true, false, List, [], ◌∷◌, ◌++◌, Option, Result, Ok, Err, IsOk, length}
 use Rattle.cards.specs.declared.edits.Edit.{Edit}
 use Rattle.session_line.specs.declared.refusals.Refusal.{Refusal}
 use Rattle.session_line.specs.declared.batches.EditsRead.{EditsRead}
@@ -13,6 +13,12 @@ abbrev pub IsRead : Result (List Edit) Refusal → EditsRead → Type 0
 IsRead edits (Whole list) = edits ≡ Ok list.items
 IsRead edits Lacking = IsOk edits
 IsRead edits (Faulty reason) = edits ≡ Err reason
+
+-- whether there was no memory for the edits
+abbrev pub is_lacking : EditsRead → Bool
+is_lacking (Whole list) = false
+is_lacking Lacking = true
+is_lacking (Faulty reason) = false
 
 -- edits with one more behind them, or the first refusal
 abbrev pub edit_behind : Result (List Edit) Refusal → Result Edit Refusal → Result (List Edit) Refusal

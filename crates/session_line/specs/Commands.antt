@@ -1,11 +1,14 @@
 -- Which line of a session is which command, or why it is refused: a line that is none first, then the name, then the card (ours).
-use Rattle.std.specs.Prelude.{ℕ, List, Result, Ok, Err, Bool, ◌&&◌, nat_le, if◌then◌else◌}
+use Rattle.std.specs.Prelude.{ℕ, List, Option, Some, None, Result, Ok, Err, Bool, ◌&&◌, codes, nat_le, if◌then◌else◌}
+use Rattle.definitions.specs.Characters.{same_text}
 use Rattle.definitions.specs.DeckInput.{is_deck_name}
 use Rattle.definitions.specs.Fields.{unbroken_front}
 use Rattle.session_line.specs.declared.verbs.EditKind.{EditKind}
 use Rattle.session_line.specs.declared.verbs.Verb.{Verb}
 use Rattle.session_line.specs.declared.verbs.Verb.TheVariants as verb
 use Rattle.cards.specs.declared.edits.Edit.{Edit}
+use Rattle.deck_files.specs.declared.deck_shelf.SaveOver.{SaveOver}
+use Rattle.deck_files.specs.declared.deck_shelf.SaveOver.TheVariants as over
 use Rattle.session_line.specs.declared.commands.Command.{Command}
 use Rattle.session_line.specs.declared.commands.Command.TheVariants as command
 use Rattle.session_line.specs.declared.refusals.Refusal.{Refusal}
@@ -25,6 +28,16 @@ alone command rest = only_if (is_end rest) (Ok command)
 -- name
 abbrev pub only_name : List ℕ → Result (List ℕ) Refusal
 only_name rest = needs (first_word rest) (λ name. only_if (is_end (behind_word rest)) (name_in name))
+
+-- what stands behind the name of a save: nothing, or the word that lets it write over any file
+abbrev pub save_over_in : List ℕ → Option SaveOver
+save_over_in rest = if is_end rest then Some over.Known else if same_text rest (codes " FORCE") then Some over.Any else None
+
+-- name, or name FORCE
+abbrev pub save_in : List ℕ → Result Command Refusal
+save_in rest =
+    needs (first_word rest) (λ name.
+    needs (save_over_in (behind_word rest)) (λ over. made_of (λ name. command.Save name over) (name_in name)))
 
 -- name version
 abbrev pub drop_in : List ℕ → Result Command Refusal
@@ -72,7 +85,7 @@ command_by verb.Load rest = made_of command.Load (only_name rest)
 command_by verb.Drop rest = drop_in rest
 command_by (verb.Edit kind) rest = edit_in kind rest
 command_by verb.Cards rest = made_of command.Cards (only_name rest)
-command_by verb.Save rest = made_of command.Save (only_name rest)
+command_by verb.Save rest = save_in rest
 command_by verb.Image rest = alone command.Image rest
 command_by verb.List rest = alone command.List rest
 command_by verb.Status rest = alone command.Status rest

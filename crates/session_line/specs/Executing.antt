@@ -3,6 +3,8 @@ use Rattle.std.specs.Prelude.{ℕ, ◌≡◌, List, Result, Ok, Err}
 use Rattle.definitions.specs.Cards.{Card}
 use Rattle.deck_files.specs.declared.deck_shelf.ShelfLoadFault.{ShelfLoadFault}
 use Rattle.deck_files.specs.declared.deck_shelf.ShelfSaveFault.{ShelfSaveFault}
+use Rattle.deck_files.specs.declared.deck_shelf.SaveOver.{SaveOver}
+use Rattle.deck_files.specs.Savings.{Saving, saving}
 use Rattle.desk_core.specs.declared.calls.Call.{Call}
 use Rattle.desk_core.specs.declared.replies.Reply.{Reply}
 use Rattle.desk_core.specs.declared.calls.Call.TheVariants.{AddDeck, Cards}
@@ -34,16 +36,16 @@ module _ {S : Type 0} (loads : S → List ℕ → List Card → S → Type 0) (r
   ShelfLoads name shelf (Ok cards) after = loads shelf name cards after
   ShelfLoads name shelf (Err fault) after = refuses_to_load shelf name fault after
 
-module _ {S : Type 0} (saves : S → List ℕ → List Card → S → Type 0) (refuses_to_save : S → List ℕ → List Card → ShelfSaveFault → S → Type 0) where
-  -- one save on the shelf of what the desk replied with: its version is told, or the fault
-  pub data SavesCards (name : List ℕ) (version : ℕ) (cards : List Card) (shelf after : S) (answer : Answer) : Type 0 where
-    saved : saves shelf name cards after → answer ≡ called (told.Saved version) → SavesCards name version cards shelf after answer
-    refused : (fault : ShelfSaveFault) → refuses_to_save shelf name cards fault after → answer ≡ called (told.Refused (save_reason fault)) → SavesCards name version cards shelf after answer
+module _ {S : Type 0} (saves : S → Saving → S → Type 0) (refuses_to_save : S → Saving → ShelfSaveFault → S → Type 0) where
+  -- one save on the shelf of the version that the desk replied with: it is told, or the fault
+  pub data SavesCards (name : List ℕ) (over : SaveOver) (version : ℕ) (cards : List Card) (shelf after : S) (answer : Answer) : Type 0 where
+    saved : saves shelf (saving name over version cards) after → answer ≡ called (told.Saved version) → SavesCards name over version cards shelf after answer
+    refused : (fault : ShelfSaveFault) → refuses_to_save shelf (saving name over version cards) fault after → answer ≡ called (told.Refused (save_reason fault)) → SavesCards name over version cards shelf after answer
 
   -- the cards that the desk replied with are saved; another reply is told, and the shelf is not called
-  abbrev pub SavesReply : List ℕ → Reply → S → S → Answer → Type 0
-  SavesReply name (CardsAre version cards) shelf after answer = SavesCards name version cards shelf after answer
-  SavesReply name reply shelf after answer = (after ≡ shelf) × (answer ≡ called (told.Replied reply Listing))
+  abbrev pub SavesReply : List ℕ → SaveOver → Reply → S → S → Answer → Type 0
+  SavesReply name over (CardsAre version cards) shelf after answer = SavesCards name over version cards shelf after answer
+  SavesReply name over reply shelf after answer = (after ≡ shelf) × (answer ≡ called (told.Replied reply Listing))
 
 module _ {C S : Type 0} (makes : C → Call → Reply → C → Type 0) (loads : S → List ℕ → List Card → S → Type 0) (refuses_to_load : S → List ℕ → ShelfLoadFault → S → Type 0) where
   -- LOAD: one load of the shelf, and then one addition to the desk
@@ -52,15 +54,15 @@ module _ {C S : Type 0} (makes : C → Call → Reply → C → Type 0) (loads :
     pub shelved : ShelfLoads loads refuses_to_load name shelf loaded after
     pub added : AddsLoaded makes name loaded desk next answer
 
-module _ {C S : Type 0} (makes : C → Call → Reply → C → Type 0) (saves : S → List ℕ → List Card → S → Type 0) (refuses_to_save : S → List ℕ → List Card → ShelfSaveFault → S → Type 0) where
+module _ {C S : Type 0} (makes : C → Call → Reply → C → Type 0) (saves : S → Saving → S → Type 0) (refuses_to_save : S → Saving → ShelfSaveFault → S → Type 0) where
   -- SAVE: the desk is asked for the cards, and then the shelf saves them
-  pub record SavesDeck (name : List ℕ) (desk next : C) (shelf after : S) (answer : Answer) : Type 0 where
+  pub record SavesDeck (name : List ℕ) (over : SaveOver) (desk next : C) (shelf after : S) (answer : Answer) : Type 0 where
     pub reply : Reply
     pub made : makes desk (Cards name) reply next
-    pub kept : SavesReply saves refuses_to_save name (session_reply reply) shelf after answer
+    pub kept : SavesReply saves refuses_to_save name over (session_reply reply) shelf after answer
 
 module _ {C S : Type 0} (makes : C → Call → Reply → C → Type 0) (loads : S → List ℕ → List Card → S → Type 0) (refuses_to_load : S → List ℕ → ShelfLoadFault → S → Type 0)
-    (saves : S → List ℕ → List Card → S → Type 0) (refuses_to_save : S → List ℕ → List Card → ShelfSaveFault → S → Type 0) where
+    (saves : S → Saving → S → Type 0) (refuses_to_save : S → Saving → ShelfSaveFault → S → Type 0) where
   -- nothing is called, and this is told
   abbrev pub OnlyTells : Answer → C → C → S → S → Answer → Type 0
   OnlyTells what desk next shelf after answer = (next ≡ desk) × (after ≡ shelf) × (answer ≡ what)
@@ -69,6 +71,6 @@ module _ {C S : Type 0} (makes : C → Call → Reply → C → Type 0) (loads :
   abbrev pub Executes : Task → C → C → S → S → Answer → Type 0
   Executes (Ask call text) desk next shelf after answer = Asks makes call text desk next answer × (after ≡ shelf)
   Executes (LoadDeck name) desk next shelf after answer = LoadsDeck makes loads refuses_to_load name desk next shelf after answer
-  Executes (SaveDeck name) desk next shelf after answer = SavesDeck makes saves refuses_to_save name desk next shelf after answer
+  Executes (SaveDeck name over) desk next shelf after answer = SavesDeck makes saves refuses_to_save name over desk next shelf after answer
   Executes Leave desk next shelf after answer = OnlyTells (uncalled told.Bye) desk next shelf after answer
   Executes (Refuse reason) desk next shelf after answer = OnlyTells (uncalled (told.Refused reason)) desk next shelf after answer

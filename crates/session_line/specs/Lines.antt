@@ -4,6 +4,7 @@ use Rattle.definitions.specs.Cards.{IsCard, card_of}
 use Rattle.definitions.specs.DeckInput.{is_deck_name}
 use Rattle.cards.specs.declared.edits.Edit.{Edit}
 use Rattle.cards.specs.declared.edits.Edit.TheVariants.{Insert, Replace, Remove}
+use Rattle.deck_files.specs.declared.deck_shelf.SaveOver.TheVariants.{Known, Any}
 use Rattle.session_line.specs.declared.commands.Command.{Command}
 use Rattle.session_line.specs.declared.commands.Command.TheVariants as command
 use Rattle.session_line.specs.declared.refusals.Refusal.{Refusal}
@@ -36,7 +37,8 @@ line_of_command (command.Load name) = codes "LOAD" ++ behind_a_blank (name ++ []
 line_of_command (command.Drop name version) = codes "DROP" ++ name_and_number name version []
 line_of_command (command.Edit name version edit) = line_of_edit name version edit
 line_of_command (command.Cards name) = codes "CARDS" ++ behind_a_blank (name ++ [])
-line_of_command (command.Save name) = codes "SAVE" ++ behind_a_blank (name ++ [])
+line_of_command (command.Save name Known) = codes "SAVE" ++ behind_a_blank (name ++ [])
+line_of_command (command.Save name Any) = codes "SAVE" ++ behind_a_blank (name ++ behind_a_blank (codes "FORCE"))
 line_of_command command.Image = codes "IMAGE"
 line_of_command command.List = codes "LIST"
 line_of_command command.Status = codes "STATUS"
@@ -61,7 +63,7 @@ IsLawful (command.Load name) = IsTrue (is_deck_name name)
 IsLawful (command.Drop name version) = IsTrue (is_deck_name name) × (version ≤ greatest_number)
 IsLawful (command.Edit name version edit) = IsTrue (is_deck_name name) × (version ≤ greatest_number) × IsLawfulEdit edit
 IsLawful (command.Cards name) = IsTrue (is_deck_name name)
-IsLawful (command.Save name) = IsTrue (is_deck_name name)
+IsLawful (command.Save name over) = IsTrue (is_deck_name name)
 IsLawful command.Image = ⊤
 IsLawful command.List = ⊤
 IsLawful command.Status = ⊤

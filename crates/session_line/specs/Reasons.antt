@@ -43,5 +43,6 @@ load_reason (shelf_load.BadFile fault) = file_reason fault
 -- a fault of the shelf in saving
 abbrev pub save_reason : ShelfSaveFault → Refusal
 save_reason shelf_save.CannotOpen = refusal.CannotOpen
+save_reason shelf_save.FileExists = refusal.FileExists
 save_reason (shelf_save.WriteFault sent) = refusal.WriteFault sent
 save_reason shelf_save.OutOfMemory = refusal.OutOfMemory

@@ -37,3 +37,5 @@ refusal_text refusal.BadName = codes "BadName"
 refusal_text refusal.SeatsOut = codes "SeatsOut"
 refusal_text (refusal.BadEdit number fault) = codes "BadEdit " ++ (decimal number ++ (codes " " ++ edit_fault_text fault))
 refusal_text refusal.BatchSize = codes "BatchSize"
+refusal_text refusal.FileExists = codes "FileExists"
+refusal_text refusal.Busy = codes "Busy"

@@ -5,6 +5,7 @@ use Rattle.definitions.specs.Cards.{Card}
 use Rattle.text_ports.specs.Faults.{count_up}
 use Rattle.deck_files.specs.declared.deck_shelf.ShelfLoadFault.{ShelfLoadFault}
 use Rattle.deck_files.specs.declared.deck_shelf.ShelfSaveFault.{ShelfSaveFault}
+use Rattle.deck_files.specs.Savings.{Saving}
 use Rattle.desk_core.specs.declared.calls.Call.{Call}
 use Rattle.desk_core.specs.declared.replies.Reply.{Reply}
 use Rattle.session_line.specs.declared.tasks.Task.{Task}
@@ -54,7 +55,7 @@ module _ {C S : Type 0} where
     pub shelf : new.shelf ≡ old.shelf
 
 module _ {C S : Type 0} (makes : C → Call → Reply → C → Type 0) (loads : S → List ℕ → List Card → S → Type 0) (refuses_to_load : S → List ℕ → ShelfLoadFault → S → Type 0)
-    (saves : S → List ℕ → List Card → S → Type 0) (refuses_to_save : S → List ℕ → List Card → ShelfSaveFault → S → Type 0) where
+    (saves : S → Saving → S → Type 0) (refuses_to_save : S → Saving → ShelfSaveFault → S → Type 0) where
   -- one command is taken whole, executed once and answered
   pub record ServesCommand (old new : Sides C S) (outcome : Outcome) : Type 0 where
     pub task : Task

@@ -1,12 +1,14 @@
 //! The commands of a session.
 ghost use Rattle.std.specs.Prelude.{◌≡◌};
-ghost use Rattle.session_line.specs.Commands.{name_in, alone, only_name, drop_in, edit_in, batch_in, command_by, command_of, is_batch_size};
+ghost use Rattle.session_line.specs.Commands.{name_in, alone, only_name, save_over_in, save_in, drop_in, edit_in, batch_in, command_by, command_of, is_batch_size};
 
 use crate::edits::{edit_at, fits_edit};
 use crate::refusals::Refusal;
 use crate::verbs::{EditKind, Verb, verb_of};
 use crate::words::{behind_word, first_number, first_word, from_blank, to_blank};
 use cards::{DeckName, Edit};
+use deck_files::SaveOver;
+use definitions::is_same_text;
 
 /// How many edits a batch has at most.
 const MOST_EDITS: u64 = 100;
@@ -37,9 +39,10 @@ pub enum Command {
     Cards {
         name: DeckName,
     },
-    /// The cards of the deck go to the shelf's file of its name.
+    /// The cards of the deck go to the shelf's file of its name, where that may be written over.
     Save {
         name: DeckName,
+        over: SaveOver,
     },
     /// The published image.
     Image,
@@ -94,6 +97,35 @@ fn only_name(rest: &[u8]) -> Result<DeckName, Refusal>
         return Err(Refusal::BadCommand);
     }
     name_in(name)
+}
+
+/// What stands behind the name of a save: nothing, or `FORCE` where any file may be written over.
+fn save_over_in(rest: &[u8]) -> Option<SaveOver>
+    ensures { result ≡ save_over_in rest.now }
+{
+    if rest.is_empty() {
+        Some(SaveOver::Known)
+    } else if is_same_text(rest, b" FORCE") {
+        Some(SaveOver::Any)
+    } else {
+        None
+    }
+}
+
+/// `name`, or `name FORCE`
+fn save_in(rest: &[u8]) -> Result<Command, Refusal>
+    ensures { result ≡ save_in rest.now }
+{
+    let Some(name) = first_word(rest) else {
+        return Err(Refusal::BadCommand);
+    };
+    let Some(over) = save_over_in(behind_word(rest)) else {
+        return Err(Refusal::BadCommand);
+    };
+    Ok(Command::Save {
+        name: name_in(name)?,
+        over,
+    })
 }
 
 /// `name version`
@@ -204,9 +236,7 @@ fn command_by(verb: Verb, rest: &[u8]) -> Result<Command, Refusal>
         Verb::Cards => Ok(Command::Cards {
             name: only_name(rest)?,
         }),
-        Verb::Save => Ok(Command::Save {
-            name: only_name(rest)?,
-        }),
+        Verb::Save => save_in(rest),
         Verb::Image => alone(Command::Image, rest),
         Verb::List => alone(Command::List, rest),
         Verb::Status => alone(Command::Status, rest),

@@ -8,7 +8,7 @@ use crate::calls::Calls;
 use crate::reasons::{load_reason, save_reason};
 use crate::tasks::{PublishedText, Task};
 use cards::{Card, DeckName};
-use deck_files::Shelf;
+use deck_files::{SaveOver, Shelf};
 use desk_core::{Call, NewDeck, Reply};
 
 /// The answer after a call of the desk.
@@ -56,24 +56,37 @@ fn load_deck<C: Calls, S: Shelf>(desk: &mut C, shelf: &mut S, name: DeckName) ->
 }
 
 /// One save on the shelf of what the desk replied with.
-fn save_cards<S: Shelf>(shelf: &mut S, name: &DeckName, version: u64, cards: &[Card]) -> Answer
+fn save_cards<S: Shelf>(
+    shelf: &mut S,
+    name: &DeckName,
+    over: SaveOver,
+    version: u64,
+    cards: &[Card],
+) -> Answer
     requires { length cards.now ≤ most_cards }
-    ensures saves { SavesCards S.saves S.refuses_to_save name.now version cards.now shelf.old shelf.new result }
+    ensures saves { SavesCards S.saves S.refuses_to_save name.now over version cards.now shelf.old shelf.new result }
     ensures fits { IsTellable result.told }
 {
-    match shelf.save(name, cards) {
+    match shelf.save(name, over, version, cards) {
         Ok(()) => called(Told::Saved(version)),
         Err(fault) => called(Told::Refused(save_reason(fault))),
     }
 }
 
 /// The desk is asked for the cards of the deck, and then the shelf saves them.
-fn save_deck<C: Calls, S: Shelf>(desk: &mut C, shelf: &mut S, name: &DeckName) -> Answer
-    ensures saves { SavesDeck C.makes S.saves S.refuses_to_save name.now desk.old desk.new shelf.old shelf.new result }
+fn save_deck<C: Calls, S: Shelf>(
+    desk: &mut C,
+    shelf: &mut S,
+    name: &DeckName,
+    over: SaveOver,
+) -> Answer
+    ensures saves { SavesDeck C.makes S.saves S.refuses_to_save name.now over desk.old desk.new shelf.old shelf.new result }
     ensures fits { IsTellable result.told }
 {
     match session_reply(desk.call(Call::Cards(name.copied()))) {
-        Reply::CardsAre(version, cards) => save_cards(shelf, name, version, cards.as_slice()),
+        Reply::CardsAre(version, cards) => {
+            save_cards(shelf, name, over, version, cards.as_slice())
+        }
         reply => called(Told::Replied {
             reply,
             text: PublishedText::Listing,
@@ -89,7 +102,7 @@ pub(crate) fn execute<C: Calls, S: Shelf>(desk: &mut C, shelf: &mut S, task: Tas
     match task {
         Task::Ask { call, text } => ask(desk, call, text),
         Task::LoadDeck(name) => load_deck(desk, shelf, name),
-        Task::SaveDeck(name) => save_deck(desk, shelf, &name),
+        Task::SaveDeck(name, over) => save_deck(desk, shelf, &name, over),
         Task::Leave => uncalled(Told::Bye),
         Task::Refuse(refusal) => uncalled(Told::Refused(refusal)),
     }

@@ -58,12 +58,3 @@ pub use replies::Reply;
 pub use seat_calls::SeatCalls;
 pub use serving::{Outcome, serve_one};
 pub use writing::{reply_text, write_reply};
-
-#[cfg(test)]
-mod tests;
-#[cfg(test)]
-mod tests_faults;
-#[cfg(test)]
-mod tests_serving;
-#[cfg(test)]
-mod tests_steps;

@@ -59,6 +59,7 @@ pub(crate) fn save_reason(fault: ShelfSaveFault) -> Refusal
 {
     match fault {
         ShelfSaveFault::CannotOpen => Refusal::CannotOpen,
+        ShelfSaveFault::FileExists => Refusal::FileExists,
         ShelfSaveFault::WriteFault { sent } => Refusal::WriteFault { sent },
         ShelfSaveFault::OutOfMemory => Refusal::OutOfMemory,
     }

@@ -75,6 +75,8 @@ pub(crate) fn put_refusal(line: &mut ReplyLine, refusal: &Refusal)
         Refusal::SeatsOut => line.put(b"SeatsOut"),
         Refusal::BadEdit { number, fault } => put_bad_edit(line, number, fault),
         Refusal::BatchSize => line.put(b"BatchSize"),
+        Refusal::FileExists => line.put(b"FileExists"),
+        Refusal::Busy => line.put(b"Busy"),
     }
 }
 

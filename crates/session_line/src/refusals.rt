@@ -55,4 +55,8 @@ pub enum Refusal {
     BadEdit { number: u64, fault: EditFault },
     /// A batch has no edit, or more than 100.
     BatchSize,
+    /// The deck's file stands there, and this service neither loaded nor saved it.
+    FileExists,
+    /// All sessions are taken.
+    Busy,
 }

@@ -1,14 +1,15 @@
 //! What a command asks for.
-ghost use Rattle.std.specs.Prelude.{◌≡◌, List, Result};
+ghost use Rattle.std.specs.Prelude.{◌≡◌, false, List, Result};
 ghost use Rattle.cards.specs.declared.edits.Edit.{Edit as CardEdit};
 ghost use Rattle.session_line.specs.declared.refusals.Refusal.{Refusal as Reason};
 ghost use Rattle.session_line.specs.Tasks.{asks, batch_named, lines_behind, lines_due, task_by, task_of_command};
 ghost use Rattle.session_line.specs.Taking.{IsTaskFor};
-ghost use Rattle.session_line.specs.Batches.{IsRead};
+ghost use Rattle.session_line.specs.Batches.{IsRead, is_lacking};
 
 use crate::batches::EditsRead;
 use crate::{BatchHead, Command, Refusal};
 use cards::DeckName;
+use deck_files::SaveOver;
 use desk_core::{Call, Listed, NewDeck};
 use std::alloc::Global;
 
@@ -26,8 +27,8 @@ pub(crate) enum Task {
     Ask { call: Call, text: PublishedText },
     /// The shelf's deck of this name is added.
     LoadDeck(DeckName),
-    /// The cards of the deck of this name go to the shelf.
-    SaveDeck(DeckName),
+    /// The cards of the deck of this name go to the shelf, over what may be written over.
+    SaveDeck(DeckName, SaveOver),
     /// The end of the session.
     Leave,
     /// Nothing, for this reason.
@@ -66,9 +67,10 @@ fn asks(call: Call) -> Task
     }
 }
 
-/// A batch, with the edits of its lines.
+/// A batch, with the edits of its lines; `OutOfMemory` only where there was no memory for them.
 fn batch_named(head: BatchHead, edits: EditsRead) -> Task
-    ensures { (read : Result (List CardEdit) Reason) → IsRead read edits → IsTaskFor (batch_named head.name head.version read) result }
+    ensures task { (read : Result (List CardEdit) Reason) → IsRead read edits → IsTaskFor (batch_named head.name head.version read) result }
+    ensures whole { is_lacking edits ≡ false → (read : Result (List CardEdit) Reason) → IsRead read edits → result ≡ batch_named head.name head.version read }
 {
     let seen = head.version;
     let name = match head.name {
@@ -88,7 +90,8 @@ fn batch_named(head: BatchHead, edits: EditsRead) -> Task
 
 /// What a command asks for, with the edits of the lines behind it.
 fn task_of_command(alloc: Global, command: Command, edits: EditsRead) -> Task
-    ensures { (read : Result (List CardEdit) Reason) → IsRead read edits → IsTaskFor (task_of_command command read) result }
+    ensures task { (read : Result (List CardEdit) Reason) → IsRead read edits → IsTaskFor (task_of_command command read) result }
+    ensures whole { is_lacking edits ≡ false → (read : Result (List CardEdit) Reason) → IsRead read edits → result ≡ task_of_command command read }
 {
     match command {
         Command::Add { name } => asks(Call::AddDeck(NewDeck::new(name, Vec::new(alloc)))),
@@ -107,7 +110,7 @@ fn task_of_command(alloc: Global, command: Command, edits: EditsRead) -> Task
             edit,
         }),
         Command::Cards { name } => asks(Call::Cards(name)),
-        Command::Save { name } => Task::SaveDeck(name),
+        Command::Save { name, over } => Task::SaveDeck(name, over),
         Command::Image => Task::Ask {
             call: Call::Show,
             text: PublishedText::Image,
@@ -121,7 +124,8 @@ fn task_of_command(alloc: Global, command: Command, edits: EditsRead) -> Task
 
 /// What a first line asks for, with the edits of the lines behind it.
 pub(crate) fn task_by(alloc: Global, command: Result<Command, Refusal>, edits: EditsRead) -> Task
-    ensures { (read : Result (List CardEdit) Reason) → IsRead read edits → IsTaskFor (task_by command read) result }
+    ensures task { (read : Result (List CardEdit) Reason) → IsRead read edits → IsTaskFor (task_by command read) result }
+    ensures whole { is_lacking edits ≡ false → (read : Result (List CardEdit) Reason) → IsRead read edits → result ≡ task_by command read }
 {
     match command {
         Ok(command) => task_of_command(alloc, command, edits),

@@ -1,24 +1,31 @@
-use Rattle.std.proofs.Common.{ℕ, ◌≡◌, sym, ap, refl, subst}
-use Rattle.std.specs.Io.KnownBytes.{Keeps}
-use Rattle.session_line.specs.Serving.{Serves, sides}
+use Rattle.std.proofs.Common.{◌∙◌, ap, refl}
+use Rattle.session_line.specs.Serving.{sides}
+use Rattle.text_ports.specs.Faults.{count_after_flush}
+use Rattle.desk_service.specs.Sessions.{standing}
+use Rattle.desk_service.proofs.SessionSteps.{read_faults-ending, write_faults-ending}
 use Rattle.desk_service.proofs.sessions.serve_line.Goals as goal
 
-pub returns : goal.returns
-returns g c =
-    let input = g.R.Read.remaining c.serve_one-outcome.new.input.0 in
-    let output = g.W.Write.contents c.serve_one-outcome.new.output.0 in
-    let middle = sides input output c.serve_one-outcome.new.desk c.serve_one-outcome.new.shelf in
-    let begins : c.new-output.result.0 ≡ c.args.writer = ap (λ p. p.0) c.new-output.ensures in
-    let ends : c.into_inner-writer.result ≡ c.serve_one-outcome.new.output.0 = c.into_inner-writer.ensures in
-    let P : g.row.W.Denot → Type 0 = λ w.
-    Serves g.C.Calls.makes g.S.Shelf.loads g.S.Shelf.refuses_to_load g.S.Shelf.saves g.S.Shelf.refuses_to_save
-    (sides (g.R.Read.remaining c.args.input.now.0) (g.W.Write.contents w) c.args.desk.now c.args.shelf.now) middle c.serve_one-outcome.result in
-    let Q : g.row.W.Denot → Type 0 = λ w. Keeps (g.W.Write.contents w) (g.W.Write.contents c.flush.new.self) in
+pub returns-clause-line : goal.returns-clause-line
+returns-clause-line g c =
+    let after = c.serve_one-outcome in
     record {
-      middle = middle;
-      outcome = c.serve_one-outcome.result;
-      flushed = c.is_ok-flushed.result;
-      served = subst P begins c.serve_one-outcome.ensures.serves;
-      sent = record { output = subst Q ends c.flush.ensures.bytes; input = refl; desk = refl; shelf = refl };
+      middle = standing (sides (g.R.Read.remaining after.new.input.0) (g.W.Write.contents after.new.output.0) after.new.desk after.new.shelf) after.new.input.1 after.new.output.1;
+      outcome = after.result;
+      flushed = c.send_on-flushed.result;
+      served = after.ensures.serves;
+      reads = after.ensures.read_faults;
+      writes = after.ensures.write_faults;
+      sent = record { output = c.send_on-flushed.ensures.bytes; input = refl; desk = refl; shelf = refl; reader = refl; writer = c.send_on-flushed.ensures.count };
       ends = c.ending_after.ensures;
     }
+
+pub returns-clause-read_faults : goal.returns-clause-read_faults
+returns-clause-read_faults g c =
+    c.serve_one-outcome.ensures.read_faults
+    ∙ read_faults-ending c.serve_one-outcome.result c.send_on-flushed.result c.ending_after.result c.args.input.now.1 c.ending_after.ensures
+
+pub returns-clause-write_faults : goal.returns-clause-write_faults
+returns-clause-write_faults g c =
+    c.send_on-flushed.ensures.count
+    ∙ ap (count_after_flush c.send_on-flushed.result) c.serve_one-outcome.ensures.write_faults
+    ∙ write_faults-ending c.serve_one-outcome.result c.send_on-flushed.result c.ending_after.result c.args.output.now.1 c.send_on-flushed.ensures.fault c.ending_after.ensures

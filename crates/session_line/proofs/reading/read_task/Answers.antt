@@ -16,4 +16,4 @@ returns-in_err-edits-clause-stop g c =
 pub returns-clause-task : goal.returns-clause-task
 returns-clause-task g c =
     TakesTask-whole _ _ _ c.take_line.new.line c.as_slice.result.now c.read_command-command.result c.lines_due-count.result c.in_ok-edits.edits c.task_by.result
-    c.in_ok-take_line.ensures.line c.as_slice.ensures.value c.read_command-command.ensures.command c.lines_due-count.ensures c.in_ok-edits.ensures.edits c.task_by.ensures
+    c.in_ok-take_line.ensures.line c.as_slice.ensures.value c.read_command-command.ensures.command c.lines_due-count.ensures c.in_ok-edits.ensures.edits c.task_by.ensures.task
