@@ -4,3 +4,4 @@ pub mod CutSteps
 pub mod FaultLaws
 pub mod ReadSteps
 pub mod AnswerLaws
+pub mod ChainLaws

@@ -13,7 +13,8 @@ use Rattle.text_ports.specs.Lines.{line_feed, IsTakenAs, ReadsLine}
 use Rattle.text_ports.specs.declared.lines.LineIs.{LineIs}
 use Rattle.text_ports.specs.declared.lines.LineIs.TheVariants as is
 use Rattle.asm_main.specs.declared.asm_fault.AsmFault.{AsmFault}
-use Rattle.asm_main.specs.Inputs.{input_in, newest_first, AreDecksOf, IsSound, input_fault, IsFaultOf, TellsFaultOf, ReadsToFault}
+use Rattle.asm_main.specs.declared.asm_fault.AsmFault.TheVariants.{OutOfMemory, DeckFull, NameTaken, TooManyDecks, ReadFault, BadLine, LastLineCut, WriteFault, BadName}
+use Rattle.asm_main.specs.Inputs.{input_in, newest_first, AreDecksOf, IsSound, input_fault, IsFaultOf, TellsFaultOf, ReadsToFault, ReadsSound, IsSoundBefore}
 use Rattle.text_ports.proofs.LineLaws.{lines_of-line, lines_of-cut, lines_of-few, lines_of-long}
 use Rattle.asm_main.proofs.InputLaws.{input_in-faulty, few_lines, few_decks}
 use Rattle.asm_main.proofs.DeckLaws.{in_input_order-newest_first, length-newest_first}
@@ -100,13 +101,16 @@ one_line is.Cut taken line h = lines_of-few taken h.2
 one_line is.TooLong taken line h = lines_of-few taken h.1
 one_line is.Fault taken line h = lines_of-few taken h.1
 
+-- what was read is the input of its lines
+input_in-read : (old new : Option (List ℕ)) (lines : List InputLine) (r : IsReadAs old new lines) → input_in r.taken ≡ input_of lines
+input_in-read old new lines r =
+    ap input_in (sym (append-nil r.taken))
+    ∙ ap (λ (l : List InputLine). input_of (reverse l)) (r.whole [] ∙ append-nil (reverse lines))
+    ∙ ap input_of (reverse-reverse lines)
+
 -- the lines so far show no fault
 input_in-so_far : (old new : Option (List ℕ)) (decks : List Deck) (count : ℕ) (s : IsReadSoFar old new decks count) → input_in s.read.taken ≡ Decks (newest_first decks)
-input_in-so_far old new decks count s =
-    ap input_in (sym (append-nil s.read.taken))
-    ∙ ap (λ (l : List InputLine). input_of (reverse l)) (s.read.whole [] ∙ append-nil (reverse s.lines))
-    ∙ ap input_of (reverse-reverse s.lines)
-    ∙ s.input
+input_in-so_far old new decks count s = input_in-read old new s.lines s.read ∙ s.input
 
 -- what was read when the reading ends
 pub ReadsToFault-so_far : (old new next : Option (List ℕ)) (decks : List Deck) (count : ℕ) (answer : LineIs) (line : List ℕ) → IsReadSoFar old new decks count → ReadsLine new next answer line → ReadsToFault old next
@@ -117,6 +121,37 @@ ReadsToFault-so_far old new next decks count answer line s q = record {
   sound = subst IsSound (sym (input_in-so_far old new decks count s)) tt;
   one = one_line answer q.0 line q.2;
 }
+
+-- all was read, and shows no fault
+pub ReadsSound-so_far : (old new next : Option (List ℕ)) (decks : List Deck) (count : ℕ) (line : List ℕ) → IsReadSoFar old new decks count → ReadsLine new next is.End line → ReadsSound old next
+ReadsSound-so_far old new next decks count line s q = record {
+  taken = s.read.taken ++ q.0;
+  consumed = Consumes-trans old new next s.read.taken q.0 s.read.consumed q.1;
+  sound = subst IsSound (sym (ap (λ (b : List ℕ). input_in (s.read.taken ++ b)) q.2.0 ∙ ap input_in (append-nil s.read.taken) ∙ input_in-so_far old new decks count s)) tt;
+}
+
+sound-line : (old new next : Option (List ℕ)) (decks : List Deck) (count : ℕ) (line : List ℕ) → IsReadSoFar old new decks count → ReadsLine new next is.Line line →
+    IsSound (with_line (count + 1) (Line line) (Decks (newest_first decks))) → ReadsSound old next
+sound-line old new next decks count line s q sound =
+    let r = IsReadAs-line old new next s.lines line s.read q in
+    record {
+      taken = r.taken;
+      consumed = r.consumed;
+      sound = subst IsSound (sym (input_in-read old next (Line line ∷ s.lines) r ∙ input-line old new decks count s (Line line))) sound;
+    }
+
+-- memory that is short once a line was read, and shows no fault
+pub IsSoundBefore-line : (old new next : Option (List ℕ)) (decks : List Deck) (count : ℕ) (line : List ℕ) (fault : AsmFault) → IsReadSoFar old new decks count → ReadsLine new next is.Line line →
+    IsFaultOf (with_line (count + 1) (Line line) (Decks (newest_first decks))) fault → IsSoundBefore fault old next
+IsSoundBefore-line old new next decks count line OutOfMemory s q f = sound-line old new next decks count line s q f.1
+IsSoundBefore-line old new next decks count line DeckFull s q f = tt
+IsSoundBefore-line old new next decks count line NameTaken s q f = tt
+IsSoundBefore-line old new next decks count line TooManyDecks s q f = tt
+IsSoundBefore-line old new next decks count line ReadFault s q f = tt
+IsSoundBefore-line old new next decks count line (BadLine number fault) s q f = tt
+IsSoundBefore-line old new next decks count line LastLineCut s q f = tt
+IsSoundBefore-line old new next decks count line (WriteFault sent) s q f = tt
+IsSoundBefore-line old new next decks count line (BadName number) s q f = tt
 
 -- all was read, and is these decks
 pub AreDecksOf-so_far : (old new next : Option (List ℕ)) (decks : List Deck) (count : ℕ) (line : List ℕ) → IsReadSoFar old new decks count → ReadsLine new next is.End line → IfSome old (λ bytes. AreDecksOf (input_in bytes) decks)

@@ -61,6 +61,17 @@ pub record ReadsToFault (old new : Option (List ℕ)) : Type 0 where
   pub sound : IsSound (input_in front)
   pub one : length (lines_of line) ≤ 1
 
+-- the reader lost lines that show no fault, and no more
+pub record ReadsSound (old new : Option (List ℕ)) : Type 0 where
+  pub taken : List ℕ
+  pub consumed : Consumes old new taken
+  pub sound : IsSound (input_in taken)
+
+-- before a want of memory, what was read shows no fault
+abbrev pub IsSoundBefore : AsmFault → Option (List ℕ) → Option (List ℕ) → Type 0
+IsSoundBefore OutOfMemory old new = ReadsSound old new
+IsSoundBefore fault old new = ⊤
+
 -- the numbers that a fault of a card tells can be written
 abbrev pub IsSmallColumn : CardFault → Type 0
 IsSmallColumn card.TooWide = ⊤

@@ -3,3 +3,5 @@ pub mod Inputs
 pub mod Faults
 pub mod Runs
 pub mod Builds
+pub mod Chains
+pub mod Outputs

@@ -2,7 +2,7 @@
 ghost use Rattle.std.specs.Prelude.{◌≡◌, ◌≤◌, length, OnOk, IfOk, IfErr, IfSome};
 ghost use Rattle.std.specs.Io.KnownBytes.{IsAtEnd};
 ghost use Rattle.asm_main.specs.Runs.{IsBeforeWriting, input_count_after};
-ghost use Rattle.asm_main.specs.Inputs.{input_in, AreDecksOf, TellsFaultOf, ReadsToFault, AreSmall};
+ghost use Rattle.asm_main.specs.Inputs.{input_in, AreDecksOf, TellsFaultOf, ReadsToFault, ReadsSound, IsSoundBefore, AreSmall};
 
 use crate::asm_fault::AsmFault;
 use crate::deck::Deck;
@@ -22,6 +22,10 @@ pub fn read_decks<R: BufRead>(alloc: Global, input: &mut Counted<R>) -> Result<V
     // What was read are lines that show no fault, and then one line at most.
     ensures read { ReadsToFault (R.remaining input.old.0) (R.remaining input.new.0) }
     ensures all_read { OnOk result (IsAtEnd (R.remaining input.new.0)) }
+    ensures sound { OnOk result (ReadsSound (R.remaining input.old.0) (R.remaining input.new.0)) }
+
+    // Want of memory is told only where what was read shows no fault.
+    ensures memory { IfErr result (λ fault. IsSoundBefore fault (R.remaining input.old.0) (R.remaining input.new.0)) }
 
     // Where the bytes are known, the decks, or the fault of the input, are those of the definitions.
     ensures decks { IfOk result (λ decks.

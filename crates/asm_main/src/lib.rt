@@ -16,14 +16,17 @@ mod deck_input;
 
 // From decks to texts, and out.
 mod publishing;
+mod texts;
 mod writing;
+
+// Several readers as one.
+mod chained;
 
 // A run.
 mod asm_fault;
 mod running;
 
 pub use asm_fault::AsmFault;
-pub use running::{Tally, asm_run, asm_status};
-
-#[cfg(test)]
-mod tests;
+pub use chained::{Chained, Part};
+pub use running::{Tally, asm_publish, asm_run, asm_status, tally_of};
+pub use texts::{Chosen, Texts, write_chosen};

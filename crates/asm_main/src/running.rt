@@ -1,14 +1,17 @@
 //! One run of `compass asm`, and its status.
 ghost use Rattle.std.specs.Prelude.{◌≡◌, OnOk, IfOk, IfErr, IfSome};
+ghost use Rattle.std.specs.Io.KnownBytes.{IsAtEnd};
 ghost use Rattle.definitions.specs.Answer.{answer_of};
-ghost use Rattle.asm_main.specs.Builds.{IsBuilt, IsOutputAfter, Gives, IsToldBy, IsPartOf};
-ghost use Rattle.asm_main.specs.Inputs.{input_in, TellsFaultOf, ReadsToFault};
-ghost use Rattle.asm_main.specs.Runs.{IsReadBefore, input_count_after, output_count_after, run_status};
+ghost use Rattle.definitions.specs.Build.{build_of};
+ghost use Rattle.asm_main.specs.Builds.{IsBuilt, IsOutputAfter, Gives, IsToldBy, IsPartOf, Counts};
+ghost use Rattle.asm_main.specs.Inputs.{input_in, AreDecksOf, TellsFaultOf, ReadsToFault, IsSoundBefore};
+ghost use Rattle.asm_main.specs.Runs.{IsBeforeWriting, IsReadBefore, input_count_after, output_count_after, run_status};
 
 use crate::asm_fault::AsmFault;
 use crate::deck_input::read_decks;
 use crate::publishing::publish;
 use crate::writing::write_texts;
+use deck_linker::Publication;
 use std::alloc::Global;
 use std::io::{BufRead, Write};
 use text_ports::Counted;
@@ -18,6 +21,45 @@ use text_ports::Counted;
 pub struct Tally {
     pub errors: usize,
     pub links: usize,
+}
+
+/// Reads decks of cards, and publishes them: all of a run but its output.
+pub fn asm_publish<R: BufRead>(
+    alloc: Global,
+    input: &mut Counted<R>,
+) -> Result<Publication, AsmFault>
+    // Where the bytes of the input are known, the decks are those of the definitions, or the fault of
+    // the input is told, its text and its status.
+    ensures decks { IfOk result (λ publication.
+        IfSome (R.remaining input.old.0) (λ bytes. AreDecksOf (input_in bytes) publication.decks)) }
+    ensures told { IfErr result (λ fault.
+        IfSome (R.remaining input.old.0) (λ bytes. IsToldBy (answer_of bytes) fault)) }
+
+    // What was read are lines that show no fault, and then one line at most.
+    ensures read { ReadsToFault (R.remaining input.old.0) (R.remaining input.new.0) }
+    ensures fault { IfErr result (λ fault.
+        IfSome (R.remaining input.old.0) (λ bytes. TellsFaultOf (input_in bytes) fault)) }
+
+    // Want of memory is told only where what was read shows no fault.
+    ensures memory { IfErr result (λ fault. IsSoundBefore fault (R.remaining input.old.0) (R.remaining input.new.0)) }
+
+    ensures all_read { OnOk result (IsAtEnd (R.remaining input.new.0)) }
+    ensures before_writing { IfErr result IsBeforeWriting }
+    ensures count_ok { OnOk result (input.new.1 ≡ input.old.1) }
+    ensures count { IfErr result (λ fault. input.new.1 ≡ input_count_after fault input.old.1) }
+{
+    let decks = read_decks(alloc, input)?;
+    Ok(publish(alloc, decks)?)
+}
+
+/// What a publication counts.
+pub fn tally_of(publication: &Publication) -> Tally
+    ensures { Counts (build_of publication.now.decks) result }
+{
+    Tally {
+        errors: publication.errors() as usize,
+        links: publication.links(),
+    }
 }
 
 /// Reads decks of cards, and writes their listing, the link map and the octal image: the answer of
@@ -44,6 +86,9 @@ pub fn asm_run<R: BufRead, W: Write>(
     ensures fault { IfErr result (λ fault.
         IfSome (R.remaining input.old.0) (λ bytes. TellsFaultOf (input_in bytes) fault)) }
 
+    // Want of memory is told only where what was read shows no fault.
+    ensures memory { IfErr result (λ fault. IsSoundBefore fault (R.remaining input.old.0) (R.remaining input.new.0)) }
+
     // Nothing is written before all is read.
     ensures all_read { IsReadBefore result (R.remaining input.new.0) }
 
@@ -59,13 +104,9 @@ pub fn asm_run<R: BufRead, W: Write>(
     ensures input_count { IfErr result (λ fault. input.new.1 ≡ input_count_after fault input.old.1) }
     ensures output_count { IfErr result (λ fault. output.new.1 ≡ output_count_after fault output.old.1) }
 {
-    let decks = read_decks(alloc, input)?;
-    let publication = publish(alloc, decks)?;
+    let publication = asm_publish(alloc, input)?;
     match write_texts(output, &publication) {
-        Ok(()) => Ok(Tally {
-            errors: publication.errors() as usize,
-            links: publication.links(),
-        }),
+        Ok(()) => Ok(tally_of(&publication)),
         Err(broken) => Err(AsmFault::WriteFault { sent: broken.sent }),
     }
 }

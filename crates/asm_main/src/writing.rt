@@ -8,7 +8,11 @@ use std::io::Write;
 use text_ports::{Broken, Counted, put_all};
 
 /// The bytes of one text and of another behind it, or exactly the first of them up to a fault.
-fn put_both<W: Write>(output: &mut Counted<W>, first: &[u8], second: &[u8]) -> Result<(), Broken>
+pub(crate) fn put_both<W: Write>(
+    output: &mut Counted<W>,
+    first: &[u8],
+    second: &[u8],
+) -> Result<(), Broken>
     ensures sends { Sends (W.contents output.old.0) (W.contents output.new.0) (first.now ++ second.now) result }
     ensures count { output.new.1 ≡ count_after_sending result output.old.1 }
 {

@@ -2,60 +2,40 @@
 //! process, the line of a fault and the exit status.
 #![tactic(auto)]
 
+mod assembling;
+mod input_files;
+mod output_files;
 mod serving;
 
 ghost use Rattle.std.specs.Prelude.{◌≡◌, ◌≢◌, ℕ, ◌<◌, pos};
 
-use asm_main::{AsmFault, Tally, asm_run, asm_status};
+use asm_main::AsmFault;
+use assembling::{asm_words, assemble, tell};
 use clap::{ArgMatches, Command, Error};
 use serving::{run_service, serve_words, settings_of};
 use std::alloc::Global;
 use std::env;
-use std::io::{self, BufReader, ErrorKind};
+use std::fs::File;
+use std::io::ErrorKind;
 use std::net::{Net, TcpListener, TcpStream};
 use std::process::ExitCode;
 use std::rt::{Env, Files};
 use std::sync::Wait;
 use std::thread::Threads;
 use std::time::Clock;
-use text_ports::Counted;
 
 /// The status of a fault of the command line.
 const COMMAND_LINE_STATUS: u8 = 2;
 
 /// The command line: its commands are `asm` and `serve`, and `clap` writes its texts.
 fn read_words<'a>(alloc: Global, words: &'a [String]) -> Result<ArgMatches<'a>, Error> {
-    let asm = Command::new(alloc, "asm").about(
-        "Assembles decks from standard input: listing, link map and octal image",
-    );
     Command::new(alloc, "compass")
         .version("0.1.0")
         .about("COMPASS for the Control Data 6000 series, proved")
         .subcommand_required(true)
-        .subcommand(asm)?
+        .subcommand(asm_words(alloc)?)?
         .subcommand(serve_words(alloc)?)?
         .try_get_matches_from(words)
-}
-
-/// `compass asm`, from the standard input of the process to its standard output.
-fn assemble<R: AllocGlobal + Input + Print + Eprint>(rt: &R) -> ExitCode {
-    let result = match BufReader::new(rt.alloc(), rt.reader()) {
-        Ok(reader) => asm_run(
-            rt.alloc(),
-            &mut Counted::new(reader),
-            &mut Counted::new(io::writer(rt)),
-        ),
-        Err(_) => Err(AsmFault::OutOfMemory),
-    };
-    tell(rt, &result)
-}
-
-/// The line of a fault on standard error, if there is one, and the status of a run.
-fn tell<R: Eprint>(rt: &R, outcome: &Result<Tally, AsmFault>) -> ExitCode {
-    if let Err(fault) = outcome {
-        let _ = eprintln!(rt; "compass: {fault}");
-    }
-    ExitCode::from(asm_status(outcome))
 }
 
 /// Does what the words ask for.
@@ -68,7 +48,8 @@ where
         + Threads
         + Wait
         + Sync
-        + Files
+        + Files<File = File>
+        + Clone
         + Drop
         + Clock
         + Net<Listener = TcpListener, Stream = TcpStream>,
@@ -79,12 +60,15 @@ where
         Ok(matches) => matches,
         Err(error) => return answer(rt, &error),
     };
+    if let Some(words) = matches.subcommand_matches("asm") {
+        return assemble(rt, words);
+    }
     match matches.subcommand_matches("serve") {
-        Some(words) => match settings_of(words) {
+        Some(words) => match settings_of(rt, words) {
             Some(settings) => run_service(rt, &settings),
             None => refuse_numbers(rt),
         },
-        None => assemble(rt),
+        None => refuse_numbers(rt),
     }
 }
 

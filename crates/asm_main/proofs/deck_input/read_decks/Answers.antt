@@ -1,9 +1,9 @@
 use Rattle.std.proofs.Common.{ℕ, ◌+◌, ◌∙◌, List, refl, sym, ap, subst, arith}
 use Rattle.definitions.specs.InputLines.{Line}
 use Rattle.definitions.specs.DeckInput.{Decks, with_line}
-use Rattle.asm_main.specs.Inputs.{newest_first, IsFaultOf}
+use Rattle.asm_main.specs.Inputs.{newest_first, IsFaultOf, IsSoundBefore}
 use Rattle.asm_main.proofs.FaultLaws.{IfErr-passed, IsFaultOf-count, IsFaultOf-before_writing}
-use Rattle.asm_main.proofs.ReadSteps.{IsReadSoFar-none, IsReadSoFar-line, IsReadSoFar-few, IsReadSoFar-decks, ReadsToFault-so_far, AreDecksOf-so_far, too_long-so_far, cut-so_far, refused-so_far}
+use Rattle.asm_main.proofs.ReadSteps.{IsReadSoFar-none, IsReadSoFar-line, IsReadSoFar-few, IsReadSoFar-decks, ReadsToFault-so_far, ReadsSound-so_far, IsSoundBefore-line, AreDecksOf-so_far, too_long-so_far, cut-so_far, refused-so_far}
 use Rattle.asm_main.proofs.deck_input.read_decks.Goals as goal
 
 pub loop-before-init : goal.loop-before-init
@@ -21,6 +21,9 @@ unreachable-requires g c = omega (arith, IsReadSoFar-few _ _ _ _ c.loop-before.i
 
 pub returns-in-End-clause-read : goal.returns-in-End-clause-read
 returns-in-End-clause-read g c = ReadsToFault-so_far _ _ _ _ _ _ _ c.loop-before.invariant.read c.next_held_line.ensures.reads
+
+pub returns-in-End-clause-sound : goal.returns-in-End-clause-sound
+returns-in-End-clause-sound g c = ReadsSound-so_far _ _ _ _ _ _ c.loop-before.invariant.read c.in-End.ensures.reads
 
 pub returns-in-End-clause-decks : goal.returns-in-End-clause-decks
 returns-in-End-clause-decks g c = AreDecksOf-so_far _ _ _ _ _ _ c.loop-before.invariant.read c.in-End.ensures.reads
@@ -50,6 +53,14 @@ pub returns-in_err-add_line-in-Line-clause-fault : goal.returns-in_err-add_line-
 returns-in_err-add_line-in-Line-clause-fault g c =
     IfErr-passed c.from_residual.result c.in_err-add_line-in-Line.field-0.0 _ c.from_residual.ensures.1
     (refused-so_far _ _ _ _ _ _ _ c.loop-before.invariant.read c.in-Line.ensures.reads
+    (subst (λ (line : List ℕ). IsFaultOf (with_line (c.loop-before.before + 1) (Line line) (Decks (newest_first c.loop-before.decks.items))) c.in_err-add_line-in-Line.field-0.0)
+    c.as_slice.ensures.value c.in_err-add_line-in-Line.ensures.err))
+
+pub returns-in_err-add_line-in-Line-clause-memory : goal.returns-in_err-add_line-in-Line-clause-memory
+returns-in_err-add_line-in-Line-clause-memory g c =
+    IfErr-passed c.from_residual.result c.in_err-add_line-in-Line.field-0.0
+    (λ fault. IsSoundBefore fault (g.R.Read.remaining c.args.input.now.0) (g.R.Read.remaining c.next_held_line.new.input.0)) c.from_residual.ensures.1
+    (IsSoundBefore-line _ _ _ _ _ _ _ c.loop-before.invariant.read c.in-Line.ensures.reads
     (subst (λ (line : List ℕ). IsFaultOf (with_line (c.loop-before.before + 1) (Line line) (Decks (newest_first c.loop-before.decks.items))) c.in_err-add_line-in-Line.field-0.0)
     c.as_slice.ensures.value c.in_err-add_line-in-Line.ensures.err))
 

@@ -1,0 +1,51 @@
+-- Readers one after the other, and where a line of them stands (ours).
+use Rattle.std.specs.Prelude.{ℕ, ◌≡◌, ◌<◌, ◌≤◌, ◌+◌, ◌-◌, ◌^◌, ◌==◌, length, List, [], ◌∷◌, Bool, true, false, not, nat_le, Option, None, Some, Result, Ok, Err, min, take, drop, if◌then◌else◌}
+use Rattle.std.specs.Io.KnownBytes.{prepend_known, Consumes, IsAtEnd, Keeps}
+use Rattle.text_ports.specs.Lines.{line_feed}
+use Rattle.asm_main.specs.declared.chained.Part.{Part}
+use Rattle.asm_main.specs.declared.chained.Chained.{Chained}
+use Rattle.asm_main.specs.declared.chained.Turn.{Turn}
+use Rattle.asm_main.specs.declared.chained.Turn.TheVariants.{Read, Ended}
+
+-- whether a line is begun and not ended behind these bytes, which stand behind an open line or not
+abbrev pub is_open_behind : Bool → List ℕ → Bool
+is_open_behind was_open [] = was_open
+is_open_behind was_open (b ∷ bytes) = is_open_behind (not (b == line_feed)) bytes
+
+-- one more; the count stays at its greatest value
+abbrev pub one_more : ℕ → ℕ
+one_more count = min (count + 1) (2 ^ 64 - 1)
+
+-- the count of line feeds behind these bytes
+abbrev pub ends_behind : ℕ → List ℕ → ℕ
+ends_behind count [] = count
+ends_behind count (b ∷ bytes) = ends_behind (if b == line_feed then one_more count else count) bytes
+
+-- the bytes of a part and of those behind it, where they are known: one that ends within a line is the last
+abbrev pub joined_with : Bool → Option (List ℕ) → Option (List ℕ) → Option (List ℕ)
+joined_with was_open None rest = None
+joined_with was_open (Some bytes) rest = if is_open_behind was_open bytes then Some bytes else prepend_known bytes rest
+
+-- the bytes of parts one after the other, where they are known
+abbrev pub joined : {R : Type 0} → (R → Option (List ℕ)) → List (Part R) → Option (List ℕ)
+joined bytes [] = Some []
+joined bytes (part ∷ parts) = joined_with part.is_open (bytes part.reader) (joined bytes parts)
+
+-- what is left of a chain
+abbrev pub left_of : {R : Type 0} → (R → Option (List ℕ)) → Chained R → Option (List ℕ)
+left_of bytes chain = joined bytes (drop chain.next chain.parts.items)
+
+-- the bytes that a read gave
+abbrev pub given_in : {E : Type 0} → Result ℕ E → List ℕ → List ℕ
+given_in (Ok count) buf = take count buf
+given_in (Err e) buf = []
+
+-- which part is next behind one that ended: none where it ended within a line
+abbrev pub next_after : Bool → ℕ → ℕ → ℕ
+next_after is_open next count = if is_open then count else next + 1
+
+-- what a turn took: the bytes that it gave, or none where the part had no more or failed
+abbrev pub TurnReads : {E : Type 0} → Option (List ℕ) → Option (List ℕ) → Result Turn E → List ℕ → Type 0
+TurnReads old new (Ok (Read count)) buf = Consumes old new (take count buf) × (0 < length buf → 0 < count) × (count ≤ length buf)
+TurnReads old new (Ok Ended) buf = Consumes old new []
+TurnReads old new (Err e) buf = Keeps old new

@@ -1,0 +1,172 @@
+//! Readers one after the other as one reader, which knows where its lines stand.
+ghost use Rattle.std.specs.Prelude.{◌≡◌, ◌<◌, [], vec_len, IfOk, false, None, Some};
+ghost use Rattle.std.specs.Io.{ReadsAtMost};
+ghost use Rattle.std.specs.Io.KnownBytes.{Consumes, IsAtEnd, ReadConsumes};
+ghost use Rattle.asm_main.specs.Chains.{TurnReads, ends_behind, given_in, is_open_behind, left_of, next_after};
+
+use std::io;
+use std::io::Read;
+
+/// One of the readers, with the count of the line feeds that it gave, and whether its last line is
+/// open: begun, and not ended so far.
+#[derive(Drop)]
+pub struct Part<R> {
+    reader: R,
+    lines: u64,
+    is_open: bool,
+}
+
+/// Readers one after the other as one. One that ends within a line is the last that is read, so that
+/// no line is made of two.
+#[derive(Drop)]
+pub struct Chained<R> {
+    parts: Vec<Part<R>>,
+    /// The part that the next read asks; those before it are read.
+    next: usize,
+    /// The part that was asked last.
+    asked: usize,
+    /// The error of the latest read that failed.
+    fault: Option<io::Error>,
+}
+
+/// What one turn of a read came to.
+#[derive(Clone, Copy)]
+enum Turn {
+    /// So many bytes were read.
+    Read(usize),
+    /// The part had no more.
+    Ended,
+}
+
+/// Whether a line is open behind these bytes, which stand behind an open line or not.
+fn is_open_behind(was_open: bool, bytes: &[u8]) -> bool
+    ensures { result ≡ is_open_behind was_open bytes.now }
+{
+    let mut is_open = was_open;
+    for byte in bytes {
+        is_open = *byte != b'\n';
+    }
+    is_open
+}
+
+/// The count of lines behind these bytes. It stays at its greatest value.
+fn lines_behind(count: u64, bytes: &[u8]) -> u64
+    ensures { result ≡ ends_behind count bytes.now }
+{
+    let mut lines = count;
+    for byte in bytes {
+        if *byte == b'\n' {
+            lines = lines.saturating_add(1);
+        }
+    }
+    lines
+}
+
+impl<R> Part<R> {
+    /// A reader that gave nothing so far.
+    pub fn new(reader: R) -> Part<R>
+        ensures { result ≡ record { reader = reader; lines = 0; is_open = false } }
+    {
+        Part {
+            reader,
+            lines: 0,
+            is_open: false,
+        }
+    }
+}
+
+impl<R: Read> Part<R> {
+    /// Reads once.
+    fn read(&mut self, buf: &mut [u8]) -> io::Result<usize>
+        ensures bound { ReadsAtMost result buf.new }
+        ensures bytes { ReadConsumes (R.remaining self.old.reader) (R.remaining self.new.reader) result buf.new }
+        ensures line { self.new.is_open ≡ is_open_behind self.old.is_open (given_in result buf.new) }
+        ensures lines { self.new.lines ≡ ends_behind self.old.lines (given_in result buf.new) }
+    {
+        let count = self.reader.read(buf)?;
+        let (given, _) = buf.split_at(count);
+        self.is_open = is_open_behind(self.is_open, given);
+        self.lines = lines_behind(self.lines, given);
+        Ok(count)
+    }
+}
+
+impl<R> Chained<R> {
+    /// These parts in this order.
+    pub fn new(parts: Vec<Part<R>>) -> Chained<R>
+        ensures { result ≡ record { parts = parts; next = 0; asked = 0; fault = None } }
+    {
+        Chained {
+            parts,
+            next: 0,
+            asked: 0,
+            fault: None,
+        }
+    }
+
+    /// The number of the part that was asked last, from 0.
+    pub fn asked(&self) -> usize
+        ensures { result ≡ self.now.asked }
+    {
+        self.asked
+    }
+
+    /// The error of the latest read that failed.
+    pub fn fault(&self) -> Option<io::Error>
+        ensures { result ≡ self.now.fault }
+    {
+        self.fault
+    }
+
+    /// Goes on behind the part that ended: to the next, or to the end where a line is open.
+    fn go_on(&mut self, is_open: bool)
+        requires { self.old.next < vec_len self.old.parts }
+        ensures { self.new ≡ record self.old { next = next_after is_open self.old.next (vec_len self.old.parts) } }
+    {
+        self.next = if is_open {
+            self.parts.len()
+        } else {
+            self.next + 1
+        };
+    }
+}
+
+impl<R: Read> Chained<R> {
+    /// Asks the next part once, and goes on to the part behind it where that had no more.
+    fn read_part(&mut self, buf: &mut [u8]) -> io::Result<Turn>
+        requires { self.old.next < vec_len self.old.parts }
+        ensures bytes { TurnReads (left_of R.remaining self.old) (left_of R.remaining self.new) result buf.new }
+        ensures count { vec_len self.new.parts ≡ vec_len self.old.parts }
+        ensures next { IfOk result (λ turn. turn ≡ Turn.Ended → self.old.next < self.new.next) }
+    {
+        let part = &mut self.parts[self.next];
+        self.asked = self.next;
+        match part.read(buf) {
+            Ok(count) if count > 0 || buf.is_empty() => Ok(Turn::Read(count)),
+            Ok(_) => {
+                let is_open = part.is_open;
+                self.go_on(is_open);
+                Ok(Turn::Ended)
+            }
+            Err(error) => {
+                self.fault = Some(error);
+                Err(error)
+            }
+        }
+    }
+}
+
+impl<R: Read> Read for Chained<R> {
+    ghost use Rattle.asm_main.specs.Chains.{left_of};
+
+    ghost remaining = { left_of R.remaining };
+
+    fn read(&mut self, buf: &mut [u8]) -> io::Result<usize> {
+        while self.next < self.parts.len() {
+            if let Turn::Read(count) = self.read_part(buf)? {
+                return Ok(count);
+            }
+        }
+        Ok(0)
+    }
+}

@@ -1,0 +1,227 @@
+//! `compass asm`: its words, its run and its faults.
+
+use crate::input_files::{InputFault, input_of};
+use crate::output_files::make_anew;
+use asm_main::{
+    AsmFault, Chained, Chosen, Tally, Texts, asm_publish, asm_run, asm_status, tally_of,
+    write_chosen,
+};
+use clap::{Arg, ArgAction, ArgMatches, Command};
+use std::alloc::{AllocError, Global};
+use std::io::{self, BufRead, BufReader, Read};
+use std::process::ExitCode;
+use std::rt::Files;
+use text_ports::Counted;
+
+/// What stands below the help.
+const EXAMPLE: &str = "What has no file of its own goes to standard output.
+
+Example:
+  compass asm --listing job.lst -o job.img job.deck";
+
+/// The files that the words name: those that are read, and those that parts of the output go to.
+#[derive(Drop)]
+struct Named<'w, 'a> {
+    inputs: &'w [&'a str],
+    listing: Option<&'a str>,
+    map: Option<&'a str>,
+    image: Option<&'a str>,
+}
+
+/// Why a run wrote no whole output.
+#[derive(Clone, Copy)]
+enum RunFault<'a> {
+    /// The input, the memory or standard output.
+    Asm(AsmFault),
+    /// A file of the input can't be read.
+    Input(InputFault<'a>),
+    /// A file of the output can't be written.
+    Output { name: &'a str, error: io::Error },
+}
+
+impl<'a> From<AsmFault> for RunFault<'a> {
+    fn from(fault: AsmFault) -> RunFault<'a> {
+        RunFault::Asm(fault)
+    }
+}
+
+impl<'a> From<AllocError> for RunFault<'a> {
+    fn from(_: AllocError) -> RunFault<'a> {
+        RunFault::Asm(AsmFault::OutOfMemory)
+    }
+}
+
+/// The words of `compass asm`.
+pub(crate) fn asm_words<'a>(alloc: Global) -> Result<Command<'a>, AllocError> {
+    let files = Arg::new(alloc, "FILE")
+        .value_name("FILE")
+        .help("Files of cards, one after the other as one input; - or none is standard input")
+        .num_args(0..)
+        .action(ArgAction::Append);
+    let listing = output_word(alloc, "listing", "Where the listings go");
+    let map = output_word(alloc, "map", "Where the link map goes");
+    let image = output_word(alloc, "image", "Where the octal image goes").short('o');
+    Command::new(alloc, "asm")
+        .about("Assembles decks of cards: listing, link map and octal image")
+        .after_help(EXAMPLE)
+        .arg(files)?
+        .arg(listing)?
+        .arg(map)?
+        .arg(image)
+}
+
+/// The word of a file that a part of the output goes to.
+fn output_word<'a>(alloc: Global, name: &'a str, help: &'a str) -> Arg<'a> {
+    Arg::new(alloc, name)
+        .long(name)
+        .value_name("FILE")
+        .help(help)
+        .action(ArgAction::Set)
+}
+
+impl<'w, 'a> Named<'w, 'a> {
+    /// Whether a part of the output has a file of its own.
+    fn has_outputs(&self) -> bool {
+        self.listing.is_some() || self.map.is_some() || self.image.is_some()
+    }
+
+    /// What has no file of its own.
+    fn others(&self) -> Chosen {
+        Chosen {
+            listing: self.listing.is_none(),
+            map: self.map.is_none(),
+            image: self.image.is_none(),
+        }
+    }
+}
+
+/// `compass asm`: what the words name, or standard input to standard output.
+pub(crate) fn assemble<R>(rt: &R, words: &ArgMatches<'_>) -> ExitCode
+where
+    R: AllocGlobal + Input + Print + Eprint + Files,
+{
+    let named = Named {
+        inputs: words.get_strs("FILE").unwrap_or(&[]),
+        listing: words.get_str("listing"),
+        map: words.get_str("map"),
+        image: words.get_str("image"),
+    };
+    let outcome = if named.inputs.is_empty() {
+        from_input(rt, &named)
+    } else {
+        from_files(rt, &named)
+    };
+    tell_run(rt, &outcome)
+}
+
+/// A run from the standard input of the process.
+fn from_input<'a, R>(rt: &R, named: &Named<'_, 'a>) -> Result<Tally, RunFault<'a>>
+where
+    R: AllocGlobal + Input + Print + Files,
+{
+    match BufReader::new(rt.alloc(), rt.reader()) {
+        Ok(reader) => run(rt, &mut Counted::new(reader), named),
+        Err(_) => Err(RunFault::Asm(AsmFault::OutOfMemory)),
+    }
+}
+
+/// A run from files.
+fn from_files<'a, R>(rt: &R, named: &Named<'_, 'a>) -> Result<Tally, RunFault<'a>>
+where
+    R: AllocGlobal + Input + Print + Files,
+{
+    match input_of(rt, rt.alloc(), named.inputs) {
+        Ok(chain) => from_chain(rt, chain, named),
+        Err(fault) => Err(RunFault::Input(fault)),
+    }
+}
+
+/// A run from open files. A read fault has the name of the file.
+fn from_chain<'a, R, I>(
+    rt: &R,
+    chain: Chained<I>,
+    named: &Named<'_, 'a>,
+) -> Result<Tally, RunFault<'a>>
+where
+    R: AllocGlobal + Print + Files,
+    I: Read + Drop,
+{
+    let Ok(reader) = BufReader::new(rt.alloc(), chain) else {
+        return Err(RunFault::Asm(AsmFault::OutOfMemory));
+    };
+    let mut input = Counted::new(reader);
+    let outcome = run(rt, &mut input, named);
+    let chain = input.into_inner().into_inner();
+    match (&outcome, chain.fault(), named.inputs.get(chain.asked())) {
+        (Err(RunFault::Asm(AsmFault::ReadFault)), Some(error), Some(name)) => {
+            Err(RunFault::Input(InputFault { name: *name, error }))
+        }
+        _ => outcome,
+    }
+}
+
+/// A run from a reader to the files that are named and to standard output.
+fn run<'a, R, B>(
+    rt: &R,
+    input: &mut Counted<B>,
+    named: &Named<'_, 'a>,
+) -> Result<Tally, RunFault<'a>>
+where
+    R: AllocGlobal + Print + Files,
+    B: BufRead,
+{
+    let mut output = Counted::new(io::writer(rt));
+    if !named.has_outputs() {
+        return Ok(asm_run(rt.alloc(), input, &mut output)?);
+    }
+    let publication = asm_publish(rt.alloc(), input)?;
+    let tally = tally_of(&publication);
+    let texts = Texts::new(rt.alloc(), publication)?;
+    write_file(rt, named.listing, texts.listing())?;
+    write_file(rt, named.map, texts.map())?;
+    write_file(rt, named.image, texts.image())?;
+    match write_chosen(&mut output, &texts, named.others()) {
+        Ok(()) => Ok(tally),
+        Err(broken) => Err(RunFault::Asm(AsmFault::WriteFault { sent: broken.sent })),
+    }
+}
+
+/// Makes the file of a part of the output anew, if it has one.
+fn write_file<'a, R>(rt: &R, name: Option<&'a str>, bytes: &[u8]) -> Result<(), RunFault<'a>>
+where
+    R: AllocGlobal + Files,
+{
+    let Some(name) = name else {
+        return Ok(());
+    };
+    make_anew(rt, rt.alloc(), name, bytes).map_err(|error| RunFault::Output { name, error })
+}
+
+/// The line of a fault on standard error, if there is one, and the status of a run.
+fn tell_run<R: Eprint>(rt: &R, outcome: &Result<Tally, RunFault<'_>>) -> ExitCode {
+    match outcome {
+        Ok(tally) => tell(rt, &Ok(*tally)),
+        Err(RunFault::Asm(fault)) => tell(rt, &Err(*fault)),
+        Err(RunFault::Input(InputFault { name, error })) => {
+            tell_file(rt, name, error);
+            ExitCode::from(asm_status(&Err(AsmFault::ReadFault)))
+        }
+        Err(RunFault::Output { name, error }) => {
+            tell_file(rt, name, error);
+            ExitCode::from(asm_status(&Err(AsmFault::WriteFault { sent: 0 })))
+        }
+    }
+}
+
+/// The line of a file that can't be read or written.
+fn tell_file<R: Eprint>(rt: &R, name: &str, error: &io::Error) {
+    let _ = eprintln!(rt; "compass: {name}: {error}");
+}
+
+/// The line of a fault on standard error, if there is one, and the status of a run.
+pub(crate) fn tell<R: Eprint>(rt: &R, outcome: &Result<Tally, AsmFault>) -> ExitCode {
+    if let Err(fault) = outcome {
+        let _ = eprintln!(rt; "compass: {fault}");
+    }
+    ExitCode::from(asm_status(outcome))
+}
