@@ -43,8 +43,6 @@ mod office;
 mod rule;
 mod seat;
 mod sequential;
-#[cfg(test)]
-mod tests;
 mod turn;
 mod views;
 

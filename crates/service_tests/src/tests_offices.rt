@@ -2,13 +2,13 @@
 ghost use Rattle.std.specs.Prelude.{◌≡◌, ◌+◌, ◌-◌, ◌^◌, ◌≤◌, min, IfOk};
 ghost use Rattle.turn_office.specs.Seats.{AreOf};
 
-use crate::{CloseFault, Office, Seat, SeatList, Sequential};
 use std::alloc::AllocError;
 use std::mem::size_of;
 use std::sync::Wait;
 use std::test::Fail;
 use std::thread;
 use std::thread::Threads;
+use turn_office::{CloseFault, Office, Seat, SeatList, Sequential};
 
 /// How many calls each thread makes.
 const CALLS: u64 = 1000;
