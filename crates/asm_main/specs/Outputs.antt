@@ -1,16 +1,9 @@
 -- The texts of an output, and which go where (ours).
-use Rattle.std.specs.Prelude.{ℕ, List, [], ◌++◌, Bool, map, if◌then◌else◌}
+use Rattle.std.specs.Prelude.{ℕ, List, [], ◌++◌, Bool, if◌then◌else◌}
 use Rattle.definitions.specs.Build.{image_of}
 use Rattle.definitions.specs.DeckInput.{Deck}
-use Rattle.definitions.specs.Link.{layout_of}
-use Rattle.definitions.specs.Map.{map_text}
-use Rattle.definitions.specs.Objects.{object_of}
-use Rattle.deck_linker.specs.Publishing.{listings}
+use Rattle.deck_linker.specs.Publishing.{listings, map_of}
 use Rattle.asm_main.specs.declared.texts.Chosen.{Chosen}
-
--- the map of the link of decks
-abbrev pub map_of : List Deck → List ℕ
-map_of decks = map_text (layout_of (map object_of decks))
 
 -- a text where it is chosen, else none
 abbrev pub text_where : Bool → List ℕ → List ℕ

@@ -29,4 +29,4 @@ mod running;
 pub use asm_fault::AsmFault;
 pub use chained::{Chained, Part};
 pub use running::{Tally, asm_publish, asm_run, asm_status, tally_of};
-pub use texts::{Chosen, Texts, write_chosen};
+pub use texts::{Chosen, write_chosen};

@@ -3,8 +3,7 @@
 use crate::input_files::{InputFault, input_of};
 use crate::output_files::make_anew;
 use asm_main::{
-    AsmFault, Chained, Chosen, Tally, Texts, asm_publish, asm_run, asm_status, tally_of,
-    write_chosen,
+    AsmFault, Chained, Chosen, Tally, asm_publish, asm_run, asm_status, tally_of, write_chosen,
 };
 use clap::{Arg, ArgAction, ArgMatches, Command};
 use std::alloc::{AllocError, Global};
@@ -42,12 +41,6 @@ enum RunFault<'a> {
 impl<'a> From<AsmFault> for RunFault<'a> {
     fn from(fault: AsmFault) -> RunFault<'a> {
         RunFault::Asm(fault)
-    }
-}
-
-impl<'a> From<AllocError> for RunFault<'a> {
-    fn from(_: AllocError) -> RunFault<'a> {
-        RunFault::Asm(AsmFault::OutOfMemory)
     }
 }
 
@@ -176,11 +169,10 @@ where
     }
     let publication = asm_publish(rt.alloc(), input)?;
     let tally = tally_of(&publication);
-    let texts = Texts::new(rt.alloc(), publication)?;
-    write_file(rt, named.listing, texts.listing())?;
-    write_file(rt, named.map, texts.map())?;
-    write_file(rt, named.image, texts.image())?;
-    match write_chosen(&mut output, &texts, named.others()) {
+    write_file(rt, named.listing, publication.listings())?;
+    write_file(rt, named.map, publication.map())?;
+    write_file(rt, named.image, publication.image())?;
+    match write_chosen(&mut output, &publication, named.others()) {
         Ok(()) => Ok(tally),
         Err(broken) => Err(RunFault::Asm(AsmFault::WriteFault { sent: broken.sent })),
     }

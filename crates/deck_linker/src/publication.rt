@@ -3,7 +3,7 @@
 ghost use Rattle.std.specs.Prelude.{◌≡◌, ◌+◌, map, IfOk};
 ghost use Rattle.definitions.specs.Build.{build_of, errors_in, image_of, listing_of};
 ghost use Rattle.definitions.specs.Objects.{object_of};
-ghost use Rattle.deck_linker.specs.Publishing.{listings};
+ghost use Rattle.deck_linker.specs.Publishing.{listings, map_of};
 
 use crate::Layout;
 use crate::image::image;
@@ -21,6 +21,8 @@ pub struct Publication {
     version: u64,
     objects: Vec<SharedObject>,
     listing: Text,
+    /// Where the map begins in it, behind the listings.
+    map_at: usize,
     image: Text,
     errors: u64,
     links: usize,
@@ -33,7 +35,7 @@ impl Model for Publication {
 
     ghost view = { λ p. record { version = p.version; decks = p.objects.items } };
 
-    ghost invariant = { λ p. IsPublished p.objects.items p.listing p.image p.errors p.links };
+    ghost invariant = { λ p. IsPublished p.objects.items p.listing p.map_at p.image p.errors p.links };
 }
 
 impl Publication {
@@ -55,6 +57,20 @@ impl Publication {
         ensures { result.now ≡ listing_of self.now.decks }
     {
         self.listing.as_slice()
+    }
+
+    /// The listings of the decks, in their order.
+    pub fn listings(&self) -> &[u8]
+        ensures { result.now ≡ listings self.now.decks }
+    {
+        self.listing.as_slice().split_at(self.map_at).0
+    }
+
+    /// The map of their link.
+    pub fn map(&self) -> &[u8]
+        ensures { result.now ≡ map_of self.now.decks }
+    {
+        self.listing.as_slice().split_at(self.map_at).1
     }
 
     /// The octal image of the link.
@@ -132,6 +148,7 @@ pub fn link(
 {
     let layout = Layout::new(alloc, shared(alloc, objects.as_slice())?)?;
     let front = listings(alloc, objects.as_slice())?;
+    let map_at = front.as_slice().len();
     let mapped = with_map(alloc, front, &layout)?;
     let image = image(alloc, &layout)?;
     let errors = errors_in(objects.as_slice())?;
@@ -139,6 +156,7 @@ pub fn link(
         version,
         objects,
         listing: mapped.text,
+        map_at,
         image,
         errors,
         links: mapped.links,

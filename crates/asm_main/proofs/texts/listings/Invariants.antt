@@ -1,7 +1,0 @@
--- The listings so far, and those of the decks that are left.
-use Rattle.std.proofs.Common.{◌≡◌, ◌++◌, drop}
-use Rattle.deck_linker.specs.Publishing.{listings}
-use Rattle.asm_main.proofs.texts.listings.Given as goal
-
-abbrev pub invariant-loop-object : goal.invariant-loop-object
-invariant-loop-object l = l.text ++ listings (drop l.object-index l.objects) ≡ listings l.objects
