@@ -2,3 +2,4 @@ pub mod BlockLengths
 pub mod EffectsAs
 pub mod StateInside
 pub mod Changes
+pub mod Offsets

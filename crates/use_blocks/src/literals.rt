@@ -3,27 +3,30 @@ ghost use Rattle.std.specs.Prelude.{◌≡◌, ◌==◌, ◌<◌, ◌≤◌, [],
 ghost use Rattle.std.specs.List.{list_any};
 ghost use Rattle.definitions.specs.Literals.{offset_of, with_word};
 
-use indexmap::IndexSet;
 use std::alloc::{AllocError, Global};
+use std::collections::BTreeMap;
 use std::marker::Model;
 
 /// How many words the literals block has at most (ours).
 const MOST_LITERALS: usize = 131072;
 
-/// The words of the literals block. Contracts see their list, in order of first use.
+/// The words of the literals block. Contracts see their list, in order of first use. A look-up takes
+/// about as long whatever the words are, since a tree keeps where each stands.
 #[derive(Drop)]
 pub struct Literals {
-    words: IndexSet<u64>,
+    words: Vec<u64>,
+    offsets: BTreeMap<u64, usize>,
 }
 
 impl Model for Literals {
     ghost use Rattle.std.specs.Prelude.{ℕ, List, ◌≤◌, length};
+    ghost use Rattle.use_blocks.specs.Offsets.{HasOffsets};
 
     ghost Value = { List ℕ };
 
-    ghost view = { λ l. l.words.keys };
+    ghost view = { λ l. l.words.items };
 
-    ghost invariant = { λ l. length l.words.keys ≤ 131072 };
+    ghost invariant = { λ l. (length l.words.items ≤ 131072) × HasOffsets l.words.items l.offsets };
 }
 
 impl Literals {
@@ -32,7 +35,8 @@ impl Literals {
         ensures { result ≡ [] }
     {
         Literals {
-            words: IndexSet::new(alloc),
+            words: Vec::new(alloc),
+            offsets: BTreeMap::new(alloc),
         }
     }
 
@@ -44,9 +48,13 @@ impl Literals {
         ensures absent { OnErr result (list_any (λ other. other == word) self.old ≡ false) }
         ensures room { OnErr result (length self.old < 131072) }
     {
-        if self.words.len() < MOST_LITERALS {
-            self.words.insert(word)?;
+        let offset = self.words.len();
+        if offset >= MOST_LITERALS || self.offsets.contains_key(&word) {
+            return Ok(());
         }
+        self.words.reserve(1)?;
+        self.offsets.insert(word, offset)?;
+        self.words.push(word)?;
         Ok(())
     }
 
@@ -54,8 +62,8 @@ impl Literals {
     pub fn offset(&self, word: u64) -> usize
         ensures { result ≡ offset_of word self.now }
     {
-        match self.words.get_index_of(&word) {
-            Some(offset) => offset,
+        match self.offsets.get(&word) {
+            Some(offset) => *offset,
             None => self.words.len(),
         }
     }
