@@ -1,4 +1,5 @@
 pub mod ExternalLaws
+pub mod SeenLaws
 pub mod PeripheralLaws
 pub mod ReadLaws
 pub mod LawfulLaws

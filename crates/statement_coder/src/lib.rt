@@ -26,6 +26,7 @@ mod outcomes;
 mod placing;
 mod read_operands;
 mod readings;
+mod seen_names;
 mod statement;
 mod statement_cards;
 
