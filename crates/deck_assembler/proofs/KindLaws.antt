@@ -7,7 +7,7 @@ use Rattle.definitions.specs.Operations.{Operation, pseudo_instructions, pseudo_
 use Rattle.definitions.specs.Statements.{Statement}
 use Rattle.definitions.specs.declared.deck_kind.DeckKind.{DeckKind}
 use Rattle.definitions.proofs.TextLaws.{same_text-true}
-use Rattle.indexmap.proofs.ReorderLemmas.{map-reverse}
+use Rattle.deck_assembler.proofs.ReverseLaws.{map-reverse}
 use Rattle.operations.specs.KindsFound.{kind_made_by, or_kind, kind_found}
 use Rattle.deck_assembler.specs.FirstStatements.{fields_in}
 

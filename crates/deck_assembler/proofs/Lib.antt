@@ -9,6 +9,7 @@ pub mod PieceSteps
 -- The literals.
 pub mod LiteralSteps
 -- The order of the deck.
+pub mod ReverseLaws
 pub mod OntoLaws
 pub mod ForwardLaws
 pub mod StateForward

@@ -3,7 +3,7 @@ use Rattle.std.proofs.Common.{◌≡◌, ◌∙◌, ℕ, ◌+◌, List, [], ◌�
 use Rattle.std.specs.Prelude.{filter_map}
 use Rattle.std.proofs.lemmas.List.{reverse-append}
 use Rattle.std.proofs.lemmas.List.Elements.{filter_map-append}
-use Rattle.indexmap.proofs.ReorderLemmas.{map-reverse}
+use Rattle.deck_assembler.proofs.ReverseLaws.{map-reverse}
 use Rattle.definitions.specs.Cards.{Card}
 use Rattle.definitions.specs.DeckInput.{Deck}
 use Rattle.definitions.specs.DeckKinds.{up_to_end, behind_end, kind_of_statements}

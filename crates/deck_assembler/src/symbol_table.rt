@@ -1,21 +1,22 @@
 //! The symbols of a deck, each with the value of its first definition (COMPASS 60492600, location
 //! field, EQU, EXT).
 ghost use Rattle.std.specs.Prelude.{◌≡◌, ℕ, ◌==◌, nat_eq, Some, None, OnOk, OnErr, if◌then◌else◌};
-ghost use Rattle.indexmap.specs.IndexMap.{get};
+ghost use Rattle.std.specs.Map.{lookup};
 ghost use Rattle.definitions.specs.Settled.{or_form};
 ghost use Rattle.deck_assembler.specs.FirstSymbols.{symbol_in, with_symbol};
 
 use crate::symbol_key::SymbolKey;
 use expr_forms::Form;
-use indexmap::IndexMap;
 use statement_coder::EarlySymbols;
 use std::alloc::{AllocError, Global};
+use std::collections::BTreeMap;
 use std::marker::Model;
 
-/// The values of symbols by name. Contracts see each name as a number with its value.
+/// The values of symbols by name. Contracts see each name as a number with its value. A look-up takes
+/// about as long whatever the names are.
 #[derive(Drop)]
 pub struct SymbolTable {
-    forms: IndexMap<u64, Form>,
+    forms: BTreeMap<u64, Form>,
 }
 
 impl Model for SymbolTable {
@@ -33,7 +34,7 @@ impl SymbolTable {
         ensures { symbol_in result ≡ (λ name. None) }
     {
         SymbolTable {
-            forms: IndexMap::new(alloc),
+            forms: BTreeMap::new(alloc),
         }
     }
 
@@ -61,11 +62,11 @@ impl SymbolTable {
 }
 
 /// Gives a name its value, unless it has one. Without memory all is as before.
-fn keep(forms: &mut IndexMap<u64, Form>, code: u64, form: Form) -> Result<(), AllocError>
-    ensures kept { OnOk result ((other : ℕ) → get nat_eq forms.new other ≡ or_form (get nat_eq forms.old other) (if other == code then Some form else None)) }
+fn keep(forms: &mut BTreeMap<u64, Form>, code: u64, form: Form) -> Result<(), AllocError>
+    ensures kept { OnOk result ((other : ℕ) → lookup (nat_eq other) forms.new.entries ≡ or_form (lookup (nat_eq other) forms.old.entries) (if other == code then Some form else None)) }
     ensures without_memory { OnErr result (forms.new.entries ≡ forms.old.entries) }
 {
-    if forms.get(&code).is_none() {
+    if !forms.contains_key(&code) {
         forms.insert(code, form)?;
     }
     Ok(())

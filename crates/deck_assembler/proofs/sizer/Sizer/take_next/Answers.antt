@@ -1,6 +1,6 @@
 -- The next statement is one more, kept or sized, and the head goes on behind it.
 use Rattle.std.proofs.Common.{◌∷◌, List, ℕ, refl, sym, subst}
-use Rattle.indexmap.proofs.MapLemmas.{OnOk-map}
+use Rattle.deck_assembler.proofs.ResultLaws.{on_ok_one}
 use Rattle.cards.specs.Spans.{statement_at}
 use Rattle.definitions.specs.Statements.{Statement}
 use Rattle.deck_assembler.specs.Heads.{AreKeptFrom}
@@ -29,7 +29,7 @@ returns-in-Some-clause-taken c =
     let sized = c.in-Some.sized in
     let later = c.kept.new.self.statements in
     let h = c.in-Some.ensures.kept in
-    OnOk-map c.keep_span.result _ _ (λ step earlier ready.
+    on_ok_one c.keep_span.result _ _ (λ step earlier ready.
     let now : List Statement = statement_at cards span ∷ earlier in
     let both = next-kept kind cards earlier span c.args.self.now c.args.head.now sized later ready c.requires.span h.0 h.1 h.2 in
     let next = subst (λ (n : ℕ). IsNext cards earlier n (statement_at cards span)) (sym h.1) ready.next in (
@@ -42,7 +42,7 @@ returns-in-None-clause-taken c =
     let kind = c.args.kind in
     let cards = c.args.cards.now in
     let span = c.args.span in
-    OnOk-map c.take_span.result _ _ (λ step earlier ready.
+    on_ok_one c.take_span.result _ _ (λ step earlier ready.
     let now : List Statement = statement_at cards span ∷ earlier in (
       step earlier ready.next ready.sizer_is,
       ended-kept kind cards now (stood now) c.kept.new.self (c.in-None.ensures.ended refl),
