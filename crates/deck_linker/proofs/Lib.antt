@@ -1,6 +1,7 @@
 pub mod TestLaws
 pub mod PlaceLaws
 pub mod TableLaws
+pub mod CommonPlaceLaws
 pub mod EntryLaws
 pub mod ValueLaws
 pub mod WordLaws

@@ -1,6 +1,10 @@
 -- Names, each once, and the names that they stand for.
 use Rattle.std.proofs.Common.{◌≡◌, ℕ, List, [], ◌∷◌, ◌++◌, Bool, true, false, ◌||◌, refl, sym, ap, ap₂, ◌∙◌, append-nil, append_assoc}
 use Rattle.std.specs.Prelude.{codes, if◌then◌else◌}
+use Rattle.std.specs.Ordering.{is_eq, match_ordering}
+use Rattle.std.specs.declared.cmp.Ordering.{Ordering}
+use Rattle.std.specs.declared.cmp.Ordering.TheVariants.{Less, Equal, Greater}
+use Rattle.std.specs.List.{list_any}
 use Rattle.std.proofs.lemmas.List.Folds.{list_any-append}
 use Rattle.definitions.specs.Characters.{same_text}
 use Rattle.definitions.specs.Blocks.{is_named}
@@ -8,6 +12,7 @@ use Rattle.definitions.specs.Settled.{Definition}
 use Rattle.definitions.specs.Link.{Based, Common, names_of, entry_names, doubled_lines, missing_lines, link_line}
 use Rattle.definitions.specs.Map.{entry_line, entry_lines}
 use Rattle.definitions.proofs.TextLaws.{same_text-true}
+use Rattle.deck_linker.specs.NameKeys.{name_order, same_in_order}
 use Rattle.deck_linker.specs.Names.{with_name, with_entries, with_decks, HaveNames}
 
 -- a name that is there already changes nothing
@@ -15,10 +20,6 @@ or_there : (b c : Bool) → (b ≡ true → c ≡ true) → c ≡ (c || b)
 or_there b true h = refl
 or_there true false h = h refl
 or_there false false h = refl
-
--- a name that is among names is so under another spelling of it
-named_along : (a b : List ℕ) (names : List (List ℕ)) → is_named b names ≡ true → same_text a b ≡ true → is_named a names ≡ true
-named_along a b names h e = ap (λ (n : List ℕ). is_named n names) (same_text-true a b e) ∙ h
 
 last_alone : (b : Bool) → (b || false) ≡ b
 last_alone true = refl
@@ -29,15 +30,33 @@ named_pushed : (other name : List ℕ) (names : List (List ℕ)) → is_named ot
 named_pushed other name names =
     list_any-append (same_text other) names (name ∷ []) ∙ ap (λ (b : Bool). is_named other names || b) (last_alone (same_text other name))
 
-added : (name other : List ℕ) (names : List (List ℕ)) (b : Bool) → is_named name names ≡ b →
-    is_named other (if b then names else names ++ name ∷ []) ≡ (is_named other names || same_text other name)
-added name other names true e = or_there (same_text other name) (is_named other names) (named_along other name names e)
-added name other names false e = named_pushed other name names
+or_turned : (a b : Bool) → (a || b) ≡ (b || a)
+or_turned true true = refl
+or_turned true false = refl
+or_turned false true = refl
+or_turned false false = refl
+
+or_grouped : (a b c : Bool) → (a || (b || c)) ≡ ((a || b) || c)
+or_grouped true b c = refl
+or_grouped false b c = refl
+
+-- a name more among names in order
+added : (name other : List ℕ) (names : List (List ℕ)) → is_named other (with_name name names) ≡ (is_named other names || same_text other name)
+added name other [] = last_alone (same_text other name)
+added name other (x ∷ names) = by_order (name_order name x) (same_in_order name x) (added name other names)
+  where
+    by_order : (order : Ordering) → same_text name x ≡ is_eq order →
+        is_named other (with_name name names) ≡ (is_named other names || same_text other name) →
+        is_named other (match_ordering order (name ∷ x ∷ names) (x ∷ names) (x ∷ with_name name names)) ≡ ((same_text other x || is_named other names) || same_text other name)
+    by_order Less e rest = or_turned (same_text other name) (same_text other x || is_named other names)
+    by_order Equal e rest = or_there (same_text other name) (same_text other x || is_named other names)
+        (λ f. ap (λ (b : Bool). b || is_named other names) (ap (λ (n : List ℕ). same_text n x) (same_text-true other name f) ∙ e))
+    by_order Greater e rest = ap (λ (b : Bool). same_text other x || b) rest ∙ or_grouped (same_text other x) (is_named other names) (same_text other name)
 
 -- a name is added once
 pub have-name : (set names : List (List ℕ)) (name : List ℕ) → HaveNames set names → HaveNames (with_name name set) (names ++ name ∷ [])
 have-name set names name h other =
-    added name other set (is_named name set) refl
+    added name other set
     ∙ ap (λ (b : Bool). b || same_text other name) (h other)
     ∙ sym (named_pushed other name names)
 
@@ -71,3 +90,8 @@ have-decks [] set names h other = h other ∙ ap (is_named other) (sym (append-n
 have-decks (based ∷ decks) set names h other =
     have-decks decks (with_entries based.object.entries set) (names ++ names_of based.object.entries) (have-entries based.object.entries set names h) other
     ∙ ap (is_named other) (append_assoc names (names_of based.object.entries) (entry_names decks))
+
+-- a set in order has the names that are among its names
+pub named-ordered : (name : List ℕ) (names : List (List ℕ)) → list_any (λ other. is_eq (name_order name other)) names ≡ is_named name names
+named-ordered name [] = refl
+named-ordered name (other ∷ names) = ap₂ (λ (a b : Bool). a || b) (sym (same_in_order name other)) (named-ordered name names)

@@ -1,35 +1,12 @@
--- Common blocks in a map of names.
+-- The bases of common blocks by their places.
 use Rattle.std.proofs.Common.{ℕ, ◌≡◌, ◌+◌, ◌≤◌, Bool, true, false, not, cond, List, [], ◌∷◌, Some, None, zero, suc, length, refl, sym, ap, ◌∙◌, arith}
-use Rattle.std.specs.Prelude.{max, nat_lt, position, if◌then◌else◌}
+use Rattle.std.specs.Prelude.{nat_lt, position, if◌then◌else◌}
 use Rattle.std.specs.List.{position_or_len}
-use Rattle.std.specs.Map.{lookup, keys_of}
 use Rattle.std.proofs.lemmas.List.{length-map}
 use Rattle.std.proofs.lemmas.Bool.Decides.{nat_tests}
-use Rattle.indexmap.specs.IndexMap.{insert_entry}
 use Rattle.definitions.specs.Characters.{same_text}
-use Rattle.definitions.specs.Lengths.{BlockLength, BlockRow}
-use Rattle.definitions.specs.Link.{Common, with_common, common_base}
-use Rattle.deck_linker.specs.Placing.{greatest, lengths_as, names_of_lengths, names_of_commons, base_at}
-
--- the names of the lengths in a map are its keys
-pub names-lengths : (entries : List (List ℕ × ℕ)) → names_of_lengths (lengths_as entries) ≡ keys_of entries
-names-lengths [] = refl
-names-lengths (entry ∷ entries) = ap (λ (names : List (List ℕ)). entry.0 ∷ names) (names-lengths entries)
-
--- a common block more in a map
-pub lengths-inserted : (row : BlockRow) (entries : List (List ℕ × ℕ)) →
-    lengths_as (insert_entry same_text entries row.name (greatest (lookup (same_text row.name) entries) row.words)) ≡ with_common row (lengths_as entries)
-lengths-inserted row [] = refl
-lengths-inserted row (entry ∷ entries) = by_test (lengths-inserted row entries) (same_text row.name entry.0)
-  where
-    by_test : lengths_as (insert_entry same_text entries row.name (greatest (lookup (same_text row.name) entries) row.words)) ≡ with_common row (lengths_as entries) →
-        (t : Bool) →
-        lengths_as (if t then (entry.0, greatest (cond t (Some entry.1) (lookup (same_text row.name) entries)) row.words) ∷ entries
-        else entry ∷ insert_entry same_text entries row.name (greatest (cond t (Some entry.1) (lookup (same_text row.name) entries)) row.words))
-        ≡ (if t then record { name = entry.0; words = max entry.1 row.words } ∷ lengths_as entries
-        else record { name = entry.0; words = entry.1 } ∷ with_common row (lengths_as entries))
-    by_test rest true = refl
-    by_test rest false = ap (λ (blocks : List BlockLength). record { name = entry.0; words = entry.1 } ∷ blocks) rest
+use Rattle.definitions.specs.Link.{Common, common_base}
+use Rattle.deck_linker.specs.Placing.{names_of_commons, base_at}
 
 some-inj : {i j : ℕ} → Some i ≡ Some j → i ≡ j
 some-inj e = cc

@@ -2,6 +2,7 @@
 pub mod NameKeys
 -- Decks and common blocks in their places, and what names are worth there.
 pub mod Placing
+pub mod CommonPlaces
 -- Words beyond the end of memory.
 pub mod Beyond
 -- Names, and lines that are counted.

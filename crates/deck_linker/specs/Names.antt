@@ -1,12 +1,14 @@
--- Names, each once.
-use Rattle.std.specs.Prelude.{ℕ, ◌≡◌, List, [], ◌∷◌, ◌++◌, if◌then◌else◌}
+-- Names in order, each once.
+use Rattle.std.specs.Prelude.{ℕ, ◌≡◌, List, [], ◌∷◌}
+use Rattle.std.specs.BTreeSet.{insert_key}
 use Rattle.definitions.specs.Blocks.{is_named}
 use Rattle.definitions.specs.Settled.{Definition}
 use Rattle.definitions.specs.Link.{Based}
+use Rattle.deck_linker.specs.NameKeys.{name_order}
 
 -- names with one more, where it is not among them
 abbrev pub with_name : List ℕ → List (List ℕ) → List (List ℕ)
-with_name name names = if is_named name names then names else names ++ name ∷ []
+with_name name names = insert_key name_order names name
 
 -- names with those of entries, each where it is not among them
 abbrev pub with_entries : List Definition → List (List ℕ) → List (List ℕ)

@@ -1,5 +1,5 @@
 -- Decks and common blocks one behind the other, step by step.
-use Rattle.std.specs.Prelude.{ℕ, ◌+◌, List, [], ◌∷◌, Option, Some, None, true, false, map, max, ℤ, pos, nat_lt, slice_get, if◌then◌else◌}
+use Rattle.std.specs.Prelude.{ℕ, ◌+◌, List, [], ◌∷◌, Option, Some, None, true, false, map, ℤ, pos, nat_lt, slice_get, if◌then◌else◌}
 use Rattle.std.specs.Option.{option_map_or}
 use Rattle.definitions.specs.Characters.{same_text}
 use Rattle.definitions.specs.Forms.{Part, Added, Subtracted, Relocation, Block, External}
@@ -30,15 +30,6 @@ end_with base object = end_of_decks base (placed base object ∷ [])
 abbrev pub end_behind : ℕ → List Object → ℕ
 end_behind base [] = base
 end_behind base (object ∷ objects) = end_behind (end_with base object) objects
-
--- names with lengths, as lengths of blocks
-abbrev pub lengths_as : List (List ℕ × ℕ) → List BlockLength
-lengths_as entries = map (λ (entry : List ℕ × ℕ). record { name = entry.0; words = entry.1 }) entries
-
--- the greater of two lengths, of which the first may be missing
-abbrev pub greatest : Option ℕ → ℕ → ℕ
-greatest None words = words
-greatest (Some found) words = max found words
 
 -- the external of a part, if it has one
 abbrev pub external_of : Option Part → Option (List ℕ)

@@ -1,32 +1,62 @@
 //! The lengths of the common blocks of a link.
-ghost use Rattle.std.specs.Prelude.{◌≡◌, ◌≤◌, [], map, position, OnOk, IfOk};
+ghost use Rattle.std.specs.Prelude.{◌≡◌, ◌≤◌, ◌<◌, [], length, map, position, slice_set, OnOk, IfOk};
 ghost use Rattle.definitions.specs.Characters.{same_text};
 ghost use Rattle.definitions.specs.Link.{with_common, with_commons, common_lengths, commons_from};
-ghost use Rattle.deck_linker.specs.Placing.{greatest, names_of_lengths};
+ghost use Rattle.deck_linker.specs.CommonPlaces.{length_at, widened};
+ghost use Rattle.deck_linker.specs.Placing.{names_of_lengths};
 
 use crate::based::Based;
 use crate::commons::{Common, place_common};
 use crate::name_key::NameKey;
 use expr_forms::Name;
-use indexmap::IndexMap;
 use std::alloc::{AllocError, Global};
+use std::collections::BTreeMap;
 use std::marker::Model;
 use use_blocks::{BlockRow, is_common};
 
-/// Common blocks with their lengths. Contracts see them in order of first use, each name once.
+/// The length of a common block. Contracts see the definitions' record.
+#[derive(Drop)]
+struct CommonLength {
+    name: Name,
+    words: u32,
+}
+
+impl Model for CommonLength {
+    ghost use Rattle.definitions.specs.Lengths.{BlockLength};
+
+    ghost Value = { BlockLength };
+
+    ghost view = { λ l. record { name = l.name; words = l.words } };
+}
+
+/// Common blocks with their lengths. Contracts see them in order of first use, each name once. A look-up
+/// takes about as long whatever the names are, since a tree keeps where each stands.
 #[derive(Drop)]
 pub(crate) struct CommonTable {
-    words: IndexMap<NameKey, u32>,
+    lengths: Vec<CommonLength>,
+    places: BTreeMap<NameKey, usize>,
 }
 
 impl Model for CommonTable {
     ghost use Rattle.std.specs.Prelude.{List};
     ghost use Rattle.definitions.specs.Lengths.{BlockLength};
-    ghost use Rattle.deck_linker.specs.Placing.{lengths_as};
+    ghost use Rattle.deck_linker.specs.CommonPlaces.{HasPlaces};
 
     ghost Value = { List BlockLength };
 
-    ghost view = { λ t. lengths_as t.words.entries };
+    ghost view = { λ t. t.lengths.items };
+
+    ghost invariant = { λ t. HasPlaces t.lengths.items t.places };
+}
+
+/// Makes the length at a place that of the greater of two common blocks.
+fn widen(lengths: &mut Vec<CommonLength>, place: usize, words: u32)
+    requires { place < length lengths.old.items }
+    ensures { lengths.new.items ≡ slice_set lengths.old.items place (widened (length_at lengths.old.items place) words) }
+{
+    let name = lengths[place].name;
+    let words = lengths[place].words.max(words);
+    lengths[place] = CommonLength { name, words };
 }
 
 impl CommonTable {
@@ -35,7 +65,8 @@ impl CommonTable {
         ensures { result ≡ [] }
     {
         CommonTable {
-            words: IndexMap::new(alloc),
+            lengths: Vec::new(alloc),
+            places: BTreeMap::new(alloc),
         }
     }
 
@@ -67,8 +98,18 @@ impl CommonTable {
         ensures { OnOk result (self.new ≡ with_common row.now self.old) }
     {
         let key = NameKey::new(row.name());
-        let words = greatest(self.words.get(&key).copied(), row.words());
-        self.words.insert(key, words)?;
+        match self.places.get(&key).copied() {
+            Some(place) => widen(&mut self.lengths, place, row.words()),
+            None => {
+                let place = self.lengths.len();
+                self.lengths.reserve(1)?;
+                self.places.insert(key, place)?;
+                self.lengths.push_reserved(CommonLength {
+                    name: *row.name(),
+                    words: row.words(),
+                });
+            }
+        }
         Ok(())
     }
 
@@ -76,7 +117,7 @@ impl CommonTable {
     pub(crate) fn index_of(&self, name: &Name) -> Option<usize>
         ensures { result ≡ position (same_text name.now) (names_of_lengths self.now) }
     {
-        self.words.get_index_of(&NameKey::new(name))
+        self.places.get(&NameKey::new(name)).copied()
     }
 
     /// The common blocks one behind the other, from a base on.
@@ -84,23 +125,13 @@ impl CommonTable {
         requires { base ≤ 0o400000 }
         ensures { IfOk result (λ commons. commons.items ≡ commons_from base self.now) }
     {
-        let mut commons = Vec::with_capacity(alloc, self.words.len())?;
+        let mut commons = Vec::with_capacity(alloc, self.lengths.len())?;
         let mut end = base;
-        for (key, words) in &self.words {
-            let (common, behind) = place_common(end, key.name(), *words);
+        for length in self.lengths.as_slice() {
+            let (common, behind) = place_common(end, &length.name, length.words);
             commons.push(common)?;
             end = behind;
         }
         Ok(commons)
-    }
-}
-
-/// The greater of two lengths, of which the first may be missing.
-fn greatest(found: Option<u32>, words: u32) -> u32
-    ensures { result ≡ greatest found words }
-{
-    match found {
-        Some(found) => found.max(words),
-        None => words,
     }
 }

@@ -27,8 +27,8 @@ pub struct Layout {
 
 impl Model for Layout {
     ghost use Rattle.std.specs.Prelude.{ℕ, ◌≡◌, List};
-    ghost use Rattle.indexmap.specs.IndexMap.{get};
-    ghost use Rattle.definitions.specs.Characters.{same_text};
+    ghost use Rattle.std.specs.BTreeMap.{get};
+    ghost use Rattle.deck_linker.specs.NameKeys.{name_order};
     ghost use Rattle.definitions.specs.Link as definitions;
     ghost use Rattle.definitions.specs.Link.{entered};
 
@@ -36,7 +36,7 @@ impl Model for Layout {
 
     ghost view = { λ l. record { decks = l.decks.items; commons = l.commons } };
 
-    ghost invariant = { λ l. (name : List ℕ) → get same_text l.entries name ≡ entered name l.commons l.decks.items };
+    ghost invariant = { λ l. (name : List ℕ) → get name_order l.entries name ≡ entered name l.commons l.decks.items };
 }
 
 /// The objects in their places, and where the last REL deck ends that passes no end of memory.

@@ -1,14 +1,17 @@
-//! Names as keys of a map.
-ghost use Rattle.std.specs.Prelude.{◌≡◌};
-ghost use Rattle.std.specs.Cmp.{partial_equiv_from_equiv};
+//! Names as keys of a map in order.
+ghost use Rattle.std.specs.Prelude.{◌≡◌, refl};
+ghost use Rattle.std.specs.Cmp.{partial_equiv_from_equiv, partial_order_from_agreeing_total};
+ghost use Rattle.std.specs.Cmp.Lexicographic.{nat_list_cmp_total};
+ghost use Rattle.std.specs.Ordering.{as_partial_cmp};
 ghost use Rattle.definitions.specs.Characters.{same_text};
-ghost use Rattle.deck_linker.specs.NameKeys.{as_written, same_text_equivalence, written_alike};
+ghost use Rattle.deck_linker.specs.NameKeys.{name_order, same_in_order, same_text_equivalence};
 
 use expr_forms::Name;
-use std::hash::{Hash, Hasher};
+use std::cmp::Ordering;
 use std::marker::Model;
 
-/// A name that is the key of a map. Contracts see the list of its characters.
+/// A name that is the key of a map, in the order of its characters' numbers. Contracts see the list of
+/// its characters.
 #[derive(Drop)]
 pub struct NameKey {
     name: Name,
@@ -50,12 +53,26 @@ impl Eq for NameKey {
     ghost laws = { same_text_equivalence };
 }
 
-impl Hash for NameKey {
-    ghost hash_input = { as_written };
+impl PartialOrd for NameKey {
+    ghost partial_cmp = { as_partial_cmp name_order };
 
-    ghost respects_eq = { written_alike };
+    ghost laws = { partial_order_from_agreeing_total name_order nat_list_cmp_total (λ a b. refl) same_in_order };
 
-    fn hash<H: Hasher>(&self, state: &mut H) {
-        state.write(self.name.as_slice());
+    fn partial_cmp(&self, other: &NameKey) -> Option<Ordering> {
+        Some(self.cmp(other))
+    }
+}
+
+impl Ord for NameKey {
+    ghost cmp = { name_order };
+
+    ghost total = { nat_list_cmp_total };
+
+    ghost matches_partial_cmp = { λ a b. refl };
+
+    ghost matches_eq = { same_in_order };
+
+    fn cmp(&self, other: &NameKey) -> Ordering {
+        self.name.as_slice().cmp(other.name.as_slice())
     }
 }

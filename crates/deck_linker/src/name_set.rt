@@ -7,14 +7,14 @@ use crate::linked_deck::entries;
 use crate::{Based, NameKey};
 use deck_assembler::Entry;
 use expr_forms::Name;
-use indexmap::IndexSet;
 use std::alloc::{AllocError, Global};
+use std::collections::BTreeSet;
 use std::marker::Model;
 
-/// A set of names, in the order in which they came. Contracts see the list of the names, each once.
+/// A set of names. Contracts see the list of the names in order, each once.
 #[derive(Drop)]
 pub(crate) struct NameSet {
-    names: IndexSet<NameKey>,
+    names: BTreeSet<NameKey>,
 }
 
 impl Model for NameSet {
@@ -31,7 +31,7 @@ impl NameSet {
         ensures { result ≡ [] }
     {
         NameSet {
-            names: IndexSet::new(alloc),
+            names: BTreeSet::new(alloc),
         }
     }
 
