@@ -33,7 +33,7 @@ pub record IsStep (whole : Whole) (sized : SizedStatement) (old new : Making) (e
   pub stood : new.lines.stood ≡ old.lines.stood + sized.cards
 
 -- the block of the next statement is among those of the deck
-there : (whole : Whole) (earlier coming : List Statement) (given : Statement) → IsWhole whole → reverse (given ∷ coming) ++ earlier ≡ whole.known →
+pub there : (whole : Whole) (earlier coming : List Statement) (given : Statement) → IsWhole whole → reverse (given ∷ coming) ++ earlier ≡ whole.known →
     has_row (settle whole.deck.kind (settled_all whole.deck.kind earlier) given).block whole.rows ≡ true
 there whole earlier coming given is all =
     let kind = whole.deck.kind in

@@ -51,7 +51,7 @@ between count from before cards h =
     let whole : before ≡ from + (before - from) = omega arith in
     ap (λ n. take count (drop from (take n cards))) whole ∙ ap (take count) (drop-take from (before - from) cards) ∙ take-take count (before - from) (drop from cards) (omega arith)
 
-same-between : (count from before : ℕ) (old cards : List Card) → take before old ≡ take before cards → from + count ≤ before → take count (drop from old) ≡ take count (drop from cards)
+pub same-between : (count from before : ℕ) (old cards : List Card) → take before old ≡ take before cards → from + count ≤ before → take count (drop from old) ≡ take count (drop from cards)
 same-between count from before old cards e h = sym (between count from before old h) ∙ ap (λ l. take count (drop from l)) e ∙ between count from before cards h
 
 -- a statement that was sized in one deck is so in the other

@@ -45,3 +45,9 @@ pub mod DeckWalkLaws
 pub mod PieceCounts
 -- The parts of an object.
 pub mod PartLaws
+-- What a statement reads in two decks.
+pub mod RebindingLaws
+-- A line taken over into another object.
+pub mod CopiedLaws
+-- The lines of the object before an edit.
+pub mod FormerLaws

@@ -87,7 +87,7 @@ among-behind [] = refl
 among-behind (first ∷ statements) = among-behind statements
 
 -- the statements of the listing in order
-shown-object : (context : Context) (settled : List Settled) (others : List Statement) → reverse (map only_listed others ++ map (shown_of context) settled) ≡ reverse (map (shown_of context) settled) ++ map only_listed (reverse others)
+pub shown-object : (context : Context) (settled : List Settled) (others : List Statement) → reverse (map only_listed others ++ map (shown_of context) settled) ≡ reverse (map (shown_of context) settled) ++ map only_listed (reverse others)
 shown-object context settled others = reverse-append (map only_listed others) (map (shown_of context) settled) ∙ ap (λ l. reverse (map (shown_of context) settled) ++ l) (sym (map-reverse only_listed others))
 
 coded-object : (context : Context) (settled : List Settled) (others : List Statement) → coded_among (reverse (map (shown_of context) settled) ++ map only_listed (reverse others)) ≡ reverse (map (coded_of context) settled)

@@ -22,3 +22,9 @@ pub mod SharedNames
 -- One statement after another.
 pub mod Walks
 pub mod DeckWalks
+-- What a statement reads in two decks.
+pub mod Rebindings
+-- A line taken over into another object.
+pub mod CopiedFields
+-- The lines of the object before an edit.
+pub mod FormerLines

@@ -1,14 +1,20 @@
 //! The lines of the statements of a deck, one behind the other.
-ghost use Rattle.std.specs.Prelude.{ℕ, ◌≡◌, ◌+◌, ◌-◌, ◌^◌, ◌≤◌, ◌∷◌, ◌++◌, [], List, IfOk, OnOk, true, length, take, drop, min};
-ghost use Rattle.definitions.specs.Objects.{Shown, only_listed};
+ghost use Rattle.std.specs.Prelude.{ℕ, ◌≡◌, ◌+◌, ◌-◌, ◌^◌, ◌≤◌, ◌∷◌, ◌++◌, [], List, IfOk, None, OnOk, true, length, take, drop, min};
+ghost use Rattle.definitions.specs.Objects.{Shown, coded_of, only_listed, shown_of};
+ghost use Rattle.definitions.specs.Lengths.{BlockRow};
 ghost use Rattle.definitions.specs.Settling.{settle, settled_all};
 ghost use Rattle.definitions.specs.Statements as statements;
 ghost use Rattle.statement_coder.specs.ReadOperands.{IsReadOperand};
+ghost use Rattle.statement_coder.specs.Meters.{RisesBy};
+ghost use Rattle.deck_assembler.specs.CodedLines.{IsCoded};
+ghost use Rattle.deck_assembler.specs.FormerLines.{WasLineIfAny};
 ghost use Rattle.deck_assembler.specs.SizedDecks.{IsListedStatement, IsSizedStatement};
-ghost use Rattle.deck_assembler.specs.Walks.{AreLined, AreLinedAs, IsWhole, Whole, has_row, whole_of};
+ghost use Rattle.deck_assembler.specs.Walks.{AreLined, AreLinedAs, IsWhole, Whole, context_in, has_row, whole_of};
 
 use crate::block_index::block_index;
+use crate::copied_lines::copied_line;
 use crate::deck_view::DeckView;
+use crate::former_lines::FormerLine;
 use crate::line_coder::statement_line;
 use crate::{Line, SizedStatement};
 use cards::Card;
@@ -75,6 +81,69 @@ impl DeckLines {
         self.block = block;
         self.stood = self.stood.saturating_add(sized.cards as usize);
         Ok(())
+    }
+
+    /// The line of one statement more, as it was in the object before. Where memory runs out the lines
+    /// are of no use.
+    fn copy(
+        &mut self,
+        view: &DeckView<'_>,
+        found: &FormerLine<'_>,
+        sized: &SizedStatement,
+    ) -> Result<(), AllocError>
+        ensures lined { OnOk result ((known others earlier : List statements.Statement) (given : statements.Statement) (rows : List BlockRow) →
+            let whole = whole_of view.now known others in
+            let settled = settle whole.deck.kind (settled_all whole.deck.kind earlier) given in
+            IsWhole whole → IsSizedStatement whole.deck.kind earlier self.old.stood (drop self.old.stood whole.cards) sized.now given → has_row settled.block whole.rows ≡ true →
+            found.now.line.now.letters ≡ (shown_of (context_in whole) settled).letters → IsCoded whole.deck.kind rows found.now.items.now found.now.coded.now (coded_of (context_in whole) settled) →
+            AreLined whole earlier self.old → AreLined whole (given ∷ earlier) self.new) }
+        ensures stood { OnOk result (self.new.stood ≡ min (self.old.stood + sized.now.cards) (2 ^ 64 - 1)) }
+    {
+        let block = block_index(view.bases.rows(), &sized.sizing.block, self.block);
+        let line = copied_line(found.coded, block, found.items, &mut self.items)?;
+        self.lines.push(Line {
+            cards: sized.cards,
+            letters: found.line.letters.copied(),
+            coded: Some(line),
+        })?;
+        self.block = block;
+        self.stood = self.stood.saturating_add(sized.cards as usize);
+        Ok(())
+    }
+
+    /// The line of one statement more, whose operand was read: it is taken over from the object before,
+    /// where that has it, and coded where that has none or a name is bound otherwise. Where memory runs
+    /// out the lines are of no use.
+    pub(crate) fn put(
+        &mut self,
+        view: &DeckView<'_>,
+        read: &ReadOperand<'_>,
+        sized: &SizedStatement,
+        found: Option<FormerLine<'_>>,
+        meter: &mut Meter,
+    ) -> Result<(), AllocError>
+        ensures lined { OnOk result ((known others earlier : List statements.Statement) (given : statements.Statement) →
+            let whole = whole_of view.now known others in
+            let before = settled_all whole.deck.kind earlier in
+            IsWhole whole → read.now.kind ≡ whole.deck.kind → IsReadOperand read.now (settle whole.deck.kind before given) → IsSizedStatement whole.deck.kind earlier self.old.stood (drop self.old.stood whole.cards) sized.now given →
+            has_row (settle whole.deck.kind before given).block whole.rows ≡ true → WasLineIfAny whole.deck.kind found.entry (settle whole.deck.kind before given) →
+            AreLined whole earlier self.old → AreLined whole (given ∷ earlier) self.new) }
+        ensures stood { OnOk result (self.new.stood ≡ min (self.old.stood + sized.now.cards) (2 ^ 64 - 1)) }
+        ensures coded { meter.new.coded ≤ meter.old.coded + 1 }
+        ensures rises { meter.old.coded ≤ meter.new.coded }
+        ensures all { found.entry ≡ None → OnOk result (RisesBy 1 meter.old.coded meter.new.coded) }
+        ensures sized { meter.new.sized ≡ meter.old.sized }
+    {
+        match found {
+            None => self.add(view, read, sized, meter),
+            Some(found) => {
+                if found.is_rebound(view, read, &sized.sizing) {
+                    self.add(view, read, sized, meter)
+                } else {
+                    self.copy(view, &found, sized)
+                }
+            }
+        }
     }
 
     /// The line of a statement of so many cards that is only listed.

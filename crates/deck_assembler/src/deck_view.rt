@@ -1,15 +1,16 @@
 //! What all statements of a deck are coded with.
 ghost use Rattle.std.specs.Prelude.{◌≡◌};
-ghost use Rattle.definitions.specs.Literals.{offset_form};
+ghost use Rattle.definitions.specs.Literals.{literal_form, offset_form};
 ghost use Rattle.expr_forms.specs.Elements.{literal_as};
 ghost use Rattle.deck_assembler.specs.Walks.{is_too_great};
 
+use crate::rebinding::Bindings;
 use crate::{SizedDeck, literal_word};
 use cards::Card;
 use definitions::Letter;
 use expr_forms::{Form, Literal, Name, Number, Part, Relocation};
 use statement_coder::FinalSymbols;
-use use_blocks::Bases;
+use use_blocks::{Bases, Literals};
 
 /// A deck, its cards, and where its blocks stand.
 #[derive(Clone, Copy)]
@@ -17,6 +18,21 @@ pub(crate) struct DeckView<'a> {
     pub(crate) cards: &'a [Card],
     pub(crate) deck: &'a SizedDeck,
     pub(crate) bases: &'a Bases,
+}
+
+impl<'a> DeckView<'a> {
+    /// What its names mean.
+    pub(crate) fn bindings(&self) -> Bindings<'a>
+        ensures symbols { result.symbols.now ≡ self.now.deck.now.symbols }
+        ensures literals { result.literals.now ≡ self.now.deck.now.literals }
+        ensures rows { result.bases.now ≡ self.now.bases.now }
+    {
+        Bindings {
+            symbols: self.deck.symbols(),
+            literals: self.deck.literals(),
+            bases: self.bases,
+        }
+    }
 }
 
 /// Whether a literal is a number that is too great.
@@ -44,6 +60,17 @@ fn offset_form(offset: usize) -> Result<Form, Letter>
     }
 }
 
+/// Where the word of a literal stands, or its letter.
+pub(crate) fn literal_form(literals: &Literals, literal: Literal<'_>) -> Result<Form, Letter>
+    ensures { result ≡ literal_form literals.now (literal_as literal.entry) }
+{
+    if is_too_great(literal) {
+        Err(Letter::A)
+    } else {
+        offset_form(literals.offset(literal_word(&literal)))
+    }
+}
+
 impl FinalSymbols for DeckView<'_> {
     ghost use Rattle.definitions.specs.Literals.{literal_form};
     ghost use Rattle.deck_assembler.specs.FirstSymbols.{symbol_in};
@@ -57,10 +84,6 @@ impl FinalSymbols for DeckView<'_> {
     }
 
     fn literal(&self, literal: Literal<'_>) -> Result<Form, Letter> {
-        if is_too_great(literal) {
-            Err(Letter::A)
-        } else {
-            offset_form(self.deck.literals().offset(literal_word(&literal)))
-        }
+        literal_form(self.deck.literals(), literal)
     }
 }

@@ -49,12 +49,15 @@ mod external_names;
 
 // All statements of a deck, coded.
 mod block_index;
+mod copied_lines;
 mod deck_lines;
 mod deck_names;
 mod deck_view;
 mod deck_walk;
+mod former_lines;
 mod line_coder;
 mod object_part_list;
+mod rebinding;
 
 pub use entries::Entry;
 pub use lines::{CodedLine, Line, LineFields};

@@ -16,7 +16,7 @@ use statement_coder::{CodedItems, InstructionItems, Item};
 use std::alloc::AllocError;
 
 /// Puts a field at the end of a list.
-fn put(items: &mut Vec<Item>, item: &Item) -> Result<(), AllocError>
+pub(crate) fn put(items: &mut Vec<Item>, item: &Item) -> Result<(), AllocError>
     ensures kept { IsKept items.old.items items.new.items }
     ensures put { OnOk result (map item_as items.new.items ≡ map item_as items.old.items ++ item_as item.now ∷ []) }
 {
@@ -52,7 +52,7 @@ fn put_instruction(items: &mut Vec<Item>, instruction: &InstructionItems) -> Res
 
 /// The fields of a list from one on. An index of more than 32 bits is taken as memory that ran out:
 /// a list that long has none.
-fn listed_from(first: usize, items: &[Item]) -> Result<LineFields, AllocError>
+pub(crate) fn listed_from(first: usize, items: &[Item]) -> Result<LineFields, AllocError>
     requires { first ≤ length items.now }
     ensures { IfOk result (λ fields. fields ≡ LineFields.Listed first (length items.now - first)) }
 {

@@ -1,0 +1,25 @@
+use Rattle.std.proofs.Common.{◌∙◌, ◌+◌, ◌≤◌, List, Some, map, reverse, length, ap, sym, subst}
+use Rattle.definitions.specs.Objects.{Shown, coded_of, shown_of}
+use Rattle.definitions.specs.Settling.{settle, settled_all}
+use Rattle.use_blocks.proofs.SizeLaws.{rows-few}
+use Rattle.deck_assembler.specs.Walks.{AreLinedAs, context_in, whole_of}
+use Rattle.deck_assembler.specs.declared.deck_lines.DeckLines.{DeckLines}
+use Rattle.deck_assembler.proofs.WalkLaws.{block-named, lined-step, reverse-step, stood-step}
+use Rattle.deck_assembler.proofs.deck_lines.DeckLines.copy.Goals as goal
+
+pub returns-clause-lined : goal.returns-clause-lined
+returns-clause-lined c =
+    λ known others earlier given old_rows is sized has letters coded lined.
+    let whole = whole_of c.args.view.now known others in
+    let before = settled_all whole.deck.kind earlier in
+    let settled = settle whole.deck.kind before given in
+    let self = c.args.self.now in
+    let few : length whole.rows ≤ 65 = subst (λ rows. length rows ≤ 65) (sym is.rows) (rows-few whole.deck.kind known) in
+    let named = block-named c.rows.result.now whole.rows c.args.sized.now.sizing.block settled.block c.block_index-block.result c.rows.ensures sized.sizing.block c.block_index-block.ensures few has in
+    let stored = c.in_ok-line.ensures.line whole.deck.kind old_rows whole.rows (coded_of (context_in whole) settled) coded named in
+    let new : DeckLines = record { lines = c.push.new.self; items = c.copied_line.new.items; stood = c.saturating_add-self.result; block = c.block_index-block.result } in
+    subst (λ (shown : List Shown). AreLinedAs whole shown new) (sym (reverse-step (shown_of (context_in whole) settled) (map (shown_of (context_in whole)) before)))
+    (lined-step whole (reverse (map (shown_of (context_in whole)) before)) (shown_of (context_in whole) settled)
+    (record { cards = c.args.sized.now.cards; letters = c.copied.result; coded = Some c.in_ok-line.line }) self new c.in_ok-push.ensures.items c.copied_line.ensures.kept
+    (c.saturating_add-self.ensures ∙ stood-step self.stood c.args.sized.now.cards whole.cards sized.some sized.within is.few)
+    (record { before = sym sized.before; cards = sized.cards; letters = c.copied.ensures ∙ letters; stored = stored }) lined)

@@ -1,0 +1,31 @@
+use Rattle.std.proofs.Common.{◌≡◌, ◌∙◌, Option, Some, refl, sym, subst}
+use Rattle.std.proofs.lemmas.Result.{on_ok_weaker}
+use Rattle.definitions.specs.Rebound.{is_rebound}
+use Rattle.definitions.specs.Settled.{Settled}
+use Rattle.definitions.specs.Settling.{settle, settled_all}
+use Rattle.definitions.specs.StatementItems.{Context}
+use Rattle.deck_assembler.specs.FormerLines.{WasLine, WasLineIfAny}
+use Rattle.deck_assembler.specs.Walks.{context_in, whole_of}
+use Rattle.deck_assembler.specs.declared.former_lines.FormerLine.{FormerLine}
+use Rattle.deck_assembler.proofs.FormerLaws.{still-letters, still-coded}
+use Rattle.deck_assembler.proofs.deck_lines.DeckLines.put.Goals as goal
+
+pub returns-in-None-clause-lined : goal.returns-in-None-clause-lined
+returns-in-None-clause-lined c =
+    on_ok_weaker c.add.result (λ lined known others earlier given is same taken sized has was. lined known others earlier given is same taken sized has) c.add.ensures.lined
+
+pub returns-then-is_rebound-clause-lined : goal.returns-then-is_rebound-clause-lined
+returns-then-is_rebound-clause-lined c =
+    on_ok_weaker c.add-then-is_rebound.result (λ lined known others earlier given is same taken sized has was. lined known others earlier given is same taken sized has) c.add-then-is_rebound.ensures.lined
+
+pub returns-else-is_rebound-clause-lined : goal.returns-else-is_rebound-clause-lined
+returns-else-is_rebound-clause-lined c =
+    on_ok_weaker c.copy.result (λ lined known others earlier given is same taken sized has was.
+    let whole = whole_of c.args.view.now known others in
+    let settled : Settled = settle whole.deck.kind (settled_all whole.deck.kind earlier) given in
+    let new : Context = context_in whole in
+    let found = c.in-Some.found in
+    let there : WasLine whole.deck.kind found settled = subst (λ (f : Option FormerLine). WasLineIfAny whole.deck.kind f settled) c.in-Some.is was in
+    let tested = c.is_rebound.ensures there.context new settled there.bindings is.sized.symbols refl refl taken sized.sizing.location sized.sizing.origin in
+    let not_rebound = sym tested ∙ c.if-is_rebound.false in
+    lined known others earlier given there.context.rows is sized has (still-letters whole.deck.kind found settled new there refl not_rebound) (still-coded whole.deck.kind found settled new there refl not_rebound)) c.copy.ensures.lined

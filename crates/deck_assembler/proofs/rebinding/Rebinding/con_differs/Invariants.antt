@@ -1,0 +1,12 @@
+use Rattle.std.proofs.Common.{◌≡◌, length, flat_map}
+use Rattle.std.specs.List.{list_any}
+use Rattle.definitions.specs.Rebound.{datum_elements}
+use Rattle.deck_assembler.specs.Rebindings.{differs}
+use Rattle.deck_assembler.proofs.rebinding.Rebinding.con_differs.Given as goal
+
+-- what is left tells what all tells
+abbrev pub invariant-words : goal.invariant-words
+invariant-words l = list_any (differs l.self) (flat_map datum_elements l.rest) ≡ list_any (differs l.self) (flat_map datum_elements l.fn.words)
+
+abbrev pub decreases-words : goal.decreases-words
+decreases-words l = length l.rest

@@ -1,0 +1,13 @@
+use Rattle.std.proofs.Common.{◌≡◌, length}
+use Rattle.std.specs.List.{list_any}
+use Rattle.definitions.specs.Operations as op
+use Rattle.definitions.specs.Rebound.{name_elements}
+use Rattle.deck_assembler.specs.Rebindings.{differs}
+use Rattle.deck_assembler.proofs.rebinding.Rebinding.entry_differs.Given as goal
+
+-- the names that are left tell what all tell
+abbrev pub invariant-names : goal.invariant-names
+invariant-names l = list_any (differs l.self) (name_elements op.Entry l.rest) ≡ list_any (differs l.self) (name_elements op.Entry l.fn.names)
+
+abbrev pub decreases-names : goal.decreases-names
+decreases-names l = length l.rest

@@ -1,0 +1,97 @@
+//! The lines of the object before an edit, as far as they are those of the statements in front of the
+//! edited card: they are taken over, unless a name is bound otherwise.
+ghost use Rattle.std.specs.Prelude.{◌≡◌, ◌≤◌, ◌+◌, [], true};
+ghost use Rattle.definitions.specs.Rebound.{is_rebound};
+ghost use Rattle.definitions.specs.Settled.{Settled, defined};
+ghost use Rattle.definitions.specs.StatementItems.{Context};
+ghost use Rattle.statement_coder.specs.ReadOperands.{IsReadOperand};
+ghost use Rattle.deck_assembler.specs.FirstSymbols.{symbol_in};
+ghost use Rattle.deck_assembler.specs.FormerLines.{IsNextLine};
+ghost use Rattle.deck_assembler.specs.Rebindings.{AreBindings};
+
+use crate::deck_view::DeckView;
+use crate::rebinding::{Bindings, Rebinding};
+use crate::{CodedLine, Line};
+use statement_coder::{Item, ReadOperand, Sizing};
+
+/// The line of a statement in the object before an edit, and what names meant there.
+#[derive(Clone, Copy)]
+pub(crate) struct FormerLine<'a> {
+    pub(crate) line: &'a Line,
+    pub(crate) coded: &'a CodedLine,
+    pub(crate) items: &'a [Item],
+    pub(crate) bindings: Bindings<'a>,
+}
+
+/// The lines that are left of the object before an edit, and how many cards stand unchanged.
+#[derive(Drop)]
+pub(crate) struct FormerLines<'a> {
+    pub(crate) left: &'a [Line],
+    pub(crate) items: &'a [Item],
+    pub(crate) before: usize,
+    pub(crate) bindings: Bindings<'a>,
+}
+
+/// Whether so many cards behind so many others are among the unchanged ones.
+fn ends_within(stood: usize, count: u32, before: usize) -> bool
+    ensures { result ≡ true → stood + count ≤ before }
+{
+    count as usize <= before && stood <= before - count as usize
+}
+
+impl<'a> FormerLines<'a> {
+    /// No lines: all statements of this deck are coded.
+    pub(crate) fn none(view: &DeckView<'a>) -> FormerLines<'a>
+        ensures { result.left.now ≡ [] }
+    {
+        FormerLines {
+            left: &[],
+            items: &[],
+            before: 0,
+            bindings: view.bindings(),
+        }
+    }
+
+    /// The line of the next statement, which has so many cards behind so many others; where the object
+    /// has another statement there, none, and of those behind it none either.
+    pub(crate) fn next(&mut self, stood: usize, count: u32) -> Option<FormerLine<'a>>
+        ensures { IsNextLine self.old self.new stood count result }
+    {
+        let left = self.left;
+        self.left = left.split_at(0).0;
+        let (line, others) = left.split_first()?;
+        let coded = line.coded.as_ref()?;
+        if line.cards != count || !ends_within(stood, count, self.before) {
+            return None;
+        }
+        self.left = others;
+        Some(FormerLine {
+            line,
+            coded,
+            items: self.items,
+            bindings: self.bindings,
+        })
+    }
+}
+
+impl FormerLine<'_> {
+    /// Whether its statement, which was read, is bound otherwise in the deck that is viewed.
+    pub(crate) fn is_rebound(
+        &self,
+        view: &DeckView<'_>,
+        read: &ReadOperand<'_>,
+        sizing: &Sizing,
+    ) -> bool
+        ensures { (old new : Context) (settled : Settled) → AreBindings self.now.bindings old →
+            symbol_in view.now.deck.now.symbols ≡ (λ name. defined name new.settled) → view.now.deck.now.literals ≡ new.literals → view.now.bases.now ≡ new.rows →
+            IsReadOperand read.now settled → sizing.now.location ≡ settled.location → sizing.now.origin ≡ settled.origin → result ≡ is_rebound old new settled }
+    {
+        let rebinding = Rebinding {
+            old: self.bindings,
+            new: view.bindings(),
+            location: sizing.location,
+            origin: sizing.origin,
+        };
+        rebinding.differs(read)
+    }
+}
