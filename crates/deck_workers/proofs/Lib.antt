@@ -2,4 +2,3 @@ pub mod Seen
 pub mod Turns
 pub mod Unchanged
 pub mod IdleDesk
-pub mod FirstFaults

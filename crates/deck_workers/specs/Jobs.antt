@@ -1,9 +1,8 @@
 -- What a job gives (ours): a function of the job, and one free choice.
 use Rattle.std.specs.Prelude.{◌≡◌, ◌⊎◌, ℕ, ◌+◌, ◌^◌, ◌<◌, ◌≤◌, Bool, true, false, List, [], ◌∷◌, Option, Some, None}
-use Rattle.std.specs.Option.{option_or}
 use Rattle.statement_coder.specs.Meters.{CountsAtMost}
 use Rattle.statement_coder.specs.declared.meter.Meter.{Meter}
-use Rattle.deck_workers.specs.Language.{Card, Deck, Edit, edited, edited_by, statement_count, against, RecordFault, OutOfMemory, Done, DeckWork, LinkWork, Start, FromRecord, FromCards}
+use Rattle.deck_workers.specs.Language.{Card, Deck, edited_by, edits_bound, statement_count, edits_fault, RecordFault, OutOfMemory, Done, DeckWork, LinkWork, Start, FromRecord, FromCards}
 use Rattle.deck_workers.specs.declared.jobs.Job.{Job}
 use Rattle.deck_workers.specs.declared.jobs.Job.TheVariants as job
 use Rattle.deck_workers.specs.declared.made.Made.{Made}
@@ -26,11 +25,6 @@ begun_deck work = start_deck work.name work.start
 -- the deck that a job is to assemble: its edits are made in order
 abbrev pub edited_deck : DeckWork → Deck
 edited_deck work = record { name = (begun_deck work).name; cards = edited_by work.edits (begun_deck work).cards }
-
--- what keeps a record that is not spent from edits in order: the first of them that does not apply to what the ones before it leave
-abbrev pub edits_fault : List Edit → List Card → Option RecordFault
-edits_fault [] cards = None
-edits_fault (edit ∷ edits) cards = option_or (against edit false cards) (edits_fault edits (edited cards edit))
 
 -- the result of a deck job: record and object are of the deck that it assembled
 abbrev pub done_of : DeckWork → Done
@@ -60,17 +54,12 @@ abbrev pub MayMake : Job → Made → Type 0
 MayMake (job.Deck work) result = MayMakeDeck work result
 MayMake (job.Link work) result = MayMakeLink work result
 
--- how many statements are sized at most, and coded, in making edits in order: those up to END of the cards after each
-abbrev pub edits_bound : List Edit → List Card → ℕ
-edits_bound [] cards = 0
-edits_bound (edit ∷ edits) cards = statement_count (edited cards edit) + edits_bound edits (edited cards edit)
-
--- how many in beginning a job: none with a record, those of the cards without one
+-- how many statements are sized at most, and coded, in beginning a job: none with a record, those of the cards without one
 abbrev pub start_bound : Start → ℕ
 start_bound (FromRecord kept) = 0
 start_bound (FromCards cards) = statement_count cards
 
--- how many in a deck job
+-- how many in a deck job: its edits are made at once
 abbrev pub deck_bound : DeckWork → ℕ
 deck_bound work = start_bound work.start + edits_bound work.edits (begun_deck work).cards
 

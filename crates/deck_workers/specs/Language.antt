@@ -2,9 +2,9 @@
 pub use Rattle.definitions.specs.Cards.{Card}
 pub use Rattle.definitions.specs.DeckInput.{Deck}
 pub use Rattle.cards.specs.declared.edits.Edit.{Edit}
-pub use Rattle.cards.specs.Edits.{edited, edited_by}
-pub use Rattle.edit_core.specs.Edited.{statement_count}
-pub use Rattle.edit_core.specs.Faults.{against}
+pub use Rattle.cards.specs.Edits.{edited_by}
+pub use Rattle.edit_core.specs.Edited.{edits_bound, statement_count}
+pub use Rattle.edit_core.specs.Faults.{edits_fault}
 pub use Rattle.edit_core.specs.declared.faults.RecordFault.{RecordFault}
 pub use Rattle.edit_core.specs.declared.faults.RecordFault.TheVariants.{OutOfMemory}
 pub use Rattle.desk_core.specs.declared.calls.Done.{Done}

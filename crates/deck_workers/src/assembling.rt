@@ -1,8 +1,8 @@
 //! A deck assembled from what a job begins with, and objects published.
 ghost use Rattle.std.specs.Prelude.{◌≡◌, ◌+◌, ◌⊎◌, false, None, Some, length, IfOk, IfErr, OnOk};
 ghost use Rattle.statement_coder.specs.Meters.{CountsAtMost, RisesBy};
-ghost use Rattle.deck_workers.specs.Language.{edited_by};
-ghost use Rattle.deck_workers.specs.Jobs.{start_deck, start_cards, edits_fault, edits_bound, start_bound, CountsWithin};
+ghost use Rattle.deck_workers.specs.Language.{edited_by, edits_bound, edits_fault};
+ghost use Rattle.deck_workers.specs.Jobs.{start_deck, start_cards, start_bound, CountsWithin};
 
 use cards::{DeckName, Edit, first_fault};
 use deck_assembler::SharedObject;
@@ -32,7 +32,7 @@ fn edits_fault(start: &Start, edits: &[Edit]) -> Option<RecordFault>
     }
 }
 
-/// Record and object of the deck of a job, its edits made in order. An edit that does not apply is
+/// Record and object of the deck of a job, its edits made at once. An edit that does not apply is
 /// told before anything takes memory.
 pub(crate) fn assembled(
     alloc: Global,
@@ -52,7 +52,7 @@ pub(crate) fn assembled(
         return Err(fault);
     }
     let mut kept = begun(alloc, name, start, meter)?;
-    edit_all(alloc, &mut kept, edits, meter)?;
+    kept.edit_all(alloc, edits, meter)?;
     finished(kept)
 }
 
@@ -77,26 +77,6 @@ fn begun(
             Err(_) => Err(RecordFault::OutOfMemory),
         },
     }
-}
-
-/// Makes edits of a record in order, each of which applies.
-fn edit_all(
-    alloc: Global,
-    kept: &mut Kept,
-    edits: &[Edit],
-    meter: &mut Meter,
-) -> Result<(), RecordFault>
-    requires unspent { kept.old.is_spent ≡ false }
-    requires applies { edits_fault edits.now kept.old.cards ≡ None }
-    ensures deck { IfOk result (λ _. (kept.new.name ≡ kept.old.name) × (kept.new.cards ≡ edited_by edits.now kept.old.cards)) }
-    ensures unspent { IfOk result (λ _. kept.new.is_spent ≡ false) }
-    ensures fault { IfErr result (λ fault. fault ≡ RecordFault.OutOfMemory) }
-    ensures meter { CountsAtMost (edits_bound edits.now kept.old.cards) meter.old meter.new }
-{
-    for edit in edits {
-        kept.edit(alloc, edit, meter)?;
-    }
-    Ok(())
 }
 
 /// A record that is not spent, with its object.

@@ -3,22 +3,23 @@ ghost use Rattle.std.specs.Prelude.{◌≡◌, ◌≤◌, ◌+◌, true, false, 
 ghost use Rattle.std.specs.Option.{ForSome};
 ghost use Rattle.definitions.specs.DeckKinds.{up_to_end};
 ghost use Rattle.definitions.specs.Statements.{statements_of};
-ghost use Rattle.cards.specs.Edits.{fault_of, edited};
+ghost use Rattle.cards.specs.Edits.{edited, edited_by, first_fault};
 ghost use Rattle.statement_coder.specs.Meters.{RisesBy};
 ghost use Rattle.deck_assembler.specs.SizedDecks.{IsSizedDeck};
-ghost use Rattle.edit_core.specs.Edited.{statement_count, IsRecordOf};
-ghost use Rattle.edit_core.specs.Faults.{against};
+ghost use Rattle.edit_core.specs.Edited.{edits_bound, statement_count, IsRecordOf};
+ghost use Rattle.edit_core.specs.Faults.{against, against_all};
 ghost use Rattle.edit_core.specs.Records.{ArePieces};
 
 use crate::assembling::object_of;
-use crate::edited_cards::{cards_before, edited_cards};
 use crate::faults::{RecordFault, record_fault};
+use crate::fronts::cards_before_all;
 use crate::piece_counts::piece_counts;
-use cards::{Card, DeckName, Edit, fault_of};
+use cards::{Card, DeckName, Edit, edited_copy, first_fault};
 use deck_assembler::{SharedObject, SizedDeck};
 use statement_coder::Meter;
 use std::alloc::{AllocError, Global};
 use std::marker::Model;
+use std::slice;
 
 /// The record of a deck of at most 20,000 cards: its statements up to END in pieces of at most 128,
 /// each with the state before it, and its object. Contracts see its name, its cards, whether it is
@@ -104,11 +105,10 @@ impl Kept {
         })
     }
 
-    /// Makes an edit: the statements in front of the edited card stay as they were sized, and the
-    /// others are sized once, unless the kind of the deck changes. Where the record is spent, or else
-    /// where the edit doesn't apply, it says so and changes nothing; where memory runs out it is spent.
-    /// The meter counts at most one statement sized, and one coded, for each up to END of the edited
-    /// cards.
+    /// Makes an edit. Where the record is spent, or else where the edit doesn't apply, it says so and
+    /// changes nothing; where memory runs out it is spent. The statements in front of the edited card
+    /// stay as they were sized, unless the kind of the deck changes; the meter counts at most one
+    /// statement sized, and one coded, for each up to END of the edited cards.
     pub fn edit(&mut self, alloc: Global, edit: &Edit, meter: &mut Meter) -> Result<(), RecordFault>
         ensures refused { ForSome (against edit.now self.old.is_spent self.old.cards) (λ fault. (result ≡ Err fault) × (self.new ≡ self.old) × (meter.new ≡ meter.old)) }
         ensures accepted { against edit.now self.old.is_spent self.old.cards ≡ None → IfErr result (λ fault. fault ≡ RecordFault.OutOfMemory) }
@@ -119,13 +119,40 @@ impl Kept {
         ensures coded { meter.new.coded ≤ meter.old.coded + statement_count (edited self.old.cards edit.now) }
         ensures coded_rises { meter.old.coded ≤ meter.new.coded }
     {
-        if let Some(fault) = self.fault_against(edit) {
+        self.edit_all(alloc, slice::from_ref(edit), meter)
+    }
+
+    /// Makes edits in order, all at once: the cards are edited first, and then their statements are
+    /// sized and coded as for one edit; those in front of all edited cards stay as they were sized.
+    /// Where the record is spent, or else at the first edit that doesn't apply to what the ones before
+    /// it leave, it says so and changes nothing; where memory runs out it is spent. The meter counts at
+    /// most one statement sized, and one coded, for each up to END of the cards that all of them leave,
+    /// and none where there are no edits.
+    pub fn edit_all(
+        &mut self,
+        alloc: Global,
+        edits: &[Edit],
+        meter: &mut Meter,
+    ) -> Result<(), RecordFault>
+        ensures refused { ForSome (against_all edits.now self.old.is_spent self.old.cards) (λ fault. (result ≡ Err fault) × (self.new ≡ self.old) × (meter.new ≡ meter.old)) }
+        ensures accepted { against_all edits.now self.old.is_spent self.old.cards ≡ None → IfErr result (λ fault. fault ≡ RecordFault.OutOfMemory) }
+        ensures made { IfOk result (λ _. IsRecordOf self.old.name (edited_by edits.now self.old.cards) self.new) }
+        ensures lost { result ≡ Err RecordFault.OutOfMemory → self.new.is_spent ≡ true }
+        ensures sized { meter.new.sized ≤ meter.old.sized + edits_bound edits.now self.old.cards }
+        ensures sized_rises { meter.old.sized ≤ meter.new.sized }
+        ensures coded { meter.new.coded ≤ meter.old.coded + edits_bound edits.now self.old.cards }
+        ensures coded_rises { meter.old.coded ≤ meter.new.coded }
+    {
+        if let Some(fault) = self.fault_against(edits) {
             return Err(fault);
+        }
+        if edits.is_empty() {
+            return Ok(());
         }
         let Some(sized) = self.sized.take() else {
             return Err(RecordFault::Spent);
         };
-        match self.remade(alloc, sized, edit, meter) {
+        match self.remade(alloc, sized, edits, meter) {
             Ok(made) => {
                 *self = made;
                 Ok(())
@@ -134,14 +161,14 @@ impl Kept {
         }
     }
 
-    fn fault_against(&self, edit: &Edit) -> Option<RecordFault>
-        ensures { result ≡ against edit.now self.now.is_spent self.now.cards }
+    fn fault_against(&self, edits: &[Edit]) -> Option<RecordFault>
+        ensures { result ≡ against_all edits.now self.now.is_spent self.now.cards }
     {
         if self.is_spent() {
             return Some(RecordFault::Spent);
         }
-        match fault_of(edit, self.cards().len()) {
-            Some(fault) => Some(record_fault(fault)),
+        match first_fault(edits, self.cards().len()) {
+            Some(found) => Some(record_fault(found.1)),
             None => None,
         }
     }
@@ -151,19 +178,19 @@ impl Kept {
         &self,
         alloc: Global,
         sized: SizedDeck,
-        edit: &Edit,
+        edits: &[Edit],
         meter: &mut Meter,
     ) -> Result<Kept, AllocError>
-        requires applies { fault_of edit.now self.now.cards ≡ None }
+        requires apply { first_fault edits.now self.now.cards ≡ None }
         requires deck { IsSizedDeck self.now.cards sized }
-        ensures made { IfOk result (IsRecordOf self.now.name (edited self.now.cards edit.now)) }
-        ensures sized { meter.new.sized ≤ meter.old.sized + statement_count (edited self.now.cards edit.now) }
+        ensures made { IfOk result (IsRecordOf self.now.name (edited_by edits.now self.now.cards)) }
+        ensures sized { meter.new.sized ≤ meter.old.sized + statement_count (edited_by edits.now self.now.cards) }
         ensures sized_rises { meter.old.sized ≤ meter.new.sized }
-        ensures coded { meter.new.coded ≤ meter.old.coded + statement_count (edited self.now.cards edit.now) }
+        ensures coded { meter.new.coded ≤ meter.old.coded + statement_count (edited_by edits.now self.now.cards) }
         ensures coded_rises { meter.old.coded ≤ meter.new.coded }
     {
-        let cards = edited_cards(alloc, self.cards(), edit)?;
-        let sized = sized.edited(alloc, &cards, cards_before(edit), meter)?;
+        let cards = edited_copy(alloc, self.cards(), edits)?;
+        let sized = sized.edited(alloc, &cards, cards_before_all(edits), meter)?;
         Kept::of(alloc, self.name().copied(), cards, sized, meter)
     }
 

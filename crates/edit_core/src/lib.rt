@@ -8,8 +8,8 @@
 #![tactic(auto)]
 
 mod assembling;
-mod edited_cards;
 mod faults;
+mod fronts;
 mod kept;
 mod piece_counts;
 
