@@ -1,14 +1,18 @@
 -- The lines of the object before an edit go beside a walk over the edited deck; what was not bound otherwise keeps its line.
-use Rattle.std.proofs.Common.{◌≡◌, ◌∙◌, ℕ, ◌+◌, ◌≤◌, ◌⊎◌, inl, inr, true, false, List, [], ◌∷◌, ◌++◌, Option, Some, None, map, take, drop, reverse, refl, ap, ap₂, sym, subst, append_assoc}
+use Rattle.std.proofs.Common.{◌≡◌, ◌∙◌, ℕ, ◌+◌, ◌≤◌, ◌⊎◌, inl, inr, true, false, List, [], ◌∷◌, ◌++◌, Option, Some, None, zero, suc, ◌<◌, length, get_or, arith, map, take, drop, reverse, refl, ap, ap₂, sym, subst, append_assoc}
+use Rattle.std.specs.Prelude.{IfSome}
 use Rattle.std.proofs.lemmas.List.{drop-drop, reverse-append, reverse-reverse}
 use Rattle.definitions.specs.Cards.{Card}
+use Rattle.definitions.specs.DeckInput.{Deck}
+use Rattle.definitions.specs.DeckKinds.{behind_end, kind_of_statements}
+use Rattle.definitions.specs.Literals.{literal_words}
 use Rattle.definitions.specs.Letters.{in_order, letters_of}
-use Rattle.definitions.specs.Objects.{Shown, shown_of, only_listed, coded_of}
+use Rattle.definitions.specs.Objects.{Shown, shown_of, only_listed, coded_of, context_of, object_of}
 use Rattle.definitions.specs.Rebound.{is_rebound}
-use Rattle.definitions.specs.Settled.{Settled}
-use Rattle.definitions.specs.Settling.{settle, settled_all}
+use Rattle.definitions.specs.Settled.{Settled, defined}
+use Rattle.definitions.specs.Settling.{View, settle, settled_all}
 use Rattle.definitions.specs.StatementItems.{Context, Item, items_of}
-use Rattle.definitions.specs.Statements.{Statement}
+use Rattle.definitions.specs.Statements.{Statement, statements_of}
 use Rattle.definitions.specs.States.{unnumbered}
 use Rattle.definitions.specs.Words.{Coded}
 use Rattle.definitions.specs.declared.deck_kind.DeckKind.{DeckKind}
@@ -20,18 +24,24 @@ use Rattle.deck_assembler.specs.CodedLines.{IsCoded, IsShown, IsStored, AreShown
 use Rattle.deck_assembler.specs.DeckParts.{sized_in}
 use Rattle.deck_assembler.specs.DeckWalks.{IsWalked}
 use Rattle.deck_assembler.specs.FormerLines.{IsTaken, IsNextLine, WasLine, WasLineIfAny, shown_from, AreBeside, AreBesideIfAny, IsWalkedBeside}
+use Rattle.deck_assembler.specs.FirstSymbols.{symbol_in}
+use Rattle.deck_assembler.specs.Formers.{known_in, IsFormerOf}
+use Rattle.deck_assembler.specs.PartsOf.{ArePartsOf}
 use Rattle.deck_assembler.specs.Rebindings.{AreBindings}
 use Rattle.deck_assembler.specs.SizedDecks.{IsSizedStatement, AreSizedFrom}
 use Rattle.deck_assembler.specs.Walks.{Whole, IsWhole, has_row, AreLined, AreNoted}
 use Rattle.deck_assembler.specs.declared.deck_walk.Making.{Making}
+use Rattle.deck_assembler.specs.declared.former.Former.{Former}
 use Rattle.deck_assembler.specs.declared.former_lines.FormerLine.{FormerLine}
 use Rattle.deck_assembler.specs.declared.former_lines.FormerLines.{FormerLines}
 use Rattle.deck_assembler.specs.declared.lines.CodedLine.{CodedLine}
 use Rattle.deck_assembler.specs.declared.lines.Line.{Line}
+use Rattle.deck_assembler.specs.declared.object.ObjectParts.{ObjectParts}
 use Rattle.deck_assembler.specs.declared.sized_statement.SizedStatement.{SizedStatement}
 use Rattle.deck_assembler.proofs.DeckWalkLaws.{IsStep, there}
 use Rattle.deck_assembler.proofs.HeadLaws.{same-between}
-use Rattle.deck_assembler.proofs.OntoLaws.{append-none}
+use Rattle.deck_assembler.proofs.OntoLaws.{append-none, drop-none}
+use Rattle.deck_assembler.proofs.PartLaws.{shown-object}
 
 -- a coded statement is told by its operation, its block, its place and its fields
 abbrev IsCodedAs : DeckKind → List BlockRow → List code.Item → CodedLine → Settled → List Item → Type 0
@@ -176,6 +186,51 @@ shown-from context earlier (statement ∷ coming) listed =
     ∙ ap (λ (l : List Statement). reverse (map (shown_of context) (settled_all context.kind l)) ++ map only_listed listed)
     (sym (append_assoc (reverse coming) (statement ∷ []) earlier) ∙ ap (λ l. l ++ earlier) (sym (reverse-append (statement ∷ []) coming)))
 
+-- what is kept of the deck before an edit goes beside a walk that begins
+pub begin-beside : (kind : DeckKind) (old cards : List Card) (name : List ℕ) (former : Former) (parts : ObjectParts) (lines : FormerLines) → IsFormerOf old former →
+    (let given : Deck = record { name = name; cards = old } in ArePartsOf old parts (object_of given)) → take former.before old ≡ take former.before cards →
+    lines.items.now ≡ parts.items.items → lines.before ≡ former.before → lines.bindings.symbols.now ≡ former.symbols → lines.bindings.literals.now ≡ former.literals → lines.bindings.bases.now ≡ parts.bases →
+    (former.kind ≡ kind → lines.left.now ≡ parts.lines.items) → (lines.left.now ≡ []) ⊎ (former.kind ≡ kind) → AreBesideIfAny kind cards [] 0 lines
+begin-beside kind old cards name former parts lines is are same items before symbols literals bases alike other = elim other [ inl none ↦ inl none | inr k ↦ inr (there-is k) ]
+  where
+    known : List Statement
+    known = known_in old
+
+    others : List Statement
+    others = behind_end (statements_of (reverse old))
+
+    context : Context
+    context = context_of (kind_of_statements known) (settled_all (kind_of_statements known) known)
+
+    listing : reverse (map only_listed others ++ map (shown_of context) context.settled) ≡ shown_from context [] (reverse known) (reverse others)
+    listing =
+        shown-object context context.settled others
+        ∙ ap (λ (l : List Statement). reverse (map (shown_of context) (settled_all context.kind l)) ++ map only_listed (reverse others)) (sym (append-none (reverse (reverse known)) ∙ reverse-reverse known))
+        ∙ sym (shown-from context [] (reverse known) (reverse others))
+
+    seen : DeckKind → View
+    seen d = λ name. defined name (settled_all d known)
+
+    there-is : former.kind ≡ kind → AreBeside kind cards [] 0 lines
+    there-is k = record {
+      context = context;
+      old_cards = old;
+      coming = reverse known;
+      listed = reverse others;
+      same_kind = sym is.kind ∙ k;
+      bindings = record {
+        symbols = ap symbol_in symbols ∙ is.symbols ∙ ap seen is.kind;
+        literals = literals ∙ is.literals ∙ ap (λ (d : DeckKind). literal_words (settled_all d known)) is.kind;
+        rows = bases ∙ are.rows;
+      };
+      same = subst (λ n. take n old ≡ take n cards) (sym before) same;
+      shown = subst (λ (l : List Line). AreShown context.kind context.rows lines.items.now 0 old l (shown_from context [] (reverse known) (reverse others))) (sym (alike k))
+          (subst (λ (i : List code.Item). AreShown context.kind context.rows i 0 old parts.lines.items (shown_from context [] (reverse known) (reverse others))) (sym items)
+          (subst (λ (d : DeckKind). AreShown d context.rows parts.items.items 0 old parts.lines.items (shown_from context [] (reverse known) (reverse others))) are.kind
+          (subst (λ (r : List BlockRow). AreShown parts.kind r parts.items.items 0 old parts.lines.items (shown_from context [] (reverse known) (reverse others))) are.rows
+          (subst (AreShown parts.kind parts.bases parts.items.items 0 old parts.lines.items) listing are.shown))));
+    }
+
 -- before the first statement
 pub beside-begin : (whole : Whole) (made : Making) (former : FormerLines) → IsWhole whole → made.lines.stood ≡ 0 → AreLined whole [] made.lines → AreNoted whole [] made.names →
     AreBesideIfAny whole.deck.kind whole.cards [] 0 former → IsWalkedBeside whole (sized_in whole.deck.pieces) made former
@@ -190,3 +245,25 @@ beside-begin whole made former is stood lined noted beside = record {
   };
   beside = subst (λ n. AreBesideIfAny whole.deck.kind whole.cards [] n former) (sym stood) beside;
 }
+
+-- the lines that were given, or none
+pub chosen-beside : (kind : DeckKind) (cards : List Card) (given : Option FormerLines) (lines : FormerLines) → IfSome given (λ l. AreBesideIfAny kind cards [] 0 l) → IfSome given (λ l. lines ≡ l) →
+    (given ≡ None → lines.left.now ≡ []) → AreBesideIfAny kind cards [] 0 lines
+chosen-beside kind cards None lines h e n = inl (n refl)
+chosen-beside kind cards (Some l) lines h e n = subst (AreBesideIfAny kind cards [] 0) (sym e) h
+
+-- where no line is left none is taken
+pub none-left : (old new : FormerLines) (stood count : ℕ) (found : Option FormerLine) → IsNextLine old new stood count found → old.left.now ≡ [] → (found ≡ None) × (new.left.now ≡ [])
+none-left old new stood count None next e = (refl, next)
+none-left old new stood count (Some found) next e = absurd (no-line found.line.now new.left.now (sym next.lines ∙ e))
+
+-- one of a list, and those behind it
+pub item-split : {A : Type 0} (xs : List A) (i : ℕ) (x : A) → i < length xs → x ≡ get_or xs i x → drop i xs ≡ x ∷ drop (i + 1) xs
+item-split [] i x below is = absurd (omega (arith, below))
+item-split (y ∷ ys) zero x below is = ap (λ z. z ∷ ys) (sym is)
+item-split (y ∷ ys) (suc i) x below is = item-split ys i x (omega (arith, below)) is ∙ ap (λ k. x ∷ drop k (y ∷ ys)) (let e : suc (i + 1) ≡ suc i + 1 = omega arith in e)
+
+pub all-dropped : {A : Type 0} (xs : List A) (i : ℕ) → length xs ≤ i → drop i xs ≡ []
+all-dropped [] i h = drop-none i
+all-dropped (x ∷ xs) zero h = absurd (omega (arith, h))
+all-dropped (x ∷ xs) (suc i) h = all-dropped xs i (omega (arith, h))

@@ -27,7 +27,7 @@ onto-back items = onto-reverse (reverse items) [] ∙ append-none (reverse (reve
 pub drop-onto : {A : Type 0} (items others : List A) → drop (length items) (onto items others) ≡ others
 drop-onto items others = ap₂ drop (sym (length-reverse items)) (onto-reverse items others) ∙ drop-append_seam (reverse items) others
 
-drop-none : {A : Type 0} (k : ℕ) → drop {A = A} k [] ≡ []
+pub drop-none : {A : Type 0} (k : ℕ) → drop {A = A} k [] ≡ []
 drop-none zero = refl
 drop-none (suc k) = refl
 

@@ -28,3 +28,4 @@ pub mod Rebindings
 pub mod CopiedFields
 -- The lines of the object before an edit.
 pub mod FormerLines
+pub mod Formers

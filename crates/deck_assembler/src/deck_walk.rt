@@ -1,15 +1,17 @@
 //! All statements of a deck, one after the other: their lines and their names.
-ghost use Rattle.std.specs.Prelude.{◌≡◌, ◌≤◌, ◌+◌, ◌∷◌, ◌++◌, [], List, IfOk, OnOk, length};
+ghost use Rattle.std.specs.Prelude.{◌≡◌, ◌≤◌, ◌+◌, ◌∷◌, ◌++◌, [], List, IfOk, None, OnOk, length};
 ghost use Rattle.definitions.specs.Statements as statements;
 ghost use Rattle.statement_coder.specs.Meters.{RisesBy};
 ghost use Rattle.deck_assembler.specs.DeckParts.{sized_in};
 ghost use Rattle.deck_assembler.specs.declared.sized_statement.SizedStatement as code;
 ghost use Rattle.deck_assembler.specs.Walks.{IsWhole, Whole, whole_of};
-ghost use Rattle.deck_assembler.specs.DeckWalks.{IsDone, IsListing, IsWalked};
+ghost use Rattle.deck_assembler.specs.DeckWalks.{IsDone, IsListing};
+ghost use Rattle.deck_assembler.specs.FormerLines.{AreBesideIfAny, IsNextLine, IsWalkedBeside};
 
 use crate::deck_lines::{DeckLines, next_cards};
 use crate::deck_names::DeckNames;
 use crate::deck_view::DeckView;
+use crate::former_lines::{FormerLine, FormerLines};
 use crate::{Piece, SizedDeck, SizedStatement};
 use cards::StatementRoom;
 use statement_coder::{Meter, Statement, kept_operand};
@@ -31,7 +33,8 @@ fn line_room(deck: &SizedDeck) -> usize {
 impl Making {
     /// Those of no statement, with memory for the lines of all of them.
     fn new(alloc: Global, view: &DeckView<'_>) -> Result<Making, AllocError>
-        ensures { IfOk result (λ made. (known others : List statements.Statement) → let whole = whole_of view.now known others in IsWhole whole → IsWalked whole (sized_in whole.deck.pieces) made) }
+        ensures { IfOk result (λ made. (known others : List statements.Statement) (former : FormerLines) → let whole = whole_of view.now known others in
+            IsWhole whole → AreBesideIfAny whole.deck.kind whole.cards [] 0 former → IsWalkedBeside whole (sized_in whole.deck.pieces) made former) }
     {
         Ok(Making {
             lines: DeckLines::new(alloc, line_room(view.deck))?,
@@ -45,20 +48,21 @@ impl Making {
         view: &DeckView<'_>,
         room: &mut StatementRoom,
         sized: &SizedStatement,
+        found: Option<FormerLine<'_>>,
         meter: &mut Meter,
     ) -> Result<(), AllocError>
-        ensures walked { OnOk result ((known others : List statements.Statement) (left : List code.SizedStatement) → let whole = whole_of view.now known others in
-            IsWhole whole → IsWalked whole (sized.now ∷ left) self.old → IsWalked whole left self.new) }
+        ensures walked { OnOk result ((known others : List statements.Statement) (left : List code.SizedStatement) (before after : FormerLines) → let whole = whole_of view.now known others in
+            IsWhole whole → IsNextLine before after self.old.lines.stood sized.now.cards found.entry → IsWalkedBeside whole (sized.now ∷ left) self.old before → IsWalkedBeside whole left self.new after) }
         ensures coded { meter.new.coded ≤ meter.old.coded + 1 }
         ensures rises { meter.old.coded ≤ meter.new.coded }
-        ensures all { OnOk result (RisesBy 1 meter.old.coded meter.new.coded) }
+        ensures all { found.entry ≡ None → OnOk result (RisesBy 1 meter.old.coded meter.new.coded) }
         ensures sized { meter.new.sized ≡ meter.old.sized }
     {
         let cards = next_cards(view.cards, self.lines.stood, sized.cards);
         let statement = Statement::read(view.deck.kind(), cards, room);
         self.names.note(view, &statement, &sized.sizing)?;
         let read = statement.read_operand(sized.sizing.number_base);
-        self.lines.add(view, &read, sized, meter)
+        self.lines.put(view, &read, sized, found, meter)
     }
 
     /// One statement more: its cards are read once more where it gives or takes names, or where its
@@ -68,22 +72,27 @@ impl Making {
         view: &DeckView<'_>,
         room: &mut StatementRoom,
         sized: &SizedStatement,
+        found: Option<FormerLine<'_>>,
         meter: &mut Meter,
     ) -> Result<(), AllocError>
-        ensures walked { OnOk result ((known others : List statements.Statement) (left : List code.SizedStatement) → let whole = whole_of view.now known others in
-            IsWhole whole → IsWalked whole (sized.now ∷ left) self.old → IsWalked whole left self.new) }
+        ensures walked { OnOk result ((known others : List statements.Statement) (left : List code.SizedStatement) (before after : FormerLines) → let whole = whole_of view.now known others in
+            IsWhole whole → IsNextLine before after self.old.lines.stood sized.now.cards found.entry → IsWalkedBeside whole (sized.now ∷ left) self.old before → IsWalkedBeside whole left self.new after) }
         ensures coded { meter.new.coded ≤ meter.old.coded + 1 }
         ensures rises { meter.old.coded ≤ meter.new.coded }
-        ensures all { OnOk result (RisesBy 1 meter.old.coded meter.new.coded) }
+        ensures all { found.entry ≡ None → OnOk result (RisesBy 1 meter.old.coded meter.new.coded) }
         ensures sized { meter.new.sized ≡ meter.old.sized }
     {
         let kind = view.deck.kind();
-        if let Some(read) = kept_operand(kind, sized.operation, &sized.kept) {
-            if self.names.note_kept(kind, sized)? {
-                return self.lines.add(view, &read, sized, meter);
+        match kept_operand(kind, sized.operation, &sized.kept) {
+            None => self.add_again(view, room, sized, found, meter),
+            Some(read) => {
+                if self.names.note_kept(kind, sized)? {
+                    self.lines.put(view, &read, sized, found, meter)
+                } else {
+                    self.add_again(view, room, sized, found, meter)
+                }
             }
         }
-        self.add_again(view, room, sized, meter)
     }
 
     /// Some statements more.
@@ -92,17 +101,20 @@ impl Making {
         view: &DeckView<'_>,
         room: &mut StatementRoom,
         piece: &[SizedStatement],
+        former: &mut FormerLines<'_>,
         meter: &mut Meter,
     ) -> Result<(), AllocError>
         ensures walked { OnOk result ((known others : List statements.Statement) (left : List code.SizedStatement) → let whole = whole_of view.now known others in
-            IsWhole whole → IsWalked whole (piece.now ++ left) self.old → IsWalked whole left self.new) }
+            IsWhole whole → IsWalkedBeside whole (piece.now ++ left) self.old former.old → IsWalkedBeside whole left self.new former.new) }
         ensures coded { meter.new.coded ≤ meter.old.coded + length piece.now }
         ensures rises { meter.old.coded ≤ meter.new.coded }
-        ensures all { OnOk result (RisesBy (length piece.now) meter.old.coded meter.new.coded) }
+        ensures ended { former.old.left.now ≡ [] → former.new.left.now ≡ [] }
+        ensures all { OnOk result (former.old.left.now ≡ [] → RisesBy (length piece.now) meter.old.coded meter.new.coded) }
         ensures sized { meter.new.sized ≡ meter.old.sized }
     {
         for sized in piece {
-            self.add(view, room, sized, meter)?;
+            let found = former.next(self.lines.stood, sized.cards);
+            self.add(view, room, sized, found, meter)?;
         }
         Ok(())
     }
@@ -113,17 +125,18 @@ impl Making {
         view: &DeckView<'_>,
         room: &mut StatementRoom,
         pieces: &[Piece],
+        former: &mut FormerLines<'_>,
         meter: &mut Meter,
     ) -> Result<(), AllocError>
         ensures walked { OnOk result ((known others : List statements.Statement) → let whole = whole_of view.now known others in
-            IsWhole whole → IsWalked whole (sized_in pieces.now) self.old → IsWalked whole [] self.new) }
+            IsWhole whole → IsWalkedBeside whole (sized_in pieces.now) self.old former.old → IsWalkedBeside whole [] self.new former.new) }
         ensures coded { meter.new.coded ≤ meter.old.coded + length (sized_in pieces.now) }
         ensures rises { meter.old.coded ≤ meter.new.coded }
-        ensures all { OnOk result (RisesBy (length (sized_in pieces.now)) meter.old.coded meter.new.coded) }
+        ensures all { OnOk result (former.old.left.now ≡ [] → RisesBy (length (sized_in pieces.now)) meter.old.coded meter.new.coded) }
         ensures sized { meter.new.sized ≡ meter.old.sized }
     {
         for piece in pieces {
-            self.add_all(view, room, piece.statements(), meter)?;
+            self.add_all(view, room, piece.statements(), former, meter)?;
         }
         Ok(())
     }
@@ -139,22 +152,25 @@ fn list_all(lines: &mut DeckLines, counts: &[u32]) -> Result<(), AllocError>
     Ok(())
 }
 
-/// The lines and the names of a deck. The statements up to END are coded, each once; where memory
-/// runs out, some of them.
+/// The lines and the names of a deck. The statements up to END are coded, each once, but for those
+/// whose lines are taken over from the object before; where memory runs out, some of them.
 pub(crate) fn walk(
     alloc: Global,
     view: &DeckView<'_>,
+    former: FormerLines<'_>,
     meter: &mut Meter,
 ) -> Result<Making, AllocError>
-    ensures done { IfOk result (λ made. (known others : List statements.Statement) → let whole = whole_of view.now known others in IsWhole whole → IsDone whole made) }
+    ensures done { IfOk result (λ made. (known others : List statements.Statement) → let whole = whole_of view.now known others in
+        IsWhole whole → AreBesideIfAny whole.deck.kind whole.cards [] 0 former.entry → IsDone whole made) }
     ensures coded { meter.new.coded ≤ meter.old.coded + length (sized_in view.now.deck.now.pieces) }
     ensures rises { meter.old.coded ≤ meter.new.coded }
-    ensures all { OnOk result (RisesBy (length (sized_in view.now.deck.now.pieces)) meter.old.coded meter.new.coded) }
+    ensures all { OnOk result (former.entry.left.now ≡ [] → RisesBy (length (sized_in view.now.deck.now.pieces)) meter.old.coded meter.new.coded) }
     ensures sized { meter.new.sized ≡ meter.old.sized }
 {
     let mut made = Making::new(alloc, view)?;
+    let mut left = former;
     let mut room = StatementRoom::new();
-    made.add_pieces(view, &mut room, view.deck.pieces(), meter)?;
+    made.add_pieces(view, &mut room, view.deck.pieces(), &mut left, meter)?;
     list_all(&mut made.lines, view.deck.behind())?;
     Ok(made)
 }

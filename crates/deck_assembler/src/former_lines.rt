@@ -40,6 +40,27 @@ fn ends_within(stood: usize, count: u32, before: usize) -> bool
 }
 
 impl<'a> FormerLines<'a> {
+    /// Lines with their fields, as far as they are those of so many unchanged cards, and what names
+    /// meant there.
+    pub(crate) fn of(
+        left: &'a [Line],
+        items: &'a [Item],
+        before: usize,
+        bindings: Bindings<'a>,
+    ) -> FormerLines<'a>
+        ensures left { result.left.now ≡ left.now }
+        ensures items { result.items.now ≡ items.now }
+        ensures before { result.before ≡ before }
+        ensures bindings { result.bindings ≡ bindings.entry }
+    {
+        FormerLines {
+            left,
+            items,
+            before,
+            bindings,
+        }
+    }
+
     /// No lines: all statements of this deck are coded.
     pub(crate) fn none(view: &DeckView<'a>) -> FormerLines<'a>
         ensures { result.left.now ≡ [] }

@@ -7,7 +7,9 @@
 //! far, takes in its literals and what it defines, and steps lengths and state by its effect. A
 //! `Piece` has up to 128 statements, with the state before the first. `object_parts` goes over
 //! pieces and cards together and makes a `Line` of each; cards are read again only where what was
-//! read was not kept, or names are given or taken. Behind END a line has cards alone.
+//! read was not kept, or names are given or taken. Behind END a line has cards alone. Of an edited deck,
+//! `SizedDeck::edited` keeps the statements in front of the edited card, and `edited_parts` takes their
+//! lines over from the object before, but for those of which `Rebinding` finds a name bound otherwise.
 //!
 //! A line keeps its fields as one number where they are known and have at most 60 bits, else in the
 //! object's list. That need not be the definitions' list of fields: it is as wide, has the same
@@ -54,17 +56,19 @@ mod deck_lines;
 mod deck_names;
 mod deck_view;
 mod deck_walk;
+mod former;
 mod former_lines;
 mod line_coder;
 mod object_part_list;
 mod rebinding;
 
 pub use entries::Entry;
+pub use former::{EditedDeck, Former};
 pub use lines::{CodedLine, Line, LineFields};
 pub use linking::{Linking, Unlinked, coded_or_zero, linked_bits};
 pub use literal_words::literal_word;
 pub use object::{Object, ObjectParts};
-pub use object_part_list::object_parts;
+pub use object_part_list::{edited_parts, object_parts};
 pub use pieces::Piece;
 pub use shared_object::SharedObject;
 pub use sized_deck::SizedDeck;

@@ -1,20 +1,76 @@
 //! The parts of the object of a deck whose statements are sized.
-ghost use Rattle.std.specs.Prelude.{ℕ, ◌≡◌, ◌≤◌, ◌+◌, List, IfOk, OnOk, length, reverse};
+ghost use Rattle.std.specs.Prelude.{ℕ, ◌≡◌, ◌≤◌, ◌+◌, [], List, IfOk, IfSome, None, OnOk, length, reverse, take};
 ghost use Rattle.definitions.specs.DeckInput.{Deck};
 ghost use Rattle.definitions.specs.DeckKinds.{up_to_end};
 ghost use Rattle.definitions.specs.Objects.{object_of};
 ghost use Rattle.definitions.specs.Statements.{statements_of};
 ghost use Rattle.statement_coder.specs.Meters.{RisesBy};
+ghost use Rattle.deck_assembler.specs.FormerLines.{AreBesideIfAny};
+ghost use Rattle.deck_assembler.specs.Formers.{IsFormerOf};
 ghost use Rattle.deck_assembler.specs.PartsOf.{ArePartsOf};
 ghost use Rattle.deck_assembler.specs.SizedDecks.{IsSizedDeck};
 
 use crate::deck_view::DeckView;
 use crate::deck_walk::walk;
-use crate::{ObjectParts, SizedDeck};
+use crate::former::EditedDeck;
+use crate::former_lines::FormerLines;
+use crate::{Object, ObjectParts, SizedDeck};
 use cards::Card;
 use statement_coder::Meter;
 use std::alloc::{AllocError, Global};
 use use_blocks::Bases;
+
+/// The lines of the object before, or none.
+fn lines_or_none<'a>(former: Option<FormerLines<'a>>, view: &DeckView<'a>) -> FormerLines<'a>
+    ensures some { IfSome former.entry (λ lines. result ≡ lines) }
+    ensures none { former.entry ≡ None → result.left.now ≡ [] }
+{
+    match former {
+        Some(lines) => lines,
+        None => FormerLines::none(view),
+    }
+}
+
+/// The parts of the object of a deck with at most 20,000 cards, beside the lines of the object before,
+/// if there are any.
+fn parts_beside<'a>(
+    alloc: Global,
+    cards: &'a [Card],
+    deck: &'a SizedDeck,
+    former: Option<FormerLines<'a>>,
+    meter: &mut Meter,
+) -> Result<ObjectParts, AllocError>
+    requires deck { IsSizedDeck cards.now deck.now }
+    requires few { length cards.now ≤ 20000 }
+    requires beside { IfSome former (λ lines. AreBesideIfAny deck.now.kind cards.now [] 0 lines) }
+    ensures parts { IfOk result (λ parts. (name : List ℕ) → let given : Deck = record { name = name; cards = cards.now } in ArePartsOf cards.now parts (object_of given)) }
+    ensures coded { meter.new.coded ≤ meter.old.coded + length (up_to_end (statements_of (reverse cards.now))) }
+    ensures rises { meter.old.coded ≤ meter.new.coded }
+    ensures all { former.entry ≡ None → OnOk result (RisesBy (length (up_to_end (statements_of (reverse cards.now)))) meter.old.coded meter.new.coded) }
+    ensures sized { meter.new.sized ≡ meter.old.sized }
+{
+    let literals = Vec::from_slice(alloc, deck.literals().words())?;
+    let bases = Bases::new(alloc, deck.lengths(), deck.literals())?;
+    let view = DeckView {
+        cards,
+        deck,
+        bases: &bases,
+    };
+    let made = walk(alloc, &view, lines_or_none(former, &view), meter)?;
+    let lines = made.lines;
+    let names = made.names;
+    let entries = names.entries;
+    let externals = names.externals;
+    Ok(ObjectParts {
+        kind: deck.kind(),
+        lines: lines.lines,
+        items: lines.items,
+        bases,
+        literals,
+        entries: entries.entries,
+        externals: externals.names,
+    })
+}
 
 /// The parts of the object of a deck with at most 20,000 cards, whatever its name is. Each statement
 /// up to END is coded once at most, and counted in the meter; none is sized.
@@ -32,25 +88,27 @@ pub fn object_parts<'a>(
     ensures all { OnOk result (RisesBy (length (up_to_end (statements_of (reverse cards.now)))) meter.old.coded meter.new.coded) }
     ensures sized { meter.new.sized ≡ meter.old.sized }
 {
-    let literals = Vec::from_slice(alloc, deck.literals().words())?;
-    let bases = Bases::new(alloc, deck.lengths(), deck.literals())?;
-    let view = DeckView {
-        cards,
-        deck,
-        bases: &bases,
-    };
-    let made = walk(alloc, &view, meter)?;
-    let lines = made.lines;
-    let names = made.names;
-    let entries = names.entries;
-    let externals = names.externals;
-    Ok(ObjectParts {
-        kind: deck.kind(),
-        lines: lines.lines,
-        items: lines.items,
-        bases,
-        literals,
-        entries: entries.entries,
-        externals: externals.names,
-    })
+    parts_beside(alloc, cards, deck, None, meter)
+}
+
+/// The parts of the object of an edited deck, as `object_parts` makes them: a statement of the
+/// unchanged cards in front keeps its line in the object before, unless a name is bound otherwise.
+pub fn edited_parts<'a>(
+    alloc: Global,
+    cards: &'a [Card],
+    edited: &'a EditedDeck,
+    object: &'a Object,
+    meter: &mut Meter,
+) -> Result<ObjectParts, AllocError>
+    requires deck { IsSizedDeck cards.now edited.now.deck }
+    requires few { length cards.now ≤ 20000 }
+    requires former { IsFormerOf object.now.cards edited.now.former }
+    requires same { take edited.now.former.before object.now.cards ≡ take edited.now.former.before cards.now }
+    ensures parts { IfOk result (λ parts. (name : List ℕ) → let given : Deck = record { name = name; cards = cards.now } in ArePartsOf cards.now parts (object_of given)) }
+    ensures coded { meter.new.coded ≤ meter.old.coded + length (up_to_end (statements_of (reverse cards.now))) }
+    ensures rises { meter.old.coded ≤ meter.new.coded }
+    ensures sized { meter.new.sized ≡ meter.old.sized }
+{
+    let lines = edited.former.lines(edited.deck.kind(), object.parts());
+    parts_beside(alloc, cards, &edited.deck, Some(lines), meter)
 }

@@ -1,13 +1,15 @@
 //! All of a deck: its statements up to END, sized one behind the other.
-ghost use Rattle.std.specs.Prelude.{◌≡◌, ◌≤◌, ◌+◌, true, List, [], All, length, take, reverse, IfOk, OnOk};
+ghost use Rattle.std.specs.Prelude.{◌≡◌, ◌≤◌, ◌+◌, ◌⊎◌, List, [], All, length, take, reverse, IfOk, OnOk};
 ghost use Rattle.cards.specs.Spans.{IsSpan, statements_at};
 ghost use Rattle.definitions.specs.Cards as deck_cards;
 ghost use Rattle.definitions.specs.DeckKinds.{up_to_end, kind_of_statements};
 ghost use Rattle.definitions.specs.Statements.{statements_of};
 ghost use Rattle.statement_coder.specs.Meters.{RisesBy};
+ghost use Rattle.deck_assembler.specs.Formers.{IsFormerOf};
 ghost use Rattle.deck_assembler.specs.Heads.{AreKeptFrom};
 ghost use Rattle.deck_assembler.specs.SizedDecks.{IsSizedDeck};
 
+use crate::former::{EditedDeck, Former};
 use crate::head::Head;
 use crate::pieces::Piece;
 use crate::sizer::Sizer;
@@ -57,36 +59,49 @@ impl SizedDeck {
     }
 
     /// What these cards make, of which so many are the first ones of the deck that this was made of:
-    /// the statements of these cards stay as they were sized, and the others are sized once. An error
-    /// where memory runs out: then some of them were counted.
+    /// the statements of these cards stay as they were sized, and the others are sized once; and what
+    /// coding needs of this deck. An error where memory runs out: then some of them were counted.
     pub fn edited(
         self,
         alloc: Global,
         cards: &[Card],
         before: usize,
         meter: &mut Meter,
-    ) -> Result<SizedDeck, AllocError>
+    ) -> Result<EditedDeck, AllocError>
         requires { (old : List deck_cards.Card) × (IsSizedDeck old self × (take before old ≡ take before cards.now)) }
-        ensures deck { IfOk result (IsSizedDeck cards.now) }
+        ensures deck { IfOk result (λ edited. IsSizedDeck cards.now edited.deck) }
+        ensures former { IfOk result (λ edited. (old : List deck_cards.Card) → IsSizedDeck old self → IsFormerOf old edited.former) }
+        ensures before { IfOk result (λ edited. edited.former.before ≡ before) }
         ensures sized { meter.new.sized ≤ meter.old.sized + length (up_to_end (statements_of (reverse cards.now))) }
         ensures rises { meter.old.sized ≤ meter.new.sized }
         ensures coded { meter.new.coded ≡ meter.old.coded }
     {
         let list = statements(alloc, cards)?;
         let kind = kind_of(cards, list.as_slice());
-        let head = self.into_head(alloc, kind, before);
-        made(alloc, kind, cards, list.as_slice(), head, meter)
+        let parted = self.parted(alloc, kind, before);
+        let deck = made(alloc, kind, cards, list.as_slice(), parted.head, meter)?;
+        Ok(EditedDeck {
+            deck,
+            former: parted.former,
+        })
     }
 
     /// Its statements, of which those of so many cards stay in a deck of this kind, and none in one of
-    /// another kind.
-    fn into_head(self, alloc: Global, kind: DeckKind, before: usize) -> Head
-        ensures { (old cards : List deck_cards.Card) → IsSizedDeck old self → take before old ≡ take before cards → AreKeptFrom kind cards result.before [] 0 result.statements }
+    /// another kind; and what coding needs of it.
+    fn parted(self, alloc: Global, kind: DeckKind, before: usize) -> Parted
+        ensures head { (old cards : List deck_cards.Card) → IsSizedDeck old self → take before old ≡ take before cards → AreKeptFrom kind cards result.head.before [] 0 result.head.statements }
+        ensures former { (old : List deck_cards.Card) → IsSizedDeck old self → IsFormerOf old result.former }
+        ensures before { result.former.before ≡ before }
     {
-        if is_same(self.kind, kind) {
-            Head::of(alloc, self.pieces, before)
-        } else {
-            Head::of(alloc, self.pieces, 0)
+        let stays = stays(self.kind, kind, before);
+        Parted {
+            head: Head::of(alloc, self.pieces, stays),
+            former: Former {
+                kind: self.kind,
+                symbols: self.symbols,
+                literals: self.literals,
+                before,
+            },
         }
     }
 
@@ -129,11 +144,18 @@ impl SizedDeck {
     }
 }
 
-/// Whether two kinds are one.
-fn is_same(first: DeckKind, second: DeckKind) -> bool
-    ensures { result ≡ true → first ≡ second }
+/// The statements of a deck, and what coding needs of it besides.
+#[derive(Drop)]
+struct Parted {
+    head: Head,
+    former: Former,
+}
+
+/// How many of the first cards have the statements that they had: none in a deck of another kind.
+fn stays(old: DeckKind, kind: DeckKind, before: usize) -> usize
+    ensures { (result ≡ 0) ⊎ ((result ≡ before) × (old ≡ kind)) }
 {
-    first == second
+    if old == kind { before } else { 0 }
 }
 
 /// What these statements make, in a deck of this kind.

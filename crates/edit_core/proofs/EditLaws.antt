@@ -1,15 +1,22 @@
 -- What edits leave of the cards of a record.
-use Rattle.std.proofs.Common.{◌≡◌, ℕ, ◌+◌, ◌-◌, ◌≤◌, Bool, true, false, List, [], ◌∷◌, length, take, All, Option, Some, None, option_map, refl, sym, ap, ◌∙◌, arith}
-use Rattle.std.proofs.lemmas.List.{take-take}
-use Rattle.std.proofs.lemmas.List.Elements.{All-head, All-tail}
+use Rattle.std.specs.Prelude.{IfSome, is_none}
+use Rattle.std.proofs.Common.{◌≡◌, ℕ, ◌+◌, ◌-◌, ◌≤◌, ◌<◌, ◌==◌, Bool, true, false, List, [], ◌∷◌, ◌++◌, length, take, get_or, All, Option, Some, None, option_map, suc, refl, sym, ap, subst, ◌∙◌, arith}
+use Rattle.std.proofs.Math.Seq.{take-suc}
+use Rattle.std.proofs.lemmas.Bool.{eqb-true}
+use Rattle.std.proofs.lemmas.List.{nil_from_length, take-take}
+use Rattle.std.proofs.lemmas.List.Elements.{All-head, All-tail, All-push, All-weaker}
 use Rattle.definitions.specs.Cards.{Card}
 use Rattle.cards.specs.declared.edits.Edit.{Edit}
 use Rattle.cards.specs.declared.edits.Edit.TheVariants.{Insert, Replace, Remove}
 use Rattle.cards.specs.declared.edits.EditFault.{EditFault}
 use Rattle.cards.specs.Edits.{fault_of, edited, edited_by, first_fault}
 use Rattle.cards.proofs.FaultLaws.{applies-in, edited-few, insert-front, replace-front, remove-front}
-use Rattle.edit_core.specs.Edited.{front_of}
+use Rattle.deck_assembler.specs.DeckParts.{DeckParts}
+use Rattle.deck_assembler.specs.SizedDecks.{IsSizedDeck}
+use Rattle.edit_core.specs.Edited.{edits_bound, front_of, statement_count, IsRecordOf}
 use Rattle.edit_core.specs.Faults.{against, against_all, record_fault}
+use Rattle.edit_core.specs.Records.{Record, ArePieces, piece_counts}
+use Rattle.edit_core.proofs.PieceLaws.{deck-pieces}
 
 -- what holds of the first cards holds of fewer
 fewer : (n m : ℕ) (cards others : List Card) → n ≤ m → take m cards ≡ take m others → take n cards ≡ take n others
@@ -49,3 +56,32 @@ one-fault (Some fault) = refl
 pub against-one : (edit : Edit) (is_spent : Bool) (cards : List Card) → against_all (edit ∷ []) is_spent cards ≡ against edit is_spent cards
 against-one edit true cards = refl
 against-one edit false cards = one-fault (fault_of edit cards)
+
+-- so many cards are before one edit more
+pub front-more : (edits : List Edit) (k : ℕ) (edit : Edit) (old new : ℕ) → k < length edits → edit ≡ get_or edits k edit → new ≤ old → new ≤ front_of edit →
+    All (λ e. old ≤ front_of e) (take k edits) → All (λ e. new ≤ front_of e) (take (k + 1) edits)
+front-more edits k edit old new within is few here all =
+    let one : k + 1 ≡ suc k = omega arith in
+    let step : take (k + 1) edits ≡ take k edits ++ edit ∷ [] = ap (λ (n : ℕ). take n edits) one ∙ take-suc edits k edit within ∙ ap (λ e. take k edits ++ e ∷ []) (sym is) in
+    subst (All (λ e. new ≤ front_of e)) (sym step)
+    (All-push (λ e. new ≤ front_of e) (take k edits) edit (All-weaker (λ e. old ≤ front_of e) (λ e. new ≤ front_of e) (λ e h. omega (arith, h, few)) (take k edits) all) here)
+
+-- what has nothing against it is not spent
+pub not-spent : (edits : List Edit) (is_spent : Bool) (cards : List Card) → against_all edits is_spent cards ≡ None → is_spent ≡ false
+not-spent edits true cards none = cc
+not-spent edits false cards none = refl
+
+-- the pieces of a record that is not spent
+pub kept-pieces : (sized : Option DeckParts) (cards : List Card) (pieces : List ℕ) → IfSome sized (λ deck. IsSizedDeck cards deck × (pieces ≡ piece_counts deck.pieces)) → is_none sized ≡ false →
+    ArePieces (statement_count cards) pieces
+kept-pieces None cards pieces is some = cc
+kept-pieces (Some deck) cards pieces is some = subst (ArePieces (statement_count cards)) (sym is.1) (deck-pieces cards deck is.0)
+
+-- no edits leave a record as it is
+pub none-made : (edits : List Edit) (made : Record) → (length edits == 0) ≡ true → IsRecordOf made.name made.cards made → IsRecordOf made.name (edited_by edits made.cards) made
+none-made edits made none is = subst (λ (es : List Edit). IsRecordOf made.name (edited_by es made.cards) made) (sym (nil_from_length edits (eqb-true (length edits) 0 none))) is
+
+-- the bound of some edits
+pub bound-some : (edits : List Edit) (cards : List Card) → (length edits == 0) ≡ false → edits_bound edits cards ≡ statement_count (edited_by edits cards)
+bound-some [] cards some = cc
+bound-some (edit ∷ edits) cards some = refl

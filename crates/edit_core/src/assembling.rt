@@ -1,12 +1,13 @@
 //! A deck assembled.
-ghost use Rattle.std.specs.Prelude.{◌≡◌, ◌≤◌, ◌+◌, length, reverse, IfOk, OnOk};
+ghost use Rattle.std.specs.Prelude.{◌≡◌, ◌≤◌, ◌+◌, length, reverse, take, IfOk, OnOk};
 ghost use Rattle.definitions.specs.DeckKinds.{up_to_end};
 ghost use Rattle.definitions.specs.Statements.{statements_of};
 ghost use Rattle.statement_coder.specs.Meters.{RisesBy};
+ghost use Rattle.deck_assembler.specs.Formers.{IsFormerOf};
 ghost use Rattle.deck_assembler.specs.SizedDecks.{IsSizedDeck};
 
 use cards::{Card, DeckName};
-use deck_assembler::{Object, SharedObject, SizedDeck, object_parts};
+use deck_assembler::{EditedDeck, Object, SharedObject, SizedDeck, edited_parts, object_parts};
 use statement_coder::Meter;
 use std::alloc::{AllocError, Global};
 
@@ -29,6 +30,29 @@ pub(crate) fn object_of(
 {
     let parts = object_parts(alloc, &cards, sized, meter)?;
     SharedObject::new(alloc, Object::new(name, cards, parts))
+}
+
+/// The object of an edited deck with these cards, of which this one is the object before. Each
+/// statement up to END is coded once at most: one of the unchanged cards in front keeps its line,
+/// unless a name is bound otherwise.
+pub(crate) fn edited_object(
+    alloc: Global,
+    object: &Object,
+    cards: Vec<Card>,
+    edited: &EditedDeck,
+    meter: &mut Meter,
+) -> Result<SharedObject, AllocError>
+    requires few { length cards.items ≤ 20000 }
+    requires deck { IsSizedDeck cards.items edited.now.deck }
+    requires former { IsFormerOf object.now.cards edited.now.former }
+    requires same { take edited.now.former.before object.now.cards ≡ take edited.now.former.before cards.items }
+    ensures object { IfOk result (λ made. made ≡ record { name = object.now.name; cards = cards.items }) }
+    ensures sized { meter.new.sized ≡ meter.old.sized }
+    ensures coded { meter.new.coded ≤ meter.old.coded + length (up_to_end (statements_of (reverse cards.items))) }
+    ensures coded_rises { meter.old.coded ≤ meter.new.coded }
+{
+    let parts = edited_parts(alloc, &cards, edited, object, meter)?;
+    SharedObject::new(alloc, Object::new(object.name().copied(), cards, parts))
 }
 
 /// The object of the deck of this name and these cards, of which there are at most 20,000. The meter

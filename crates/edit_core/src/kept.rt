@@ -10,7 +10,7 @@ ghost use Rattle.edit_core.specs.Edited.{edits_bound, statement_count, IsRecordO
 ghost use Rattle.edit_core.specs.Faults.{against, against_all};
 ghost use Rattle.edit_core.specs.Records.{ArePieces};
 
-use crate::assembling::object_of;
+use crate::assembling::{edited_object, object_of};
 use crate::faults::{RecordFault, record_fault};
 use crate::fronts::cards_before_all;
 use crate::piece_counts::piece_counts;
@@ -77,27 +77,17 @@ impl Kept {
         ensures coded_all { OnOk result (RisesBy (length (up_to_end (statements_of (reverse cards.items)))) meter.old.coded meter.new.coded) }
     {
         let sized = SizedDeck::new(alloc, &cards, meter)?;
-        Kept::of(alloc, name, cards, sized, meter)
+        let object = object_of(alloc, name, cards, &sized, meter)?;
+        Kept::of(alloc, object, sized)
     }
 
-    /// The record of a deck whose statements are sized: each up to END is coded once.
-    fn of(
-        alloc: Global,
-        name: DeckName,
-        cards: Vec<Card>,
-        sized: SizedDeck,
-        meter: &mut Meter,
-    ) -> Result<Kept, AllocError>
-        requires few { length cards.items ≤ 20000 }
-        requires deck { IsSizedDeck cards.items sized }
-        ensures made { IfOk result (IsRecordOf name cards.items) }
-        ensures sized { meter.new.sized ≡ meter.old.sized }
-        ensures coded { meter.new.coded ≤ meter.old.coded + statement_count cards.items }
-        ensures coded_rises { meter.old.coded ≤ meter.new.coded }
-        ensures coded_all { OnOk result (RisesBy (statement_count cards.items) meter.old.coded meter.new.coded) }
+    /// The record of an object and of the sized deck of its cards.
+    fn of(alloc: Global, object: SharedObject, sized: SizedDeck) -> Result<Kept, AllocError>
+        requires few { length object.cards ≤ 20000 }
+        requires deck { IsSizedDeck object.cards sized }
+        ensures { IfOk result (IsRecordOf object.name object.cards) }
     {
         let pieces = piece_counts(alloc, sized.pieces())?;
-        let object = object_of(alloc, name, cards, &sized, meter)?;
         Ok(Kept {
             object,
             sized: Some(sized),
@@ -107,8 +97,9 @@ impl Kept {
 
     /// Makes an edit. Where the record is spent, or else where the edit doesn't apply, it says so and
     /// changes nothing; where memory runs out it is spent. The statements in front of the edited card
-    /// stay as they were sized, unless the kind of the deck changes; the meter counts at most one
-    /// statement sized, and one coded, for each up to END of the edited cards.
+    /// stay as they were sized, and keep their lines in the object unless a name is bound otherwise;
+    /// where the kind of the deck changes, none does. The meter counts at most one statement sized, and
+    /// one coded, for each up to END of the edited cards.
     pub fn edit(&mut self, alloc: Global, edit: &Edit, meter: &mut Meter) -> Result<(), RecordFault>
         ensures refused { ForSome (against edit.now self.old.is_spent self.old.cards) (λ fault. (result ≡ Err fault) × (self.new ≡ self.old) × (meter.new ≡ meter.old)) }
         ensures accepted { against edit.now self.old.is_spent self.old.cards ≡ None → IfErr result (λ fault. fault ≡ RecordFault.OutOfMemory) }
@@ -123,7 +114,7 @@ impl Kept {
     }
 
     /// Makes edits in order, all at once: the cards are edited first, and then their statements are
-    /// sized and coded as for one edit; those in front of all edited cards stay as they were sized.
+    /// sized and coded as for one edit, those in front of all edited cards staying as for one.
     /// Where the record is spent, or else at the first edit that doesn't apply to what the ones before
     /// it leave, it says so and changes nothing; where memory runs out it is spent. The meter counts at
     /// most one statement sized, and one coded, for each up to END of the cards that all of them leave,
@@ -143,10 +134,30 @@ impl Kept {
         ensures coded { meter.new.coded ≤ meter.old.coded + edits_bound edits.now self.old.cards }
         ensures coded_rises { meter.old.coded ≤ meter.new.coded }
     {
-        if let Some(fault) = self.fault_against(edits) {
-            return Err(fault);
+        match self.fault_against(edits) {
+            Some(fault) => Err(fault),
+            None => self.edit_soundly(alloc, edits, meter),
         }
+    }
+
+    /// Makes edits in order, each of which applies, of a record that is not spent.
+    fn edit_soundly(
+        &mut self,
+        alloc: Global,
+        edits: &[Edit],
+        meter: &mut Meter,
+    ) -> Result<(), RecordFault>
+        requires { against_all edits.now self.old.is_spent self.old.cards ≡ None }
+        ensures fault { IfErr result (λ fault. fault ≡ RecordFault.OutOfMemory) }
+        ensures made { IfOk result (λ _. IsRecordOf self.old.name (edited_by edits.now self.old.cards) self.new) }
+        ensures lost { result ≡ Err RecordFault.OutOfMemory → self.new.is_spent ≡ true }
+        ensures sized { meter.new.sized ≤ meter.old.sized + edits_bound edits.now self.old.cards }
+        ensures sized_rises { meter.old.sized ≤ meter.new.sized }
+        ensures coded { meter.new.coded ≤ meter.old.coded + edits_bound edits.now self.old.cards }
+        ensures coded_rises { meter.old.coded ≤ meter.new.coded }
+    {
         if edits.is_empty() {
+            self.is_whole();
             return Ok(());
         }
         let Some(sized) = self.sized.take() else {
@@ -159,6 +170,14 @@ impl Kept {
             }
             Err(_) => Err(RecordFault::OutOfMemory),
         }
+    }
+
+    /// A record that is not spent is that of its cards.
+    fn is_whole(&self)
+        requires { self.now.is_spent ≡ false }
+        ensures { IsRecordOf self.now.name self.now.cards self.now }
+    {
+        let _ = self.pieces.len();
     }
 
     fn fault_against(&self, edits: &[Edit]) -> Option<RecordFault>
@@ -190,8 +209,9 @@ impl Kept {
         ensures coded_rises { meter.old.coded ≤ meter.new.coded }
     {
         let cards = edited_copy(alloc, self.cards(), edits)?;
-        let sized = sized.edited(alloc, &cards, cards_before_all(edits), meter)?;
-        Kept::of(alloc, self.name().copied(), cards, sized, meter)
+        let edited = sized.edited(alloc, &cards, cards_before_all(edits), meter)?;
+        let object = edited_object(alloc, self.object.object(), cards, &edited, meter)?;
+        Kept::of(alloc, object, edited.deck)
     }
 
     pub fn name(&self) -> &DeckName

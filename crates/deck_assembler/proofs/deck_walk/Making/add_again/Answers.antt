@@ -5,25 +5,25 @@ use Rattle.definitions.specs.declared.deck_kind.DeckKind.{DeckKind}
 use Rattle.statement_coder.specs.StatementsRead.{IsRead}
 use Rattle.statement_coder.proofs.CodingLaws.{read_again}
 use Rattle.deck_assembler.specs.Walks.{whole_of}
-use Rattle.deck_assembler.proofs.DeckWalkLaws.{walk-step}
+use Rattle.deck_assembler.proofs.FormerLaws.{beside-step}
 use Rattle.deck_assembler.proofs.ResultLaws.{on_ok_both}
 use Rattle.deck_assembler.proofs.WalkLaws.{settle-codable, stood-step}
 use Rattle.deck_assembler.proofs.deck_walk.Making.add_again.Goals as goal
 
 pub returns-clause-walked : goal.returns-clause-walked
 returns-clause-walked c =
-    on_ok_both c.add.result (λ lined stood known others left is walked.
+    on_ok_both c.put.result (λ lined stood known others left before after is next_line walked.
     let whole = whole_of c.args.view.now known others in
     let sized = c.args.sized.now in
     let old = c.args.self.now in
-    walk-step whole left sized old (record { lines = c.add.new.self; names = c.note.new.self }) is walked (λ earlier given next has so_far noted.
+    beside-step whole left sized old (record { lines = c.put.new.self; names = c.note.new.self }) c.args.found before after is walked next_line (λ earlier given next has was so_far noted.
     let read : IsRead whole.deck.kind given.cards c.read-statement.result =
     subst (λ (cards : List Card). IsRead whole.deck.kind cards c.read-statement.result) (c.next_cards-cards.ensures.cards next.few next.within ∙ next.cards)
     (subst (λ (kind : DeckKind). IsRead kind c.next_cards-cards.result.now c.read-statement.result) c.kind.ensures c.read-statement.ensures) in
     let codes = settle-codable whole.deck.kind (settled_all whole.deck.kind earlier) given c.read-statement.result sized.sizing read next.number_base in
     let again = read_again c.read-statement.result sized.sizing (settle whole.deck.kind (settled_all whole.deck.kind earlier) given) c.read_operand-read.result codes c.read_operand-read.ensures.operation c.read_operand-read.ensures.reading in
     record {
-      lined = lined known others earlier given is (c.read_operand-read.ensures.kind ∙ read.kind) again next has so_far;
+      lined = lined known others earlier given is (c.read_operand-read.ensures.kind ∙ read.kind) again next has was so_far;
       noted = c.in_ok-note.ensures known others earlier given is read next.number_base next.sizing noted;
       stood = stood ∙ stood-step old.lines.stood sized.cards whole.cards next.some next.within is.few;
-    })) c.add.ensures.lined c.add.ensures.stood
+    })) c.put.ensures.lined c.put.ensures.stood

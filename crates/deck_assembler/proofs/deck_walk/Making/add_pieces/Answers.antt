@@ -1,5 +1,10 @@
-use Rattle.std.proofs.Common.{length, ap, arith}
-use Rattle.deck_assembler.proofs.PieceCounts.{pieces-within}
+use Rattle.std.proofs.Common.{◌≡◌, ◌∙◌, ◌+◌, List, ◌++◌, length, drop, ap, sym, subst, arith}
+use Rattle.deck_assembler.specs.DeckParts.{DeckPiece, sized_in}
+use Rattle.deck_assembler.specs.FormerLines.{IsWalkedBeside}
+use Rattle.deck_assembler.specs.Walks.{whole_of}
+use Rattle.deck_assembler.specs.declared.sized_statement.SizedStatement.{SizedStatement}
+use Rattle.deck_assembler.proofs.FormerLaws.{item-split, all-dropped}
+use Rattle.deck_assembler.proofs.PieceCounts.{pieces-within, pieces-more}
 use Rattle.deck_assembler.proofs.deck_walk.Making.add_pieces.Goals as goal
 
 pub returns-in_err-add_all-clause-coded : goal.returns-in_err-add_all-clause-coded
@@ -10,3 +15,39 @@ returns-in_err-add_all-clause-coded c =
     let here = c.in_err-add_all.ensures.coded in
     let before = c.loop-piece.invariant.coded in
     omega (arith, within, same, here, before)
+
+pub loop-piece-preserved : goal.loop-piece-preserved
+loop-piece-preserved c =
+    let i = c.loop-piece.piece-index in
+    let pieces = c.args.pieces.now in
+    let piece = c.piece-item.result in
+    let added = c.in_ok-add_all.ensures in
+    let more = pieces-more pieces i piece c.loop-piece-test.true c.piece-item.is in
+    let size = ap length c.statements.ensures.statements in
+    let coded = added.coded in
+    let rises = added.rises in
+    let before = c.loop-piece.invariant.coded in
+    let so_far = c.loop-piece.invariant.rises in
+    record {
+      walked = λ known others is start.
+          let whole = whole_of c.args.view.now known others in
+          added.walked known others (sized_in (drop (i + 1) pieces)) is
+          (subst (λ (l : List SizedStatement). IsWalkedBeside whole (l ++ sized_in (drop (i + 1) pieces)) c.loop-piece.self c.loop-piece.former) (sym c.statements.ensures.statements)
+          (subst (λ (l : List DeckPiece). IsWalkedBeside whole (sized_in l) c.loop-piece.self c.loop-piece.former) (item-split pieces i piece c.loop-piece-test.true c.piece-item.is)
+          (c.loop-piece.invariant.walked known others is start)));
+      ended = λ e. added.ended (c.loop-piece.invariant.ended e);
+      coded = omega (arith, coded, before, more, size);
+      rises = omega (arith, rises, so_far);
+      all = λ e room.
+          let there = c.loop-piece.invariant.all e (omega (arith, room, more)) in
+          let one = added.all (c.loop-piece.invariant.ended e) (omega (arith, room, more, size, there)) in
+          omega (arith, there, one, more, size);
+      same = added.sized ∙ c.loop-piece.invariant.same;
+    }
+
+pub returns-clause-walked : goal.returns-clause-walked
+returns-clause-walked c =
+    λ known others is start.
+    let whole = whole_of c.args.view.now known others in
+    subst (λ (l : List DeckPiece). IsWalkedBeside whole (sized_in l) c.loop-piece.self c.loop-piece.former) (all-dropped c.args.pieces.now c.loop-piece.piece-index c.loop-piece-test.false)
+    (c.loop-piece.invariant.walked known others is start)

@@ -6,9 +6,10 @@ use Rattle.definitions.specs.Statements.{statements_of}
 use Rattle.deck_assembler.specs.declared.object.ObjectParts.{ObjectParts}
 use Rattle.deck_assembler.specs.DeckParts.{sized_in}
 use Rattle.deck_assembler.specs.Walks.{Whole, IsWhole}
+use Rattle.deck_assembler.proofs.FormerLaws.{chosen-beside}
 use Rattle.deck_assembler.proofs.PartLaws.{AreMade, parts-of}
 use Rattle.deck_assembler.proofs.PieceCounts.{sized-length}
-use Rattle.deck_assembler.proofs.object_part_list.object_parts.Goals as goal
+use Rattle.deck_assembler.proofs.object_part_list.parts_beside.Goals as goal
 
 pub returns-in_err-made-clause-coded : goal.returns-in_err-made-clause-coded
 returns-in_err-made-clause-coded c =
@@ -34,7 +35,7 @@ returns-clause-all c =
     let deck = c.args.deck.now in
     let counted = sized-length deck.kind _ 0 c.args.cards.now (sized_in deck.pieces) (reverse (up_to_end all)) deck.behind (reverse (behind_end all)) c.requires.deck.sized in
     let turned = length-reverse (up_to_end all) in
-    λ room. let coded = c.in_ok-made.ensures.all (omega (arith, room, counted, turned)) in omega (arith, counted, turned, coded)
+    λ none room. let coded = c.in_ok-made.ensures.all (c.lines_or_none.ensures.none none) (omega (arith, room, counted, turned)) in omega (arith, counted, turned, coded)
 
 pub returns-clause-parts : goal.returns-clause-parts
 returns-clause-parts c =
@@ -66,4 +67,5 @@ returns-clause-parts c =
       entries = refl;
       externals = refl;
     } in
-    parts-of name whole made parts is (c.in_ok-made.ensures.done (up_to_end all) (behind_end all) is) are refl refl
+    let beside = chosen-beside whole.deck.kind whole.cards c.args.former c.lines_or_none.result c.requires.beside c.lines_or_none.ensures.some c.lines_or_none.ensures.none in
+    parts-of name whole made parts is (c.in_ok-made.ensures.done (up_to_end all) (behind_end all) is beside) are refl refl

@@ -1,0 +1,40 @@
+use Rattle.std.proofs.Common.{◌≡◌, ◌∙◌, ◌+◌, List, ◌∷◌, ◌++◌, drop, ap, sym, subst, arith}
+use Rattle.deck_assembler.specs.FormerLines.{IsWalkedBeside}
+use Rattle.deck_assembler.specs.Walks.{whole_of}
+use Rattle.deck_assembler.specs.declared.sized_statement.SizedStatement.{SizedStatement}
+use Rattle.deck_assembler.proofs.FormerLaws.{none-left, item-split, all-dropped}
+use Rattle.deck_assembler.proofs.deck_walk.Making.add_all.Goals as goal
+
+pub loop-sized-preserved : goal.loop-sized-preserved
+loop-sized-preserved c =
+    let i = c.loop-sized.sized-index in
+    let piece = c.args.piece.now in
+    let sized = c.sized-item.result in
+    let added = c.in_ok-add.ensures in
+    let none = none-left c.loop-sized.former c.next-found.new.self c.loop-sized.self.lines.stood sized.cards c.next-found.result c.next-found.ensures in
+    let coded = added.coded in
+    let rises = added.rises in
+    let before = c.loop-sized.invariant.coded in
+    let so_far = c.loop-sized.invariant.rises in
+    record {
+      walked = λ known others left is start.
+          let whole = whole_of c.args.view.now known others in
+          added.walked known others (drop (i + 1) piece ++ left) c.loop-sized.former c.next-found.new.self is c.next-found.ensures
+          (subst (λ (l : List SizedStatement). IsWalkedBeside whole (l ++ left) c.loop-sized.self c.loop-sized.former) (item-split piece i sized c.loop-sized-test.true c.sized-item.is)
+          (c.loop-sized.invariant.walked known others left is start));
+      ended = λ e. (none (c.loop-sized.invariant.ended e)).1;
+      coded = omega (arith, coded, before);
+      rises = omega (arith, rises, so_far);
+      all = λ e room.
+          let there = c.loop-sized.invariant.all e (omega (arith, room)) in
+          let one = added.all (none (c.loop-sized.invariant.ended e)).0 (omega (arith, room, there)) in
+          omega (arith, there, one);
+      same = added.sized ∙ c.loop-sized.invariant.same;
+    }
+
+pub returns-clause-walked : goal.returns-clause-walked
+returns-clause-walked c =
+    λ known others left is start.
+    let whole = whole_of c.args.view.now known others in
+    subst (λ (l : List SizedStatement). IsWalkedBeside whole (l ++ left) c.loop-sized.self c.loop-sized.former) (all-dropped c.args.piece.now c.loop-sized.sized-index c.loop-sized-test.false)
+    (c.loop-sized.invariant.walked known others left is start)

@@ -1,0 +1,11 @@
+use Rattle.std.proofs.Common.{◌≡◌, List, ℕ, sym, take, subst}
+use Rattle.definitions.specs.Cards.{Card}
+use Rattle.definitions.specs.DeckInput.{Deck}
+use Rattle.definitions.specs.Objects.{object_of}
+use Rattle.deck_assembler.specs.PartsOf.{ArePartsOf}
+use Rattle.edit_core.proofs.assembling.edited_object.Goals as goal
+
+pub new-requires : goal.new-requires
+new-requires c =
+    subst (λ (cards : List Card). let deck : Deck = record { name = c.copied.result; cards = cards } in ArePartsOf cards c.in_ok-parts.parts (object_of deck))
+    c.deref.ensures.value (c.in_ok-parts.ensures.parts c.copied.result)
