@@ -1,0 +1,102 @@
+//! The decks of the scenarios, and what `asm_run` gives for decks.
+
+use asm_main::asm_run;
+use cards::{Card, DeckName};
+use std::alloc::{AllocError, Global};
+use text_ports::Counted;
+
+/// A deck: its name, and its lines.
+#[derive(Clone, Copy)]
+pub struct DeckText {
+    pub name: &'static str,
+    pub lines: &'static str,
+}
+
+/// Decks that are linked with each other, with a common block that two of them store in.
+pub const DECKS: [DeckText; 3] = [
+    DeckText {
+        name: "MAIN",
+        lines: "          IDENT  MAIN
+          ENTRY  START
+          EXT    TABLE,LIMIT
+START     SX1    LIMIT
+          SA2    TABLE+1
+          SA3    =5
+          RJ     START
+          USE    /TAB/
+BUF       BSSZ   3
+          USE    0
+          BX6    X1
+          END
+",
+    },
+    DeckText {
+        name: "DATAS",
+        lines: "          IDENT  DATAS
+          ENTRY  TABLE
+TABLE     DATA   1,2,10HHELLO 6600
+          VFD    42/0,18/TABLE
+          FOO    1
+          USE    /TAB/
+          DATA   7
+          END
+",
+    },
+    DeckText {
+        name: "CONST",
+        lines: "          IDENT  CONST
+          ABS
+          ENTRY  LIMIT
+LIMIT     EQU    12
+          ORG    110B
+          SA1    =7
+          DIS    2,TWO WORDS
+          END
+",
+    },
+];
+
+/// The name of a deck. Each of the decks above has one.
+pub fn name_of(text: &str) -> Result<DeckName, AllocError> {
+    match DeckName::read(text.as_bytes()) {
+        Ok(name) => Ok(name),
+        Err(_) => Err(AllocError),
+    }
+}
+
+/// The cards of some lines.
+pub fn cards_of(alloc: Global, lines: &str) -> Result<Vec<Card>, AllocError> {
+    let mut cards = Vec::new(alloc);
+    for line in lines.lines() {
+        if let Ok(card) = Card::read(line.as_bytes()) {
+            cards.push(card)?;
+        }
+    }
+    Ok(cards)
+}
+
+/// Whether both are the same cards.
+pub fn are_same(cards: &[Card], others: &[Card]) -> bool {
+    cards.len() == others.len()
+        && cards
+            .iter()
+            .zip(others.iter())
+            .all(|(card, other)| card.as_slice() == other.as_slice())
+}
+
+/// What `asm_run` writes for decks.
+pub fn asm_answer(alloc: Global, input: &[u8]) -> Result<Vec<u8>, AllocError> {
+    let mut output = Counted::new(Vec::new(alloc));
+    match asm_run(alloc, &mut Counted::new(input), &mut output) {
+        Ok(_) => Ok(output.into_inner()),
+        Err(_) => Err(AllocError),
+    }
+}
+
+/// Whether a text is these two, one behind the other.
+pub fn is_both(text: &[u8], first: &[u8], second: &[u8]) -> bool {
+    match text.strip_prefix(first) {
+        Some(rest) => rest == second,
+        None => false,
+    }
+}

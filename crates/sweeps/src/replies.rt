@@ -1,0 +1,108 @@
+//! A scenario of replies: each as a text in memory, and as it is written.
+ghost use Rattle.std.specs.Prelude.{◌≡◌, true};
+ghost use Rattle.session_line.specs.Replies.{IsWithinLimits};
+
+use crate::decks::{DECKS, cards_of, name_of};
+use crate::journal::{Called, Journal, twice};
+use cards::{CardFault, MOST_CARDS};
+use desk_core::{Row, State};
+use session_line::{Refusal, Reply, reply_text, write_reply};
+use std::alloc::{AllocError, Global};
+use text_ports::Counted;
+
+/// How many bytes a reply has at most.
+const ROOM: usize = 2000;
+
+/// The replies whose texts have a length of their own.
+fn few() -> [Reply<'static>; 5] {
+    [
+        Reply::Done { version: 3 },
+        Reply::Bye,
+        Reply::Text {
+            version: 12,
+            text: b"MAP\nEND\n",
+        },
+        Reply::Refused(Refusal::OldVersion { current: 17 }),
+        Reply::Refused(Refusal::BadLine {
+            line: 4,
+            fault: CardFault::BadCharacter { column: 9 },
+        }),
+    ]
+}
+
+/// Whether a reply has no more cards and no more decks than it may have.
+fn is_within(reply: &Reply<'_>) -> bool
+    ensures { result ≡ true → IsWithinLimits reply.now }
+{
+    match reply {
+        Reply::Cards { cards, .. } => cards.len() <= MOST_CARDS,
+        Reply::Status { decks, .. } => decks.len() <= 64,
+        Reply::Done { .. } | Reply::Text { .. } | Reply::Bye | Reply::Refused(_) => true,
+    }
+}
+
+/// A reply as it is written.
+fn written(alloc: Global, reply: &Reply<'_>) -> Result<Vec<u8>, AllocError> {
+    if !is_within(reply) {
+        return Err(AllocError);
+    }
+    let mut output = Counted::new(Vec::with_capacity(alloc, ROOM)?);
+    match write_reply(&mut output, reply) {
+        Ok(()) => Ok(output.into_inner()),
+        Err(_) => Err(AllocError),
+    }
+}
+
+/// A reply as a text.
+fn text_of(alloc: Global, reply: &Reply<'_>) -> Result<Vec<u8>, AllocError> {
+    if !is_within(reply) {
+        return Err(AllocError);
+    }
+    reply_text(alloc, reply)
+}
+
+/// A reply as a text and as it is written, which are the same.
+fn compare(alloc: Global, journal: &mut Journal, reply: &Reply<'_>) -> Result<(), AllocError> {
+    let text = twice(journal, Called::ReplyText, || text_of(alloc, reply))?;
+    let other = twice(journal, Called::WriteReply, || written(alloc, reply))?;
+    journal.made(Called::ReplyText, text == other);
+    Ok(())
+}
+
+/// A row of a status.
+fn row_of(name: &str, cards: usize, state: State) -> Result<Row, AllocError> {
+    Ok(Row {
+        name: name_of(name)?,
+        version: 5,
+        cards,
+        state,
+    })
+}
+
+/// The replies that show decks.
+fn compare_decks(alloc: Global, journal: &mut Journal) -> Result<(), AllocError> {
+    let cards = cards_of(alloc, DECKS[0].lines)?;
+    let rows = [
+        row_of("MAIN", cards.len(), State::Behind)?,
+        row_of("N", 20_000, State::Out)?,
+    ];
+    let many = Reply::Cards {
+        version: 5,
+        cards: &cards,
+    };
+    let status = Reply::Status {
+        version: 12,
+        published: Some(11),
+        decks: &rows,
+    };
+    compare(alloc, journal, &many)?;
+    compare(alloc, journal, &status)
+}
+
+/// Each sort of reply.
+pub fn replies(alloc: Global, journal: &mut Journal) -> Result<(), AllocError> {
+    for reply in &few() {
+        compare(alloc, journal, reply)?;
+    }
+    compare_decks(alloc, journal)
+}
