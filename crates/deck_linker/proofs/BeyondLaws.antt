@@ -25,9 +25,30 @@ use Rattle.deck_assembler.specs.declared.lines.Line.{Line}
 use Rattle.deck_assembler.specs.declared.lines.LineFields.{LineFields}
 use Rattle.deck_assembler.specs.declared.lines.LineFields.TheVariants as fields
 use Rattle.deck_assembler.specs.declared.object.ObjectParts.{ObjectParts}
-use Rattle.deck_linker.specs.Beyond.{coded_beyond, has_items, is_named_at, keeps_fields, line_beyond, listed_beyond, literals_beyond, row_beyond, stores_beyond}
+use Rattle.deck_linker.specs.Beyond.{coded_beyond, has_items, keeps_fields, literals_beyond, stores_beyond}
 use Rattle.deck_linker.proofs.TestLaws.{lt-true}
 use Rattle.deck_linker.proofs.WordLaws.{any-block, list_any-same}
+
+-- whether the block at an index has this name
+abbrev pub is_named_at : List BlockRow → ℕ → List ℕ → Bool
+is_named_at rows index name = elim (slice_get rows index) [ None ↦ false | Some row ↦ same_text row.name name ]
+
+-- whether a line stores a word of this block there
+abbrev pub line_of_row : DeckKind → List BlockRow → BlockRow → CodedLine → Bool
+line_of_row kind rows row line =
+    stores_beyond kind row.base line.place line.end && (not line.begins_run && (keeps_fields line.fields && is_named_at rows line.block row.name))
+
+-- whether a line of the listing does
+abbrev pub listed_of_row : DeckKind → List BlockRow → BlockRow → Line → Bool
+listed_of_row kind rows row line = elim line.coded [ None ↦ false | Some coded ↦ line_of_row kind rows row coded ]
+
+-- whether a block of an object stores a word there, by its lines and literals; a common block is not the object's
+abbrev pub row_beyond : ObjectParts → BlockRow → Bool
+row_beyond parts row =
+    not (is_common row.name) && elim (same_text row.name literals_block) [
+      | true ↦ literals_beyond parts.kind row.base (length parts.literals.items)
+      | false ↦ list_any (listed_of_row parts.kind parts.bases row) parts.lines.items
+    ]
 
 -- words by their addresses
 any-addressed : (kind : DeckKind) (base : ℕ) (words : List StoredWord) →
@@ -65,7 +86,7 @@ block_by object row literals = elim literals [
 abbrev kept_beyond : ObjectParts → BlockRow → Bool → Bool
 kept_beyond parts row literals = elim literals [
   | true ↦ literals_beyond parts.kind row.base (length parts.literals.items)
-  | false ↦ list_any (listed_beyond parts.kind parts.bases row) parts.lines.items
+  | false ↦ list_any (listed_of_row parts.kind parts.bases row) parts.lines.items
 ]
 
 -- whether a block of an object stores a word beyond memory
@@ -163,7 +184,7 @@ turned false false c false = refl
 
 -- a line is its statement
 line-coded : (kind : DeckKind) (rows : List BlockRow) (items : List code.Item) (row : BlockRow) (line : CodedLine) (coded : Coded) → IsCoded kind rows items line coded →
-    line_beyond kind rows row line ≡ coded_beyond kind row coded
+    line_of_row kind rows row line ≡ coded_beyond kind row coded
 line-coded kind rows items row line coded is =
     let stores : stores_beyond kind row.base line.place line.end ≡ stores_beyond kind row.base coded.settled.place coded.settled.end =
     ap₂ (λ (place end : ℕ). stores_beyond kind row.base place end) is.place is.end in
@@ -184,19 +205,19 @@ CodedBy kind rows items lines stored all = elim stored [
 
 -- whether a line stores a word beyond memory, by what it stores
 abbrev beyond_by : DeckKind → List BlockRow → BlockRow → Option CodedLine → Bool
-beyond_by kind rows row stored = elim stored [ None ↦ false | Some line ↦ line_beyond kind rows row line ]
+beyond_by kind rows row stored = elim stored [ None ↦ false | Some line ↦ line_of_row kind rows row line ]
 
 -- lines are their statements
 lines-coded : (kind : DeckKind) (rows : List BlockRow) (items : List code.Item) (row : BlockRow) (lines : List Line) (all : List Coded) → AreCoded kind rows items lines all →
-    list_any (listed_beyond kind rows row) lines ≡ list_any (coded_beyond kind row) all
+    list_any (listed_of_row kind rows row) lines ≡ list_any (coded_beyond kind row) all
 lines-coded kind rows items row [] [] are = refl
 lines-coded kind rows items row [] (coded ∷ others) are = absurd are
 lines-coded kind rows items row (line ∷ lines) all are = by_line line.coded all (λ (others : List Coded). lines-coded kind rows items row lines others) are
   where
     by_line : (stored : Option CodedLine) (all : List Coded) →
-        ((others : List Coded) → AreCoded kind rows items lines others → list_any (listed_beyond kind rows row) lines ≡ list_any (coded_beyond kind row) others) →
+        ((others : List Coded) → AreCoded kind rows items lines others → list_any (listed_of_row kind rows row) lines ≡ list_any (coded_beyond kind row) others) →
         CodedBy kind rows items lines stored all →
-        (beyond_by kind rows row stored || list_any (listed_beyond kind rows row) lines) ≡ list_any (coded_beyond kind row) all
+        (beyond_by kind rows row stored || list_any (listed_of_row kind rows row) lines) ≡ list_any (coded_beyond kind row) all
     by_line None all rest are = rest all are
     by_line (Some coded) [] rest are = absurd are
     by_line (Some coded) (first ∷ others) rest are = ap₂ (λ (a b : Bool). a || b) (line-coded kind rows items row coded first are.0) (rest others are.1)
@@ -216,9 +237,9 @@ any-reverse {X = X} p (x ∷ xs) =
     ∙ ap (λ (b : Bool). b || (p x || false)) (any-reverse p xs)
     ∙ sym (or-turned (p x) (list_any p xs))
 
--- the parts of an object tell whether it stores a word beyond its memory
-pub parts-beyond : (cards : List Card) (parts : ObjectParts) (object : Object) → ArePartsOf cards parts object → list_any (row_beyond parts) parts.bases ≡ has_beyond object
-parts-beyond cards parts object are =
+-- the blocks of an object tell whether it stores a word beyond its memory
+pub rows-beyond : (cards : List Card) (parts : ObjectParts) (object : Object) → ArePartsOf cards parts object → list_any (row_beyond parts) parts.bases ≡ has_beyond object
+rows-beyond cards parts object are =
     list_any-same (row_beyond parts) (λ (row : BlockRow). not (is_common row.name) && block_beyond object row) by_row parts.bases
     ∙ ap (λ (rows : List BlockRow). list_any (λ (row : BlockRow). not (is_common row.name) && block_beyond object row) rows) are.rows
     ∙ sym (any-rows object)

@@ -6,6 +6,7 @@ pub mod EntryLaws
 pub mod ValueLaws
 pub mod WordLaws
 pub mod BeyondLaws
+pub mod BeyondSteps
 pub mod NameLaws
 pub mod LineLaws
 pub mod DigitLaws
@@ -16,3 +17,4 @@ pub mod TextLaws
 pub mod ImageLaws
 pub mod PublishLaws
 pub mod ElsewhereLaws
+pub mod CommonSteps

@@ -1,5 +1,5 @@
 -- Whether statements store words at or behind the end of their memory, by the places that their fields reach.
-use Rattle.std.specs.Prelude.{ℕ, ◌+◌, ◌-◌, ◌/◌, List, [], ◌∷◌, Some, None, Bool, true, false, not, ◌&&◌, nat_lt, nat_le, length, slice_get}
+use Rattle.std.specs.Prelude.{ℕ, ◌+◌, ◌-◌, ◌/◌, List, [], ◌∷◌, Some, None, Bool, true, false, not, ◌&&◌, ◌||◌, nat_lt, nat_le, length, slice_get}
 use Rattle.std.specs.List.{list_any}
 use Rattle.definitions.specs.Blocks.{is_common, literals_block}
 use Rattle.definitions.specs.Characters.{same_text}
@@ -39,27 +39,30 @@ keeps_fields (fields.Known bits) = true
 keeps_fields (fields.Listed first count) = nat_lt 0 count
 keeps_fields fields.Zeros = true
 
--- whether the block at an index has this name
-abbrev pub is_named_at : List BlockRow → ℕ → List ℕ → Bool
-is_named_at rows index name = elim (slice_get rows index) [ None ↦ false | Some row ↦ same_text row.name name ]
+-- whether a block is one of the deck's own, whose words are those of statements
+abbrev pub is_plain : BlockRow → Bool
+is_plain row = not (is_common row.name) && not (same_text row.name literals_block)
 
--- whether a line stores a word of this block there
-abbrev pub line_beyond : DeckKind → List BlockRow → BlockRow → CodedLine → Bool
-line_beyond kind rows row line =
-    stores_beyond kind row.base line.place line.end && (not line.begins_run && (keeps_fields line.fields && is_named_at rows line.block row.name))
+-- whether a line stores a word of its block there
+abbrev pub line_beyond : DeckKind → List BlockRow → CodedLine → Bool
+line_beyond kind rows line = elim (slice_get rows line.block) [
+  | None ↦ false
+  | Some row ↦ (not line.begins_run && keeps_fields line.fields) && (is_plain row && stores_beyond kind row.base line.place line.end)
+]
 
 -- whether a line of the listing does; one behind END stores nothing
-abbrev pub listed_beyond : DeckKind → List BlockRow → BlockRow → Line → Bool
-listed_beyond kind rows row line = elim line.coded [ None ↦ false | Some coded ↦ line_beyond kind rows row coded ]
+abbrev pub listed_beyond : DeckKind → List BlockRow → Line → Bool
+listed_beyond kind rows line = elim line.coded [ None ↦ false | Some coded ↦ line_beyond kind rows coded ]
 
 -- whether so many literals reach there
 abbrev pub literals_beyond : DeckKind → ℕ → ℕ → Bool
 literals_beyond kind base count = nat_lt 0 count && nat_lt (memory_end kind) (base + count)
 
--- whether a block of an object stores a word there, by its lines and literals; a common block is not the object's
-abbrev pub row_beyond : ObjectParts → BlockRow → Bool
-row_beyond parts row =
-    not (is_common row.name) && elim (same_text row.name literals_block) [
-      | true ↦ literals_beyond parts.kind row.base (length parts.literals.items)
-      | false ↦ list_any (listed_beyond parts.kind parts.bases row) parts.lines.items
-    ]
+-- whether a block is that of so many literals and reaches there
+abbrev pub literals_row_beyond : DeckKind → ℕ → BlockRow → Bool
+literals_row_beyond kind count row = not (is_common row.name) && (same_text row.name literals_block && literals_beyond kind row.base count)
+
+-- whether an object stores a word there, by its lines and its literals
+abbrev pub parts_beyond : ObjectParts → Bool
+parts_beyond parts =
+    list_any (listed_beyond parts.kind parts.bases) parts.lines.items || list_any (literals_row_beyond parts.kind (length parts.literals.items)) parts.bases

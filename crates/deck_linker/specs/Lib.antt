@@ -3,7 +3,8 @@ pub mod NameKeys
 -- Decks and common blocks in their places, and what names are worth there.
 pub mod Placing
 pub mod CommonPlaces
--- Words beyond the end of memory.
+-- Words of common blocks, and words beyond the end of memory.
+pub mod CommonWords
 pub mod Beyond
 -- Names, and lines that are counted.
 pub mod Names

@@ -1,6 +1,7 @@
 //! The common blocks of a link (COMPASS 60492600, labelled common; where they stand is ours).
 ghost use Rattle.std.specs.Prelude.{◌≡◌, ◌≤◌, [], map, IfOk};
 ghost use Rattle.definitions.specs.Link.{commons_from, common_base, common_lengths};
+ghost use Rattle.deck_linker.specs.CommonWords.{common_place};
 ghost use Rattle.deck_linker.specs.Placing.{base_at, end_with_common, placed_common};
 
 use crate::based::{Based, MEMORY_END};
@@ -107,6 +108,13 @@ impl Commons {
         ensures { result.now ≡ self.now }
     {
         self.list.as_slice()
+    }
+
+    /// The place of a common block, if it is there.
+    pub(crate) fn place(&self, name: &Name) -> Option<usize>
+        ensures { result ≡ common_place name.now self.now }
+    {
+        self.table.index_of(name)
     }
 
     /// The base of a common block; 0 of one that is not there.

@@ -1,11 +1,11 @@
 //! The octal image of a link: the sections of its decks, those of its common blocks, and END.
 ghost use Rattle.std.specs.Prelude.{◌≡◌, ◌++◌, flat_map, IfOk, OnOk};
-ghost use Rattle.definitions.specs.Image.{common_section_by, image_text, section_by};
+ghost use Rattle.definitions.specs.Image.{image_text};
 ghost use Rattle.deck_linker.specs.Sections.{deck_section};
 
-use crate::common_image::push_common;
+use crate::common_image::push_commons;
 use crate::linked_deck::kind;
-use crate::{Based, Common, DeckLinking, Layout};
+use crate::{Based, DeckLinking, Layout};
 use deck_listing::push_section;
 use definitions::DeckKind;
 use std::alloc::{AllocError, Global};
@@ -53,28 +53,13 @@ fn push_decks(
     Ok(())
 }
 
-/// Writes the sections of common blocks in order.
-fn push_commons(
-    alloc: Global,
-    text: &mut Text,
-    layout: &Layout,
-    commons: &[Common],
-) -> Result<(), AllocError>
-    ensures { OnOk result (text.new ≡ text.old ++ flat_map (common_section_by layout.now) commons.now) }
-{
-    for common in commons {
-        push_common(alloc, text, layout, common)?;
-    }
-    Ok(())
-}
-
 /// The octal image of a link.
 pub(crate) fn image(alloc: Global, layout: &Layout) -> Result<Text, AllocError>
     ensures { IfOk result (λ text. text ≡ image_text layout.now) }
 {
     let mut text = Text::new(alloc);
     push_decks(alloc, &mut text, layout, layout.decks())?;
-    push_commons(alloc, &mut text, layout, layout.commons())?;
+    push_commons(alloc, &mut text, layout)?;
     text.push_bytes(b"END\n")?;
     Ok(text)
 }

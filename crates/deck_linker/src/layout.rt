@@ -2,6 +2,7 @@
 ghost use Rattle.std.specs.Prelude.{◌≡◌, ◌≤◌, ◌<◌, ◌+◌, ◌^◌, map, IfOk, IfSome, unsigned_abs};
 ghost use Rattle.definitions.specs.Link.{based_from, block_base, common_base, entered, entry_value, external_value, first_base, layout_of, linked_value};
 ghost use Rattle.definitions.specs.Objects.{object_of};
+ghost use Rattle.deck_linker.specs.CommonWords.{common_place};
 ghost use Rattle.deck_linker.specs.Placing.{end_behind, external_in};
 
 use crate::based::{Based, place};
@@ -90,6 +91,13 @@ impl Layout {
         ensures { result ≡ common_base name.now self.now.commons }
     {
         self.commons.base(name)
+    }
+
+    /// The place of a common block among all of them, if it is there.
+    pub(crate) fn common_place(&self, name: &Name) -> Option<usize>
+        ensures { result ≡ common_place name.now self.now.commons }
+    {
+        self.commons.place(name)
     }
 
     /// Where a block of a deck stands.

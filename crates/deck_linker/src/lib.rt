@@ -35,6 +35,7 @@ mod unfit_fields;
 
 // The image.
 mod common_image;
+mod common_words;
 mod image;
 
 // All of them.

@@ -2,20 +2,20 @@
 use Rattle.std.proofs.Common.{◌≡◌, ℕ, zero, suc, ◌+◌, ◌-◌, ◌<◌, ◌≤◌, Bool, true, false, List, [], ◌∷◌, ◌++◌, not, flat_map, length, take, get_or, refl, sym, ap, ◌∙◌, append_assoc, append-nil, ap₂, Some, None, nat_le, arith, inl, inr, true≢false}
 use Rattle.std.specs.Prelude.{filter, if◌then◌else◌}
 use Rattle.std.proofs.lemmas.Bool.Decides.{leb_tells}
-use Rattle.std.proofs.lemmas.List.{take_all, take_more}
+use Rattle.std.proofs.lemmas.List.{take_more}
 use Rattle.std.proofs.lemmas.List.Elements.{filter-append}
 use Rattle.std.proofs.lemmas.Grind.{flat_map-append}
 use Rattle.definitions.specs.Blocks.{is_common}
 use Rattle.definitions.specs.Image.{word_line}
 use Rattle.definitions.specs.Kinds.{memory_end}
 use Rattle.definitions.specs.Lengths.{BlockRow}
-use Rattle.definitions.specs.Link.{AddressedWord, addressed, block_words, is_beyond, object_words}
+use Rattle.definitions.specs.Link.{AddressedWord, addressed, block_words, is_beyond}
 use Rattle.definitions.specs.Objects.{Object}
 use Rattle.definitions.specs.Words.{Linking, StoredWord}
 use Rattle.definitions.specs.declared.deck_kind.DeckKind.{DeckKind}
 use Rattle.parcel_packer.specs.Filling.{as_stored, words_from}
 use Rattle.parcel_packer.specs.declared.word_spans.WordSpan.{WordSpan}
-use Rattle.deck_listing.specs.ImageWordLines.{block_lines, lines_of, row_words, span_lines}
+use Rattle.deck_listing.specs.ImageWordLines.{block_lines, lines_of, row_words, rows_words, span_lines}
 
 lines-append : (kind : DeckKind) (xs ys : List AddressedWord) → lines_of kind (xs ++ ys) ≡ lines_of kind xs ++ lines_of kind ys
 lines-append kind xs ys =
@@ -96,10 +96,6 @@ span_more kind base block words i d start before after h b a =
     ∙ ap (λ l. start ++ l)
     (sym (block-append kind base block (take i words) (get_or words i d ∷ [])) ∙ ap (block_lines kind base block) (sym (take_more words i d h)))
 
--- the words of a deck's own blocks among these
-abbrev pub rows_words : Linking → Object → ℕ → List BlockRow → List AddressedWord
-rows_words linking object base rows = flat_map (row_words linking object base) rows
-
 -- one block more
 pub row_more : (kind : DeckKind) (linking : Linking) (object : Object) (base : ℕ) (rows : List BlockRow) (i : ℕ) (d : BlockRow) (start before after : List ℕ) → i < length rows →
     before ≡ start ++ lines_of kind (rows_words linking object base (take i rows)) → after ≡ before ++ lines_of kind (row_words linking object base (get_or rows i d)) →
@@ -128,11 +124,6 @@ all_rows linking object base (row ∷ rows) = by_test (is_common row.name) (all_
         ≡ own (if not b then row ∷ filter (λ (r : BlockRow). not (is_common r.name)) rows else filter (λ (r : BlockRow). not (is_common r.name)) rows)
     by_test true e = e
     by_test false e = ap (λ ws. addressed (base + row.base) (block_words linking object row) ++ ws) e
-
--- the words of all blocks that were taken
-pub rows_taken : (linking : Linking) (object : Object) (base : ℕ) (found rows : List BlockRow) (i : ℕ) → length found ≤ i → found ≡ rows → rows ≡ object.rows →
-    rows_words linking object base (take i found) ≡ object_words linking object base
-rows_taken linking object base found rows i h e k = ap (rows_words linking object base) (take_all i found h ∙ e ∙ k) ∙ all_rows linking object base object.rows
 
 -- a row by another name
 pub row_put : (kind : DeckKind) (linking : Linking) (object : Object) (base : ℕ) (row other : BlockRow) (before after : List ℕ) → row ≡ other →

@@ -9,6 +9,7 @@ mod FieldSteps
 mod LiteralSteps
 mod LineSteps
 mod RunSteps
+pub mod BlockSteps
 mod WalkSteps
 mod ImageLineSteps
 mod AloneSteps

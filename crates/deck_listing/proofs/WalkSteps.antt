@@ -1,7 +1,9 @@
 -- The lines of an object, walked one after the other.
-use Rattle.std.proofs.Common.{◌≡◌, ℕ, List, [], ◌∷◌, ◌++◌, Option, Some, None, reverse, refl, sym, ap, subst, ◌∙◌, append_assoc}
-use Rattle.std.proofs.lemmas.List.{reverse-append}
+use Rattle.std.proofs.Common.{◌≡◌, List, [], ◌∷◌, ◌++◌, Option, Some, None, reverse, refl, sym, ap, subst, ◌∙◌, append_assoc, append-nil, length}
+use Rattle.std.proofs.lemmas.List.{reverse-append, reverse-reverse}
+use Rattle.definitions.specs.Cards.{Card}
 use Rattle.definitions.specs.Lengths.{BlockRow}
+use Rattle.definitions.specs.Objects.{Object}
 use Rattle.definitions.specs.Words.{Coded, Linking}
 use Rattle.definitions.specs.declared.deck_kind.DeckKind.{DeckKind}
 use Rattle.statement_coder.specs.declared.items.Item as code
@@ -10,8 +12,11 @@ use Rattle.definitions.specs.Reaching.{DoReach}
 use Rattle.definitions.specs.Rising.{AreLaidOut}
 use Rattle.deck_assembler.specs.CodedLines.{IsCoded, AreCoded}
 use Rattle.deck_assembler.specs.declared.lines.CodedLine as lines
+use Rattle.deck_assembler.specs.PartsOf.{ArePartsOf}
 use Rattle.deck_assembler.specs.declared.lines.Line.{Line}
-use Rattle.deck_listing.specs.Walking.{DoesFollow, HasRuns, IsNext, IsWalked}
+use Rattle.deck_assembler.specs.declared.object.ObjectParts.{ObjectParts}
+use Rattle.deck_listing.specs.Walking.{AreEmpty, DoesFollowAll, HaveRuns, IsNextOfAll, AreWalked}
+use Rattle.deck_listing.proofs.BlockSteps.{empty-runs}
 
 -- the statement of the first line, and the others
 record IsSplit (kind : DeckKind) (rows : List BlockRow) (items : List code.Item) (stored : lines.CodedLine) (rest : List Line) (all : List Coded) : Type 0 where
@@ -64,10 +69,10 @@ one_over : (left earlier others : List Coded) (coded : Coded) → left ≡ coded
 one_over left earlier others coded e =
     ap (λ l. reverse l ++ earlier) e ∙ ap (λ l. l ++ earlier) (reverse-append (coded ∷ []) others) ∙ append_assoc (reverse others) (coded ∷ []) earlier
 
-follows-split : (kind : DeckKind) (rows : List BlockRow) (items : List code.Item) (linking : Linking) (block : List ℕ) (all : List Coded) (stored : lines.CodedLine) (rest ahead : List Line) (packed : Packed) →
-    (walked : IsWalked kind rows items linking block all ahead packed) (parts : IsSplit kind rows items stored rest walked.left) →
-    DoesFollow kind rows items linking block stored packed parts.coded walked.earlier
-follows-split kind rows items linking block all stored rest ahead packed walked parts =
+follows-split : (kind : DeckKind) (rows : List BlockRow) (items : List code.Item) (linking : Linking) (all : List Coded) (stored : lines.CodedLine) (rest ahead : List Line) (packed : List Packed) →
+    (walked : AreWalked kind rows items linking all ahead packed) (parts : IsSplit kind rows items stored rest walked.left) →
+    DoesFollowAll kind rows items linking stored packed parts.coded walked.earlier
+follows-split kind rows items linking all stored rest ahead packed walked parts =
     let over = one_over walked.left walked.earlier parts.others parts.coded parts.parts in
     record {
       is_coded = parts.is_coded;
@@ -76,19 +81,34 @@ follows-split kind rows items linking block all stored rest ahead packed walked 
       runs = walked.runs;
     }
 
+-- before the first line nothing lies in any block
+pub walked-first : (linking : Linking) (cards : List Card) (parts : ObjectParts) (object : Object) (packed : List Packed) → ArePartsOf cards parts object → AreEmpty parts.kind (length parts.bases) packed →
+    AreWalked parts.kind parts.bases parts.items.items linking object.coded parts.lines.items packed
+walked-first linking cards parts object packed are_parts empty =
+    let all : reverse (reverse object.coded) ++ [] ≡ object.coded = append-nil (reverse (reverse object.coded)) ∙ reverse-reverse object.coded in
+    record {
+      left = reverse object.coded;
+      earlier = [];
+      split = all;
+      coded = are_parts.coded;
+      laid = subst (AreLaidOut parts.kind) (sym all) (subst (λ k. AreLaidOut k object.coded) (sym are_parts.kind) are_parts.laid);
+      reach = subst (DoReach parts.kind) (sym all) (subst (λ k. DoReach k object.coded) (sym are_parts.kind) are_parts.reach);
+      runs = empty-runs parts.kind linking parts.bases packed empty;
+    }
+
 -- the next line that stores something is a statement that follows
-pub walked-next : (kind : DeckKind) (rows : List BlockRow) (items : List code.Item) (linking : Linking) (block : List ℕ) (all : List Coded) (line : Line) (stored : lines.CodedLine) (rest ahead : List Line) (packed : Packed) →
-    IsWalked kind rows items linking block all ahead packed → ahead ≡ line ∷ rest → line.coded ≡ Some stored → IsNext kind rows items linking block stored packed
-walked-next kind rows items linking block all line stored rest ahead packed walked a e =
+pub walked-next : (kind : DeckKind) (rows : List BlockRow) (items : List code.Item) (linking : Linking) (all : List Coded) (line : Line) (stored : lines.CodedLine) (rest ahead : List Line) (packed : List Packed) →
+    AreWalked kind rows items linking all ahead packed → ahead ≡ line ∷ rest → line.coded ≡ Some stored → IsNextOfAll kind rows items linking stored packed
+walked-next kind rows items linking all line stored rest ahead packed walked a e =
     let parts = split_coded kind rows items line stored rest walked.left e (subst (λ ls. AreCoded kind rows items ls walked.left) a walked.coded) in
-    record { coded = parts.coded; earlier = walked.earlier; follows = follows-split kind rows items linking block all stored rest ahead packed walked parts }
+    record { coded = parts.coded; earlier = walked.earlier; follows = follows-split kind rows items linking all stored rest ahead packed walked parts }
 
 -- once it is put, it is one of those before the rest
-pub walked-on : (kind : DeckKind) (rows : List BlockRow) (items : List code.Item) (linking : Linking) (block : List ℕ) (all : List Coded) (line : Line) (stored : lines.CodedLine) (rest ahead : List Line) (packed new : Packed) →
-    IsWalked kind rows items linking block all ahead packed → ahead ≡ line ∷ rest → line.coded ≡ Some stored →
-    ((coded : Coded) (earlier : List Coded) → DoesFollow kind rows items linking block stored packed coded earlier → HasRuns kind linking block (coded ∷ earlier) new) →
-    IsWalked kind rows items linking block all rest new
-walked-on kind rows items linking block all line stored rest ahead packed new walked a e put =
+pub walked-on : (kind : DeckKind) (rows : List BlockRow) (items : List code.Item) (linking : Linking) (all : List Coded) (line : Line) (stored : lines.CodedLine) (rest ahead : List Line) (packed new : List Packed) →
+    AreWalked kind rows items linking all ahead packed → ahead ≡ line ∷ rest → line.coded ≡ Some stored →
+    ((coded : Coded) (earlier : List Coded) → DoesFollowAll kind rows items linking stored packed coded earlier → HaveRuns kind linking rows (coded ∷ earlier) new) →
+    AreWalked kind rows items linking all rest new
+walked-on kind rows items linking all line stored rest ahead packed new walked a e put =
     let parts = split_coded kind rows items line stored rest walked.left e (subst (λ ls. AreCoded kind rows items ls walked.left) a walked.coded) in
     let over = one_over walked.left walked.earlier parts.others parts.coded parts.parts in
     record {
@@ -98,13 +118,13 @@ walked-on kind rows items linking block all line stored rest ahead packed new wa
       coded = parts.ahead;
       laid = subst (AreLaidOut kind) over walked.laid;
       reach = subst (DoReach kind) over walked.reach;
-      runs = put parts.coded walked.earlier (follows-split kind rows items linking block all stored rest ahead packed walked parts);
+      runs = put parts.coded walked.earlier (follows-split kind rows items linking all stored rest ahead packed walked parts);
     }
 
 -- a line that is only listed stores nothing
-pub walked-past : (kind : DeckKind) (rows : List BlockRow) (items : List code.Item) (linking : Linking) (block : List ℕ) (all : List Coded) (line : Line) (rest ahead : List Line) (packed : Packed) →
-    IsWalked kind rows items linking block all ahead packed → ahead ≡ line ∷ rest → line.coded ≡ None → IsWalked kind rows items linking block all rest packed
-walked-past kind rows items linking block all line rest ahead packed walked a e =
+pub walked-past : (kind : DeckKind) (rows : List BlockRow) (items : List code.Item) (linking : Linking) (all : List Coded) (line : Line) (rest ahead : List Line) (packed : List Packed) →
+    AreWalked kind rows items linking all ahead packed → ahead ≡ line ∷ rest → line.coded ≡ None → AreWalked kind rows items linking all rest packed
+walked-past kind rows items linking all line rest ahead packed walked a e =
     record {
       left = walked.left;
       earlier = walked.earlier;

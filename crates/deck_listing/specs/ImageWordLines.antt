@@ -29,6 +29,10 @@ block_lines kind base block words = lines_of kind (addressed (base + block) (as_
 abbrev pub row_words : Linking → Object → ℕ → BlockRow → List AddressedWord
 row_words linking object base row = if is_common row.name then [] else addressed (base + row.base) (block_words linking object row)
 
+-- the words of the own blocks of an object among these
+abbrev pub rows_words : Linking → Object → ℕ → List BlockRow → List AddressedWord
+rows_words linking object base rows = flat_map (row_words linking object base) rows
+
 -- the first line of a section
 abbrev pub section_head : List ℕ → DeckKind → ℕ → List ℕ
 section_head name kind base = line (codes "DECK " ++ (name ++ (codes " " ++ (kind_text kind ++ (codes " " ++ octal_of 6 base)))))

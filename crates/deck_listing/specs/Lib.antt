@@ -8,4 +8,5 @@ pub mod Walking
 -- Texts, the lines of words, and how a deck is linked alone.
 pub mod Texts
 pub mod ImageWordLines
+pub mod BlockWords
 pub mod Alone

@@ -15,7 +15,7 @@ mod lines;
 mod statements;
 mod whole;
 
-// The stored words of its blocks: the fields of its statements, put line by line.
+// The stored words of its blocks: the fields of its statements, put line by line, each into its block.
 mod blocks;
 mod fields;
 mod word_lines;
@@ -26,7 +26,7 @@ mod image_lines;
 mod section_words;
 mod sections;
 
-pub use blocks::{block_words, stored_words};
+pub use blocks::words_of_blocks;
 pub use image_lines::push_image_line;
 pub use sections::{image, push_section};
 pub use whole::{errors, listing, push_listing};

@@ -1,5 +1,5 @@
-//! The lines of an object, put one behind the other into the words of a block.
-ghost use Rattle.std.specs.Prelude.{◌≡◌, ◌≤◌, ◌+◌, ◌-◌, ◌*◌, [], ◌∷◌, List, length, map, OnOk};
+//! The lines of an object, put one behind the other, each into the words of its block.
+ghost use Rattle.std.specs.Prelude.{◌≡◌, ◌≤◌, ◌+◌, ◌-◌, ◌*◌, ◌∷◌, List, length, map, OnOk};
 ghost use Rattle.definitions.specs.Kinds.{unit_bits};
 ghost use Rattle.definitions.specs.Objects.{Object};
 ghost use Rattle.definitions.specs.Cards.{Card};
@@ -10,14 +10,12 @@ ghost use Rattle.statement_coder.specs.Items.{item_as};
 ghost use Rattle.operations.specs.OperationsAs.{operation_as};
 ghost use Rattle.deck_assembler.specs.LineItems.{kept_items, listed};
 ghost use Rattle.deck_assembler.specs.PartsOf.{ArePartsOf};
-ghost use Rattle.parcel_packer.specs.Packing.{empty_run};
 ghost use Rattle.deck_listing.specs.Putting.{ArePut, IsReady};
-ghost use Rattle.deck_listing.specs.Walking.{DoesFollow, HasObject, HasRuns, IsNext};
+ghost use Rattle.deck_listing.specs.Walking.{AreEmpty, DoNamesDiffer, DoesFollow, DoesFollowAll, HasObject, HasRuns, HaveRuns, IsNext, IsNextOfAll};
 
 use crate::fields::put_fields;
 use deck_assembler::{CodedLine, LineFields, Linking, ObjectParts};
 use definitions::DeckKind;
-use expr_forms::Name;
 use parcel_packer::Words;
 use statement_coder::{Content, Item};
 use std::alloc::AllocError;
@@ -76,44 +74,55 @@ fn put_line<L: Linking>(
     }
 }
 
-/// Puts a line into the words of a block, if it is one of that block; one that begins a run begins it.
-fn put_if_there<L: Linking>(
+/// Puts a line into the words of its block; one that begins a run begins it.
+fn put_next<L: Linking>(
     words: &mut Words,
     parts: &ObjectParts,
     linking: &L,
-    name: &Name,
     line: &CodedLine,
 ) -> Result<(), AllocError>
-    requires { IsNext parts.now.kind parts.now.bases parts.now.items.items (L.linking linking.now) name.now line.now words.old }
+    requires { IsNext parts.now.kind parts.now.bases parts.now.items.items (L.linking linking.now) line.now words.old }
     ensures { OnOk result ((coded : Coded) (earlier : List Coded) →
-        DoesFollow parts.now.kind parts.now.bases parts.now.items.items (L.linking linking.now) name.now line.now words.old coded earlier →
-        HasRuns parts.now.kind (L.linking linking.now) name.now (coded ∷ earlier) words.new) }
+        DoesFollow parts.now.kind parts.now.bases parts.now.items.items (L.linking linking.now) coded.settled.block line.now words.old coded earlier →
+        HasRuns parts.now.kind (L.linking linking.now) coded.settled.block (coded ∷ earlier) words.new) }
 {
-    let row = &parts.bases.rows()[line.block as usize];
-    if !row.name().is_same(name) {
-        return Ok(());
-    }
     if line.begins_run {
         return words.begin_run();
     }
     put_line(words, parts.kind, parts.items.as_slice(), linking, line)
 }
 
-/// Puts all lines of a block into its words.
-pub(crate) fn put_lines<L: Linking>(
-    words: &mut Words,
+/// Puts a line into the words of its block, which are at its place among those of all blocks.
+fn put_coded<L: Linking>(
+    blocks: &mut Vec<Words>,
     parts: &ObjectParts,
     linking: &L,
-    name: &Name,
+    line: &CodedLine,
+) -> Result<(), AllocError>
+    requires names { DoNamesDiffer parts.now.bases }
+    requires next { IsNextOfAll parts.now.kind parts.now.bases parts.now.items.items (L.linking linking.now) line.now blocks.old.items }
+    ensures { OnOk result ((coded : Coded) (earlier : List Coded) →
+        DoesFollowAll parts.now.kind parts.now.bases parts.now.items.items (L.linking linking.now) line.now blocks.old.items coded earlier →
+        HaveRuns parts.now.kind (L.linking linking.now) parts.now.bases (coded ∷ earlier) blocks.new.items) }
+{
+    put_next(&mut blocks[line.block as usize], parts, linking, line)
+}
+
+/// Puts all lines into the words of their blocks, in one walk over the lines.
+pub(crate) fn put_lines<L: Linking>(
+    blocks: &mut Vec<Words>,
+    parts: &ObjectParts,
+    linking: &L,
 ) -> Result<(), AllocError>
     requires object { HasObject parts.now }
-    requires empty { words.old ≡ record { kind = parts.now.kind; run = empty_run; earlier = [] } }
+    requires names { DoNamesDiffer parts.now.bases }
+    requires empty { AreEmpty parts.now.kind (length parts.now.bases) blocks.old.items }
     ensures { OnOk result ((cards : List Card) (object : Object) → ArePartsOf cards parts.now object →
-        HasRuns parts.now.kind (L.linking linking.now) name.now object.coded words.new) }
+        HaveRuns parts.now.kind (L.linking linking.now) parts.now.bases object.coded blocks.new.items) }
 {
     for line in parts.lines.as_slice() {
         if let Some(coded) = &line.coded {
-            put_if_there(words, parts, linking, name, coded)?;
+            put_coded(blocks, parts, linking, coded)?;
         }
     }
     Ok(())

@@ -5,4 +5,4 @@ use Rattle.deck_linker.specs.Beyond.{listed_beyond}
 use Rattle.deck_linker.proofs.beyond.any_listed_beyond.Given as goal
 
 abbrev pub invariant-loop-line : goal.invariant-loop-line
-invariant-loop-line l = list_any (listed_beyond l.kind l.rows l.row) (drop l.line-index l.lines) ≡ list_any (listed_beyond l.kind l.rows l.row) l.lines
+invariant-loop-line l = list_any (listed_beyond l.kind l.rows) (drop l.line-index l.lines) ≡ list_any (listed_beyond l.kind l.rows) l.lines

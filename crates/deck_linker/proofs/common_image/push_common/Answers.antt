@@ -1,17 +1,19 @@
-use Rattle.std.proofs.Common.{◌≡◌, ◌∙◌, ◌^◌, [], ap}
-use Rattle.parcel_packer.specs.Filling.{as_stored}
-use Rattle.definitions.specs.Image.{common_words}
-use Rattle.deck_linker.proofs.TextLaws.{on_ok_along}
-use Rattle.parcel_packer.proofs.OverLaws.{some_stored}
-use Rattle.deck_linker.proofs.ImageLaws.{section-written, some_words}
+use Rattle.std.proofs.Common.{◌≡◌, ◌<◌, ◌∙◌, Some, None, ap, subst, sym}
+use Rattle.deck_linker.specs.CommonWords.{common_place}
+use Rattle.deck_linker.proofs.CommonSteps.{no_place, place-within}
 use Rattle.deck_linker.proofs.common_image.push_common.Goals as goal
 
-pub returns : goal.returns
-returns c =
-    let layout = c.args.layout.now in
-    let words = c.in_ok-words.words.items in
-    let all : as_stored words ≡ common_words layout c.args.common.now.name layout.decks [] = c.in_ok-words.ensures.words ∙ ap (λ name. common_words layout name c.decks.result.now []) c.name.ensures ∙ ap (λ decks. common_words layout c.args.common.now.name decks []) c.decks.ensures in
-    on_ok_along c.push_words.result _ _ _
-    (section-written layout c.args.common.now c.args.text.now c.push_head.new.text c.name-2.result.now c.base.result c.base-2.result (as_stored words) _ c.is_past.result c.if-is_past.false c.is_past.ensures
-    all (λ none. some_words words c.as_slice.result.now _ c.if-is_empty.ensures c.as_slice.ensures.len c.as_slice.ensures.value (some_stored 0 (2 ^ 20) words c.in_ok-words.ensures.rise none)) (ap as_stored c.as_slice.ensures.value) c.in_ok-push_head.ensures c.name-2.ensures c.base.ensures c.base-2.ensures)
-    c.push_words.ensures
+pub push_placed-requires-clause-place : goal.push_placed-requires-clause-place
+push_placed-requires-clause-place c = ap (λ name. common_place name c.args.layout.now.commons) (sym c.name.ensures) ∙ sym c.common_place.ensures ∙ c.in-Some.is
+
+pub push_placed-requires-clause-within : goal.push_placed-requires-clause-within
+push_placed-requires-clause-within c =
+    let commons = c.args.layout.now.commons in
+    let there : common_place c.args.common.now.name commons ≡ Some c.in-Some.place = ap (λ name. common_place name commons) (sym c.name.ensures) ∙ sym c.common_place.ensures ∙ c.in-Some.is in
+    subst (λ count. c.in-Some.place < count) (sym c.requires.words.same) (place-within c.args.common.now.name commons c.in-Some.place there)
+
+pub returns-in-None : goal.returns-in-None
+returns-in-None c =
+    let commons = c.args.layout.now.commons in
+    let none : common_place c.args.common.now.name commons ≡ None = ap (λ name. common_place name commons) (sym c.name.ensures) ∙ sym c.common_place.ensures ∙ c.in-None.is in
+    absurd (no_place (common_place c.args.common.now.name commons) c.requires.there none)

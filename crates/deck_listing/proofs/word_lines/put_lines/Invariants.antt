@@ -2,9 +2,9 @@ use Rattle.std.proofs.Common.{List, drop}
 use Rattle.definitions.specs.Cards.{Card}
 use Rattle.definitions.specs.Objects.{Object}
 use Rattle.deck_assembler.specs.PartsOf.{ArePartsOf}
-use Rattle.deck_listing.specs.Walking.{IsWalked}
+use Rattle.deck_listing.specs.Walking.{AreWalked}
 use Rattle.deck_listing.proofs.word_lines.put_lines.Given as goal
 
 abbrev pub invariant-loop-line : goal.invariant-loop-line
 invariant-loop-line g l = (cards : List Card) (object : Object) → ArePartsOf cards l.parts object →
-    IsWalked l.parts.kind l.parts.bases l.parts.items.items (g.L.Linking.linking l.linking) l.name object.coded (drop l.line-index l.line-items) l.words
+    AreWalked l.parts.kind l.parts.bases l.parts.items.items (g.L.Linking.linking l.linking) object.coded (drop l.line-index l.line-items) l.blocks.items

@@ -1,0 +1,52 @@
+use Rattle.std.proofs.Common.{◌≡◌, ◌∙◌, List, false, ap, sym, subst}
+use Rattle.std.specs.Prelude.{reverse}
+use Rattle.std.specs.List.{AllZip}
+use Rattle.std.proofs.lemmas.Result.{on_ok_weaker}
+use Rattle.definitions.proofs.BlockLaws.{object-blocks}
+use Rattle.definitions.specs.Lengths.{BlockRow}
+use Rattle.definitions.specs.Link.{linking_of}
+use Rattle.definitions.specs.Objects.{Object}
+use Rattle.definitions.specs.declared.deck_kind.DeckKind.{DeckKind}
+use Rattle.deck_assembler.specs.CodedLines.{AreCoded}
+use Rattle.deck_listing.specs.BlockWords.{AreBlockWords, AreWordsOf}
+use Rattle.deck_listing.specs.Walking.{DoNamesDiffer}
+use Rattle.deck_linker.specs.CommonWords.{has_row}
+use Rattle.deck_linker.proofs.CommonSteps.{StoresNowhere, deck-none, deck-rows}
+use Rattle.deck_linker.proofs.ElsewhereLaws.{stored-nowhere}
+use Rattle.deck_linker.proofs.common_words.put_deck.Goals as goal
+
+pub put_rows-requires-clause-names : goal.put_rows-requires-clause-names
+put_rows-requires-clause-names c =
+    let same = c.rows-rows.ensures ∙ c.parts.ensures.parts.1.rows ∙ ap (λ (object : Object). object.rows) (sym c.object.ensures) in
+    subst DoNamesDiffer (sym same) (object-blocks c.object.result.now)
+
+pub put_rows-requires-clause-words : goal.put_rows-requires-clause-words
+put_rows-requires-clause-words c =
+    let linking = linking_of c.args.layout.now c.args.based.now in
+    let same = c.rows-rows.ensures ∙ c.parts.ensures.parts.1.rows in
+    subst (λ rows. AllZip (AreWordsOf linking c.args.based.now.object) rows c.as_slice.result.now) (sym same)
+    (subst (AreBlockWords linking c.args.based.now.object) (sym c.as_slice.ensures.value) (subst (λ object. AreBlockWords linking object c.in_ok-blocks.blocks.items) c.object.ensures c.in_ok-blocks.ensures))
+
+pub returns-then-not-has_common : goal.returns-then-not-has_common
+returns-then-not-has_common c =
+    let layout = c.args.layout.now in
+    let based = c.args.based.now in
+    let parts = c.parts.result.now in
+    let facts = c.parts.ensures.parts.1 in
+    let rows = c.rows-rows.result.now in
+    let Coded : DeckKind → Type 0 = λ kind. AreCoded kind parts.bases parts.items.items parts.lines.items (reverse based.object.coded) in
+    let nowhere : StoresNowhere layout based rows =
+    λ name none. stored-nowhere based.object.kind (linking_of layout based) name parts.bases parts.items.items parts.lines.items based.object.coded (subst (λ (rs : List BlockRow). has_row name rs ≡ false) c.rows-rows.ensures none) (subst Coded facts.kind facts.coded) in
+    deck-none layout based rows c.args.lists.now.items nowhere (sym c.has_common.ensures ∙ c.if-not-has_common.true) c.requires.lists
+
+pub returns : goal.returns
+returns c =
+    let layout = c.args.layout.now in
+    let based = c.args.based.now in
+    let parts = c.parts.result.now in
+    let facts = c.parts.ensures.parts.1 in
+    let rows = c.rows-rows.result.now in
+    let Coded : DeckKind → Type 0 = λ kind. AreCoded kind parts.bases parts.items.items parts.lines.items (reverse based.object.coded) in
+    let nowhere : StoresNowhere layout based rows =
+    λ name none. stored-nowhere based.object.kind (linking_of layout based) name parts.bases parts.items.items parts.lines.items based.object.coded (subst (λ (rs : List BlockRow). has_row name rs ≡ false) c.rows-rows.ensures none) (subst Coded facts.kind facts.coded) in
+    on_ok_weaker c.put_rows.result (deck-rows layout based rows c.args.lists.now.items c.put_rows.new.lists.items nowhere) c.put_rows.ensures

@@ -1,0 +1,13 @@
+use Rattle.std.proofs.Common.{◌≡◌, ◌++◌, List, take}
+use Rattle.std.specs.List.{AllZip}
+use Rattle.definitions.specs.Cards.{Card}
+use Rattle.definitions.specs.Objects.{Object}
+use Rattle.definitions.specs.Words.{Linking}
+use Rattle.deck_assembler.specs.PartsOf.{ArePartsOf}
+use Rattle.deck_listing.specs.BlockWords.{AreWordsOf}
+use Rattle.deck_listing.specs.ImageWordLines.{lines_of, rows_words}
+use Rattle.deck_listing.proofs.section_words.push_blocks.Given as goal
+
+abbrev pub invariant-loop-index : goal.invariant-loop-index
+invariant-loop-index l = (linking : Linking) (cards : List Card) (object : Object) → ArePartsOf cards l.parts object → AllZip (AreWordsOf linking object) l.rows l.blocks →
+    l.text ≡ l.initial.text ++ lines_of object.kind (rows_words linking object l.base (take l.index l.rows))

@@ -1,0 +1,46 @@
+use Rattle.std.proofs.Common.{◌*◌, List, ◌∙◌, subst, sym}
+use Rattle.std.proofs.lemmas.Result.{on_ok_weaker}
+use Rattle.definitions.specs.Kinds.{unit_bits}
+use Rattle.definitions.specs.Operations.{is_instruction}
+use Rattle.definitions.proofs.TextLaws.{same_text-refl}
+use Rattle.statement_coder.specs.declared.items.Item as code
+use Rattle.operations.specs.OperationsAs.{operation_as}
+use Rattle.deck_assembler.specs.LineItems.{kept_items}
+use Rattle.deck_listing.specs.Putting.{ArePut, IsReady}
+use Rattle.deck_listing.proofs.LineSteps.{follows-ready}
+use Rattle.deck_listing.proofs.RunSteps.{begun-runs, joined-runs, on_ok_by}
+use Rattle.deck_listing.proofs.word_lines.put_next.Goals as goal
+
+pub put_line-requires : goal.put_line-requires
+put_line-requires g c =
+    let parts = c.args.parts.now in
+    let coded = c.requires.coded in
+    let line = c.args.line.now in
+    let Ready : List code.Item → Type 0 = λ items. IsReady parts.kind items line c.args.words.now in
+    subst Ready (sym c.as_slice.ensures.value)
+    (follows-ready parts.kind parts.bases parts.items.items (g.L.Linking.linking c.args.linking.now) coded.settled.block line c.args.words.now coded c.requires.earlier c.requires.follows
+    (same_text-refl coded.settled.block) c.if-line.false)
+
+pub returns-then-line : goal.returns-then-line
+returns-then-line g c =
+    let parts = c.args.parts.now in
+    on_ok_weaker c.begin_run.result
+    (λ begun coded before follows.
+    begun-runs parts.kind (g.L.Linking.linking c.args.linking.now) coded.settled.block c.args.words.now c.begin_run.new.self coded before follows.runs (same_text-refl coded.settled.block)
+    (sym follows.is_coded.begins_run ∙ c.if-line.true) begun)
+    c.begin_run.ensures.begun
+
+pub returns : goal.returns
+returns g c =
+    let parts = c.args.parts.now in
+    let line = c.args.line.now in
+    let linking = g.L.Linking.linking c.args.linking.now in
+    let old = c.args.words.now in
+    let new = c.put_line.new.words in
+    let Put : List code.Item → Type 0 =
+    λ items. ArePut (unit_bits parts.kind) (is_instruction (operation_as line.operation)) linking old.run (unit_bits parts.kind * line.place) (kept_items parts.kind items line) new.run in
+    on_ok_by c.put_line.result _ _ _ _
+    (λ kind earlier put coded before follows.
+    joined-runs parts.kind parts.bases parts.items.items linking coded.settled.block line old new coded before follows (same_text-refl coded.settled.block) c.if-line.false kind earlier
+    (subst Put c.as_slice.ensures.value put))
+    c.put_line.ensures.kind c.put_line.ensures.earlier c.put_line.ensures.put
