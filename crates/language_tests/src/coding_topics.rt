@@ -7,52 +7,50 @@ use expr_forms::{
     CountedItem, Expr, Field, Shape, characters_number, coded_in, counted_item_in,
     counted_item_word, item_literal, item_number, number_literal,
 };
-use std::alloc::{AllocError, Global};
 
-pub fn answer(alloc: Global, topic: &str, text: &str) -> Result<Option<String>, AllocError> {
-    let mut answer = Answer::new(alloc);
+/// Whether this is one of the topics here; what is found of the text is then in the answer.
+pub fn answer(answer: &mut Answer, topic: &str, text: &str) -> bool {
     match topic {
-        "items" => counted_item(&mut answer, text)?,
-        "values_in_fields" => coded(&mut answer, text)?,
-        "number_literals" => answer.octal(number_literal(signed(text)))?,
-        "characters" => characters(&mut answer, text.as_bytes())?,
-        "widths" => width(&mut answer, text)?,
-        _ => return Ok(None),
+        "items" => counted_item(answer, text),
+        "values_in_fields" => coded(answer, text),
+        "number_literals" => answer.octal(number_literal(signed(text))),
+        "characters" => characters(answer, text.as_bytes()),
+        "widths" => width(answer, text),
+        _ => return false,
     }
-    Ok(Some(answer.into_text()))
+    true
 }
 
 /// What an item with this letter gives: in a field of 60 bits, as words, as a literal and as a number.
-fn counted_item(answer: &mut Answer, text: &str) -> Result<(), AllocError> {
+fn counted_item(answer: &mut Answer, text: &str) {
     let (letter, characters) = cut(text);
     let letter = letter.as_bytes().first().copied().unwrap_or(b' ');
     let Some(item) = CountedItem::read(letter, characters.as_bytes()) else {
         return answer.word("no item");
     };
     match counted_item_in(60, &item) {
-        Some(bits) => answer.octal(bits)?,
-        None => answer.word("too long")?,
+        Some(bits) => answer.octal(bits),
+        None => answer.word("too long"),
     }
-    answer.octal(item_literal(&item))?;
+    answer.octal(item_literal(&item));
     match item_number(&item) {
-        Ok(number) => answer.octal(number)?,
-        Err(letter) => answer.debug(&letter)?,
+        Ok(number) => answer.octal(number),
+        Err(letter) => answer.debug(&letter),
     }
     words_of_item(answer, &item)
 }
 
 /// The words that an item fills.
-fn words_of_item(answer: &mut Answer, item: &CountedItem<'_>) -> Result<(), AllocError> {
+fn words_of_item(answer: &mut Answer, item: &CountedItem<'_>) {
     let words = item.words_needed(DeckKind::Rel);
-    answer.word("words")?;
+    answer.word("words");
     for index in 0..words {
-        answer.octal(counted_item_word(item, DeckKind::Rel, index))?;
+        answer.octal(counted_item_word(item, DeckKind::Rel, index));
     }
-    Ok(())
 }
 
 /// A value in a field of so many bits.
-fn coded(answer: &mut Answer, text: &str) -> Result<(), AllocError> {
+fn coded(answer: &mut Answer, text: &str) {
     let (width, value) = cut(text);
     let width = small(width);
     let value = i64::from_str_radix(value, 8).unwrap_or(0);
@@ -65,7 +63,7 @@ fn coded(answer: &mut Answer, text: &str) -> Result<(), AllocError> {
     }
 }
 
-fn characters(answer: &mut Answer, characters: &[u8]) -> Result<(), AllocError> {
+fn characters(answer: &mut Answer, characters: &[u8]) {
     if characters.len() > 10 {
         return answer.word("too long");
     }
@@ -101,7 +99,7 @@ pub fn shape_of(text: &str) -> Option<Shape<'_>> {
 }
 
 /// The bits of an instruction.
-fn width(answer: &mut Answer, text: &str) -> Result<(), AllocError> {
+fn width(answer: &mut Answer, text: &str) {
     match shape_of(text) {
         Some(shape) => answer.decimal(u64::from(shape.width())),
         None => answer.word("no such row"),

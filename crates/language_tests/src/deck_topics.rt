@@ -5,29 +5,44 @@ use crate::expression_topics::form;
 use crate::inputs::{cut, size};
 use crate::item_topics::item;
 use crate::outputs::Answer;
-use crate::statement_topics::bases_shown;
-use cards::{Card, DeckName};
+use crate::statement_topics::{bases_shown, meter};
+use cards::{Card, DeckName, Edit};
 use deck_assembler::{CodedLine, Line, LineFields, ObjectParts, Piece, SizedDeck, object_parts};
 use edit_core::{Kept, RecordFault};
 use statement_coder::Meter;
 use std::alloc::{AllocError, Global};
 
-pub fn answer(alloc: Global, topic: &str, text: &str) -> Result<Option<String>, AllocError> {
-    let mut answer = Answer::new(alloc);
-    let cards = repeated_cards(alloc, text)?;
-    if cards.len() > 20_000 {
-        return Ok(None);
-    }
+/// Whether this is one of the topics here; what is found of the text is then in the answer.
+pub fn answer(answer: &mut Answer, topic: &str, text: &str) -> Result<bool, AllocError> {
     match topic {
-        "sized_decks" => sized(alloc, &mut answer, cards.as_slice())?,
-        "symbols_of_decks" => values(alloc, &mut answer, cards.as_slice())?,
-        "lines_of_decks" => coded(alloc, &mut answer, cards.as_slice(), false)?,
-        "parts_of_decks" => coded(alloc, &mut answer, cards.as_slice(), true)?,
-        "records" => record(alloc, &mut answer, cards)?,
-        "record_edits" => record_edits(alloc, &mut answer, text)?,
-        _ => return Ok(None),
+        "sized_decks" | "symbols_of_decks" | "lines_of_decks" | "parts_of_decks" => {
+            deck(answer, topic, text)?;
+        }
+        "records" => record(answer, text)?,
+        "record_edits" => record_edits(answer, text)?,
+        _ => return Ok(false),
     }
-    Ok(Some(answer.into_text()))
+    Ok(true)
+}
+
+/// What a topic tells of the deck of these lines.
+fn deck(answer: &mut Answer, topic: &str, text: &str) -> Result<(), AllocError> {
+    let cards = repeated_cards(answer.alloc, text)?;
+    let mut done = Meter { sized: 0, coded: 0 };
+    let deck = SizedDeck::new(answer.alloc, &cards, &mut done)?;
+    match topic {
+        "sized_decks" => {
+            sized(answer, &deck);
+            meter(answer, &done);
+        }
+        "symbols_of_decks" => values(answer, &deck),
+        _ if cards.len() > 20_000 => answer.word("too many"),
+        _ => {
+            let parts = object_parts(answer.alloc, &cards, &deck, &mut done)?;
+            object(answer, topic, &parts, &done);
+        }
+    }
+    Ok(())
 }
 
 /// The cards of lines; a line such as `#3 CARD` stands for three cards.
@@ -47,84 +62,71 @@ pub fn repeated_cards(alloc: Global, text: &str) -> Result<Vec<Card>, AllocError
     Ok(cards)
 }
 
-fn meter(answer: &mut Answer, meter: &Meter) -> Result<(), AllocError> {
-    answer.word("done")?;
-    answer.decimal(meter.sized)?;
-    answer.decimal(meter.coded)
-}
-
 /// How many statements a piece has, the state that it begins with, and for few statements the cards
 /// of each and where it ends, if it has a place.
-fn piece(answer: &mut Answer, piece: &Piece) -> Result<(), AllocError> {
-    answer.word("; piece")?;
-    answer.decimal(piece.statements().len() as u64)?;
-    answer.decimal(u64::from(piece.state().block().position().end()))?;
-    answer.either(piece.state().block().position().asks(), "asks", "-")?;
-    answer.debug(&piece.state().number_base())?;
+fn piece(answer: &mut Answer, piece: &Piece) {
+    answer.word("; piece");
+    answer.decimal(piece.statements().len() as u64);
+    answer.decimal(u64::from(piece.state().block().position().end()));
+    answer.either(piece.state().block().position().asks(), "asks", "-");
+    answer.debug(&piece.state().number_base());
     if piece.statements().len() > 10 {
-        return Ok(());
+        return;
     }
     for statement in piece.statements() {
-        answer.decimal(u64::from(statement.cards))?;
+        answer.decimal(u64::from(statement.cards));
         if statement.sizing.is_placed {
-            answer.word("to")?;
-            answer.decimal(u64::from(statement.sizing.end))?;
+            answer.word("to");
+            answer.decimal(u64::from(statement.sizing.end));
         }
     }
-    Ok(())
 }
 
 /// A deck as it is sized: its pieces, the cards behind its end, its literals and its blocks.
-fn sized(alloc: Global, answer: &mut Answer, cards: &[Card]) -> Result<(), AllocError> {
-    let mut done = Meter { sized: 0, coded: 0 };
-    let deck = SizedDeck::new(alloc, cards, &mut done)?;
-    answer.debug(&deck.kind())?;
+fn sized(answer: &mut Answer, deck: &SizedDeck) {
+    answer.debug(&deck.kind());
     for found in deck.pieces() {
-        piece(answer, found)?;
+        piece(answer, found);
     }
-    answer.word("; behind")?;
+    answer.word("; behind");
     for count in deck.behind() {
-        answer.decimal(u64::from(*count))?;
+        answer.decimal(u64::from(*count));
     }
-    answer.word("; literals")?;
+    answer.word("; literals");
     for word in deck.literals().words() {
-        answer.octal(*word)?;
+        answer.octal(*word);
     }
-    answer.word("; blocks")?;
+    answer.word("; blocks");
     for block in deck.lengths().blocks() {
-        answer.bare(block.name().as_slice())?;
-        answer.decimal(u64::from(block.words()))?;
+        answer.bare(block.name().as_slice());
+        answer.decimal(u64::from(block.words()));
     }
-    answer.word(";")?;
-    meter(answer, &done)
+    answer.word(";");
 }
 
 /// The values of the symbols N, A, B, BUFFER and SUB of a deck.
-fn values(alloc: Global, answer: &mut Answer, cards: &[Card]) -> Result<(), AllocError> {
-    let mut done = Meter { sized: 0, coded: 0 };
-    let deck = SizedDeck::new(alloc, cards, &mut done)?;
+fn values(answer: &mut Answer, deck: &SizedDeck) {
     for name in ["N", "A", "B", "BUFFER", "SUB"] {
-        answer.word(name)?;
+        answer.word(name);
         match deck.symbols().value(name.as_bytes()) {
-            Some(value) => form(answer, &value)?,
-            None => answer.word("none")?,
+            Some(value) => form(answer, &value),
+            None => answer.word("none"),
         }
     }
-    Ok(())
 }
 
-fn coded_line(answer: &mut Answer, line: &CodedLine) -> Result<(), AllocError> {
-    answer.debug(&line.operation)?;
-    answer.decimal(u64::from(line.block))?;
-    answer.decimal(u64::from(line.place))?;
-    answer.decimal(u64::from(line.end))?;
-    answer.either(line.begins_run, "run", "-")?;
+fn coded_line(answer: &mut Answer, line: &CodedLine) {
+    answer.debug(&line.operation);
+    answer.decimal(u64::from(line.block));
+    answer.decimal(u64::from(line.place));
+    answer.decimal(u64::from(line.end));
+    answer.either(line.begins_run, "run", "-");
     match line.fields {
         LineFields::Absent => answer.word("absent"),
         LineFields::Known(bits) => answer.octal(bits),
         LineFields::Listed { first, count } => {
-            answer.word("listed")?;
-            answer.decimal(u64::from(first))?;
+            answer.word("listed");
+            answer.decimal(u64::from(first));
             answer.decimal(u64::from(count))
         }
         LineFields::Zeros => answer.word("zeros"),
@@ -132,121 +134,133 @@ fn coded_line(answer: &mut Answer, line: &CodedLine) -> Result<(), AllocError> {
 }
 
 /// How many cards a line has, its letters, and what it stores.
-fn line(answer: &mut Answer, line: &Line) -> Result<(), AllocError> {
-    answer.word(";")?;
-    answer.decimal(u64::from(line.cards))?;
-    answer.quoted(line.letters.text().as_slice())?;
+fn line(answer: &mut Answer, line: &Line) {
+    answer.word(";");
+    answer.decimal(u64::from(line.cards));
+    answer.quoted(line.letters.text().as_slice());
     match &line.coded {
         Some(coded) => coded_line(answer, coded),
         None => answer.word("none"),
     }
 }
 
-/// The lines of a deck's object, or its fields and names.
-fn coded(
-    alloc: Global,
-    answer: &mut Answer,
-    cards: &[Card],
-    parts: bool,
-) -> Result<(), AllocError> {
-    if cards.len() > 20_000 {
-        return answer.word("too many");
+/// The lines of a deck's object and what was done, or its fields and names.
+fn object(answer: &mut Answer, topic: &str, parts: &ObjectParts, done: &Meter) {
+    if topic == "parts_of_decks" {
+        return names(answer, parts);
     }
-    let mut done = Meter { sized: 0, coded: 0 };
-    let deck = SizedDeck::new(alloc, cards, &mut done)?;
-    let found = object_parts(alloc, cards, &deck, &mut done)?;
-    if parts {
-        return names(answer, &found);
+    answer.debug(&parts.kind);
+    for coded in &parts.lines {
+        line(answer, coded);
     }
-    answer.debug(&found.kind)?;
-    for coded in &found.lines {
-        line(answer, coded)?;
-    }
-    answer.word(";")?;
-    meter(answer, &done)
+    answer.word(";");
+    meter(answer, done)
 }
 
 /// The fields, the entries, the externals, the literals and the blocks of an object.
-fn names(answer: &mut Answer, parts: &ObjectParts) -> Result<(), AllocError> {
+fn names(answer: &mut Answer, parts: &ObjectParts) {
     for field in &parts.items {
-        item(answer, field)?;
-        answer.word(";")?;
+        item(answer, field);
+        answer.word(";");
     }
     for entry in &parts.entries {
-        answer.word("entry")?;
-        answer.bare(entry.name().as_slice())?;
-        form(answer, &entry.form())?;
+        answer.word("entry");
+        answer.bare(entry.name().as_slice());
+        form(answer, &entry.form());
     }
     for name in &parts.externals {
-        answer.word("external")?;
-        answer.bare(name.as_slice())?;
+        answer.word("external");
+        answer.bare(name.as_slice());
     }
-    answer.word("literals")?;
+    answer.word("literals");
     for word in &parts.literals {
-        answer.octal(*word)?;
+        answer.octal(*word);
     }
     bases_shown(answer, &parts.bases)
 }
 
+/// The record of a deck named M, if it has at most 20,000 cards.
+fn record_of(
+    answer: &mut Answer,
+    cards: Vec<Card>,
+    done: &mut Meter,
+) -> Result<Option<Kept>, AllocError> {
+    match DeckName::read(b"M") {
+        Ok(name) if cards.len() <= 20_000 => Ok(Some(Kept::new(answer.alloc, name, cards, done)?)),
+        _ => {
+            answer.word("no record");
+            Ok(None)
+        }
+    }
+}
+
 /// The record of a deck: its name, its cards, how many statements its pieces have, what was done,
 /// and how many lines its object has.
-fn record(alloc: Global, answer: &mut Answer, cards: Vec<Card>) -> Result<(), AllocError> {
-    let Ok(name) = DeckName::read(b"M") else {
-        return answer.word("no name");
-    };
-    if cards.len() > 20_000 {
-        return answer.word("too many");
-    }
+fn record(answer: &mut Answer, text: &str) -> Result<(), AllocError> {
     let mut done = Meter { sized: 0, coded: 0 };
-    let kept = Kept::new(alloc, name, cards, &mut done)?;
-    answer.bare(kept.name().as_slice())?;
-    answer.decimal(kept.cards().len() as u64)?;
-    answer.debug(&kept.pieces())?;
-    answer.either(kept.is_spent(), "spent", "-")?;
-    meter(answer, &done)?;
+    let cards = repeated_cards(answer.alloc, text)?;
+    if let Some(kept) = record_of(answer, cards, &mut done)? {
+        answer.bare(kept.name().as_slice());
+        answer.decimal(kept.cards().len() as u64);
+        answer.debug(&kept.pieces());
+        answer.either(kept.is_spent(), "spent", "-");
+        meter(answer, &done);
+        finished(answer, kept, false);
+    }
+    Ok(())
+}
+
+/// How many cards the object of a record has, or how many lines.
+fn finished(answer: &mut Answer, kept: Kept, is_of_cards: bool) {
     match kept.finish() {
+        Ok(object) if is_of_cards => answer.decimal(object.object().cards().len() as u64),
         Ok(object) => answer.decimal(object.object().parts().lines.len() as u64),
         Err(_) => answer.word("no object"),
     }
 }
 
-/// Makes the edits of words such as `R20`, the card at place 20 goes, and `I20`, a card more at place 20.
-fn edited(alloc: Global, answer: &mut Answer, kept: Kept, words: &str) -> Result<(), AllocError> {
-    let mut kept = kept;
-    let mut done = Meter { sized: 0, coded: 0 };
-    for edit in &edits_of(alloc, words, b"          DATA   1")? {
-        match kept.edit(alloc, edit, &mut done) {
-            Ok(()) => answer.word("made")?,
-            Err(RecordFault::OutOfMemory) => return Err(AllocError),
-            Err(fault) => answer.debug(&fault)?,
-        }
+/// Makes an edit.
+fn edited(
+    answer: &mut Answer,
+    kept: &mut Kept,
+    edit: &Edit,
+    done: &mut Meter,
+) -> Result<(), AllocError> {
+    match kept.edit(answer.alloc, edit, done) {
+        Ok(()) => answer.word("made"),
+        Err(RecordFault::OutOfMemory) => return Err(AllocError),
+        Err(fault) => answer.debug(&fault),
     }
-    meter(answer, &done)?;
-    answer.decimal(kept.cards().len() as u64)?;
-    answer.decimal(kept.pieces().len() as u64)?;
-    answer.debug(&kept.pieces().first())?;
-    match kept.finish() {
-        Ok(object) => answer.decimal(object.object().cards().len() as u64),
-        Err(_) => answer.word("no object"),
-    }
+    Ok(())
 }
 
-/// Edits of the record of a deck of comment cards: how many cards, and the edits.
-fn record_edits(alloc: Global, answer: &mut Answer, text: &str) -> Result<(), AllocError> {
+/// Edits of the record of a deck of comment cards: how many cards, and the edits, such as `R20`, the
+/// card at place 20 goes, and `I20`, a card more at place 20.
+fn record_edits(answer: &mut Answer, text: &str) -> Result<(), AllocError> {
     let (count, words) = cut(text);
+    let mut done = Meter { sized: 0, coded: 0 };
+    let cards = comment_cards(answer.alloc, count)?;
+    if let Some(mut kept) = record_of(answer, cards, &mut done)? {
+        let mut done = Meter { sized: 0, coded: 0 };
+        for edit in &edits_of(answer.alloc, words, b"          DATA   1")? {
+            edited(answer, &mut kept, edit, &mut done)?;
+        }
+        meter(answer, &done);
+        answer.decimal(kept.cards().len() as u64);
+        answer.decimal(kept.pieces().len() as u64);
+        answer.debug(&kept.pieces().first());
+        finished(answer, kept, true);
+    }
+    Ok(())
+}
+
+/// So many comment cards.
+fn comment_cards(alloc: Global, count: &str) -> Result<Vec<Card>, AllocError> {
     let mut cards = Vec::new(alloc);
     for _ in 0..size(count).min(20_000) {
         if let Ok(card) = Card::read(b"*A") {
             cards.push(card)?;
         }
     }
-    let Ok(name) = DeckName::read(b"M") else {
-        return answer.word("no name");
-    };
-    if cards.len() > 20_000 {
-        return answer.word("too many");
-    }
-    let mut done = Meter { sized: 0, coded: 0 };
-    let kept = Kept::new(alloc, name, cards, &mut done)?;
-    edited(alloc, answer, kept, words)
+    Ok(cards)
 }

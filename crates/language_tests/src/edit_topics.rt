@@ -5,15 +5,15 @@ use crate::outputs::Answer;
 use cards::{Card, Edit, apply, fault_of, first_fault};
 use std::alloc::{AllocError, Global};
 
-pub fn answer(alloc: Global, topic: &str, text: &str) -> Result<Option<String>, AllocError> {
-    let mut answer = Answer::new(alloc);
+/// Whether this is one of the topics here; what is found of the text is then in the answer.
+pub fn answer(answer: &mut Answer, topic: &str, text: &str) -> Result<bool, AllocError> {
     match topic {
-        "edit_faults" => fault(alloc, &mut answer, text)?,
-        "first_faults" => first(alloc, &mut answer, text)?,
-        "edits" => edited(alloc, &mut answer, text)?,
-        _ => return Ok(None),
+        "edit_faults" => fault(answer, text)?,
+        "first_faults" => first(answer, text)?,
+        "edits" => edited(answer, text)?,
+        _ => return Ok(false),
     }
-    Ok(Some(answer.into_text()))
+    Ok(true)
 }
 
 /// The edits of words such as `I20`, this card comes in at place 20, and `R20`, the card at place 20 goes.
@@ -37,29 +37,31 @@ fn deck_and_edits(alloc: Global, text: &str) -> Result<(usize, Vec<Edit>), Alloc
 }
 
 /// The fault of each edit of a deck with so many cards.
-fn fault(alloc: Global, answer: &mut Answer, text: &str) -> Result<(), AllocError> {
-    let (count, edits) = deck_and_edits(alloc, text)?;
+fn fault(answer: &mut Answer, text: &str) -> Result<(), AllocError> {
+    let (count, edits) = deck_and_edits(answer.alloc, text)?;
     for edit in &edits {
-        answer.debug(&fault_of(edit, count))?;
+        answer.debug(&fault_of(edit, count));
     }
     Ok(())
 }
 
 /// The first fault of edits that are made one behind the other.
-fn first(alloc: Global, answer: &mut Answer, text: &str) -> Result<(), AllocError> {
-    let (count, edits) = deck_and_edits(alloc, text)?;
-    answer.debug(&first_fault(&edits, count))
+fn first(answer: &mut Answer, text: &str) -> Result<(), AllocError> {
+    let (count, edits) = deck_and_edits(answer.alloc, text)?;
+    answer.debug(&first_fault(&edits, count));
+    Ok(())
 }
 
 /// How many cards there are behind each edit of an empty deck.
-fn edited(alloc: Global, answer: &mut Answer, text: &str) -> Result<(), AllocError> {
-    let mut cards = Vec::new(alloc);
-    for edit in &edits_of(alloc, text, b" NO")? {
+fn edited(answer: &mut Answer, text: &str) -> Result<(), AllocError> {
+    let mut cards = Vec::new(answer.alloc);
+    for edit in &edits_of(answer.alloc, text, b" NO")? {
         if fault_of(edit, cards.len()).is_some() {
-            return answer.word("does not apply");
+            answer.word("does not apply");
+            return Ok(());
         }
         apply(&mut cards, edit)?;
-        answer.decimal(cards.len() as u64)?;
+        answer.decimal(cards.len() as u64);
     }
     Ok(())
 }

@@ -7,149 +7,131 @@ use expr_forms::{
     BitFields, ConWords, DataWords, Datum, DisText, LinkedNames, Number, Operand, Subfields,
     UseField, dis_text, is_symbol, number_base, operand, use_field,
 };
-use std::alloc::{AllocError, Global};
 
 /// How many subfields are looked at, at most.
 const MOST: usize = 8;
 
-pub fn answer(alloc: Global, topic: &str, text: &str) -> Result<Option<String>, AllocError> {
-    let mut answer = Answer::new(alloc);
+/// Whether this is one of the topics here; what is found of the text is then in the answer.
+pub fn answer(answer: &mut Answer, topic: &str, text: &str) -> bool {
     let bytes = text.as_bytes();
     if bytes.len() > 711 {
-        return Ok(None);
+        return false;
     }
     match topic {
-        "subfields" => subfields(&mut answer, Subfields::new(bytes).copied())?,
-        "operands" => operands(&mut answer, operand(bytes, NumberBase::Decimal))?,
-        "data" => data(&mut answer, DataWords::read(bytes, NumberBase::Decimal))?,
-        "octal_data" => data(&mut answer, DataWords::read(bytes, NumberBase::Octal))?,
-        "con" => con(
-            &mut answer,
-            ConWords::read(bytes, false, NumberBase::Decimal),
-        )?,
-        "con_literals" => con(
-            &mut answer,
-            ConWords::read(bytes, true, NumberBase::Decimal),
-        )?,
-        "vfd" => bit_fields(
-            &mut answer,
-            BitFields::read(bytes, true, NumberBase::Decimal),
-        )?,
-        "dis" | "octal_dis_periph" => dis(&mut answer, topic, bytes)?,
-        "entries" => entries(&mut answer, LinkedNames::new(bytes).copied())?,
-        "uses" => block_used(&mut answer, text)?,
-        "bases" => answer.debug(&number_base(bytes))?,
-        "are_symbols" => answer.debug(&is_symbol(bytes))?,
-        _ => return Ok(None),
+        "subfields" => subfields(answer, Subfields::new(bytes).copied()),
+        "operands" => operands(answer, operand(bytes, NumberBase::Decimal)),
+        "data" => data(answer, DataWords::read(bytes, NumberBase::Decimal)),
+        "octal_data" => data(answer, DataWords::read(bytes, NumberBase::Octal)),
+        "con" => con(answer, ConWords::read(bytes, false, NumberBase::Decimal)),
+        "con_literals" => con(answer, ConWords::read(bytes, true, NumberBase::Decimal)),
+        "vfd" => bit_fields(answer, BitFields::read(bytes, true, NumberBase::Decimal)),
+        "dis" | "octal_dis_periph" => dis(answer, topic, bytes),
+        "entries" => entries(answer, LinkedNames::new(bytes).copied()),
+        "uses" => block_used(answer, text),
+        "bases" => answer.debug(&number_base(bytes)),
+        "are_symbols" => answer.debug(&is_symbol(bytes)),
+        _ => return false,
     }
-    Ok(Some(answer.into_text()))
+    true
 }
 
-fn subfields(answer: &mut Answer, mut subfields: Subfields<'_>) -> Result<(), AllocError> {
+fn subfields(answer: &mut Answer, mut subfields: Subfields<'_>) {
     for _ in 0..MOST {
         if let Some(text) = subfields.next() {
-            answer.quoted(text)?;
+            answer.quoted(text);
         }
     }
-    Ok(())
 }
 
 /// The texts of an operand's subfields.
-fn operands(answer: &mut Answer, found: Result<Operand<'_>, Letter>) -> Result<(), AllocError> {
+fn operands(answer: &mut Answer, found: Result<Operand<'_>, Letter>) {
     match &found {
         Ok(Operand::One(first)) => answer.quoted(first.text),
         Ok(Operand::Two(first, second)) => {
-            answer.quoted(first.text)?;
+            answer.quoted(first.text);
             answer.quoted(second.text)
         }
         Ok(Operand::Three(first, second, third)) => {
-            answer.quoted(first.text)?;
-            answer.quoted(second.text)?;
+            answer.quoted(first.text);
+            answer.quoted(second.text);
             answer.quoted(third.text)
         }
         Err(letter) => answer.debug(letter),
     }
 }
 
-fn datum(answer: &mut Answer, datum: &Datum<'_>) -> Result<(), AllocError> {
+fn datum(answer: &mut Answer, datum: &Datum<'_>) {
     match datum {
         Datum::Zero => answer.word("zero"),
         Datum::Number(sign, number) => {
-            answer.debug(sign)?;
+            answer.debug(sign);
             match number {
                 Number::Value(size) => answer.decimal(size.value),
                 Number::TooGreat => answer.word("too great"),
             }
         }
         Datum::Item(item) => {
-            answer.bare(&[item.letter])?;
+            answer.bare(&[item.letter]);
             answer.quoted(item.characters)
         }
         Datum::Expression(expression) => {
             let mut links = expression.links();
-            answer.word("links")?;
+            answer.word("links");
             for _ in 0..MOST {
                 if let Some(link) = links.next() {
-                    answer.debug(&link.operator)?;
+                    answer.debug(&link.operator);
                 }
             }
-            Ok(())
         }
     }
 }
 
-fn data(answer: &mut Answer, words: Result<DataWords<'_>, Letter>) -> Result<(), AllocError> {
+fn data(answer: &mut Answer, words: Result<DataWords<'_>, Letter>) {
     match words {
         Ok(words) => {
             let mut words = words.copied();
             for _ in 0..MOST {
                 if let Some(found) = words.next() {
-                    datum(answer, &found)?;
+                    datum(answer, &found);
                 }
             }
-            Ok(())
         }
         Err(letter) => answer.debug(&letter),
     }
 }
 
-fn con(answer: &mut Answer, words: Result<ConWords<'_>, Letter>) -> Result<(), AllocError> {
+fn con(answer: &mut Answer, words: Result<ConWords<'_>, Letter>) {
     match words {
         Ok(words) => {
             let mut words = words.copied();
             for _ in 0..MOST {
                 if let Some(found) = words.next() {
-                    datum(answer, &found)?;
+                    datum(answer, &found);
                 }
             }
-            Ok(())
         }
         Err(letter) => answer.debug(&letter),
     }
 }
 
 /// The width of each field, and whether it has a value.
-fn bit_fields(
-    answer: &mut Answer,
-    fields: Result<BitFields<'_>, Letter>,
-) -> Result<(), AllocError> {
+fn bit_fields(answer: &mut Answer, fields: Result<BitFields<'_>, Letter>) {
     match fields {
         Ok(fields) => {
             let mut fields = fields.copied();
             for _ in 0..MOST {
                 if let Some(field) = fields.next() {
-                    answer.decimal(u64::from(field.width))?;
-                    answer.either(field.value.is_some(), "value", "-")?;
+                    answer.decimal(u64::from(field.width));
+                    answer.either(field.value.is_some(), "value", "-");
                 }
             }
-            Ok(())
         }
         Err(letter) => answer.debug(&letter),
     }
 }
 
 /// How many words a text has, and its characters.
-fn dis(answer: &mut Answer, topic: &str, field: &[u8]) -> Result<(), AllocError> {
+fn dis(answer: &mut Answer, topic: &str, field: &[u8]) {
     let found = if topic == "dis" {
         dis_text(field, NumberBase::Decimal, DeckKind::Rel)
     } else {
@@ -161,8 +143,8 @@ fn dis(answer: &mut Answer, topic: &str, field: &[u8]) -> Result<(), AllocError>
     }
 }
 
-fn dis_characters(answer: &mut Answer, text: &DisText<'_>) -> Result<(), AllocError> {
-    answer.decimal(text.words() as u64)?;
+fn dis_characters(answer: &mut Answer, text: &DisText<'_>) {
+    answer.decimal(text.words() as u64);
     let mut characters = [b' '; 40];
     let len = text.len().min(characters.len());
     for (index, place) in characters.iter_mut().enumerate() {
@@ -174,19 +156,18 @@ fn dis_characters(answer: &mut Answer, text: &DisText<'_>) -> Result<(), AllocEr
 }
 
 /// The names of an ENTRY or EXT, and `none` for each subfield that is no name.
-fn entries(answer: &mut Answer, mut names: LinkedNames<'_>) -> Result<(), AllocError> {
+fn entries(answer: &mut Answer, mut names: LinkedNames<'_>) {
     for _ in 0..MOST {
         match names.next() {
-            Some(Some(name)) => answer.bare(name)?,
-            Some(None) => answer.word("none")?,
-            None => return Ok(()),
+            Some(Some(name)) => answer.bare(name),
+            Some(None) => answer.word("none"),
+            None => return,
         }
     }
-    Ok(())
 }
 
 /// What a USE with this field does in a deck of a kind.
-fn block_used(answer: &mut Answer, text: &str) -> Result<(), AllocError> {
+fn block_used(answer: &mut Answer, text: &str) {
     let (kind, field) = cut(text);
     let kind = match kind {
         "ABS" => DeckKind::Abs,

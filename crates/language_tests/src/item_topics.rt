@@ -12,51 +12,46 @@ use statement_coder::{
     Content, InstructionItems, Item, bit_field_item, count_item, displacement_item,
     expression_item, instruction_items, number_item, shift_item, value_item, zeros_to_word,
 };
-use std::alloc::{AllocError, Global};
 
-pub fn answer(alloc: Global, topic: &str, text: &str) -> Result<Option<String>, AllocError> {
-    let mut answer = Answer::new(alloc);
+/// Whether this is one of the topics here; what is found of the text is then in the answer.
+pub fn answer(answer: &mut Answer, topic: &str, text: &str) -> bool {
     match topic {
         "item_fields" => return item_field(answer, text),
-        "negative_numbers" => negative(&mut answer, text)?,
-        "zeros" => zeros(&mut answer, text)?,
-        "instruction_fields" => instruction_field(&mut answer, text)?,
-        _ => return Ok(None),
+        "negative_numbers" => negative(answer, text),
+        "zeros" => zeros(answer, text),
+        "instruction_fields" => instruction_field(answer, text),
+        _ => return false,
     }
-    Ok(Some(answer.into_text()))
+    true
 }
 
 /// The width of a field and its bits, or the form that is left to the link, and its letter.
-pub fn item(answer: &mut Answer, item: &Item) -> Result<(), AllocError> {
-    answer.decimal(u64::from(item.width))?;
+pub fn item(answer: &mut Answer, item: &Item) {
+    answer.decimal(u64::from(item.width));
     match &item.content {
-        Content::Known(bits) => answer.octal(*bits)?,
+        Content::Known(bits) => answer.octal(*bits),
         Content::Linked(left) => {
-            answer.word("linked")?;
-            form(answer, left)?;
+            answer.word("linked");
+            form(answer, left);
         }
     }
     match &item.letter {
         Some(letter) => answer.debug(letter),
-        None => Ok(()),
+        None => {},
     }
 }
 
 /// The fields of an instruction.
-pub fn fields_of_instruction(
-    answer: &mut Answer,
-    items: &InstructionItems,
-) -> Result<(), AllocError> {
-    item(answer, &items.digits)?;
+pub fn fields_of_instruction(answer: &mut Answer, items: &InstructionItems) {
+    item(answer, &items.digits);
     if let Some(first) = &items.first {
-        answer.word(";")?;
-        item(answer, first)?;
+        answer.word(";");
+        item(answer, first);
     }
     if let Some(second) = &items.second {
-        answer.word(";")?;
-        item(answer, second)?;
+        answer.word(";");
+        item(answer, second);
     }
-    Ok(())
 }
 
 /// A word of block A.
@@ -79,11 +74,11 @@ fn names_of_block() -> KnownNames {
 }
 
 /// The field of a kind, which an expression gives.
-fn item_field(mut answer: Answer, text: &str) -> Result<Option<String>, AllocError> {
+fn item_field(answer: &mut Answer, text: &str) -> bool {
     let (kind, text) = cut(text);
     let names = names_of_block();
     let Ok(expression) = expression(text) else {
-        return Ok(None);
+        return false;
     };
     let found = match kind {
         "count" => count_item(&names, &expression),
@@ -93,14 +88,14 @@ fn item_field(mut answer: Answer, text: &str) -> Result<Option<String>, AllocErr
         "rel17" => value_item(DeckKind::Rel, &OneBlock, 17, Ok(in_block(5))),
         "abs18" => bit_field_item(DeckKind::Abs, &OneBlock, &names, 18, &Some(expression)),
         "rel18" => bit_field_item(DeckKind::Rel, &OneBlock, &names, 18, &Some(expression)),
-        _ => return Ok(None),
+        _ => return false,
     };
-    item(&mut answer, &found)?;
-    Ok(Some(answer.into_text()))
+    item(answer, &found);
+    true
 }
 
 /// A field of so many bits with minus 1.
-fn negative(answer: &mut Answer, width: &str) -> Result<(), AllocError> {
+fn negative(answer: &mut Answer, width: &str) {
     let width = small(width);
     if width < 1 || width > 60 {
         return answer.word("no such row");
@@ -110,7 +105,7 @@ fn negative(answer: &mut Answer, width: &str) -> Result<(), AllocError> {
 }
 
 /// The zeros behind so many bits of a deck of a kind.
-fn zeros(answer: &mut Answer, text: &str) -> Result<(), AllocError> {
+fn zeros(answer: &mut Answer, text: &str) {
     let (kind, bits) = cut(text);
     let kind = if kind == "REL" {
         DeckKind::Rel
@@ -121,7 +116,7 @@ fn zeros(answer: &mut Answer, text: &str) -> Result<(), AllocError> {
 }
 
 /// The fields of an instruction with a field of a kind.
-fn instruction_field(answer: &mut Answer, text: &str) -> Result<(), AllocError> {
+fn instruction_field(answer: &mut Answer, text: &str) {
     let kind = if text.starts_with("mask") {
         DeckKind::Rel
     } else {

@@ -10,16 +10,17 @@ use expr_forms::Name;
 use statement_coder::Meter;
 use std::alloc::{AllocError, Global};
 
-pub fn answer(alloc: Global, topic: &str, text: &str) -> Result<Option<String>, AllocError> {
-    let mut answer = Answer::new(alloc);
+/// Whether this is one of the topics here; what is found of the text is then in the answer.
+pub fn answer(answer: &mut Answer, topic: &str, text: &str) -> Result<bool, AllocError> {
     match topic {
-        "listings" => listing(&mut answer, &published(alloc, text)?)?,
-        "ends_of_listings" => end_of_listing(&mut answer, &published(alloc, text)?)?,
-        "images" => image(&mut answer, &published(alloc, text)?)?,
-        "layouts" => layout(alloc, &mut answer)?,
-        _ => return Ok(None),
+        "listings" | "ends_of_listings" | "images" => {
+            let publication = published(answer.alloc, text)?;
+            shown(answer, topic, &publication);
+        }
+        "layouts" => layout(answer)?,
+        _ => return Ok(false),
     }
-    Ok(Some(answer.into_text()))
+    Ok(true)
 }
 
 /// The object of a deck.
@@ -46,40 +47,43 @@ fn published(alloc: Global, text: &str) -> Result<Publication, AllocError> {
 }
 
 /// The version, and how many decks, lines with errors and LINK lines there are.
-fn counts(answer: &mut Answer, publication: &Publication) -> Result<(), AllocError> {
-    answer.decimal(publication.version())?;
-    answer.decimal(publication.objects().len() as u64)?;
-    answer.decimal(publication.errors())?;
+fn counts(answer: &mut Answer, publication: &Publication) {
+    answer.decimal(publication.version());
+    answer.decimal(publication.objects().len() as u64);
+    answer.decimal(publication.errors());
     answer.decimal(publication.links() as u64)
-}
-
-fn listing(answer: &mut Answer, publication: &Publication) -> Result<(), AllocError> {
-    counts(answer, publication)?;
-    answer.quoted(publication.listing())
 }
 
 /// How many characters of a listing's end are looked at.
 const END: usize = 160;
 
-fn end_of_listing(answer: &mut Answer, publication: &Publication) -> Result<(), AllocError> {
+fn end_of_listing(answer: &mut Answer, publication: &Publication) {
     let text = publication.listing();
     answer.quoted(text.split_at(text.len().saturating_sub(END)).1)
 }
 
-fn image(answer: &mut Answer, publication: &Publication) -> Result<(), AllocError> {
-    counts(answer, publication)?;
-    answer.quoted(publication.image())
+/// The listing, its end, or the image.
+fn shown(answer: &mut Answer, topic: &str, publication: &Publication) {
+    if topic == "ends_of_listings" {
+        return end_of_listing(answer, publication);
+    }
+    counts(answer, publication);
+    match topic {
+        "listings" => answer.quoted(publication.listing()),
+        _ => answer.quoted(publication.image()),
+    }
 }
 
 /// The layout of no decks: its decks and common blocks, an entry, and the base of a common block.
-fn layout(alloc: Global, answer: &mut Answer) -> Result<(), AllocError> {
-    let layout = Layout::new(alloc, Vec::new(alloc))?;
-    answer.decimal(layout.decks().len() as u64)?;
-    answer.decimal(layout.commons().len() as u64)?;
+fn layout(answer: &mut Answer) -> Result<(), AllocError> {
+    let layout = Layout::new(answer.alloc, Vec::new(answer.alloc))?;
+    answer.decimal(layout.decks().len() as u64);
+    answer.decimal(layout.commons().len() as u64);
     answer.either(
         layout.entered(&Name::new(b"A")).is_none(),
         "none",
         "entered",
-    )?;
-    answer.debug(&layout.common_base(&Name::new(b"/C/")))
+    );
+    answer.debug(&layout.common_base(&Name::new(b"/C/")));
+    Ok(())
 }

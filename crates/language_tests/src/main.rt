@@ -25,6 +25,7 @@ mod port_topics;
 mod statement_topics;
 mod tables;
 
+use outputs::Answer;
 use std::alloc::{AllocError, AllocGlobal, Global};
 use std::io;
 use std::process::ExitCode;
@@ -117,60 +118,46 @@ const TOPICS: [&str; 79] = [
 /// The status where a table can't be read.
 const NO_TABLE_STATUS: u8 = 2;
 
-/// What ports, cards, edits and operations make of a text.
-fn lower_answer(alloc: Global, topic: &str, text: &str) -> Result<Option<String>, AllocError> {
-    if let Some(found) = port_topics::answer(alloc, topic, text)? {
-        return Ok(Some(found));
-    }
-    if let Some(found) = card_topics::answer(alloc, topic, text)? {
-        return Ok(Some(found));
-    }
-    if let Some(found) = edit_topics::answer(alloc, topic, text)? {
-        return Ok(Some(found));
-    }
-    operation_topics::answer(alloc, topic, text)
+/// Answers what ports, cards, edits and operations make of a text, where the topic is one of theirs.
+fn lower_answer(answer: &mut Answer, topic: &str, text: &str) -> Result<bool, AllocError> {
+    Ok(
+        port_topics::answer(answer, topic, text)?
+            || card_topics::answer(answer, topic, text)?
+            || edit_topics::answer(answer, topic, text)?
+            || operation_topics::answer(answer, topic, text)?,
+    )
 }
 
-/// What variable fields, items, blocks and places make of a text.
-fn field_answer(alloc: Global, topic: &str, text: &str) -> Result<Option<String>, AllocError> {
-    if let Some(found) = field_topics::answer(alloc, topic, text)? {
-        return Ok(Some(found));
-    }
-    if let Some(found) = coding_topics::answer(alloc, topic, text)? {
-        return Ok(Some(found));
-    }
-    block_topics::answer(alloc, topic, text)
+/// Answers what variable fields, items, blocks and places make of a text, where the topic is one of theirs.
+fn field_answer(answer: &mut Answer, topic: &str, text: &str) -> Result<bool, AllocError> {
+    Ok(
+        field_topics::answer(answer, topic, text)
+            || coding_topics::answer(answer, topic, text)
+            || block_topics::answer(answer, topic, text)?,
+    )
 }
 
-/// What items, statements, decks, links and, for all other topics, expressions make of a text.
-fn upper_answer(alloc: Global, topic: &str, text: &str) -> Result<Option<String>, AllocError> {
-    if let Some(found) = item_topics::answer(alloc, topic, text)? {
-        return Ok(Some(found));
-    }
-    if let Some(found) = statement_topics::answer(alloc, topic, text)? {
-        return Ok(Some(found));
-    }
-    if let Some(found) = link_topics::answer(alloc, topic, text)? {
-        return Ok(Some(found));
-    }
-    if let Some(found) = deck_topics::answer(alloc, topic, text)? {
-        return Ok(Some(found));
-    }
-    expression_topics::answer(alloc, topic, text)
+/// Answers what items, statements, decks, links and, for all other topics, expressions make of a text.
+fn upper_answer(answer: &mut Answer, topic: &str, text: &str) -> Result<bool, AllocError> {
+    Ok(
+        item_topics::answer(answer, topic, text)
+            || statement_topics::answer(answer, topic, text)?
+            || link_topics::answer(answer, topic, text)?
+            || deck_topics::answer(answer, topic, text)?
+            || expression_topics::answer(answer, topic, text),
+    )
 }
 
 /// What the topic's layer makes of a text.
 fn answer(alloc: Global, topic: &str, text: &str) -> Result<String, AllocError> {
-    if let Some(found) = lower_answer(alloc, topic, text)? {
-        return Ok(found);
+    let mut answer = Answer::new(alloc);
+    let is_known = lower_answer(&mut answer, topic, text)?
+        || field_answer(&mut answer, topic, text)?
+        || upper_answer(&mut answer, topic, text)?;
+    if !is_known {
+        answer.word("no such topic");
     }
-    if let Some(found) = field_answer(alloc, topic, text)? {
-        return Ok(found);
-    }
-    if let Some(found) = upper_answer(alloc, topic, text)? {
-        return Ok(found);
-    }
-    String::from_str(alloc, "no such topic")
+    answer.into_text()
 }
 
 /// Whether what is found for a row is as wanted; a line tells where it is not.

@@ -6,29 +6,29 @@ use cpu_opcodes::{Code, RegistersFound, central_rows, ignoring_rows, is_central,
 use definitions::{Letter, NumberBase};
 use expr_forms::{Field, Operand, Shape, operand};
 use operations::{KindSearch, Letters, Operation, is_end, number_base_set, pseudo_instruction};
-use std::alloc::{AllocError, Global};
+use std::alloc::AllocError;
 
-pub fn answer(alloc: Global, topic: &str, text: &str) -> Result<Option<String>, AllocError> {
-    let mut answer = Answer::new(alloc);
+/// Whether this is one of the topics here; what is found of the text is then in the answer.
+pub fn answer(answer: &mut Answer, topic: &str, text: &str) -> Result<bool, AllocError> {
     match topic {
-        "operations" => operation(&mut answer, text)?,
-        "classes" => classes(&mut answer, text)?,
-        "deck_kinds" => deck_kind(&mut answer, text)?,
-        "settings" => settings(&mut answer, text)?,
-        "letters" => letters(&mut answer, text)?,
-        "central_codes" => central_codes(&mut answer, text)?,
-        "central_tables" => central_table(&mut answer, text)?,
-        "central_digits" => central_digits(alloc, &mut answer, text)?,
-        "central" | "peripheral" | "peripheral_codes" => instruction(&mut answer, topic, text)?,
-        "central_ignoring" => shown(&mut answer, cpu_opcodes::ignoring(text.as_bytes()))?,
-        "peripheral_ignoring" => shown(&mut answer, ppu_opcodes::ignoring(text.as_bytes()))?,
-        _ => return Ok(None),
+        "operations" => operation(answer, text),
+        "classes" => classes(answer, text),
+        "deck_kinds" => deck_kind(answer, text),
+        "settings" => settings(answer, text),
+        "letters" => letters(answer, text),
+        "central_codes" => central_codes(answer, text),
+        "central_tables" => central_table(answer, text),
+        "central_digits" => central_digits(answer, text)?,
+        "central" | "peripheral" | "peripheral_codes" => instruction(answer, topic, text),
+        "central_ignoring" => shown(answer, cpu_opcodes::ignoring(text.as_bytes())),
+        "peripheral_ignoring" => shown(answer, ppu_opcodes::ignoring(text.as_bytes())),
+        _ => return Ok(false),
     }
-    Ok(Some(answer.into_text()))
+    Ok(true)
 }
 
 /// The pseudo instruction of a name.
-fn operation(answer: &mut Answer, name: &str) -> Result<(), AllocError> {
+fn operation(answer: &mut Answer, name: &str) {
     match pseudo_instruction(name.as_bytes()) {
         Some(operation) => answer.debug(&operation),
         None => answer.word("none"),
@@ -45,31 +45,31 @@ fn operation_named(name: &str) -> Operation {
 }
 
 /// The classes of the operation with this name.
-fn classes(answer: &mut Answer, name: &str) -> Result<(), AllocError> {
+fn classes(answer: &mut Answer, name: &str) {
     let found = operation_named(name);
-    answer.either(found.is_neutral(), "neutral", "-")?;
-    answer.either(found.is_instruction(), "instruction", "-")?;
-    answer.either(found.is_data(), "data", "-")?;
-    answer.either(found.is_reserving(), "reserving", "-")?;
-    answer.either(found.is_machine(), "machine", "-")?;
-    answer.either(found.has_place(), "placed", "-")?;
+    answer.either(found.is_neutral(), "neutral", "-");
+    answer.either(found.is_instruction(), "instruction", "-");
+    answer.either(found.is_data(), "data", "-");
+    answer.either(found.is_reserving(), "reserving", "-");
+    answer.either(found.is_machine(), "machine", "-");
+    answer.either(found.has_place(), "placed", "-");
     answer.either(found.is_labelled(), "labelled", "-")
 }
 
 /// The kind of a deck whose statements have these operations.
-fn deck_kind(answer: &mut Answer, text: &str) -> Result<(), AllocError> {
+fn deck_kind(answer: &mut Answer, text: &str) {
     let mut search = KindSearch::new();
     for name in text.split_whitespace() {
         search.read(name.as_bytes());
     }
-    answer.either(search.is_found(), "found", "-")?;
+    answer.either(search.is_found(), "found", "-");
     answer.debug(&search.kind())
 }
 
 /// Whether an operation ends a deck, and the base that it sets with a variable field.
-fn settings(answer: &mut Answer, text: &str) -> Result<(), AllocError> {
+fn settings(answer: &mut Answer, text: &str) {
     let (name, variable) = cut(text);
-    answer.either(is_end(name.as_bytes()), "end", "-")?;
+    answer.either(is_end(name.as_bytes()), "end", "-");
     answer.debug(&number_base_set(name.as_bytes(), variable.as_bytes()))
 }
 
@@ -82,7 +82,7 @@ fn letter_of(text: &str) -> Letter {
 }
 
 /// The text of the letters A, O or V: two of them together, and a third.
-fn letters(answer: &mut Answer, text: &str) -> Result<(), AllocError> {
+fn letters(answer: &mut Answer, text: &str) {
     let (first, rest) = cut(text);
     let (second, third) = cut(rest);
     let flags = Letters::of(letter_of(first)).with(letter_of(second));
@@ -90,7 +90,7 @@ fn letters(answer: &mut Answer, text: &str) -> Result<(), AllocError> {
     answer.bare(flags.union(&others).copied().text().as_slice())
 }
 
-fn code(answer: &mut Answer, code: &Code) -> Result<(), AllocError> {
+fn code(answer: &mut Answer, code: &Code) {
     match code {
         Code::Short(digits) => answer.bare(digits.as_slice()),
         Code::Long(digits) => answer.bare(digits.as_slice()),
@@ -98,17 +98,16 @@ fn code(answer: &mut Answer, code: &Code) -> Result<(), AllocError> {
 }
 
 /// The codes of an operation's rows, without those whose operand is a sum.
-fn central_codes(answer: &mut Answer, name: &str) -> Result<(), AllocError> {
+fn central_codes(answer: &mut Answer, name: &str) {
     let rows = central_rows(name.as_bytes());
-    answer.decimal(rows.len() as u64)?;
+    answer.decimal(rows.len() as u64);
     for row in rows {
-        code(answer, &row.form.code)?;
+        code(answer, &row.form.code);
     }
-    Ok(())
 }
 
 /// How many rows ignore the operand, or have a sum, or whether there are rows.
-fn central_table(answer: &mut Answer, text: &str) -> Result<(), AllocError> {
+fn central_table(answer: &mut Answer, text: &str) {
     let (table, name) = cut(text);
     match table {
         "ignoring" => answer.decimal(ignoring_rows(name.as_bytes()).len() as u64),
@@ -126,17 +125,18 @@ fn code_of(characters: &[u8]) -> Option<Code> {
 }
 
 /// The digits of a code with i 6, j 1 and k 2.
-fn central_digits(alloc: Global, answer: &mut Answer, text: &str) -> Result<(), AllocError> {
-    let characters = bytes_of(alloc, text)?;
+fn central_digits(answer: &mut Answer, text: &str) -> Result<(), AllocError> {
+    let characters = bytes_of(answer.alloc, text)?;
     let registers = RegistersFound { i: 6, j: 1, k: 2 };
     match code_of(characters.as_slice()) {
         Some(code) => {
             let digits = code.digits(registers);
-            answer.octal(digits.number)?;
+            answer.octal(digits.number);
             answer.decimal(digits.count as u64)
         }
         None => answer.word("no code"),
     }
+    Ok(())
 }
 
 /// What stands in an instruction's field.
@@ -156,14 +156,14 @@ fn field_word(field: &Field<'_>) -> &'static str {
 }
 
 /// The octal digits of an instruction, how many they are, its field, and its bits.
-fn shape(answer: &mut Answer, shape: &Shape<'_>) -> Result<(), AllocError> {
-    answer.octal(u64::from(shape.digits))?;
-    answer.decimal(u64::from(shape.digit_count))?;
-    answer.word(field_word(&shape.field))?;
+fn shape(answer: &mut Answer, shape: &Shape<'_>) {
+    answer.octal(u64::from(shape.digits));
+    answer.decimal(u64::from(shape.digit_count));
+    answer.word(field_word(&shape.field));
     answer.decimal(u64::from(shape.width()))
 }
 
-fn shown(answer: &mut Answer, found: Option<Shape<'_>>) -> Result<(), AllocError> {
+fn shown(answer: &mut Answer, found: Option<Shape<'_>>) {
     match found {
         Some(found) => shape(answer, &found),
         None => answer.word("none"),
@@ -179,7 +179,7 @@ fn search<'a>(topic: &str, name: &str, read: &Operand<'a>) -> Result<Shape<'a>, 
 }
 
 /// The instruction of an operation and a variable field, or the letter of what is wrong.
-fn instruction(answer: &mut Answer, topic: &str, text: &str) -> Result<(), AllocError> {
+fn instruction(answer: &mut Answer, topic: &str, text: &str) {
     let (name, field) = cut(text);
     let field = field.as_bytes();
     if field.len() > 711 {

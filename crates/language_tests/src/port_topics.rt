@@ -2,108 +2,104 @@
 
 use crate::inputs::{bytes_of, cut, octal, size, small};
 use crate::outputs::Answer;
-use std::alloc::{AllocError, Global};
+use std::alloc::AllocError;
 use text_ports::{
     Broken, Counted, FaultyReader, FaultyWriter, LineBuf, LineIs, ShortText, Text, char_of,
     display_of, has_display_code, next_line, put_all,
 };
 
-pub fn answer(alloc: Global, topic: &str, text: &str) -> Result<Option<String>, AllocError> {
-    let found = match topic {
-        "displays" => display(alloc, text)?,
-        "octals" => digits(alloc, text)?,
-        "lines" => lines(alloc, text)?,
-        "writes" => write(alloc, text)?,
-        "texts" => grown_text(alloc, text)?,
-        "short_texts" => short_text(alloc, text)?,
-        _ => return Ok(None),
-    };
-    Ok(Some(found))
+/// Whether this is one of the topics here; what is found of the text is then in the answer.
+pub fn answer(answer: &mut Answer, topic: &str, text: &str) -> Result<bool, AllocError> {
+    match topic {
+        "displays" => display(answer, text)?,
+        "octals" => digits(answer, text),
+        "lines" => lines(answer, text)?,
+        "writes" => write(answer, text),
+        "texts" => grown_text(answer, text)?,
+        "short_texts" => short_text(answer, text),
+        _ => return Ok(false),
+    }
+    Ok(true)
 }
 
 /// The display code of a byte, and the character of that code.
-fn display(alloc: Global, text: &str) -> Result<String, AllocError> {
-    let mut answer = Answer::new(alloc);
-    for byte in &bytes_of(alloc, text)? {
-        answer.either(has_display_code(*byte), "has", "none")?;
+fn display(answer: &mut Answer, text: &str) -> Result<(), AllocError> {
+    for byte in &bytes_of(answer.alloc, text)? {
+        answer.either(has_display_code(*byte), "has", "none");
         if let Some(code) = display_of(*byte) {
-            answer.octal(u64::from(code))?;
+            answer.octal(u64::from(code));
             if code < 64 {
-                answer.quoted(&[char_of(code)])?;
+                answer.quoted(&[char_of(code)]);
             }
         }
     }
-    Ok(answer.into_text())
+    Ok(())
 }
 
 /// So many octal digits of an octal number.
-fn digits(alloc: Global, text: &str) -> Result<String, AllocError> {
+fn digits(answer: &mut Answer, text: &str) {
     let (count, number) = cut(text);
-    let mut answer = Answer::new(alloc);
     let number = octal(number);
     match size(count) {
-        0 if number == 0 => answer.quoted(text_ports::octal(0, 0).as_slice())?,
-        3 if number < 512 => answer.quoted(text_ports::octal(number, 3).as_slice())?,
-        20 if number < 1 << 60 => answer.quoted(text_ports::octal(number, 20).as_slice())?,
-        _ => answer.word("no such row")?,
+        0 if number == 0 => answer.quoted(text_ports::octal(0, 0).as_slice()),
+        3 if number < 512 => answer.quoted(text_ports::octal(number, 3).as_slice()),
+        20 if number < 1 << 60 => answer.quoted(text_ports::octal(number, 20).as_slice()),
+        _ => answer.word("no such row"),
     }
-    Ok(answer.into_text())
 }
 
 /// How often a line is asked for at most.
 const MOST_LINES: usize = 8;
 
 /// The lines that a reader gives, up to its end; it gives a byte a call and fails at one call.
-fn lines(alloc: Global, text: &str) -> Result<String, AllocError> {
+fn lines(answer: &mut Answer, text: &str) -> Result<(), AllocError> {
     let (fails_at, text) = cut(text);
-    let bytes = bytes_of(alloc, text)?;
+    let bytes = bytes_of(answer.alloc, text)?;
     let fails_at = u64::from(small(fails_at));
     let mut input = Counted::new(FaultyReader::new(bytes.as_slice(), 1, fails_at));
-    let mut answer = Answer::new(alloc);
     for _ in 0..MOST_LINES {
         let mut line = LineBuf::new();
         let outcome = next_line(&mut input, &mut line);
-        answer.debug(&outcome)?;
-        answer.quoted(line.as_slice())?;
+        answer.debug(&outcome);
+        answer.quoted(line.as_slice());
         if matches!(outcome, LineIs::End) {
             break;
         }
     }
-    answer.decimal(input.faults())?;
-    Ok(answer.into_text())
+    answer.decimal(input.faults());
+    Ok(())
 }
 
 /// What a writer takes of a text; it takes so many bytes a call and fails at one call.
-fn write(alloc: Global, text: &str) -> Result<String, AllocError> {
+fn write(answer: &mut Answer, text: &str) {
     let (fails_at, rest) = cut(text);
     let (piece, sent) = cut(rest);
-    let mut answer = Answer::new(alloc);
     if piece == "room" {
-        let mut room = [0; 8];
-        let mut output = Counted::new(room.as_mut_slice());
-        told(
-            &mut answer,
-            put_all(&mut output, sent.as_bytes()),
-            output.faults(),
-        )?;
-        return Ok(answer.into_text());
+        return write_to_room(answer, sent.as_bytes());
     }
     let piece = size(piece).max(1);
     let fails_at = u64::from(small(fails_at));
-    let mut output = Counted::new(FaultyWriter::new(alloc, piece, fails_at));
+    let mut output = Counted::new(FaultyWriter::new(answer.alloc, piece, fails_at));
     let outcome = put_all(&mut output, sent.as_bytes());
-    told(&mut answer, outcome, output.faults())?;
-    answer.quoted(output.into_inner().taken())?;
-    Ok(answer.into_text())
+    told(answer, outcome, output.faults());
+    answer.quoted(output.into_inner().taken());
+}
+
+/// What a writer with room for eight bytes takes.
+fn write_to_room(answer: &mut Answer, sent: &[u8]) {
+    let mut room = [0; 8];
+    let mut output = Counted::new(room.as_mut_slice());
+    let outcome = put_all(&mut output, sent);
+    told(answer, outcome, output.faults());
 }
 
 /// How a write ended, and how many faults there were.
-fn told(answer: &mut Answer, outcome: Result<(), Broken>, faults: u64) -> Result<(), AllocError> {
+fn told(answer: &mut Answer, outcome: Result<(), Broken>, faults: u64) {
     match outcome {
-        Ok(()) => answer.word("whole")?,
+        Ok(()) => answer.word("whole"),
         Err(Broken { sent }) => {
-            answer.word("broken")?;
-            answer.decimal(sent as u64)?;
+            answer.word("broken");
+            answer.decimal(sent as u64);
         }
     }
     answer.decimal(faults)
@@ -133,26 +129,23 @@ fn append(text: &mut Text, word: &str) -> Result<(), AllocError> {
 }
 
 /// A text that grows by what its words say.
-fn grown_text(alloc: Global, words: &str) -> Result<String, AllocError> {
-    let mut text = Text::with_room(alloc, 8)?;
+fn grown_text(answer: &mut Answer, words: &str) -> Result<(), AllocError> {
+    let mut text = Text::with_room(answer.alloc, 8)?;
     for word in words.split_whitespace() {
         append(&mut text, word)?;
     }
-    let mut answer = Answer::new(alloc);
-    answer.quoted(text.as_slice())?;
-    answer.decimal(text.len() as u64)?;
-    Ok(answer.into_text())
+    answer.quoted(text.as_slice());
+    answer.decimal(text.len() as u64);
+    Ok(())
 }
 
 /// The line of a word and of a number, which grows in front.
-fn short_text(alloc: Global, text: &str) -> Result<String, AllocError> {
+fn short_text(answer: &mut Answer, text: &str) {
     let (word, number) = cut(text);
     let mut line = ShortText::new();
     line.put_byte(b'\n');
     line.put_octal(20, octal(word));
     line.put_byte(b' ');
     line.put_padded(5, crate::inputs::decimal(number));
-    let mut answer = Answer::new(alloc);
-    answer.quoted(line.as_slice())?;
-    Ok(answer.into_text())
+    answer.quoted(line.as_slice());
 }

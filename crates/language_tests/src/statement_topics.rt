@@ -18,18 +18,17 @@ use use_blocks::{
     Bases, BlockState, Counting, Effect, Lengths, Literals, LocationSetting, location, origin,
 };
 
-pub fn answer(alloc: Global, topic: &str, text: &str) -> Result<Option<String>, AllocError> {
-    let mut answer = Answer::new(alloc);
+/// Whether this is one of the topics here; what is found of the text is then in the answer.
+pub fn answer(answer: &mut Answer, topic: &str, text: &str) -> Result<bool, AllocError> {
     match topic {
-        "sizes" => sized(alloc, &mut answer, text)?,
-        "codes" => coded(alloc, &mut answer, text)?,
-        "effects" => effects(alloc, &mut answer, text)?,
-        "states" => state(alloc, &mut answer, text)?,
-        "block_bases" => bases(alloc, &mut answer, text)?,
-        "counters" => counters(&mut answer, text)?,
-        _ => return Ok(None),
+        "sizes" | "codes" => one_card(answer, topic, text)?,
+        "effects" => effects(answer, text)?,
+        "states" => state(answer, text)?,
+        "block_bases" => bases(answer, text)?,
+        "counters" => counters(answer, text),
+        _ => return Ok(false),
     }
-    Ok(Some(answer.into_text()))
+    Ok(true)
 }
 
 /// Each symbol is 5, or none is defined; each literal stands at 1.
@@ -46,80 +45,91 @@ fn names(value: &str) -> KnownNames {
     }
 }
 
-fn meter(answer: &mut Answer, meter: &Meter) -> Result<(), AllocError> {
-    answer.word("done")?;
-    answer.decimal(meter.sized)?;
+pub fn meter(answer: &mut Answer, meter: &Meter) {
+    answer.word("done");
+    answer.decimal(meter.sized);
     answer.decimal(meter.coded)
 }
 
-fn defined(answer: &mut Answer, defines: &Defines) -> Result<(), AllocError> {
+fn defined(answer: &mut Answer, defines: &Defines) {
     match defines {
         Defines::Nothing => answer.word("nothing"),
         Defines::Symbol(value) => {
-            answer.word("symbol")?;
+            answer.word("symbol");
             form(answer, value)
         }
         Defines::Externals => answer.word("externals"),
     }
 }
 
-/// The sizing of one card behind no other, in a REL deck; the first word is the value of each symbol.
-fn sized(alloc: Global, answer: &mut Answer, text: &str) -> Result<(), AllocError> {
+/// One card behind no other, in a REL deck: its sizing or its code; the first word is the value of
+/// each symbol.
+fn one_card(answer: &mut Answer, topic: &str, text: &str) -> Result<(), AllocError> {
     let (value, line) = cut(text);
-    let Ok(card) = Card::read(line.as_bytes()) else {
-        return answer.word("no card");
-    };
-    let cards = [card];
-    let mut room = StatementRoom::new();
-    let statement = Statement::read(DeckKind::Rel, &cards, &mut room);
-    let state = BlockState::new(alloc)?;
-    let mut done = Meter { sized: 0, coded: 0 };
-    let sizing = size(&statement, &state, &names(value), &mut done);
-    sizing_shown(answer, &sizing)?;
-    meter(answer, &done)
+    match Card::read(line.as_bytes()) {
+        Ok(card) => one_statement(answer, topic == "codes", &names(value), &[card]),
+        Err(_) => {
+            answer.word("no card");
+            Ok(())
+        }
+    }
 }
 
-fn sizing_shown(answer: &mut Answer, sizing: &Sizing) -> Result<(), AllocError> {
-    answer.either(sizing.is_placed, "placed", "-")?;
-    answer.either(sizing.asks, "asks", "-")?;
-    answer.decimal(u64::from(sizing.place))?;
-    answer.decimal(u64::from(sizing.end))?;
-    answer.quoted(sizing.letters.text().as_slice())?;
+/// The sizing of the statement of a card, or its code, and what was done.
+fn one_statement(
+    answer: &mut Answer,
+    is_coded: bool,
+    symbols: &KnownNames,
+    cards: &[Card; 1],
+) -> Result<(), AllocError> {
+    let mut room = StatementRoom::new();
+    let statement = Statement::read(DeckKind::Rel, cards, &mut room);
+    let state = BlockState::new(answer.alloc)?;
+    let mut done = Meter { sized: 0, coded: 0 };
+    let sizing = size(&statement, &state, symbols, &mut done);
+    if is_coded {
+        coded(answer, &statement, &sizing, symbols, &mut done)?;
+    } else {
+        sizing_shown(answer, &sizing);
+    }
+    meter(answer, &done);
+    Ok(())
+}
+
+fn sizing_shown(answer: &mut Answer, sizing: &Sizing) {
+    answer.either(sizing.is_placed, "placed", "-");
+    answer.either(sizing.asks, "asks", "-");
+    answer.decimal(u64::from(sizing.place));
+    answer.decimal(u64::from(sizing.end));
+    answer.quoted(sizing.letters.text().as_slice());
     defined(answer, &sizing.defines)
 }
 
-/// The code of one card behind no other, in a REL deck; the first word is the value of each symbol.
-fn coded(alloc: Global, answer: &mut Answer, text: &str) -> Result<(), AllocError> {
-    let (value, line) = cut(text);
-    let Ok(card) = Card::read(line.as_bytes()) else {
-        return answer.word("no card");
-    };
-    let cards = [card];
-    let mut room = StatementRoom::new();
-    let statement = Statement::read(DeckKind::Rel, &cards, &mut room);
-    let state = BlockState::new(alloc)?;
-    let mut done = Meter { sized: 0, coded: 0 };
-    let symbols = names(value);
-    let sizing = size(&statement, &state, &symbols, &mut done);
-    let mut list = Vec::new(alloc);
-    let coded = code(
-        &statement, &sizing, &symbols, &NoBases, &mut list, &mut done,
-    )?;
-    coded_shown(answer, &coded)?;
+/// The code of a statement that was sized.
+fn coded(
+    answer: &mut Answer,
+    statement: &Statement<'_>,
+    sizing: &Sizing,
+    symbols: &KnownNames,
+    done: &mut Meter,
+) -> Result<(), AllocError> {
+    let mut list = Vec::new(answer.alloc);
+    let coded = code(statement, sizing, symbols, &NoBases, &mut list, done)?;
+    coded_shown(answer, &coded);
     for listed in &list {
-        answer.word(";")?;
-        item(answer, listed)?;
+        answer.word(";");
+        item(answer, listed);
     }
-    meter(answer, &done)
+    Ok(())
 }
 
-fn coded_shown(answer: &mut Answer, coded: &Coded) -> Result<(), AllocError> {
-    answer.quoted(coded.letters.text().as_slice())?;
+fn coded_shown(answer: &mut Answer, coded: &Coded) {
+    answer.quoted(coded.letters.text().as_slice());
     match &coded.items {
         CodedItems::Absent => answer.word("absent"),
         CodedItems::Instruction(items) => fields_of_instruction(answer, items),
         CodedItems::Listed(count) => {
-            answer.word("listed")?;
+            answer.word("listed");
             answer.decimal(*count as u64)
         }
         CodedItems::Zeros => answer.word("zeros"),
@@ -172,84 +182,86 @@ fn blocks_behind(alloc: Global, text: &str) -> Result<Blocks, AllocError> {
 
 /// The state behind cards: each block with its place and whether it asks for upper, the base, and
 /// the counters of an ABS deck at place 6.
-fn state(alloc: Global, answer: &mut Answer, text: &str) -> Result<(), AllocError> {
-    let state = blocks_behind(alloc, text)?.state;
+fn state(answer: &mut Answer, text: &str) -> Result<(), AllocError> {
+    let state = blocks_behind(answer.alloc, text)?.state;
     for block in state.blocks() {
-        answer.bare(block.name().as_slice())?;
-        answer.decimal(u64::from(block.position().end()))?;
-        answer.either(block.position().asks(), "asks", "-")?;
-        answer.either(block.counting().is_some(), "counts", "-")?;
+        answer.bare(block.name().as_slice());
+        answer.decimal(u64::from(block.position().end()));
+        answer.either(block.position().asks(), "asks", "-");
+        answer.either(block.counting().is_some(), "counts", "-");
     }
-    answer.debug(&state.number_base())?;
-    answer.either(state.is_neutral(), "neutral", "-")?;
-    answer.either(state.same(&state.copy(alloc)?), "same", "-")?;
-    form(answer, &state.origin(DeckKind::Abs, 6))?;
-    form(answer, &state.location(DeckKind::Abs, 6))
+    answer.debug(&state.number_base());
+    answer.either(state.is_neutral(), "neutral", "-");
+    answer.either(state.same(&state.copy(answer.alloc)?), "same", "-");
+    form(answer, &state.origin(DeckKind::Abs, 6));
+    form(answer, &state.location(DeckKind::Abs, 6));
+    Ok(())
 }
 
 /// The rows of the blocks behind cards, with the literals that the first line has.
-fn bases(alloc: Global, answer: &mut Answer, text: &str) -> Result<(), AllocError> {
+fn bases(answer: &mut Answer, text: &str) -> Result<(), AllocError> {
     let (words, cards) = text.split_once("\n").unwrap_or((text, ""));
-    let mut literals = Literals::new(alloc);
+    let mut literals = Literals::new(answer.alloc);
     for word in words.split_whitespace() {
         literals.add(octal(word))?;
     }
-    let lengths = blocks_behind(alloc, cards)?.lengths;
-    bases_shown(answer, &Bases::new(alloc, &lengths, &literals)?)
+    let lengths = blocks_behind(answer.alloc, cards)?.lengths;
+    bases_shown(answer, &Bases::new(answer.alloc, &lengths, &literals)?);
+    Ok(())
 }
 
 /// The base of each block, its words and its local words; the bases of B and of X; all local words.
-pub fn bases_shown(answer: &mut Answer, bases: &Bases) -> Result<(), AllocError> {
+pub fn bases_shown(answer: &mut Answer, bases: &Bases) {
     for row in bases.rows() {
-        answer.bare(row.name().as_slice())?;
-        answer.decimal(row.base())?;
-        answer.decimal(u64::from(row.words()))?;
-        answer.decimal(u64::from(row.local_words()))?;
-        answer.word(";")?;
+        answer.bare(row.name().as_slice());
+        answer.decimal(row.base());
+        answer.decimal(u64::from(row.words()));
+        answer.decimal(u64::from(row.local_words()));
+        answer.word(";");
     }
-    answer.word("B")?;
-    answer.decimal(bases.base(&Name::new(b"B")))?;
-    answer.word("X")?;
-    answer.decimal(bases.base(&Name::new(b"X")))?;
-    answer.word("words")?;
+    answer.word("B");
+    answer.decimal(bases.base(&Name::new(b"B")));
+    answer.word("X");
+    answer.decimal(bases.base(&Name::new(b"X")));
+    answer.word("words");
     answer.decimal(bases.total_length())
 }
 
 /// The effect of each card behind the others, the block in use then, and the lengths behind all.
-fn effects(alloc: Global, answer: &mut Answer, text: &str) -> Result<(), AllocError> {
-    let mut blocks = Blocks::new(alloc)?;
+fn effects(answer: &mut Answer, text: &str) -> Result<(), AllocError> {
+    let mut blocks = Blocks::new(answer.alloc)?;
     for line in text.lines() {
         if let Ok(card) = Card::read(line.as_bytes()) {
             let (after, effect) = blocks.behind(&[card])?;
             blocks = after;
-            effect_shown(answer, &effect)?;
-            answer.bare(blocks.state.block().name().as_slice())?;
-            answer.word(";")?;
+            effect_shown(answer, &effect);
+            answer.bare(blocks.state.block().name().as_slice());
+            answer.word(";");
         }
     }
-    answer.decimal(blocks.state.blocks().len() as u64)?;
+    answer.decimal(blocks.state.blocks().len() as u64);
     for block in blocks.lengths.blocks() {
-        answer.bare(block.name().as_slice())?;
-        answer.decimal(u64::from(block.words()))?;
+        answer.bare(block.name().as_slice());
+        answer.decimal(u64::from(block.words()));
     }
     Ok(())
 }
 
-fn effect_shown(answer: &mut Answer, effect: &Effect) -> Result<(), AllocError> {
+fn effect_shown(answer: &mut Answer, effect: &Effect) {
     if let Some(position) = effect.position {
-        answer.decimal(u64::from(position.end()))?;
-        answer.either(position.asks(), "asks", "-")?;
+        answer.decimal(u64::from(position.end()));
+        answer.either(position.asks(), "asks", "-");
     } else {
-        answer.word("nowhere")?;
+        answer.word("nowhere");
     }
-    answer.decimal(u64::from(effect.reached))?;
-    answer.debug(&effect.number_base)?;
-    answer.either(effect.neutral, "neutral", "-")?;
+    answer.decimal(u64::from(effect.reached));
+    answer.debug(&effect.number_base);
+    answer.either(effect.neutral, "neutral", "-");
     answer.either(effect.setting == LocationSetting::Unchanged, "-", "set")
 }
 
 /// The origin or the location counter at a place of a block; a LOC may have set 1000 octal at place 8.
-fn counters(answer: &mut Answer, text: &str) -> Result<(), AllocError> {
+fn counters(answer: &mut Answer, text: &str) {
     let (counter, rest) = cut(text);
     let (block, place) = cut(rest);
     if block.len() > 9 {
