@@ -2,3 +2,5 @@ pub mod LoadSteps
 pub mod SaveSteps
 pub mod FileSteps
 pub mod FolderSteps
+pub mod SaveFaults
+pub mod PathSteps

@@ -1,18 +1,15 @@
--- Decks as files of a folder (ours). Of a real file nothing is known but that it is some file.
-use Rattle.std.specs.Prelude.{ℕ, ◌≡◌, ◌<◌, ⊤, List, [], ◌∷◌, ◌++◌, Ok, codes, decimal, length}
-use Rattle.definitions.specs.Cards.{Card}
-use Rattle.deck_files.specs.declared.load_fault.LoadFault.{LoadFault}
-use Rattle.deck_files.specs.declared.deck_shelf.ShelfLoadFault.{ShelfLoadFault}
-use Rattle.deck_files.specs.declared.deck_shelf.ShelfLoadFault.TheVariants as loading
-use Rattle.deck_files.specs.declared.deck_shelf.ShelfSaveFault.{ShelfSaveFault}
-use Rattle.deck_files.specs.declared.deck_shelf.ShelfSaveFault.TheVariants as saving
-use Rattle.deck_files.specs.DeckFiles.{cards_of_file}
-use Rattle.deck_files.specs.Loads.{FaultsSo}
+-- Decks as files of a folder (ours).
+use Rattle.std.specs.Prelude.{ℕ, List, [], ◌∷◌, ◌++◌, codes, decimal}
 
 -- the path of a file in a folder; no text of a folder is the one that the process runs in
 abbrev pub path_in : List ℕ → List ℕ → List ℕ
 path_in [] file = file
 path_in (c ∷ folder) file = (c ∷ folder) ++ (codes "/" ++ file)
+
+-- a folder by a path of its own
+abbrev pub folder_path : List ℕ → List ℕ
+folder_path [] = codes "."
+folder_path (c ∷ folder) = c ∷ folder
 
 -- the file of the deck with this name
 abbrev pub deck_file : List ℕ → List ℕ
@@ -26,22 +23,20 @@ old_file name = name ++ codes ".OLD"
 abbrev pub new_file : List ℕ → ℕ → ℕ → List ℕ
 new_file name number tries = name ++ (codes ".NEW" ++ (decimal number ++ (codes "." ++ decimal tries)))
 
--- these are the cards of a file
-abbrev pub AreOfSomeFile : List Card → Type 0
-AreOfSomeFile cards = (file : List ℕ) × (cards_of_file file ≡ Ok cards)
+-- where a shelf keeps a deck: the folder, the deck's name, and the number of the shelf
+pub record Place : Type 0 where
+  pub folder : List ℕ
+  pub name : List ℕ
+  pub number : ℕ
 
--- a file is refused with this fault
-abbrev pub IsFaultOfSomeFile : LoadFault → Type 0
-IsFaultOfSomeFile fault = (file : List ℕ) × FaultsSo fault file
+abbrev pub place : List ℕ → List ℕ → ℕ → Place
+place folder name number = record { folder = folder; name = name; number = number }
 
--- a file does not open, or is refused with this fault
-abbrev pub IsLoadFaultOfSomeFile : ShelfLoadFault → Type 0
-IsLoadFaultOfSomeFile loading.CannotOpen = ⊤
-IsLoadFaultOfSomeFile (loading.BadFile fault) = IsFaultOfSomeFile fault
+abbrev pub deck_path : Place → List ℕ
+deck_path at = path_in at.folder (deck_file at.name)
 
--- a save of this file ends so: a fault of the writer comes before the last byte
-abbrev pub IsSaveFaultOf : List ℕ → ShelfSaveFault → Type 0
-IsSaveFaultOf file saving.CannotOpen = ⊤
-IsSaveFaultOf file saving.FileExists = ⊤
-IsSaveFaultOf file (saving.WriteFault sent) = sent < length file
-IsSaveFaultOf file saving.OutOfMemory = ⊤
+abbrev pub old_path : Place → List ℕ
+old_path at = path_in at.folder (old_file at.name)
+
+abbrev pub new_path : Place → ℕ → List ℕ
+new_path at tries = path_in at.folder (new_file at.name at.number tries)

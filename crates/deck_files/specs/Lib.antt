@@ -5,3 +5,7 @@ pub mod Files
 pub mod KnownFiles
 pub mod Savings
 pub mod Folders
+pub mod Steps
+pub mod FolderLoads
+pub mod FolderSaves
+pub mod FolderShelves

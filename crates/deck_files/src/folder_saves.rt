@@ -1,107 +1,90 @@
-//! What a save makes of the file that stands there: nobody's file is written over unasked, and the new
-//! one takes after the old.
-ghost use Rattle.std.specs.Prelude.{◌≡◌, List, ℕ, string_bytes, IfErr, IfOk};
-ghost use Rattle.deck_files.specs.Folders.{IsSaveFaultOf, old_file, path_in};
+//! What a save makes of the file that stands there: nobody's file is written over unasked.
+ghost use Rattle.std.specs.Prelude.{◌≡◌, ◌≢◌, ◌⊎◌, ℕ, List, false, IsTrue, string_bytes, IfErr, OnOk};
+ghost use Rattle.deck_files.specs.declared.deck_shelf.SaveOver.TheVariants.{Known, Any};
+ghost use Rattle.deck_files.specs.declared.deck_shelf.ShelfSaveFault.TheVariants.{FileExists};
+ghost use Rattle.deck_files.specs.declared.folders.Standing.TheVariants.{PlainFile};
+ghost use Rattle.deck_files.specs.Folders.{deck_path, old_path};
+ghost use Rattle.deck_files.specs.FolderSaves.{IsFaultOfFolder, LeavesInPlace, MakesWay, kept_old, may_write_over, over_steps};
+ghost use Rattle.deck_files.specs.Steps.{ChangesOnly, TakesSteps};
 
+use crate::deck_places::DeckPlace;
 use crate::deck_shelf::{SaveOver, ShelfSaveFault};
-use crate::new_files::save_fault;
-use std::alloc::{AllocError, Global};
-use std::fs;
-use std::fs::Metadata;
+use crate::folders::{Folder, Links, Standing};
 use std::io::ErrorKind;
-use std::os::unix::fs::MetadataExt;
-use std::rt::Files;
 
-/// What the system tells of the plain file at a path, if one is there. What is no plain file is not
-/// written over, so a link stays one.
-pub(crate) fn standing<R: Files>(rt: &R, path: &str) -> Result<Option<Metadata>, ShelfSaveFault>
-    ensures { IfErr result (λ fault. (file : List ℕ) → IsSaveFaultOf file fault) }
+/// Why a file was not made.
+pub(crate) fn save_fault(kind: ErrorKind) -> ShelfSaveFault
+    ensures memory { kind ≡ ErrorKind.OutOfMemory → result ≡ ShelfSaveFault.OutOfMemory }
+    ensures other { kind ≢ ErrorKind.OutOfMemory → result ≡ ShelfSaveFault.CannotOpen }
+    ensures one { IsFaultOfFolder result }
 {
-    match fs::symlink_metadata(rt, path) {
-        Ok(about) if about.is_file() => Ok(Some(about)),
-        Ok(_) => Err(ShelfSaveFault::CannotOpen),
-        Err(error) if error.kind() == ErrorKind::NotFound => Ok(None),
-        Err(error) => Err(save_fault(error.kind())),
-    }
-}
-
-/// The path of the file that keeps what a save was told to write over.
-fn old_path(alloc: Global, folder: &str, name: &str) -> Result<String, AllocError>
-    ensures { IfOk result (λ path. string_bytes path ≡ path_in folder.now (old_file name.now)) }
-{
-    if folder.is_empty() {
-        format!(in alloc; "{name}.OLD")
+    if kind == ErrorKind::OutOfMemory {
+        ShelfSaveFault::OutOfMemory
     } else {
-        format!(in alloc; "{folder}/{name}.OLD")
+        ShelfSaveFault::CannotOpen
     }
 }
 
-/// Takes a file away, if it is there.
-fn take_away<R: Files>(rt: &R, path: &str) -> Result<(), ShelfSaveFault>
-    ensures { IfErr result (λ fault. (file : List ℕ) → IsSaveFaultOf file fault) }
-{
-    match fs::remove_file(rt, path) {
-        Ok(()) => Ok(()),
-        Err(error) if error.kind() == ErrorKind::NotFound => Ok(()),
-        Err(error) => Err(save_fault(error.kind())),
-    }
-}
-
-/// Gives the file at a path the name `NAME.OLD` too, in place of what had it.
-fn keep_old<R: Files>(
-    rt: &R,
-    alloc: Global,
-    folder: &str,
-    name: &str,
-    path: &str,
+/// Gives the file that stands in a deck's place the name `NAME.OLD` too, in place of what had it.
+fn keep_old<F: Folder>(
+    files: &mut F,
+    place: &DeckPlace<'_>,
+    deck: &str,
 ) -> Result<(), ShelfSaveFault>
-    ensures { IfErr result (λ fault. (file : List ℕ) → IsSaveFaultOf file fault) }
+    requires { deck.now ≡ deck_path place.now }
+    ensures kept { OnOk result (TakesSteps F.has_done files.old (kept_old place.now) files.new) }
+    ensures fault { IfErr result (λ fault. IsFaultOfFolder fault × ChangesOnly F.has_done (λ path. path ≡ old_path place.now) files.old files.new) }
 {
-    let Ok(old) = old_path(alloc, folder, name) else {
+    let Ok(old) = place.old_path() else {
         return Err(ShelfSaveFault::OutOfMemory);
     };
-    take_away(rt, old.as_str())?;
-    match fs::hard_link(rt, path, old.as_str()) {
+    match files.remove(old.as_str()) {
+        Ok(()) => {}
+        Err(error) => return Err(save_fault(error.kind())),
+    }
+    match files.link(deck, old.as_str()) {
         Ok(()) => Ok(()),
         Err(error) => Err(save_fault(error.kind())),
     }
 }
 
-/// Asks whether the file that stands at a path may be written over, and keeps it where it is to be kept.
-pub(crate) fn make_way<R: Files>(
-    rt: &R,
-    alloc: Global,
-    folder: &str,
-    name: &str,
-    path: &str,
+/// Asks whether the plain file in a deck's place may be written over, and keeps it where it is to be kept.
+fn write_over<F: Folder>(
+    files: &mut F,
+    place: &DeckPlace<'_>,
+    deck: &str,
     over: SaveOver,
     is_known: bool,
 ) -> Result<(), ShelfSaveFault>
-    ensures { IfErr result (λ fault. (file : List ℕ) → IsSaveFaultOf file fault) }
+    requires { deck.now ≡ deck_path place.now }
+    ensures way { OnOk result (IsTrue (may_write_over PlainFile over is_known) × TakesSteps F.has_done files.old (over_steps place.now over) files.new) }
+    ensures fault { IfErr result (λ fault. ((fault ≡ FileExists) × (over ≡ Known) × (is_known ≡ false) × (files.new ≡ files.old))
+        ⊎ (IsFaultOfFolder fault × (over ≡ Any) × ChangesOnly F.has_done (λ path. path ≡ old_path place.now) files.old files.new)) }
 {
     match over {
         SaveOver::Known if is_known => Ok(()),
         SaveOver::Known => Err(ShelfSaveFault::FileExists),
-        SaveOver::Any => keep_old(rt, alloc, folder, name, path),
+        SaveOver::Any => keep_old(files, place, deck),
     }
 }
 
-/// Gives a new file the mode and the owner of an old one.
-pub(crate) fn take_after<R: Files>(rt: &R, new: &str, old: &Metadata) -> Result<(), ShelfSaveFault>
-    ensures { IfErr result (λ fault. (file : List ℕ) → IsSaveFaultOf file fault) }
+/// Sees to it that the deck's path may be given to a new file. What is no plain file is not written over,
+/// so a link stays one.
+pub(crate) fn make_way<F: Folder>(
+    files: &mut F,
+    place: &DeckPlace<'_>,
+    deck: &str,
+    over: SaveOver,
+    is_known: bool,
+) -> Result<(), ShelfSaveFault>
+    requires { deck.now ≡ deck_path place.now }
+    ensures way { OnOk result (MakesWay F.has_done place.now over is_known files.old files.new) }
+    ensures fault { IfErr result (λ fault. (text : List ℕ) → LeavesInPlace F.has_done place.now over is_known text fault files.old files.new) }
 {
-    let made = match fs::metadata(rt, new) {
-        Ok(about) => about,
-        Err(error) => return Err(save_fault(error.kind())),
-    };
-    if made.uid() != old.uid() || made.gid() != old.gid() {
-        let (user, group) = (Some(old.uid()), Some(old.gid()));
-        if let Err(error) = rt.chown(new, user, group) {
-            return Err(save_fault(error.kind()));
-        }
-    }
-    match fs::set_permissions(rt, new, old.permissions()) {
-        Ok(()) => Ok(()),
+    match files.look(deck, Links::Shown) {
+        Ok(Standing::Nothing) => Ok(()),
+        Ok(Standing::PlainFile) => write_over(files, place, deck, over, is_known),
+        Ok(Standing::Other) => Err(ShelfSaveFault::CannotOpen),
         Err(error) => Err(save_fault(error.kind())),
     }
 }

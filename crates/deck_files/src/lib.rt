@@ -4,7 +4,8 @@
 //! `load` reads line by line and ends at the first fault. `Shelf` names what one call makes of a
 //! shelf; `MemoryShelf` is one for tests, and `FolderShelf` one over a folder, where deck NAME is
 //! `NAME.DECK`, and a save writes another file beside it and gives it that name at the end, unless a
-//! newer version of the deck was saved or the file there is nobody's that is known.
+//! newer version of the deck was saved or the file there is nobody's that is known. `Folder` names what
+//! is asked of the folder; `SystemFolder` passes that on to the file system.
 #![tactic(auto)]
 
 // One file.
@@ -14,19 +15,27 @@ mod loading;
 mod saving;
 
 // Shelves of files.
+mod deck_places;
 mod deck_shelf;
+mod folder_laws;
+mod folder_loads;
 mod folder_saves;
 mod folder_shelf;
+mod folders;
 mod known_files;
 mod leftovers;
 mod memory_shelf;
 mod new_files;
+mod system_folder;
 
 pub use deck_shelf::{SaveOver, Shelf, ShelfLoadFault, ShelfSaveFault};
+pub use folder_laws::decks_stand_apart;
 pub use folder_shelf::FolderShelf;
+pub use folders::{Folder, Links, Standing};
 pub use known_files::KnownFiles;
 pub use leftovers::clear_folder;
 pub use load_fault::LoadFault;
 pub use loading::load;
 pub use memory_shelf::MemoryShelf;
 pub use saving::save;
+pub use system_folder::SystemFolder;

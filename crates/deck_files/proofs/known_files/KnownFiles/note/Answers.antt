@@ -1,4 +1,4 @@
-use Rattle.std.proofs.Common.{ℕ, List, ◌∙◌, ap}
+use Rattle.std.proofs.Common.{ℕ, ◌∙◌, ap}
 use Rattle.std.specs.Prelude.{vec_items}
 use Rattle.deck_files.specs.Files.{with_named}
 use Rattle.deck_files.specs.KnownFiles.{KnownFiles}

@@ -1,0 +1,88 @@
+-- What a save that failed left of the deck's file.
+use Rattle.std.proofs.Common.{ℕ, ◌≡◌, ◌⊎◌, inl, inr, List, [], ◌∷◌, ◌++◌, Bool, false, Option, refl, sym, subst, ◌∙◌}
+use Rattle.deck_files.specs.declared.deck_shelf.SaveOver.{SaveOver}
+use Rattle.deck_files.specs.declared.deck_shelf.SaveOver.TheVariants.{Known, Any}
+use Rattle.deck_files.specs.declared.deck_shelf.ShelfSaveFault.{ShelfSaveFault}
+use Rattle.deck_files.specs.declared.deck_shelf.ShelfSaveFault.TheVariants.{FileExists}
+use Rattle.deck_files.specs.declared.folders.Standing.{Standing}
+use Rattle.deck_files.specs.declared.folders.Standing.TheVariants.{Nothing, PlainFile, Other}
+use Rattle.deck_files.specs.declared.folders.Links.TheVariants.{Shown}
+use Rattle.std.specs.Io.KnownBytes.{Appends}
+use Rattle.deck_files.specs.Folders.{Place, deck_path, old_path, new_path}
+use Rattle.deck_files.specs.Steps.{Step, Answered, Look, Make, Keep, Remove, Found, Gave, Done, ChangeAmong, TakesStep, TakesSteps, ChangesOnly}
+use Rattle.deck_files.specs.FolderSaves.{IsFaultOfFolder, IsFaultOfNew, IsNew, IsBeside, IsUnkept, LeavesInPlace, MakesAnew, MakesWay, SaveFails, untouched, unknown, looked, in_place, refused_tries, way_steps}
+use Rattle.deck_files.specs.DeckFiles.{file_of}
+use Rattle.deck_files.specs.Savings.{Saving}
+use Rattle.deck_files.specs.FolderShelves.{FolderShelf, SavesNoDeck, place_on}
+use Rattle.deck_files.proofs.FolderSteps.{ChangeAmong-tries, ChangesAmong-asked, fault-of-new, only-join, only-more, takes-join}
+
+-- making way changes NAME.OLD alone, where any file may be written over
+way-beside : (at : Place) (standing : Standing) (over : SaveOver) → ChangeAmong (IsBeside at over) (way_steps at standing over)
+way-beside at Nothing over = (tt, tt)
+way-beside at Other over = (tt, tt)
+way-beside at PlainFile Known = (tt, tt)
+way-beside at PlainFile Any = ((inr (refl, refl), tt), ((inr (refl, refl), tt), (tt, tt)))
+
+module _ {F : Type 0} (has_done : F → List Step → Type 0) where
+  -- a plain file was not written over, or not kept
+  pub stays-over : (at : Place) (over : SaveOver) (known : Bool) (text deck : List ℕ) (fault : ShelfSaveFault) (standing : Standing) (old middle new : F) → deck ≡ deck_path at →
+      standing ≡ PlainFile → TakesStep has_done old (Look Shown deck, Found standing) middle →
+      ((fault ≡ FileExists) × (over ≡ Known) × (known ≡ false) × (new ≡ middle)) ⊎ (IsFaultOfFolder fault × (over ≡ Any) × ChangesOnly has_done (λ path. path ≡ old_path at) middle new) →
+      LeavesInPlace has_done at over known text fault old new
+  stays-over at over known text deck fault standing old middle new is plain look (inl told) =
+      unknown told.0 told.1 told.2
+      (subst (λ (f : F). TakesSteps has_done old (looked at PlainFile) f) (sym told.3)
+      (subst (λ (s : Standing). TakesSteps has_done old (looked at s) middle) plain
+      (subst (λ (path : List ℕ). TakesSteps has_done old ((Look Shown path, Found standing) ∷ []) middle) is look)))
+  stays-over at over known text deck fault standing old middle new is plain look (inr told) =
+      untouched (fault-of-new text fault told.0)
+      (only-join has_done (IsBeside at over) old middle new ((Look Shown deck, Found standing) ∷ [], (tt, tt), look)
+      (only-more has_done (λ path. path ≡ old_path at) (IsBeside at over) middle new (λ path same. inr (told.1, same)) told.2))
+
+  -- the whole text went into a file that has the deck's path
+  pub makes-anew : (at : Place) (tries : ℕ) (new deck text : List ℕ) (made : Option (List ℕ)) (old middle last : F) → new ≡ new_path at tries → deck ≡ deck_path at →
+      TakesSteps has_done old ((Make (new_path at tries), Gave made) ∷ refused_tries at tries) middle →
+      ((kept : Option (List ℕ)) × Appends made kept text × TakesSteps has_done middle (in_place new deck ++ (Keep kept, Done) ∷ []) last) →
+      MakesAnew has_done at text old last
+  makes-anew at tries new deck text made old middle last is_new is_deck first second = record {
+    tries = tries;
+    made = made;
+    kept = second.0;
+    whole = second.1;
+    steps = takes-join has_done old middle last ((Make (new_path at tries), Gave made) ∷ refused_tries at tries) (in_place (new_path at tries) (deck_path at) ++ (Keep second.0, Done) ∷ []) first
+        (subst (λ (path : List ℕ). TakesSteps has_done middle (in_place (new_path at tries) path ++ (Keep second.0, Done) ∷ []) last) is_deck
+        (subst (λ (path : List ℕ). TakesSteps has_done middle (in_place path deck ++ (Keep second.0, Done) ∷ []) last) is_new second.2));
+  }
+
+  -- it did not, and the new file was to be taken away
+  pub takes-away : (at : Place) (tries : ℕ) (new again : List ℕ) (made : Option (List ℕ)) (answer : Answered) (old middle third last : F) → new ≡ new_path at tries → again ≡ new_path at tries →
+      TakesSteps has_done old ((Make (new_path at tries), Gave made) ∷ refused_tries at tries) middle → ChangesOnly has_done (λ path. path ≡ new) middle third →
+      TakesStep has_done third (Remove again, answer) last → ChangesOnly has_done (IsNew at) old last
+  takes-away at tries new again made answer old middle third last is_new is_again first second removed =
+      only-join has_done (IsNew at) old third last
+      (only-join has_done (IsNew at) old middle third
+      ((Make (new_path at tries), Gave made) ∷ refused_tries at tries, (((tries, refl), tt), ChangeAmong-tries (IsNew at) at tries), first)
+      (only-more has_done (λ path. path ≡ new) (IsNew at) middle third (λ path same. (tries, same ∙ is_new)) second))
+      ((Remove again, answer) ∷ [], (ChangesAmong-asked (IsNew at) (Remove again) answer ((tries, is_again), tt), tt), removed)
+
+  -- the way was made, and no new file
+  pub stays-unmade : (at : Place) (over : SaveOver) (known : Bool) (text : List ℕ) (fault : ShelfSaveFault) (old middle new : F) → MakesWay has_done at over known old middle →
+      IsFaultOfNew text fault → ChangesOnly has_done (IsNew at) middle new → LeavesInPlace has_done at over known text fault old new
+  stays-unmade at over known text fault old middle new way told only =
+      untouched told
+      (only-join has_done (IsBeside at over) old middle new
+      (way_steps at way.standing over, way-beside at way.standing over, way.steps)
+      (only-more has_done (IsNew at) (IsBeside at over) middle new (λ path is. inl is) only))
+
+  -- a save fails as one or the other
+  pub fails-either : {K L : Type 0} (at : Place) (over : SaveOver) (known : Bool) (text : List ℕ) (fault : ShelfSaveFault) (old new : F) →
+      (K × LeavesInPlace has_done at over known text fault old new) ⊎ (L × IsUnkept has_done at over known text fault old new) → SaveFails has_done at over known text fault old new
+  fails-either at over known text fault old new (inl left) = inl left.1
+  fails-either at over known text fault old new (inr unkept) = inr unkept.1
+
+  -- the shelf's save of a deck fails so
+  pub shelf-fails : (at : Place) (shelf old : FolderShelf F) (saved : Saving) (fault : ShelfSaveFault) (known : Bool) (next : F) → shelf ≡ old → at ≡ place_on shelf saved.name →
+      SaveFails has_done at saved.over known (file_of saved.cards) fault shelf.files next → SavesNoDeck has_done old saved fault (record { files = next; folder = shelf.folder; number = shelf.number })
+  shelf-fails at shelf old saved fault known next same is_place fails =
+      subst (λ (o : FolderShelf F). SavesNoDeck has_done o saved fault (record { files = next; folder = shelf.folder; number = shelf.number })) same
+      ((refl, refl), (known, subst (λ (a : Place). SaveFails has_done a saved.over known (file_of saved.cards) fault shelf.files next) is_place fails))

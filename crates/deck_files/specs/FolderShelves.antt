@@ -1,0 +1,40 @@
+-- What contracts see of a shelf over a folder, and what one load or save makes of it (ours).
+use Rattle.std.specs.Prelude.{ℕ, ◌≡◌, ◌⊎◌, List, Bool}
+use Rattle.definitions.specs.Cards.{Card}
+use Rattle.deck_files.specs.declared.deck_shelf.ShelfLoadFault.{ShelfLoadFault}
+use Rattle.deck_files.specs.declared.deck_shelf.ShelfSaveFault.{ShelfSaveFault}
+use Rattle.deck_files.specs.DeckFiles.{file_of}
+use Rattle.deck_files.specs.Folders.{Place, place, deck_path}
+use Rattle.deck_files.specs.FolderLoads.{LoadsFile, LoadFails}
+use Rattle.deck_files.specs.FolderSaves.{SavesSo, SaveFails}
+use Rattle.deck_files.specs.Savings.{Saving}
+use Rattle.deck_files.specs.Steps.{Step, Done}
+
+-- the folder, its text, and the number of the shelf
+pub record FolderShelf (F : Type 0) : Type 0 where
+  pub files : F
+  pub folder : List ℕ
+  pub number : ℕ
+
+-- where the shelf keeps the deck of this name
+abbrev pub place_on : {F : Type 0} → FolderShelf F → List ℕ → Place
+place_on shelf name = place shelf.folder name shelf.number
+
+-- it is the same shelf, whatever the folder did
+abbrev pub IsSameShelf : {F : Type 0} → FolderShelf F → FolderShelf F → Type 0
+IsSameShelf old new = (new.folder ≡ old.folder) × (new.number ≡ old.number)
+
+module _ {F : Type 0} (has_done : F → List Step → Type 0) where
+  -- the cards are those of the deck's file
+  abbrev pub LoadsDeck : FolderShelf F → List ℕ → List Card → FolderShelf F → Type 0
+  LoadsDeck old name cards new = IsSameShelf old new × LoadsFile has_done (deck_path (place_on old name)) cards old.files new.files
+
+  abbrev pub LoadsNoDeck : FolderShelf F → List ℕ → ShelfLoadFault → FolderShelf F → Type 0
+  LoadsNoDeck old name fault new = IsSameShelf old new × LoadFails has_done (place_on old name) fault old.files new.files
+
+  -- the deck's file is made anew, where no newer version was saved; which files are known, and their versions, no contract sees behind the lock
+  abbrev pub SavesDeck : FolderShelf F → Saving → FolderShelf F → Type 0
+  SavesDeck old saved new = IsSameShelf old new × ((new.files ≡ old.files) ⊎ ((known : Bool) × SavesSo has_done Done (place_on old saved.name) saved.over known (file_of saved.cards) old.files new.files))
+
+  abbrev pub SavesNoDeck : FolderShelf F → Saving → ShelfSaveFault → FolderShelf F → Type 0
+  SavesNoDeck old saved fault new = IsSameShelf old new × ((known : Bool) × SaveFails has_done (place_on old saved.name) saved.over known (file_of saved.cards) fault old.files new.files)
