@@ -15,6 +15,8 @@ mod tests_faults;
 #[cfg(test)]
 mod tests_files;
 #[cfg(test)]
+mod tests_folders;
+#[cfg(test)]
 mod tests_lines;
 #[cfg(test)]
 mod tests_offices;
