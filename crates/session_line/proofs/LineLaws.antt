@@ -15,9 +15,9 @@ use Rattle.session_line.specs.declared.commands.Command.TheVariants as command
 use Rattle.session_line.specs.declared.refusals.Refusal.{Refusal}
 use Rattle.session_line.specs.declared.refusals.Refusal.TheVariants.{BadName}
 use Rattle.session_line.specs.Words.{first_word, behind_word, first_number, greatest_number}
-use Rattle.session_line.specs.Edits.{needs, only_if, made_of, is_end, card_or_fault, fits_edit, edit_at}
+use Rattle.session_line.specs.Edits.{needs, only_if, made_of, is_end, card_or_fault, fits_edit, edit_at, edit_in_batch}
 use Rattle.session_line.specs.Commands.{name_in, only_name, save_over_in, save_in, drop_in, edit_of, edit_in, batch_in, is_batch_size, command_of}
-use Rattle.session_line.specs.Lines.{name_and_number, line_of_edit, line_of_batch, line_of_command, IsLawfulEdit, IsLawfulName, IsLawful}
+use Rattle.session_line.specs.Lines.{name_and_number, line_of_edit, line_in_batch, line_of_batch, line_of_command, IsLawfulEdit, IsLawfulName, IsLawful}
 use Rattle.session_line.proofs.ReadBack.{IsRest, word-name, word-decimal, first-word, behind-word, first-number}
 
 -- a lawful name
@@ -25,7 +25,7 @@ name-is : (name : List ℕ) → is_deck_name name ≡ true → name_in name ≡ 
 name-is name is = ap (λ (t : Bool). if t then Ok name else Err BadName) is
 
 -- a name alone
-only-name : (name : List ℕ) → is_deck_name name ≡ true → only_name (32 ∷ (name ++ [])) ≡ Ok name
+pub only-name : (name : List ℕ) → is_deck_name name ≡ true → only_name (32 ∷ (name ++ [])) ≡ Ok name
 only-name name is =
     let rest = 32 ∷ (name ++ []) in
     ap (λ (o : Option (List ℕ)). needs o (λ n. only_if (is_end (behind_word rest)) (name_in n))) (first-word name [] (word-name name is) refl)
@@ -33,7 +33,7 @@ only-name name is =
     ∙ name-is name is
 
 -- a number, and what is made of it and of what stands behind it
-number-made : {B : Type 0} (made : ℕ → List ℕ → Result B Refusal) (n : ℕ) (rest : List ℕ) → n ≤ greatest_number → IsRest rest →
+pub number-made : {B : Type 0} (made : ℕ → List ℕ → Result B Refusal) (n : ℕ) (rest : List ℕ) → n ≤ greatest_number → IsRest rest →
     needs (first_number (32 ∷ (decimal n ++ rest))) (λ m. made m (behind_word (32 ∷ (decimal n ++ rest)))) ≡ made n rest
 number-made {B} made n rest within none =
     let line = 32 ∷ (decimal n ++ rest) in
@@ -84,6 +84,16 @@ edit-back name version (Replace place card) is within lawful =
     edit-made kind.Replace name version place (32 ∷ card) is within lawful.0 refl
     ∙ ap (λ (r : CardRead). edit_of (Ok name) version (made_of (Replace place) (card_or_fault r))) lawful.1
 edit-back name version (Remove place) is within lawful = edit-made kind.Remove name version place [] is within lawful refl
+
+-- an edit in a batch
+pub batch_line-back : (edit : Edit) → IsLawfulEdit edit → edit_in_batch (line_in_batch edit) ≡ Ok edit
+batch_line-back (Insert place card) lawful =
+    number-made (λ p l. only_if (fits_edit kind.Insert l) (edit_at kind.Insert p l)) place (32 ∷ card) lawful.0 refl
+    ∙ ap (λ (r : CardRead). made_of (Insert place) (card_or_fault r)) lawful.1
+batch_line-back (Replace place card) lawful =
+    number-made (λ p l. only_if (fits_edit kind.Replace l) (edit_at kind.Replace p l)) place (32 ∷ card) lawful.0 refl
+    ∙ ap (λ (r : CardRead). made_of (Replace place) (card_or_fault r)) lawful.1
+batch_line-back (Remove place) lawful = number-made (λ p l. only_if (fits_edit kind.Remove l) (edit_at kind.Remove p l)) place [] lawful refl
 
 -- the first line of a batch
 batch-made : (name : List ℕ) (version count : ℕ) → is_deck_name name ≡ true → version ≤ greatest_number → is_batch_size count ≡ true →

@@ -14,7 +14,7 @@ use Rattle.definitions.specs.DeckInput.{is_deck_name}
 use Rattle.session_line.specs.Words.{some_word, first_word, behind_word, greatest_number, is_number, number_in, first_number}
 
 -- a character that is no blank
-abbrev no_blank : ℕ → Bool
+abbrev pub no_blank : ℕ → Bool
 no_blank c = not (c == blank)
 
 -- a word: characters, and no blank among them
@@ -23,7 +23,7 @@ pub record IsWord (word : List ℕ) : Type 0 where
   pub some : 0 < length word
 
 -- a test that follows from another
-all-by : (p q : ℕ → Bool) → ((c : ℕ) → p c ≡ true → q c ≡ true) → (word : List ℕ) → list_all p word ≡ true → list_all q word ≡ true
+pub all-by : (p q : ℕ → Bool) → ((c : ℕ) → p c ≡ true → q c ≡ true) → (word : List ℕ) → list_all p word ≡ true → list_all q word ≡ true
 all-by p q follows [] all = refl
 all-by p q follows (c ∷ cs) all =
     let parts = and_parts (p c) (list_all p cs) all in
@@ -33,7 +33,7 @@ all-by p q follows (c ∷ cs) all =
 no_blank-above : (c : ℕ) → 48 ≤ c → no_blank c ≡ true
 no_blank-above c above = ap not (ne_eqb c 32 (λ e. absurd (omega (arith, e, above))))
 
-digit-no_blank : (c : ℕ) → is_digit c ≡ true → no_blank c ≡ true
+pub digit-no_blank : (c : ℕ) → is_digit c ≡ true → no_blank c ≡ true
 digit-no_blank c is = no_blank-above c (leb-true 48 c (and_parts (nat_le 48 c) (nat_le c 57) is).0)
 
 letter-no_blank : (c : ℕ) → is_letter c ≡ true → no_blank c ≡ true
@@ -52,7 +52,7 @@ word-name name is =
     }
 
 -- decimal digits, and the number that they make
-abbrev Spells : ℕ → List ℕ → Type 0
+abbrev pub Spells : ℕ → List ℕ → Type 0
 Spells n digits = (list_all is_digit digits ≡ true) × (number_of 10 digits ≡ n)
 
 digit-is : (d : ℕ) → d < 10 → is_digit (48 + d) ≡ true
@@ -72,7 +72,7 @@ spells-more n digits least spelt = (
       ∙ (let whole : n / 10 * 10 + (48 + n % 10 - 48) ≡ n = omega arith in whole),
 )
 
-spells-decimal : (n : ℕ) → n ≤ greatest_number → Spells n (decimal n)
+pub spells-decimal : (n : ℕ) → n ≤ greatest_number → Spells n (decimal n)
 spells-decimal n within = decimal_by_steps Spells spells-one spells-more n (omega (arith, within))
 
 -- a number is a word

@@ -25,6 +25,12 @@ line_of_edit name version (Insert at card) = codes "INS" ++ name_and_number name
 line_of_edit name version (Replace at card) = codes "REP" ++ name_and_number name version (behind_a_blank (decimal at ++ behind_a_blank card))
 line_of_edit name version (Remove at) = codes "DEL" ++ name_and_number name version (behind_a_blank (decimal at ++ []))
 
+-- the line of an edit in a batch
+abbrev pub line_in_batch : Edit → List ℕ
+line_in_batch (Insert at card) = codes "INS" ++ behind_a_blank (decimal at ++ behind_a_blank card)
+line_in_batch (Replace at card) = codes "REP" ++ behind_a_blank (decimal at ++ behind_a_blank card)
+line_in_batch (Remove at) = codes "DEL" ++ behind_a_blank (decimal at ++ [])
+
 -- the first line of a batch; one whose name is none has no line of its own
 abbrev pub line_of_batch : Result (List ℕ) Refusal → ℕ → ℕ → List ℕ
 line_of_batch (Ok name) version count = codes "BATCH" ++ name_and_number name version (behind_a_blank (decimal count ++ []))

@@ -87,7 +87,7 @@ fn alone(command: Command, rest: &[u8]) -> Result<Command, Refusal>
 }
 
 /// `name`
-fn only_name(rest: &[u8]) -> Result<DeckName, Refusal>
+pub fn only_name(rest: &[u8]) -> Result<DeckName, Refusal>
     ensures { result ≡ only_name rest.now }
 {
     let Some(name) = first_word(rest) else {

@@ -2,10 +2,13 @@
 ghost use Rattle.std.specs.Prelude.{◌≡◌, Ok};
 ghost use Rattle.session_line.specs.declared.commands.Command.{Command};
 ghost use Rattle.session_line.specs.Commands.{command_of};
-ghost use Rattle.session_line.specs.Lines.{IsLawful, line_of_command};
+ghost use Rattle.cards.specs.declared.edits.Edit.{Edit};
+ghost use Rattle.session_line.specs.Edits.{edit_in_batch};
+ghost use Rattle.session_line.specs.Lines.{IsLawful, IsLawfulEdit, line_in_batch, line_of_command};
 
 /// The line that a client writes for a command, with a lawful name, numbers up to 2^62, and a card,
-/// reads back as that command.
+/// reads back as that command; and the line of an edit in a batch as that edit.
 pub fn lines_read_back()
-    ensures { (command : Command) → IsLawful command → command_of (line_of_command command) ≡ Ok command }
+    ensures commands { (command : Command) → IsLawful command → command_of (line_of_command command) ≡ Ok command }
+    ensures edits { (edit : Edit) → IsLawfulEdit edit → edit_in_batch (line_in_batch edit) ≡ Ok edit }
 {}

@@ -48,7 +48,7 @@ mod laws;
 
 pub use calls::Calls;
 pub use cards::{Edit, EditFault};
-pub use commands::{BatchHead, Command, read_command};
+pub use commands::{BatchHead, Command, only_name, read_command};
 pub use desk_core::{Row, State};
 pub use desk_laws::a_desk_answers_sessions;
 pub use edits::read_batch_line;
@@ -57,4 +57,5 @@ pub use refusals::Refusal;
 pub use replies::Reply;
 pub use seat_calls::SeatCalls;
 pub use serving::{Outcome, serve_one};
+pub use words::{behind_blank, behind_word, first_number, first_word, from_blank, to_blank};
 pub use writing::{reply_text, write_reply};

@@ -27,21 +27,21 @@ fn word_len(text: &[u8]) -> usize
 }
 
 /// A text up to its first blank.
-pub(crate) fn to_blank(text: &[u8]) -> &[u8]
+pub fn to_blank(text: &[u8]) -> &[u8]
     ensures { result.now ≡ unbroken_front text.now }
 {
     text.split_at(word_len(text)).0
 }
 
 /// A text from its first blank on.
-pub(crate) fn from_blank(text: &[u8]) -> &[u8]
+pub fn from_blank(text: &[u8]) -> &[u8]
     ensures { result.now ≡ from_blank text.now }
 {
     text.split_at(word_len(text)).1
 }
 
 /// What stands behind the blank that begins a rest.
-pub(crate) fn behind_blank(rest: &[u8]) -> &[u8]
+pub fn behind_blank(rest: &[u8]) -> &[u8]
     ensures { result.now ≡ drop 1 rest.now }
 {
     match rest.split_first() {
@@ -51,7 +51,7 @@ pub(crate) fn behind_blank(rest: &[u8]) -> &[u8]
 }
 
 /// The word behind the blank that begins a rest: none where nothing stands there, or one blank more.
-pub(crate) fn first_word(rest: &[u8]) -> Option<&[u8]>
+pub fn first_word(rest: &[u8]) -> Option<&[u8]>
     ensures { option_map (λ word. word.now) result ≡ first_word rest.now }
 {
     let word = to_blank(behind_blank(rest));
@@ -62,7 +62,7 @@ pub(crate) fn first_word(rest: &[u8]) -> Option<&[u8]>
 }
 
 /// The rest behind that word.
-pub(crate) fn behind_word(rest: &[u8]) -> &[u8]
+pub fn behind_word(rest: &[u8]) -> &[u8]
     ensures { result.now ≡ behind_word rest.now }
 {
     from_blank(behind_blank(rest))
@@ -113,7 +113,7 @@ pub(crate) fn number_in(word: &[u8]) -> Option<u64>
 }
 
 /// The number behind the blank that begins a rest.
-pub(crate) fn first_number(rest: &[u8]) -> Option<u64>
+pub fn first_number(rest: &[u8]) -> Option<u64>
     ensures { result ≡ first_number rest.now }
 {
     number_in(first_word(rest)?)
