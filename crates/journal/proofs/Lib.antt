@@ -1,0 +1,10 @@
+pub mod JournalSteps
+pub mod ReadingSteps
+pub mod WritingSteps
+pub mod LineChains
+pub mod PlainTexts
+pub mod LineSizes
+pub mod RecordChains
+pub mod RecordLaws
+pub mod ReplaySteps
+pub mod QueueSteps

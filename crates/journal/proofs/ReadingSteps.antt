@@ -1,0 +1,153 @@
+-- The steps of reading a record: the lines so far leave the journal of what is left.
+use Rattle.std.proofs.Common.{ℕ, ◌≡◌, ◌+◌, ◌<◌, ◌≤◌, List, [], ◌∷◌, ◌++◌, Option, None, Some, length, refl, sym, ap, subst, ◌∙◌, arith, append_assoc, append-nil, length-append}
+use Rattle.std.specs.Io.KnownBytes.{Consumes}
+use Rattle.std.proofs.KnownBytes.{Consumes-nil, Consumes-trans}
+use Rattle.text_ports.specs.Lines.{line_feed, ReadsWholeLine}
+use Rattle.text_ports.specs.declared.lines.LineIs.TheVariants as is
+use Rattle.text_ports.proofs.LineLaws.{pieces_of}
+use Rattle.journal.specs.declared.beginning.Open.{Open}
+use Rattle.journal.specs.declared.records.Record.{Record}
+use Rattle.journal.specs.declared.places.Place.{Place}
+use Rattle.journal.specs.declared.places.Ending.{Ending}
+use Rattle.journal.specs.declared.places.Ending.TheVariants.{Whole, Cut, Faulty}
+use Rattle.journal.specs.declared.reading.Next.TheVariants.{Found, Ended}
+use Rattle.journal.specs.declared.steps.Step.{Step}
+use Rattle.journal.specs.declared.steps.Step.TheVariants as step
+use Rattle.journal.specs.Places.{advanced, behind_record}
+use Rattle.journal.specs.Steps.{line_step}
+use Rattle.journal.specs.Journals.{Journal, ends, in_front, cut_at, faulty_at, wrong_ending, journal_from}
+use Rattle.journal.specs.Reading.{TellsEnd, ReadsNext, EndsIn, EndsWrong, nothing, something}
+use Rattle.journal.proofs.JournalSteps.{stepped, journal-line, journal-nothing, journal-open, journal-cut, journal-long, wrong-something, wrong-nothing}
+
+-- how the journal ends where no line is left, or it is too long
+pub EndsIn-whole : (old new : Option (List ℕ)) (current : Option Open) (place : Place) (line : List ℕ) → current ≡ None → ReadsWholeLine old new is.End line → EndsIn old new current place Whole
+EndsIn-whole old new current place line none read =
+    let P : Option Open → Type 0 = λ (o : Option Open). EndsIn old new o place Whole in
+    subst P (sym none) (record { taken = read.0; consumed = read.1; told = (ap (journal_from None place) read.2.0 ∙ journal-nothing place, read.3) })
+
+pub EndsIn-open : (old new : Option (List ℕ)) (current : Option Open) (place : Place) (ending : Ending) (line : List ℕ) → (current ≡ None → ⊥) → ending ≡ cut_at place → ReadsWholeLine old new is.End line →
+    EndsIn old new current place ending
+EndsIn-open old new None place ending line some e read = absurd (some refl)
+EndsIn-open old new (Some current) place ending line some e read =
+    let P : Ending → Type 0 = λ (x : Ending). EndsIn old new (Some current) place x in
+    subst P (sym e) (record { taken = read.0; consumed = read.1; told = (ap (journal_from (Some current) place) read.2.0 ∙ journal-open current place, read.3) })
+
+pub EndsIn-cut : (old new : Option (List ℕ)) (current : Option Open) (place : Place) (ending : Ending) (line : List ℕ) → ending ≡ cut_at place → ReadsWholeLine old new is.Cut line → EndsIn old new current place ending
+EndsIn-cut old new current place ending line e read =
+    let P : Ending → Type 0 = λ (x : Ending). EndsIn old new current place x in
+    subst P (sym e) (record { taken = read.0; consumed = read.1; told = (journal-cut current place read.0 read.2.2 read.2.0 read.2.1, read.3) })
+
+pub EndsIn-long : (old new : Option (List ℕ)) (current : Option Open) (place : Place) (ending : Ending) (line : List ℕ) → ending ≡ faulty_at place → ReadsWholeLine old new is.TooLong line → EndsIn old new current place ending
+EndsIn-long old new current place ending line e read =
+    let P : Ending → Type 0 = λ (x : Ending). EndsIn old new current place x in
+    let long : 256 < length read.0 = let n = read.2.0 in omega (arith, n) in
+    subst P (sym e) (record { taken = read.0; consumed = read.1; told = λ rest. journal-long current place read.0 rest read.2.1 long })
+
+-- what stands behind a damaged record
+pub EndsWrong-line : (old new : Option (List ℕ)) (place : Place) (ending : Ending) (line : List ℕ) → ending ≡ faulty_at place → ReadsWholeLine old new is.Line line → EndsWrong old new place ending
+EndsWrong-line old new place ending line e read =
+    let n : length read.0 ≡ length line + 1 = ap length read.2.0 ∙ length-append line (line_feed ∷ []) in
+    something read.0 read.1 (omega (arith, n)) e
+
+pub EndsWrong-cut : (old new : Option (List ℕ)) (place : Place) (ending : Ending) (line : List ℕ) → ending ≡ faulty_at place → ReadsWholeLine old new is.Cut line → EndsWrong old new place ending
+EndsWrong-cut old new place ending line e read = something read.0 read.1 read.2.0 e
+
+pub EndsWrong-long : (old new : Option (List ℕ)) (place : Place) (ending : Ending) (line : List ℕ) → ending ≡ faulty_at place → ReadsWholeLine old new is.TooLong line → EndsWrong old new place ending
+EndsWrong-long old new place ending line e read = let n = read.2.0 in something read.0 read.1 (omega (arith, n)) e
+
+pub EndsWrong-end : (old new : Option (List ℕ)) (place : Place) (ending : Ending) (line : List ℕ) → ending ≡ cut_at place → ReadsWholeLine old new is.End line → EndsWrong old new place ending
+EndsWrong-end old new place ending line e read =
+    let P : List ℕ → Type 0 = λ l. Consumes old new l in
+    nothing (subst P read.2.0 read.1) read.3 e
+
+-- the lines so far leave the journal of what is left
+pub record IsWithin (old new : Option (List ℕ)) (first : Place) (current : Option Open) (place : Place) : Type 0 where
+  pub taken : List ℕ
+  pub consumed : Consumes old new taken
+  pub goes : (rest : List ℕ) → journal_from None first (taken ++ rest) ≡ journal_from current place rest
+
+-- no line yet
+pub IsWithin-none : (old : Option (List ℕ)) (place : Place) → IsWithin old old place None place
+IsWithin-none old place = record { taken = []; consumed = Consumes-nil old; goes = λ rest. refl }
+
+-- one line more, and the step that it makes
+pub record HasStepped (old new : Option (List ℕ)) (first place : Place) (step : Step) (count : ℕ) : Type 0 where
+  pub taken : List ℕ
+  pub consumed : Consumes old new taken
+  pub goes : (rest : List ℕ) → journal_from None first (taken ++ rest) ≡ stepped step place count (pieces_of rest)
+
+pub HasStepped-line : (old new next : Option (List ℕ)) (first : Place) (current : Option Open) (place : Place) (line text : List ℕ) (step : Step) →
+    IsWithin old new first current place → ReadsWholeLine new next is.Line line → text ≡ line → step ≡ line_step current text → HasStepped old next first place step (length text + 1)
+HasStepped-line old new next first current place line text step within read same is = record {
+  taken = within.taken ++ read.0;
+  consumed = Consumes-trans old new next within.taken read.0 within.consumed read.1;
+  goes = λ rest.
+      ap (journal_from None first) (append_assoc within.taken read.0 rest)
+      ∙ within.goes (read.0 ++ rest)
+      ∙ ap (λ (l : List ℕ). journal_from current place (l ++ rest)) read.2.0
+      ∙ ap (journal_from current place) (append_assoc line (line_feed ∷ []) rest)
+      ∙ journal-line current place line rest read.2.1 read.2.2
+      ∙ ap (λ (l : List ℕ). stepped (line_step current l) place (length l + 1) (pieces_of rest)) (sym same)
+      ∙ ap (λ (s : Step). stepped s place (length text + 1) (pieces_of rest)) (sym is);
+}
+
+-- the record goes on
+pub IsWithin-more : (old new : Option (List ℕ)) (first place next : Place) (more : Open) (count : ℕ) → HasStepped old new first place (step.Goes more) count → next ≡ advanced count place →
+    IsWithin old new first (Some more) next
+IsWithin-more old new first place next more count has e =
+    let P : Place → Type 0 = λ (p : Place). IsWithin old new first (Some more) p in
+    subst P (sym e) (record { taken = has.taken; consumed = has.consumed; goes = has.goes })
+
+-- the record is whole
+pub ReadsNext-found : (old new : Option (List ℕ)) (first place mid next : Place) (whole : Record) (count : ℕ) → HasStepped old new first place (step.Ends whole) count →
+    mid ≡ advanced count place → next ≡ behind_record mid → ReadsNext old new first next (Found whole)
+ReadsNext-found old new first place mid next whole count has m e =
+    let P : Place → Type 0 = λ (p : Place). ReadsNext old new first p (Found whole) in
+    subst P (sym (e ∙ ap behind_record m)) (record { taken = has.taken; consumed = has.consumed; told = has.goes })
+
+-- the line belongs to no record
+pub ReadsNext-bad : (old new : Option (List ℕ)) (first place mid last : Place) (ending : Ending) (count : ℕ) → HasStepped old new first place step.Bad count →
+    mid ≡ advanced count place → ending ≡ faulty_at mid → ReadsNext old new first last (Ended ending)
+ReadsNext-bad old new first place mid last ending count has m e =
+    let P : Ending → Type 0 = λ (x : Ending). ReadsNext old new first last (Ended x) in
+    subst P (sym (e ∙ ap faulty_at m)) (record { taken = has.taken; consumed = has.consumed; told = has.goes })
+
+-- the record is damaged
+pub ReadsNext-wrong : (old new next : Option (List ℕ)) (first place mid last : Place) (ending : Ending) (count : ℕ) → HasStepped old new first place step.Wrong count →
+    mid ≡ advanced count place → EndsWrong new next mid ending → ReadsNext old next first last (Ended ending)
+ReadsNext-wrong old new next first place mid last ending count has m (nothing consumed at_end e) =
+    let P : Ending → Type 0 = λ (x : Ending). ReadsNext old next first last (Ended x) in
+    subst P (sym (e ∙ ap cut_at m)) (record {
+      taken = has.taken ++ [];
+      consumed = Consumes-trans old new next has.taken [] has.consumed consumed;
+      told = (has.goes [] ∙ ap ends (wrong-nothing place), at_end);
+    })
+ReadsNext-wrong old new next first place mid last ending count has m (something more consumed some e) =
+    let P : Ending → Type 0 = λ (x : Ending). ReadsNext old next first last (Ended x) in
+    subst P (sym (e ∙ ap faulty_at m)) (record {
+      taken = has.taken ++ more;
+      consumed = Consumes-trans old new next has.taken more has.consumed consumed;
+      told = λ rest.
+          ap (journal_from None first) (append_assoc has.taken more rest)
+          ∙ has.goes (more ++ rest)
+          ∙ ap ends (wrong-something place (more ++ rest) (omega (arith, some, length-append more rest)));
+    })
+
+-- the journal ends within a record
+pub ReadsNext-ended : (old mid new : Option (List ℕ)) (first place last : Place) (current : Option Open) (ending : Ending) → IsWithin old mid first current place → EndsIn mid new current place ending →
+    ReadsNext old new first last (Ended ending)
+ReadsNext-ended old mid new first place last current Whole within ended = record {
+  taken = within.taken ++ ended.taken;
+  consumed = Consumes-trans old mid new within.taken ended.taken within.consumed ended.consumed;
+  told = (within.goes ended.taken ∙ ended.told.0, ended.told.1);
+}
+ReadsNext-ended old mid new first place last current (Cut begin) within ended = record {
+  taken = within.taken ++ ended.taken;
+  consumed = Consumes-trans old mid new within.taken ended.taken within.consumed ended.consumed;
+  told = (within.goes ended.taken ∙ ended.told.0, ended.told.1);
+}
+ReadsNext-ended old mid new first place last current (Faulty number begin) within ended = record {
+  taken = within.taken ++ ended.taken;
+  consumed = Consumes-trans old mid new within.taken ended.taken within.consumed ended.consumed;
+  told = λ rest. ap (journal_from None first) (append_assoc within.taken ended.taken rest) ∙ within.goes (ended.taken ++ rest) ∙ ended.told rest;
+}

@@ -1,0 +1,215 @@
+-- The lines of a lawful record lead to that record.
+use Rattle.std.proofs.Common.{ℕ, ◌≡◌, ◌+◌, ◌*◌, ◌%◌, ◌<◌, ◌≤◌, ◌==◌, Bool, true, false, ◌&&◌, List, [], ◌∷◌, ◌++◌, Option, None, Some, Result, Ok, Err, length, map, drop, refl, sym, ap, subst, ◌∙◌, arith, append_assoc, append-nil, if◌then◌else◌, codes}
+use Rattle.std.specs.Prelude.{decimal, option_map, option_and_then, IsTrue, All}
+use Rattle.std.specs.Int.Bits.{bit_xor}
+use Rattle.std.proofs.lemmas.List.{map-id}
+use Rattle.std.proofs.lemmas.List.Sums.{fold-append}
+use Rattle.std.proofs.lemmas.List.Elements.{All-head, All-tail}
+use Rattle.std.proofs.lemmas.Bool.{eq-eqb, and_from}
+use Rattle.definitions.specs.Cards.{Card, CardRead, IsCard, card_of}
+use Rattle.definitions.specs.DeckInput.{Deck, is_deck_name}
+use Rattle.cards.specs.declared.edits.Edit.{Edit}
+use Rattle.cards.specs.declared.edits.Edit.TheVariants.{Insert, Replace, Remove}
+use Rattle.session_line.specs.declared.commands.Command.{Command}
+use Rattle.session_line.specs.declared.commands.Command.TheVariants as command
+use Rattle.session_line.specs.declared.refusals.Refusal.{Refusal}
+use Rattle.session_line.specs.Words.{first_word, first_number, behind_word, greatest_number}
+use Rattle.session_line.specs.Edits.{is_end, edit_in_batch}
+use Rattle.session_line.specs.Commands.{only_name, command_of}
+use Rattle.session_line.specs.Lines.{behind_a_blank, line_of_edit, line_in_batch, IsLawfulEdit}
+use Rattle.session_line.proofs.ReadBack.{word-decimal, first-word, behind-word, first-number}
+use Rattle.session_line.proofs.LineLaws.{line-back, only-name, batch_line-back}
+use Rattle.journal.specs.declared.changes.Change.{Change}
+use Rattle.journal.specs.declared.changes.Change.TheVariants.{Added, Dropped, Edited, Batch}
+use Rattle.journal.specs.declared.records.Entry.{Entry}
+use Rattle.journal.specs.declared.records.Entry.TheVariants as entry
+use Rattle.journal.specs.declared.records.Record.{Record}
+use Rattle.journal.specs.declared.beginning.Begun.{Begun}
+use Rattle.journal.specs.declared.beginning.Open.{Open}
+use Rattle.journal.specs.declared.steps.Step.{Step}
+use Rattle.journal.specs.declared.steps.Step.TheVariants.{Goes, Ends, Wrong}
+use Rattle.journal.specs.CheckSums.{first_sum, sum_after, sum_over, check_sum}
+use Rattle.journal.specs.Moments.{is_moment, moment_of}
+use Rattle.journal.specs.Records.{ended, text_of_lines, line_of_entry, lines_behind, first_line, lines_of_record, sum_line}
+use Rattle.journal.specs.Begun.{given, unbatched, deck_named, begun_by, begun_of, open_with, opened_by, opened}
+use Rattle.journal.specs.Steps.{deck_with_card, deck_with, edits_with, entry_with, inner_step, has_all, sum_in, end_step, first_step, line_step}
+use Rattle.journal.specs.Lawful.{IsLawfulDeck, IsLawfulChange, IsLawfulEntry, IsLawful}
+use Rattle.journal.proofs.LineChains.{IsLine, IsChain}
+use Rattle.journal.proofs.LineSizes.{first-line, card-line, edit-line}
+use Rattle.journal.proofs.PlainTexts.{moment-word}
+
+-- what the first line of a record tells
+abbrev pub bare : Entry → Begun
+bare (entry.Desk decks) = record { entry = entry.Desk decks; edits = 0 }
+bare (entry.Deck deck) = record { entry = entry.Deck (record { name = deck.name; cards = [] }); edits = 0 }
+bare (entry.Made (Added deck)) = record { entry = entry.Made (Added (record { name = deck.name; cards = [] })); edits = 0 }
+bare (entry.Made (Dropped name seen)) = record { entry = entry.Made (Dropped name seen); edits = 0 }
+bare (entry.Made (Edited name seen edit)) = record { entry = entry.Made (Edited name seen edit); edits = 0 }
+bare (entry.Made (Batch name seen edits)) = record { entry = entry.Made (Batch name seen []); edits = length edits }
+
+bare-desk : (decks : ℕ) → decks ≤ greatest_number → begun_of (line_of_entry (entry.Desk decks)) ≡ Some (bare (entry.Desk decks))
+bare-desk decks within =
+    let rest = 32 ∷ (decimal decks ++ []) in
+    ap (λ (o : Option ℕ). given {A = ℕ} {B = Begun} o (λ n. if is_end (behind_word rest) then unbatched (entry.Desk n) else None)) (first-number decks [] within refl)
+    ∙ ap (λ (l : List ℕ). if is_end l then unbatched (entry.Desk decks) else None) (behind-word (decimal decks) [] (word-decimal decks within) refl)
+
+bare-edit : (name : List ℕ) (seen : ℕ) (edit : Edit) → is_deck_name name ≡ true → seen ≤ greatest_number → IsLawfulEdit edit →
+    begun_of (line_of_edit name seen edit) ≡ Some (bare (entry.Made (Edited name seen edit)))
+bare-edit name seen (Insert at card) is within lawful = ap begun_by (line-back (command.Edit name seen (Insert at card)) (is, within, lawful))
+bare-edit name seen (Replace at card) is within lawful = ap begun_by (line-back (command.Edit name seen (Replace at card)) (is, within, lawful))
+bare-edit name seen (Remove at) is within lawful = ap begun_by (line-back (command.Edit name seen (Remove at)) (is, within, lawful))
+
+-- what a record tells reads back from its first line
+bare-back : (entry : Entry) → IsLawfulEntry entry → begun_of (line_of_entry entry) ≡ Some (bare entry)
+bare-back (entry.Desk decks) lawful = bare-desk decks lawful
+bare-back (entry.Deck deck) lawful = ap deck_named (only-name deck.name lawful.0)
+bare-back (entry.Made (Added deck)) lawful = ap begun_by (line-back (command.Add deck.name) lawful.0)
+bare-back (entry.Made (Dropped name seen)) lawful = ap begun_by (line-back (command.Drop name seen) lawful)
+bare-back (entry.Made (Edited name seen edit)) lawful = bare-edit name seen edit lawful.0 lawful.1 lawful.2
+bare-back (entry.Made (Batch name seen edits)) lawful =
+    ap begun_by (line-back (command.Batch (record { name = Ok name; version = seen; count = length edits })) (lawful.0, lawful.1, lawful.2))
+
+parts-given : (line : List ℕ) (first : Option ℕ) (second : Option (List ℕ)) (third : Option ℕ) (fourth : Option Begun) (version : ℕ) (moment : List ℕ) (session : ℕ) (begun : Begun) →
+    first ≡ Some version → second ≡ Some moment → third ≡ Some session → fourth ≡ Some begun →
+    given first (λ v. given second (λ m. given third (λ s. option_map (open_with line v m s) fourth))) ≡ Some (open_with line version moment session begun)
+parts-given line first second third fourth version moment session begun a b c d =
+    ap (λ (o : Option ℕ). given {A = ℕ} {B = Open} o (λ v. given second (λ m. given third (λ s. option_map (open_with line v m s) fourth)))) a
+    ∙ ap (λ (o : Option (List ℕ)). given {A = List ℕ} {B = Open} o (λ m. given third (λ s. option_map (open_with line version m s) fourth))) b
+    ∙ ap (λ (o : Option ℕ). given {A = ℕ} {B = Open} o (λ s. option_map (open_with line version moment s) fourth)) c
+    ∙ ap (λ (o : Option Begun). option_map (open_with line version moment session) o) d
+
+-- the first line of a record opens it
+opened-back : (r : Record) → IsLawful r → opened (first_line r) ≡ Some (open_with (first_line r) r.version r.moment r.session (bare r.entry))
+opened-back r lawful =
+    let fourth = 32 ∷ line_of_entry r.entry in
+    let third = 32 ∷ (decimal r.session ++ fourth) in
+    let second = 32 ∷ (r.moment ++ third) in
+    let first = 32 ∷ (decimal r.version ++ second) in
+    let one : behind_word first ≡ second = behind-word (decimal r.version) second (word-decimal r.version lawful.version) refl in
+    let two : behind_word second ≡ third = behind-word r.moment third (moment-word r.moment lawful.moment) refl in
+    let three : behind_word third ≡ fourth = behind-word (decimal r.session) fourth (word-decimal r.session lawful.session) refl in
+    parts-given (first_line r) (first_number first) (option_and_then moment_of (first_word (behind_word first))) (first_number (behind_word (behind_word first)))
+    (begun_of (drop 1 (behind_word (behind_word (behind_word first))))) r.version r.moment r.session (bare r.entry)
+    (first-number r.version second lawful.version refl)
+    (ap (λ (l : List ℕ). option_and_then moment_of (first_word l)) one
+    ∙ ap (λ (o : Option (List ℕ)). option_and_then moment_of o) (first-word r.moment third (moment-word r.moment lawful.moment) refl)
+    ∙ ap (λ (t : Bool). if t then Some r.moment else None) lawful.moment)
+    (ap (λ (l : List ℕ). first_number (behind_word l)) one ∙ ap first_number two ∙ first-number r.session fourth lawful.session refl)
+    (ap (λ (l : List ℕ). begun_of (drop 1 (behind_word (behind_word l)))) one
+    ∙ ap (λ (l : List ℕ). begun_of (drop 1 (behind_word l))) two
+    ∙ ap (λ (l : List ℕ). begun_of (drop 1 l)) three
+    ∙ bare-back r.entry lawful.entry)
+
+-- an open record of which so much was read
+abbrev pub open_at : Record → ℕ → Entry → ℕ → Open
+open_at r edits told sum = record { so_far = record r { entry = told }; edits = edits; sum = sum }
+
+-- lines that each take one thing more into what the record tells
+inner-chain : {X : Type 0} (lawful : X → Type 0) (line : X → List ℕ) (form : List X → Entry) →
+    ((done : List X) (x : X) → lawful x → entry_with (form done) (line x) ≡ Some (form (done ++ x ∷ []))) →
+    ((x : X) → lawful x → IsLine (behind_a_blank (line x))) →
+    (r : Record) (edits : ℕ) (done left : List X) (sum : ℕ) → All lawful left →
+    IsChain (Some (open_at r edits (form done) sum)) (map behind_a_blank (map line left))
+    (open_at r edits (form (done ++ left)) (sum_over sum (text_of_lines (map behind_a_blank (map line left)))))
+inner-chain {X} lawful line form takes fits r edits done [] sum all =
+    ap (λ (l : List X). Some (open_at r edits (form l) sum)) (sym (append-nil done))
+inner-chain {X} lawful line form takes fits r edits done (x ∷ left) sum all =
+    let is = All-head lawful x left all in
+    let text = behind_a_blank (line x) in
+    let behind = text_of_lines (map behind_a_blank (map line left)) in
+    let next = open_at r edits (form (done ++ x ∷ [])) (sum_over sum (ended text)) in
+    let chain = inner-chain lawful line form takes fits r edits (done ++ x ∷ []) left (sum_over sum (ended text)) (All-tail lawful x left all) in
+    let sums : sum_over (sum_over sum (ended text)) behind ≡ sum_over sum (ended text ++ behind) = sym (fold-append sum_after sum (ended text) behind) in
+    let P : Open → Type 0 = λ (o : Open). IsChain (Some next) (map behind_a_blank (map line left)) o in (
+      fits x is,
+      (
+        next,
+        (
+          ap (λ (o : Option Entry). inner_step (open_at r edits (form done) sum) text o) (takes done x is),
+          subst P (ap (λ (n : ℕ). open_at r edits (form ((done ++ x ∷ []) ++ left)) n) sums ∙ ap (λ (l : List X). open_at r edits (form l) (sum_over sum (ended text ++ behind))) (append_assoc done (x ∷ []) left)) chain,
+        ),
+      ),
+    )
+
+-- cards of a deck
+cards-chain : (form : Deck → Entry) → ((deck : Deck) (text : List ℕ) → entry_with (form deck) text ≡ option_map form (deck_with deck text)) →
+    (r : Record) (deck : Deck) (sum : ℕ) → All (λ (card : Card). card_of card ≡ IsCard card) deck.cards →
+    IsChain (Some (open_at r 0 (form (record { name = deck.name; cards = [] })) sum)) (map behind_a_blank deck.cards)
+    (open_at r 0 (form deck) (sum_over sum (text_of_lines (map behind_a_blank deck.cards))))
+cards-chain form with r deck sum all =
+    let P : List (List ℕ) → Type 0 = λ (ls : List (List ℕ)). IsChain (Some (open_at r 0 (form (record { name = deck.name; cards = [] })) sum)) (map behind_a_blank ls)
+    (open_at r 0 (form deck) (sum_over sum (text_of_lines (map behind_a_blank ls)))) in
+    subst P (map-id deck.cards)
+    (inner-chain (λ (card : Card). card_of card ≡ IsCard card) (λ (card : Card). card) (λ (cards : List Card). form (record { name = deck.name; cards = cards }))
+    (λ done card is. with (record { name = deck.name; cards = done }) card ∙ ap (λ (read : CardRead). option_map form (deck_with_card (record { name = deck.name; cards = done }) read)) is)
+    card-line r 0 [] deck.cards sum all)
+
+-- the lines behind the first
+behind-chain : (r : Record) (told : Entry) (sum : ℕ) → IsLawfulEntry told →
+    IsChain (Some (open_at r (bare told).edits (bare told).entry sum)) (map behind_a_blank (lines_behind told))
+    (open_at r (bare told).edits told (sum_over sum (text_of_lines (map behind_a_blank (lines_behind told)))))
+behind-chain r (entry.Desk decks) sum lawful = refl
+behind-chain r (entry.Deck deck) sum lawful = cards-chain entry.Deck (λ deck text. refl) r deck sum lawful.1
+behind-chain r (entry.Made (Added deck)) sum lawful = cards-chain (λ (d : Deck). entry.Made (Added d)) added-with r deck sum lawful.1
+  where
+    added-with : (deck : Deck) (text : List ℕ) → entry_with (entry.Made (Added deck)) text ≡ option_map (λ (d : Deck). entry.Made (Added d)) (deck_with deck text)
+    added-with deck text = by (deck_with deck text)
+      where
+        by : (o : Option Deck) → option_map entry.Made (option_map Added o) ≡ option_map (λ (d : Deck). entry.Made (Added d)) o
+        by None = refl
+        by (Some d) = refl
+behind-chain r (entry.Made (Dropped name seen)) sum lawful = refl
+behind-chain r (entry.Made (Edited name seen edit)) sum lawful = refl
+behind-chain r (entry.Made (Batch name seen edits)) sum lawful =
+    inner-chain IsLawfulEdit line_in_batch (λ (done : List Edit). entry.Made (Batch name seen done))
+    (λ done edit is. ap (λ (read : Result Edit Refusal). option_map entry.Made (option_map (Batch name seen) (edits_with done read))) (batch_line-back edit is))
+    edit-line r (length edits) [] edits sum lawful.3
+
+-- the open record behind its last line before the check sum
+abbrev pub open_whole : Record → Open
+open_whole r = open_at r (bare r.entry).edits r.entry (check_sum (text_of_lines (lines_of_record r)))
+
+-- the lines of a record up to its check sum
+pub record-chain : (r : Record) → IsLawful r → IsChain None (lines_of_record r) (open_whole r)
+record-chain r lawful =
+    let line = first_line r in
+    let behind = text_of_lines (map behind_a_blank (lines_behind r.entry)) in
+    let next = open_with line r.version r.moment r.session (bare r.entry) in
+    let sums : sum_over (sum_over first_sum (ended line)) behind ≡ check_sum (ended line ++ behind) = sym (fold-append sum_after first_sum (ended line) behind) in
+    let P : ℕ → Type 0 = λ n. IsChain (Some next) (map behind_a_blank (lines_behind r.entry)) (open_at r (bare r.entry).edits r.entry n) in (
+      first-line r lawful,
+      (next, (ap first_step (opened-back r lawful), subst P sums (behind-chain r r.entry (sum_over first_sum (ended line)) lawful.entry))),
+    )
+
+-- a check sum has 32 bits
+below-32 : (n : ℕ) → n % 4294967296 < 4294967296
+below-32 n = omega arith
+
+sum-below : (sum : ℕ) (bytes : List ℕ) → sum < 4294967296 → sum_over sum bytes < 4294967296
+sum-below sum [] below = below
+sum-below sum (b ∷ bs) below = sum-below (sum_after sum b) bs (below-32 (bit_xor sum b * 16777619))
+
+pub sum-told : (bytes : List ℕ) → check_sum bytes ≤ greatest_number
+sum-told bytes = let below = sum-below first_sum bytes (omega arith) in omega (arith, below)
+
+-- a check sum reads back
+sum-back : (n : ℕ) → n ≤ greatest_number → sum_in (sum_line n) ≡ Some n
+sum-back n within =
+    let rest = 32 ∷ (decimal n ++ []) in
+    ap (λ (l : List ℕ). if is_end l then first_number rest else None) (behind-word (decimal n) [] (word-decimal n within) refl)
+    ∙ first-number n [] within refl
+
+all-there : (told : Entry) → has_all told (bare told).edits ≡ true
+all-there (entry.Desk decks) = refl
+all-there (entry.Deck deck) = refl
+all-there (entry.Made (Added deck)) = refl
+all-there (entry.Made (Dropped name seen)) = refl
+all-there (entry.Made (Edited name seen edit)) = refl
+all-there (entry.Made (Batch name seen edits)) = eq-eqb (length edits) (length edits) refl
+
+-- the line of its check sum ends a record
+pub record-ends : (r : Record) → line_step (Some (open_whole r)) (sum_line (open_whole r).sum) ≡ Ends r
+record-ends r =
+    let sum = (open_whole r).sum in
+    ap (end_step (open_whole r)) (sum-back sum (sum-told (text_of_lines (lines_of_record r))))
+    ∙ ap (λ (t : Bool). if t then Ends r else Wrong) (and_from (sum == sum) (has_all r.entry (bare r.entry).edits) (eq-eqb sum sum refl) (all-there r.entry))

@@ -1,0 +1,77 @@
+-- How a record begins (ours): its first line tells the version, when it was made, the session, and what was done.
+use Rattle.std.specs.Prelude.{ℕ, ◌==◌, List, [], Option, Some, None, Result, Ok, Err, codes, length, drop, option_and_then, option_map, if◌then◌else◌}
+use Rattle.definitions.specs.Characters.{same_text}
+use Rattle.definitions.specs.Fields.{unbroken_front}
+use Rattle.session_line.specs.declared.commands.Command.{Command}
+use Rattle.session_line.specs.declared.commands.Command.TheVariants as command
+use Rattle.session_line.specs.declared.refusals.Refusal.{Refusal}
+use Rattle.session_line.specs.Words.{from_blank, first_word, first_number, behind_word}
+use Rattle.session_line.specs.Edits.{is_end}
+use Rattle.session_line.specs.Commands.{only_name, command_of}
+use Rattle.journal.specs.declared.changes.Change.{Change}
+use Rattle.journal.specs.declared.changes.Change.TheVariants.{Added, Dropped, Edited, Batch}
+use Rattle.journal.specs.declared.records.Entry.{Entry}
+use Rattle.journal.specs.declared.records.Entry.TheVariants.{Desk, Deck, Made}
+use Rattle.journal.specs.declared.beginning.Begun.{Begun}
+use Rattle.journal.specs.declared.beginning.Open.{Open}
+use Rattle.journal.specs.CheckSums.{first_sum, sum_over}
+use Rattle.journal.specs.Moments.{moment_of}
+use Rattle.journal.specs.Records.{ended}
+
+-- what is made of a part that a line needs, if it has it
+abbrev pub given : {A B : Type 0} → Option A → (A → Option B) → Option B
+given None made = None
+given (Some part) made = made part
+
+-- an entry that is no batch
+abbrev pub unbatched : Entry → Option Begun
+unbatched entry = Some (record { entry = entry; edits = 0 })
+
+-- DESK, and how many decks there are
+abbrev pub desk_in : List ℕ → Option Begun
+desk_in rest = given (first_number rest) (λ decks. if is_end (behind_word rest) then unbatched (Desk decks) else None)
+
+-- DECK, and its name
+abbrev pub deck_named : Result (List ℕ) Refusal → Option Begun
+deck_named (Ok name) = unbatched (Deck (record { name = name; cards = [] }))
+deck_named (Err refusal) = None
+
+-- a batch, without its edits
+abbrev pub batch_named : Result (List ℕ) Refusal → ℕ → ℕ → Option Begun
+batch_named (Ok name) seen count = Some (record { entry = Made (Batch name seen []); edits = count })
+batch_named (Err refusal) seen count = None
+
+-- the change that a command asks for, without what stands on further lines
+abbrev pub begun_by : Result Command Refusal → Option Begun
+begun_by (Ok (command.Add name)) = unbatched (Made (Added (record { name = name; cards = [] })))
+begun_by (Ok (command.Drop name seen)) = unbatched (Made (Dropped name seen))
+begun_by (Ok (command.Edit name seen edit)) = unbatched (Made (Edited name seen edit))
+begun_by (Ok (command.Batch head)) = batch_named head.name head.version head.count
+begun_by _ = None
+
+-- what a record tells, by its text
+abbrev pub begun_of : List ℕ → Option Begun
+begun_of text =
+    let word = unbroken_front text in
+    if same_text word (codes "DESK") then desk_in (from_blank text)
+    else if same_text word (codes "DECK") then deck_named (only_name (from_blank text))
+    else begun_by (command_of text)
+
+-- an open record, whose first line is this one
+abbrev pub open_with : List ℕ → ℕ → List ℕ → ℕ → Begun → Open
+open_with line version moment session begun =
+    record { so_far = record { version = version; moment = moment; session = session; entry = begun.entry }; edits = begun.edits; sum = sum_over first_sum (ended line) }
+
+-- the parts of a first line
+abbrev pub opened_by : List ℕ → List ℕ → Option Open
+opened_by line rest =
+    let second = behind_word rest in
+    let third = behind_word second in
+    given (first_number rest) (λ version.
+    given (option_and_then moment_of (first_word second)) (λ moment.
+    given (first_number third) (λ session.
+    option_map (open_with line version moment session) (begun_of (drop 1 (behind_word third))))))
+
+-- the record that a line begins
+abbrev pub opened : List ℕ → Option Open
+opened line = if same_text (unbroken_front line) (codes "RECORD") then opened_by line (from_blank line) else None

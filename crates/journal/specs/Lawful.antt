@@ -1,0 +1,36 @@
+-- Records whose text reads back (ours): a name, numbers that can be told, cards, and where it is a batch as many edits as it may have.
+use Rattle.std.specs.Prelude.{ℕ, ◌≡◌, ◌≤◌, List, IsTrue, length, All}
+use Rattle.definitions.specs.Cards.{Card, IsCard, card_of}
+use Rattle.definitions.specs.DeckInput.{Deck, is_deck_name}
+use Rattle.session_line.specs.Words.{greatest_number}
+use Rattle.session_line.specs.Commands.{is_batch_size}
+use Rattle.session_line.specs.Lines.{IsLawfulEdit}
+use Rattle.journal.specs.declared.changes.Change.{Change}
+use Rattle.journal.specs.declared.changes.Change.TheVariants.{Added, Dropped, Edited, Batch}
+use Rattle.journal.specs.declared.records.Entry.{Entry}
+use Rattle.journal.specs.declared.records.Entry.TheVariants as entry
+use Rattle.journal.specs.declared.records.Record.{Record}
+use Rattle.journal.specs.Moments.{is_moment}
+
+-- a deck with a lawful name and cards
+abbrev pub IsLawfulDeck : Deck → Type 0
+IsLawfulDeck deck = IsTrue (is_deck_name deck.name) × All (λ (card : Card). card_of card ≡ IsCard card) deck.cards
+
+-- a change of a lawful name, with a version that can be told, and lawful edits
+abbrev pub IsLawfulChange : Change → Type 0
+IsLawfulChange (Added deck) = IsLawfulDeck deck
+IsLawfulChange (Dropped name seen) = IsTrue (is_deck_name name) × (seen ≤ greatest_number)
+IsLawfulChange (Edited name seen edit) = IsTrue (is_deck_name name) × (seen ≤ greatest_number) × IsLawfulEdit edit
+IsLawfulChange (Batch name seen edits) = IsTrue (is_deck_name name) × (seen ≤ greatest_number) × IsTrue (is_batch_size (length edits)) × All IsLawfulEdit edits
+
+abbrev pub IsLawfulEntry : Entry → Type 0
+IsLawfulEntry (entry.Desk decks) = decks ≤ greatest_number
+IsLawfulEntry (entry.Deck deck) = IsLawfulDeck deck
+IsLawfulEntry (entry.Made change) = IsLawfulChange change
+
+-- a record with a moment, and numbers that can be told
+pub record IsLawful (r : Record) : Type 0 where
+  pub version : r.version ≤ greatest_number
+  pub moment : IsTrue (is_moment r.moment)
+  pub session : r.session ≤ greatest_number
+  pub entry : IsLawfulEntry r.entry

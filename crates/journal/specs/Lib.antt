@@ -1,0 +1,12 @@
+pub mod CheckSums
+pub mod Moments
+pub mod Records
+pub mod Asking
+pub mod Queues
+pub mod Places
+pub mod Begun
+pub mod Steps
+pub mod Journals
+pub mod Reading
+pub mod Lawful
+pub mod Replaying

@@ -1,0 +1,72 @@
+-- The text of a record (ours): a line that tells what was done, a line for each card or edit that belongs to it, behind a blank, and a line with the check sum of the lines before it.
+use Rattle.std.specs.Prelude.{ℕ, List, [], ◌∷◌, ◌++◌, length, map, flat_map, codes, decimal}
+use Rattle.definitions.specs.Characters.{line_feed}
+use Rattle.session_line.specs.Lines.{behind_a_blank, name_and_number, line_of_edit, line_in_batch}
+use Rattle.journal.specs.declared.changes.Change.{Change}
+use Rattle.journal.specs.declared.changes.Change.TheVariants.{Added, Dropped, Edited, Batch}
+use Rattle.journal.specs.declared.records.Entry.{Entry}
+use Rattle.journal.specs.declared.records.Entry.TheVariants.{Desk, Deck, Made}
+use Rattle.journal.specs.declared.records.Record.{Record}
+use Rattle.journal.specs.CheckSums.{check_sum}
+
+-- a line and its line feed
+abbrev pub ended : List ℕ → List ℕ
+ended line = line ++ line_feed ∷ []
+
+-- lines, each with its line feed
+abbrev pub text_of_lines : List (List ℕ) → List ℕ
+text_of_lines lines = flat_map ended lines
+
+-- a change as the line that asked for it
+abbrev pub line_of_change : Change → List ℕ
+line_of_change (Added deck) = codes "ADD" ++ behind_a_blank (deck.name ++ [])
+line_of_change (Dropped name seen) = codes "DROP" ++ name_and_number name seen []
+line_of_change (Edited name seen edit) = line_of_edit name seen edit
+line_of_change (Batch name seen edits) = codes "BATCH" ++ name_and_number name seen (behind_a_blank (decimal (length edits) ++ []))
+
+-- what a record tells, as a line
+abbrev pub line_of_entry : Entry → List ℕ
+line_of_entry (Desk decks) = codes "DESK" ++ behind_a_blank (decimal decks ++ [])
+line_of_entry (Deck deck) = codes "DECK" ++ behind_a_blank (deck.name ++ [])
+line_of_entry (Made change) = line_of_change change
+
+-- the cards, or the edits, that belong to a change
+abbrev pub lines_behind_change : Change → List (List ℕ)
+lines_behind_change (Added deck) = deck.cards
+lines_behind_change (Batch name seen edits) = map line_in_batch edits
+lines_behind_change _ = []
+
+-- the cards, or the edits, that belong to what a record tells
+abbrev pub lines_behind : Entry → List (List ℕ)
+lines_behind (Desk decks) = []
+lines_behind (Deck deck) = deck.cards
+lines_behind (Made change) = lines_behind_change change
+
+-- the first line: the version, when it was made, the session, and what the record tells
+abbrev pub first_line : Record → List ℕ
+first_line r = codes "RECORD" ++ behind_a_blank (decimal r.version ++ behind_a_blank (r.moment ++ behind_a_blank (decimal r.session ++ behind_a_blank (line_of_entry r.entry))))
+
+-- the lines of a record up to its check sum
+abbrev pub lines_of_record : Record → List (List ℕ)
+lines_of_record r = first_line r ∷ map behind_a_blank (lines_behind r.entry)
+
+-- the line of a check sum
+abbrev pub sum_line : ℕ → List ℕ
+sum_line sum = codes "SUM" ++ behind_a_blank (decimal sum ++ [])
+
+-- the text of a record
+abbrev pub text_of_record : Record → List ℕ
+text_of_record r = let text = text_of_lines (lines_of_record r) in text ++ ended (sum_line (check_sum text))
+
+-- the text of the record of a change, from behind its version to in front of its check sum
+abbrev pub text_behind_version : List ℕ → ℕ → Change → List ℕ
+text_behind_version moment session change =
+    behind_a_blank moment ++ (behind_a_blank (decimal session) ++ (codes " " ++ (line_of_change change ++ (line_feed ∷ [] ++ text_of_lines (map behind_a_blank (lines_behind_change change))))))
+
+-- the text of a record, by its version and the text behind it
+abbrev pub text_with_version : ℕ → List ℕ → List ℕ
+text_with_version version behind = let text = codes "RECORD" ++ (behind_a_blank (decimal version) ++ behind) in text ++ ended (sum_line (check_sum text))
+
+-- the text of records, one behind the other
+abbrev pub text_of_records : List Record → List ℕ
+text_of_records records = flat_map text_of_record records

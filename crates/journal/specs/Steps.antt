@@ -1,0 +1,87 @@
+-- What a line makes of the record that is open (ours).
+use Rattle.std.specs.Prelude.{ℕ, ◌==◌, List, [], ◌∷◌, ◌++◌, Option, Some, None, Result, Ok, Err, Bool, true, ◌&&◌, codes, length, drop, option_map, if◌then◌else◌}
+use Rattle.definitions.specs.Characters.{blank, same_text}
+use Rattle.definitions.specs.Cards.{Card, CardRead, IsCard, TooWide, BadCharacter, card_of, begins_with}
+use Rattle.definitions.specs.DeckInput.{Deck}
+use Rattle.definitions.specs.Fields.{unbroken_front}
+use Rattle.cards.specs.declared.edits.Edit.{Edit}
+use Rattle.session_line.specs.declared.refusals.Refusal.{Refusal}
+use Rattle.session_line.specs.Words.{from_blank, first_number, behind_word}
+use Rattle.session_line.specs.Edits.{is_end, edit_in_batch}
+use Rattle.journal.specs.declared.changes.Change.{Change}
+use Rattle.journal.specs.declared.changes.Change.TheVariants.{Added, Dropped, Edited, Batch}
+use Rattle.journal.specs.declared.records.Entry.{Entry}
+use Rattle.journal.specs.declared.records.Entry.TheVariants as entry
+use Rattle.journal.specs.declared.beginning.Open.{Open}
+use Rattle.journal.specs.declared.steps.Step.{Step}
+use Rattle.journal.specs.declared.steps.Step.TheVariants.{Goes, Ends, Wrong, Bad}
+use Rattle.journal.specs.CheckSums.{sum_over}
+use Rattle.journal.specs.Records.{ended}
+use Rattle.journal.specs.Begun.{given, opened}
+
+-- a deck with a card more, if it is one
+abbrev pub deck_with_card : Deck → CardRead → Option Deck
+deck_with_card deck (IsCard card) = Some (record { name = deck.name; cards = deck.cards ++ card ∷ [] })
+deck_with_card deck TooWide = None
+deck_with_card deck (BadCharacter column) = None
+
+-- a deck with the card of a text
+abbrev pub deck_with : Deck → List ℕ → Option Deck
+deck_with deck text = deck_with_card deck (card_of text)
+
+-- edits with one more, if it is one
+abbrev pub edits_with : List Edit → Result Edit Refusal → Option (List Edit)
+edits_with edits (Ok edit) = Some (edits ++ edit ∷ [])
+edits_with edits (Err refusal) = None
+
+-- a change with the card or the edit of a text
+abbrev pub change_with : Change → List ℕ → Option Change
+change_with (Added deck) text = option_map Added (deck_with deck text)
+change_with (Batch name seen edits) text = option_map (Batch name seen) (edits_with edits (edit_in_batch text))
+change_with (Dropped name seen) text = None
+change_with (Edited name seen edit) text = None
+
+-- what a record tells with the card or the edit of a text
+abbrev pub entry_with : Entry → List ℕ → Option Entry
+entry_with (entry.Desk decks) text = None
+entry_with (entry.Deck deck) text = option_map entry.Deck (deck_with deck text)
+entry_with (entry.Made change) text = option_map entry.Made (change_with change text)
+
+-- an open record that tells this, with one line more
+abbrev pub open_behind : Open → List ℕ → Entry → Open
+open_behind current line told = record {
+  so_far = record current.so_far { entry = told };
+  edits = current.edits;
+  sum = sum_over current.sum (ended line);
+}
+
+-- a line behind a blank
+abbrev pub inner_step : Open → List ℕ → Option Entry → Step
+inner_step current line None = Bad
+inner_step current line (Some told) = Goes (open_behind current line told)
+
+-- whether a batch has as many edits as it told
+abbrev pub has_all : Entry → ℕ → Bool
+has_all (entry.Made (Batch name seen edits)) count = length edits == count
+has_all _ count = true
+
+-- the number on the line of a check sum
+abbrev pub sum_in : List ℕ → Option ℕ
+sum_in line =
+    if same_text (unbroken_front line) (codes "SUM") && is_end (behind_word (from_blank line)) then first_number (from_blank line)
+    else None
+
+-- the line of a check sum
+abbrev pub end_step : Open → Option ℕ → Step
+end_step current None = Bad
+end_step current (Some sum) = if sum == current.sum && has_all current.so_far.entry current.edits then Ends current.so_far else Wrong
+
+-- a line where no record is open
+abbrev pub first_step : Option Open → Step
+first_step None = Bad
+first_step (Some current) = Goes current
+
+-- a line, where a record is open or not
+abbrev pub line_step : Option Open → List ℕ → Step
+line_step None line = first_step (opened line)
+line_step (Some current) line = if begins_with blank line then inner_step current line (entry_with current.so_far.entry (drop 1 line)) else end_step current (sum_in line)

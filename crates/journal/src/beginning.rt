@@ -1,0 +1,172 @@
+//! How a record begins: its first line.
+ghost use Rattle.std.specs.Prelude.{◌≡◌, List, Result, option_map, option_and_then};
+ghost use Rattle.session_line.specs.Words.{first_word};
+ghost use Rattle.session_line.specs.declared.refusals.Refusal.{Refusal as Reason};
+ghost use Rattle.journal.specs.Moments.{moment_of};
+ghost use Rattle.journal.specs.Begun.{unbatched, begun_by, begun_of, batch_named, deck_named, desk_in, opened, opened_by};
+
+use crate::changes::Change;
+use crate::check_sums::{FIRST_SUM, sum_over_line};
+use crate::moments::Moment;
+use crate::records::{Entry, Record};
+use cards::DeckName;
+use definitions::is_same_text;
+use desk_core::{Listed, NewDeck};
+use session_line::{
+    Command, Refusal, behind_blank, behind_word, first_number, first_word, from_blank, only_name,
+    read_command, to_blank,
+};
+use std::alloc::Global;
+
+/// What a record tells by its first line alone, and how many edits it announces.
+#[derive(Drop)]
+pub(crate) struct Begun {
+    pub(crate) entry: Entry,
+    pub(crate) edits: u64,
+}
+
+/// A record that is read up to some line: how many edits it announces, and the sum of its lines.
+#[derive(Drop)]
+pub(crate) struct Open {
+    pub(crate) so_far: Record,
+    pub(crate) edits: u64,
+    pub(crate) sum: u32,
+}
+
+/// What is no batch.
+fn unbatched(entry: Entry) -> Option<Begun>
+    ensures { result ≡ unbatched entry }
+{
+    Some(Begun { entry, edits: 0 })
+}
+
+/// `DESK decks`, from behind the word on.
+fn desk_in(rest: &[u8]) -> Option<Begun>
+    ensures { result ≡ desk_in rest.now }
+{
+    let decks = first_number(rest)?;
+    if behind_word(rest).is_empty() {
+        unbatched(Entry::Desk { decks })
+    } else {
+        None
+    }
+}
+
+/// `DECK name`, from behind the word on.
+fn deck_named(alloc: Global, name: Result<DeckName, Refusal>) -> Option<Begun>
+    ensures { result ≡ deck_named name }
+{
+    match name {
+        Ok(name) => unbatched(Entry::Deck(NewDeck::new(name, Vec::new(alloc)))),
+        Err(_) => None,
+    }
+}
+
+/// A batch, without its edits.
+fn batch_named(
+    alloc: Global,
+    name: Result<DeckName, Refusal>,
+    seen: u64,
+    count: u64,
+) -> Option<Begun>
+    ensures { result ≡ batch_named name seen count }
+{
+    match name {
+        Ok(name) => Some(Begun {
+            entry: Entry::Made(Change::Batch {
+                name,
+                seen,
+                edits: Listed::new(Vec::new(alloc)),
+            }),
+            edits: count,
+        }),
+        Err(_) => None,
+    }
+}
+
+/// The change that a command asks for, without what stands on further lines.
+fn begun_by(alloc: Global, command: Result<Command, Refusal>) -> Option<Begun>
+    ensures { result ≡ begun_by command }
+{
+    match command {
+        Ok(Command::Add { name }) => unbatched(Entry::Made(Change::Added(NewDeck::new(
+            name,
+            Vec::new(alloc),
+        )))),
+        Ok(Command::Drop { name, version }) => unbatched(Entry::Made(Change::Dropped {
+            name,
+            seen: version,
+        })),
+        Ok(
+            Command::Edit {
+                name,
+                version,
+                edit,
+            },
+        ) => unbatched(Entry::Made(Change::Edited {
+            name,
+            seen: version,
+            edit,
+        })),
+        Ok(Command::Batch(head)) => batch_named(alloc, head.name, head.version, head.count),
+        Ok(_) => None,
+        Err(_) => None,
+    }
+}
+
+/// What a record tells, by the text behind its session.
+fn begun_of(alloc: Global, text: &[u8]) -> Option<Begun>
+    ensures { result ≡ begun_of text.now }
+{
+    let word = to_blank(text);
+    if is_same_text(word, b"DESK") {
+        desk_in(from_blank(text))
+    } else if is_same_text(word, b"DECK") {
+        deck_named(alloc, only_name(from_blank(text)))
+    } else {
+        begun_by(alloc, read_command(text))
+    }
+}
+
+/// The moment behind the blank that begins a rest.
+fn moment_in(rest: &[u8]) -> Option<Moment>
+    ensures { result ≡ option_and_then moment_of (first_word rest.now) }
+{
+    match first_word(rest) {
+        Some(word) => Moment::read(word),
+        None => None,
+    }
+}
+
+/// The parts of a first line, from behind its first word on.
+fn opened_by(alloc: Global, line: &[u8], rest: &[u8]) -> Option<Open>
+    ensures { result ≡ opened_by line.now rest.now }
+{
+    let second = behind_word(rest);
+    let third = behind_word(second);
+    let version = first_number(rest)?;
+    let moment = moment_in(second)?;
+    let session = first_number(third)?;
+    let begun = begun_of(alloc, behind_blank(behind_word(third)))?;
+    Some(Open {
+        so_far: Record {
+            version,
+            moment,
+            session,
+            entry: begun.entry,
+        },
+        edits: begun.edits,
+        sum: sum_over_line(FIRST_SUM, line),
+    })
+}
+
+/// The record that a line begins, if it begins one.
+pub(crate) fn opened(alloc: Global, line: &[u8]) -> Option<Open>
+    ensures { result ≡ opened line.now }
+{
+    if is_same_text(to_blank(line), b"RECORD") {
+        opened_by(alloc, line, from_blank(line))
+    } else {
+        None
+    }
+}

@@ -1,0 +1,54 @@
+//! Changes of a desk, as they were asked for.
+ghost use Rattle.std.specs.Prelude.{◌≡◌};
+ghost use Rattle.journal.specs.Asking.{asked_of};
+
+use cards::{DeckName, Edit};
+use desk_core::{Call, Listed, NewDeck};
+
+/// A change of a desk. Who changes a deck told its name and the version of it that was seen.
+#[derive(Drop)]
+pub enum Change {
+    /// A new deck, with the cards of a file where it was loaded.
+    Added(NewDeck),
+    /// The deck goes.
+    Dropped {
+        name: DeckName,
+        seen: u64,
+    },
+    /// One edit of the deck.
+    Edited {
+        name: DeckName,
+        seen: u64,
+        edit: Edit,
+    },
+    /// Edits of the deck, all as one change.
+    Batch {
+        name: DeckName,
+        seen: u64,
+        edits: Listed<Edit>,
+    },
+}
+
+/// What is asked of a desk.
+#[derive(Drop)]
+pub enum Asked {
+    /// A change.
+    Change(Change),
+    /// Anything else.
+    Other(Call),
+}
+
+/// What a call asks for.
+pub fn asked_of(call: Call) -> Asked
+    ensures { result ≡ asked_of call }
+{
+    match call {
+        Call::AddDeck(deck) => Asked::Change(Change::Added(deck)),
+        Call::DropDeck { name, seen } => Asked::Change(Change::Dropped { name, seen }),
+        Call::EditDeck { name, seen, edit } => {
+            Asked::Change(Change::Edited { name, seen, edit })
+        }
+        Call::Batch { name, seen, edits } => Asked::Change(Change::Batch { name, seen, edits }),
+        other => Asked::Other(other),
+    }
+}

@@ -1,0 +1,23 @@
+//! What a start may rest on, each law as the contract of a function that does nothing.
+ghost use Rattle.std.specs.Prelude.{◌≡◌, ◌++◌, ◌<◌, ℕ, List, All, length, take};
+ghost use Rattle.journal.specs.declared.records.Record.{Record};
+ghost use Rattle.journal.specs.declared.places.Ending.TheVariants.{Whole, Cut};
+ghost use Rattle.journal.specs.Lawful.{IsLawful};
+ghost use Rattle.journal.specs.Places.{capped};
+ghost use Rattle.journal.specs.Records.{text_of_record, text_of_records};
+ghost use Rattle.journal.specs.Journals.{journal_of};
+
+/// What is written of lawful records reads back as the same records: each change of each kind, with
+/// all its cards.
+pub fn records_read_back()
+    ensures { (records : List Record) → All IsLawful records →
+        journal_of (text_of_records records) ≡ record { records = records; ending = Whole } }
+{}
+
+/// A journal that is cut at any byte inside its last record reads as the records before it, and tells
+/// at which byte the cut one begins.
+pub fn cut_records_are_left_out()
+    ensures { (records : List Record) (last : Record) (kept : ℕ) → All IsLawful records → IsLawful last →
+        0 < kept → kept < length (text_of_record last) →
+        journal_of (text_of_records records ++ take kept (text_of_record last)) ≡ record { records = records; ending = Cut (capped (length (text_of_records records))) } }
+{}

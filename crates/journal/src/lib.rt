@@ -1,0 +1,53 @@
+//! The journal of a desk: the records of its accepted changes as text, with their check sums; a journal
+//! read back, record by record; and its changes made again. Nothing here opens a file.
+//!
+//! A record tells its version, when it was made, the session, and the line that asked for the change;
+//! a line behind a blank for each card or edit that belongs to it; and the check sum of these lines:
+//!
+//! ```text
+//! RECORD 4 2026-11-24T10:45:13Z 2 BATCH M 3 2
+//!  DEL 1
+//!  REP 1 *Z
+//! SUM 3248616115
+//! ```
+//!
+//! A deck that was loaded is told by `ADD` with its cards. A journal may begin with `DESK` and the
+//! number of decks, and a `DECK` with its cards for each, in place of the changes that led there. The
+//! last record may be cut or damaged: it is left out, and the byte is told at which it begins. Any other
+//! fault ends the reading, and tells the record and its byte.
+#![tactic(auto)]
+
+// What a record has.
+mod calendar;
+mod changes;
+mod check_sums;
+mod moments;
+mod records;
+
+// Records as text.
+mod drafts;
+mod queue;
+mod writing;
+
+// Records of a text.
+mod beginning;
+mod places;
+mod reading;
+mod steps;
+
+// The changes of records made again.
+mod replaying;
+
+// What a start may rest on.
+mod laws;
+
+pub use changes::{Asked, Change, asked_of};
+pub use drafts::{Draft, draft_change};
+pub use laws::{cut_records_are_left_out, records_read_back};
+pub use moments::Moment;
+pub use places::{Ending, Place};
+pub use queue::{Batch, Queue};
+pub use reading::{JournalFault, Next, next_record};
+pub use records::{Entry, Record};
+pub use replaying::{ReplayFault, replay};
+pub use writing::record_text;

@@ -1,0 +1,163 @@
+//! Records that are not written yet: they go out in the order of their versions, and none is left out.
+ghost use Rattle.std.specs.Prelude.{◌≡◌, ◌+◌, ◌<◌, ◌^◌, IfOk, Some, false, is_some, max, nat_lt, option_map, set};
+ghost use Rattle.journal.specs.Queues.{GoOut, draft_of, draft_queued, unwritten};
+
+use crate::drafts::Draft;
+use std::alloc::{AllocError, Global};
+use std::marker::Model;
+use text_ports::Text;
+
+/// A record that is not written yet.
+#[derive(Drop)]
+pub struct Unwritten {
+    pub version: u64,
+    pub draft: Draft,
+}
+
+/// The records of accepted changes that are not written yet. Each session has one place, whose record
+/// stays until the next one of the session takes it. The records from `next` on are to be written; those
+/// below `told` that are not written were given up, and their sessions told so; `behind` is above all
+/// versions that were put here.
+#[derive(Drop)]
+pub struct Queue {
+    next: u64,
+    told: u64,
+    behind: u64,
+    places: Vec<Option<Unwritten>>,
+}
+
+impl Model for Queue {
+    ghost use Rattle.journal.specs.Queues as queues;
+
+    ghost Value = { queues.Queue };
+
+    ghost view = { λ q. record { next = q.next; told = q.told; behind = q.behind; places = q.places.items } };
+}
+
+/// The text of some records, and the version behind the last of them.
+#[derive(Drop)]
+pub struct Batch {
+    pub text: Text,
+    pub next: u64,
+}
+
+/// The record of a place, if it is the one of a version.
+fn draft_of(place: &Option<Unwritten>, version: u64) -> Option<&Draft>
+    ensures { option_map (λ draft. draft.now) result ≡ draft_of version place.now }
+{
+    match place {
+        Some(unwritten) if unwritten.version == version => Some(&unwritten.draft),
+        _ => None,
+    }
+}
+
+/// The record of a version.
+fn draft_queued(places: &[Option<Unwritten>], version: u64) -> Option<&Draft>
+    ensures { option_map (λ draft. draft.now) result ≡ draft_queued version places.now }
+{
+    for place in places {
+        if let Some(draft) = draft_of(place, version) {
+            return Some(draft);
+        }
+    }
+    None
+}
+
+/// What goes out from a version on.
+fn batch_from(alloc: Global, places: &[Option<Unwritten>], first: u64) -> Result<Batch, AllocError>
+    ensures { IfOk result (λ batch. GoOut places.now first batch.text batch.next) }
+{
+    let mut text = Text::new(alloc);
+    for version in first..u64::MAX {
+        let Some(draft) = draft_queued(places, version) else {
+            return Ok(Batch {
+                text,
+                next: version,
+            });
+        };
+        text.append(draft.text(alloc, version)?)?;
+    }
+    Err(AllocError)
+}
+
+impl Queue {
+    /// A queue for so many sessions, of records from a version on.
+    pub fn new(alloc: Global, sessions: usize, next: u64) -> Result<Queue, AllocError>
+        ensures next { IfOk result (λ queue. queue.next ≡ next) }
+        ensures none { IfOk result (λ queue. nat_lt queue.next queue.told ≡ false) }
+    {
+        let mut places = Vec::new(alloc);
+        for _ in 0..sessions {
+            places.push(None)?;
+        }
+        Ok(Queue {
+            next,
+            told: next,
+            behind: next,
+            places,
+        })
+    }
+
+    /// Puts the record of a change into the place of its session, whose last one is written.
+    pub fn put(&mut self, session: usize, version: u64, draft: Draft)
+        ensures next { self.new.next ≡ self.old.next }
+        ensures told { self.new.told ≡ self.old.told }
+        ensures behind { version + 1 < 2 ^ 64 → self.new.behind ≡ max self.old.behind (version + 1) }
+        ensures place { self.new.places ≡ set self.old.places session (Some (unwritten version draft)) }
+    {
+        self.behind = self.behind.max(version.saturating_add(1));
+        if let Some(place) = self.places.get_mut(session) {
+            *place = Some(Unwritten { version, draft });
+        }
+    }
+
+    /// Whether the record that is to be written next is there.
+    pub fn has_next(&self) -> bool
+        ensures { result ≡ is_some (draft_queued self.now.next self.now.places) }
+    {
+        draft_queued(self.places.as_slice(), self.next).is_some()
+    }
+
+    /// Whether the record of a version is written.
+    pub fn is_written(&self, version: u64) -> bool
+        ensures { result ≡ nat_lt version self.now.next }
+    {
+        version < self.next
+    }
+
+    /// Whether the record of a version, which is not written, was given up.
+    pub fn is_given_up(&self, version: u64) -> bool
+        ensures { result ≡ nat_lt version self.now.told }
+    {
+        version < self.told
+    }
+
+    /// Whether any record that was given up is not written yet.
+    pub fn has_given_up(&self) -> bool
+        ensures { result ≡ nat_lt self.now.next self.now.told }
+    {
+        self.next < self.told
+    }
+
+    /// The records that may be written: from the next version on, each once, up to the first that is not
+    /// there.
+    pub fn batch(&self, alloc: Global) -> Result<Batch, AllocError>
+        ensures { IfOk result (λ batch. GoOut self.now.places self.now.next batch.text batch.next) }
+    {
+        batch_from(alloc, self.places.as_slice(), self.next)
+    }
+
+    /// The records below a version are written.
+    pub fn settle(&mut self, next: u64)
+        ensures { self.new ≡ record self.old { next = next } }
+    {
+        self.next = next;
+    }
+
+    /// The records could not be written: they stay, and who waits for one is told so.
+    pub fn give_up(&mut self)
+        ensures { self.new ≡ record self.old { told = self.old.behind } }
+    {
+        self.told = self.behind;
+    }
+}

@@ -1,0 +1,254 @@
+//! The text of a record.
+ghost use Rattle.std.specs.Prelude.{◌≡◌, ◌++◌, ◌∷◌, [], IfOk, OnOk, codes, decimal, map, flat_map};
+ghost use Rattle.session_line.specs.Lines.{behind_a_blank, line_in_batch, line_of_edit, name_and_number};
+ghost use Rattle.journal.specs.CheckSums.{check_sum};
+ghost use Rattle.journal.specs.Records.{ended, first_line, line_of_change, line_of_entry, lines_behind, lines_behind_change, lines_of_record, sum_line, text_behind_version, text_of_lines, text_of_record, text_with_version};
+
+use crate::changes::Change;
+use crate::check_sums::{FIRST_SUM, sum_over};
+use crate::moments::Moment;
+use crate::records::{Entry, Record};
+use cards::{Card, DeckName, Edit};
+use itoa::Buffer;
+use std::alloc::{AllocError, Global};
+use text_ports::Text;
+
+/// Appends a blank and a word.
+fn push_word(text: &mut Text, word: &[u8]) -> Result<(), AllocError>
+    ensures { OnOk result (text.new ≡ text.old ++ behind_a_blank word.now) }
+{
+    text.push_byte(b' ')?;
+    text.push_bytes(word)
+}
+
+/// Appends a blank and a number in decimal.
+fn push_number(text: &mut Text, number: u64) -> Result<(), AllocError>
+    ensures { OnOk result (text.new ≡ text.old ++ behind_a_blank (decimal number)) }
+{
+    let mut buffer = Buffer::new();
+    push_word(text, buffer.format(number).as_bytes())
+}
+
+/// Appends a verb and a name.
+fn push_verb_and_name(text: &mut Text, verb: &[u8], name: &DeckName) -> Result<(), AllocError>
+    ensures { OnOk result (text.new ≡ text.old ++ (verb.now ++ behind_a_blank (name.now ++ []))) }
+{
+    text.push_bytes(verb)?;
+    push_word(text, name.as_slice())
+}
+
+/// Appends a verb and a number.
+fn push_verb_and_number(text: &mut Text, verb: &[u8], number: u64) -> Result<(), AllocError>
+    ensures { OnOk result (text.new ≡ text.old ++ (verb.now ++ behind_a_blank (decimal number ++ []))) }
+{
+    text.push_bytes(verb)?;
+    push_number(text, number)
+}
+
+/// Appends a verb, a place and a card.
+fn push_verb_and_card(text: &mut Text, verb: &[u8], at: u64, card: &Card) -> Result<(), AllocError>
+    ensures { OnOk result (text.new ≡ text.old ++ (verb.now ++ behind_a_blank (decimal at ++ behind_a_blank card.now))) }
+{
+    text.push_bytes(verb)?;
+    push_number(text, at)?;
+    push_word(text, card.as_slice())
+}
+
+/// Appends a verb, a name and the version that was seen.
+fn push_target(text: &mut Text, verb: &[u8], name: &DeckName, seen: u64) -> Result<(), AllocError>
+    ensures { OnOk result (text.new ≡ text.old ++ (verb.now ++ name_and_number name.now seen [])) }
+{
+    text.push_bytes(verb)?;
+    push_word(text, name.as_slice())?;
+    push_number(text, seen)
+}
+
+/// Appends a verb, a name, the version that was seen, and a number.
+fn push_target_and_number(
+    text: &mut Text,
+    verb: &[u8],
+    name: &DeckName,
+    seen: u64,
+    number: u64,
+) -> Result<(), AllocError>
+    ensures { OnOk result (text.new ≡ text.old ++ (verb.now ++ name_and_number name.now seen (behind_a_blank (decimal number ++ [])))) }
+{
+    push_target(text, verb, name, seen)?;
+    push_number(text, number)
+}
+
+/// Appends a verb, a name, the version that was seen, a place and a card.
+fn push_target_and_card(
+    text: &mut Text,
+    verb: &[u8],
+    name: &DeckName,
+    seen: u64,
+    at: u64,
+    card: &Card,
+) -> Result<(), AllocError>
+    ensures { OnOk result (text.new ≡ text.old ++ (verb.now ++ name_and_number name.now seen (behind_a_blank (decimal at ++ behind_a_blank card.now)))) }
+{
+    push_target_and_number(text, verb, name, seen, at)?;
+    push_word(text, card.as_slice())
+}
+
+/// Appends an edit as a line of a batch.
+fn push_line_in_batch(text: &mut Text, edit: &Edit) -> Result<(), AllocError>
+    ensures { OnOk result (text.new ≡ text.old ++ line_in_batch edit.now) }
+{
+    match edit {
+        Edit::Insert { at, card } => push_verb_and_card(text, b"INS", *at, card),
+        Edit::Replace { at, card } => push_verb_and_card(text, b"REP", *at, card),
+        Edit::Remove { at } => push_verb_and_number(text, b"DEL", *at),
+    }
+}
+
+/// Appends an edit of a deck.
+fn push_edit(text: &mut Text, name: &DeckName, seen: u64, edit: &Edit) -> Result<(), AllocError>
+    ensures { OnOk result (text.new ≡ text.old ++ line_of_edit name.now seen edit.now) }
+{
+    match edit {
+        Edit::Insert { at, card } => push_target_and_card(text, b"INS", name, seen, *at, card),
+        Edit::Replace { at, card } => push_target_and_card(text, b"REP", name, seen, *at, card),
+        Edit::Remove { at } => push_target_and_number(text, b"DEL", name, seen, *at),
+    }
+}
+
+/// Appends a change as the line that asked for it.
+fn push_change(text: &mut Text, change: &Change) -> Result<(), AllocError>
+    ensures { OnOk result (text.new ≡ text.old ++ line_of_change change.now) }
+{
+    match change {
+        Change::Added(deck) => push_verb_and_name(text, b"ADD", &deck.name),
+        Change::Dropped { name, seen } => push_target(text, b"DROP", name, *seen),
+        Change::Edited { name, seen, edit } => push_edit(text, name, *seen, edit),
+        Change::Batch { name, seen, edits } => {
+            push_target_and_number(text, b"BATCH", name, *seen, edits.as_slice().len() as u64)
+        }
+    }
+}
+
+/// Appends what a record tells.
+fn push_entry(text: &mut Text, entry: &Entry) -> Result<(), AllocError>
+    ensures { OnOk result (text.new ≡ text.old ++ line_of_entry entry.now) }
+{
+    match entry {
+        Entry::Desk { decks } => push_verb_and_number(text, b"DESK", *decks),
+        Entry::Deck(deck) => push_verb_and_name(text, b"DECK", &deck.name),
+        Entry::Made(change) => push_change(text, change),
+    }
+}
+
+/// Appends the first line of a record, and its line feed.
+fn push_first_line(text: &mut Text, record: &Record) -> Result<(), AllocError>
+    ensures { OnOk result (text.new ≡ text.old ++ ended (first_line record.now)) }
+{
+    text.push_bytes(b"RECORD")?;
+    push_number(text, record.version)?;
+    push_word(text, record.moment.as_slice())?;
+    push_number(text, record.session)?;
+    text.push_byte(b' ')?;
+    push_entry(text, &record.entry)?;
+    text.push_byte(b'\n')
+}
+
+/// Appends the lines of cards.
+fn push_cards(text: &mut Text, cards: &[Card]) -> Result<(), AllocError>
+    ensures { OnOk result (text.new ≡ text.old ++ text_of_lines (map behind_a_blank cards.now)) }
+{
+    for card in cards {
+        push_word(text, card.as_slice())?;
+        text.push_byte(b'\n')?;
+    }
+    Ok(())
+}
+
+/// Appends the lines of edits.
+fn push_edits(text: &mut Text, edits: &[Edit]) -> Result<(), AllocError>
+    ensures { OnOk result (text.new ≡ text.old ++ text_of_lines (map behind_a_blank (map line_in_batch edits.now))) }
+{
+    for edit in edits {
+        text.push_byte(b' ')?;
+        push_line_in_batch(text, edit)?;
+        text.push_byte(b'\n')?;
+    }
+    Ok(())
+}
+
+/// Appends the lines that belong to a change.
+fn push_lines_behind_change(text: &mut Text, change: &Change) -> Result<(), AllocError>
+    ensures { OnOk result (text.new ≡ text.old ++ text_of_lines (map behind_a_blank (lines_behind_change change.now))) }
+{
+    match change {
+        Change::Added(deck) => push_cards(text, deck.cards.as_slice()),
+        Change::Batch { edits, .. } => push_edits(text, edits.as_slice()),
+        Change::Dropped { .. } => Ok(()),
+        Change::Edited { .. } => Ok(()),
+    }
+}
+
+/// Appends the lines that belong to what a record tells.
+fn push_lines_behind(text: &mut Text, entry: &Entry) -> Result<(), AllocError>
+    ensures { OnOk result (text.new ≡ text.old ++ text_of_lines (map behind_a_blank (lines_behind entry.now))) }
+{
+    match entry {
+        Entry::Deck(deck) => push_cards(text, deck.cards.as_slice()),
+        Entry::Made(change) => push_lines_behind_change(text, change),
+        Entry::Desk { .. } => Ok(()),
+    }
+}
+
+/// Appends the line of a check sum over a text, and its line feed.
+fn push_sum(text: &mut Text) -> Result<(), AllocError>
+    ensures { OnOk result (text.new ≡ text.old ++ ended (sum_line (check_sum text.old))) }
+{
+    let sum = sum_over(FIRST_SUM, text.as_slice());
+    push_verb_and_number(text, b"SUM", u64::from(sum))?;
+    text.push_byte(b'\n')
+}
+
+/// The text of a record.
+pub fn record_text(alloc: Global, record: &Record) -> Result<Text, AllocError>
+    ensures { IfOk result (λ text. text ≡ text_of_record record.now) }
+{
+    let mut text = Text::new(alloc);
+    push_first_line(&mut text, record)?;
+    push_lines_behind(&mut text, &record.entry)?;
+    push_sum(&mut text)?;
+    Ok(text)
+}
+
+/// The text of the record of a change, from behind its version to in front of its check sum.
+pub(crate) fn text_behind_version(
+    alloc: Global,
+    moment: &Moment,
+    session: u64,
+    change: &Change,
+) -> Result<Text, AllocError>
+    ensures { IfOk result (λ text. text ≡ text_behind_version moment.now session change.now) }
+{
+    let mut text = Text::new(alloc);
+    push_word(&mut text, moment.as_slice())?;
+    push_number(&mut text, session)?;
+    text.push_byte(b' ')?;
+    push_change(&mut text, change)?;
+    text.push_byte(b'\n')?;
+    push_lines_behind_change(&mut text, change)?;
+    Ok(text)
+}
+
+/// The text of a record, by its version and the text behind it.
+pub(crate) fn text_with_version(
+    alloc: Global,
+    version: u64,
+    behind: &[u8],
+) -> Result<Text, AllocError>
+    ensures { IfOk result (λ text. text ≡ text_with_version version behind.now) }
+{
+    let mut text = Text::new(alloc);
+    text.push_bytes(b"RECORD")?;
+    push_number(&mut text, version)?;
+    text.push_bytes(behind)?;
+    push_sum(&mut text)?;
+    Ok(text)
+}
