@@ -1,5 +1,5 @@
 -- A desk that settling leaves idle.
-use Rattle.std.proofs.Common.{◌≡◌, ℕ, List, [], ◌∷◌, ◌++◌, take, Option, Some, None, option_map, sym, ap, ◌∙◌, subst}
+use Rattle.std.proofs.Common.{◌≡◌, ℕ, ◌-◌, length, arith, List, [], ◌∷◌, ◌++◌, take, Option, Some, None, option_map, sym, ap, ◌∙◌, subst}
 use Rattle.std.proofs.Math.Seq.{take-length}
 use Rattle.definitions.specs.Build.{listing_of, image_of}
 use Rattle.turn_office.specs.Histories.{Leads, entry}
@@ -20,9 +20,11 @@ use Rattle.deck_workers.specs.declared.settling.Settled.{Settled}
 use Rattle.deck_workers.specs.declared.settling.Settled.TheVariants.{Idle, Refused, Waiting, Turns}
 
 -- a publication of the desk's own version is of its present decks
-present-decks : (changes : List Change) (desk : Desk) (publication : Publication) → IsTold changes desk → desk.publication ≡ Some publication → publication.version ≡ desk.version → publication.decks ≡ decks_of desk
-present-decks changes desk publication told shown same =
-    (told.published publication shown).1 ∙ (ap decks_after (ap (λ (n : ℕ). take n changes) (same ∙ told.version) ∙ take-length changes) ∙ sym told.decks)
+present-decks : (begun : ℕ) (changes : List Change) (desk : Desk) (publication : Publication) → IsTold begun changes desk → desk.publication ≡ Some publication → publication.version ≡ desk.version → publication.decks ≡ decks_of desk
+present-decks begun changes desk publication told shown same =
+    let counted = told.version in
+    let all : publication.version - begun ≡ length changes = omega arith in
+    (told.published publication shown).1.1 ∙ (ap decks_after (ap (λ (n : ℕ). take n changes) all ∙ take-length changes) ∙ sym told.decks)
 
 -- a claim that is answered Idle leaves the publication
 publication-stays : (desk next : Desk) (version : ℕ) → Outcome desk Claim (reply.Idle version) next → (next.version ≡ desk.version) × (next.publication ≡ desk.publication)
@@ -38,16 +40,16 @@ idle-at version first desk last steps step leads =
     let publication = told.1.publication in
     let shown : last.publication ≡ Some publication = stays.1 ∙ told.1.shown in
     let version_is : last.version ≡ version = stays.0 ∙ sym told.0 in
-    let decks : (history : History) → Runs history first → publication.decks ≡ decks_of last =
-    λ history runs. present-decks (changes_in history ++ changes_in steps) last publication (told_through (changes_in history) first last steps leads (told_last history first runs)) shown (told.1.version_is ∙ sym version_is) in
+    let decks : (begun : ℕ) (history : History) → Runs begun history first → publication.decks ≡ decks_of last =
+    λ begun history runs. present-decks begun (changes_in history ++ changes_in steps) last publication (told_through begun (changes_in history) first last steps leads (told_last begun history first runs)) shown (told.1.version_is ∙ sym version_is) in
     record {
       version_is = version_is;
       publication = publication;
       shown = shown;
       published_at = told.1.version_is;
       decks_are = decks;
-      listing_is = λ history runs. ap listing_of (decks history runs);
-      image_is = λ history runs. ap image_of (decks history runs);
+      listing_is = λ begun history runs. ap listing_of (decks begun history runs);
+      image_is = λ begun history runs. ap image_of (decks begun history runs);
     }
 
 -- the last of steps

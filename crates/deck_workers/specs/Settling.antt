@@ -86,9 +86,9 @@ pub record IsIdleAt (version : ℕ) (first desk : Desk) : Type 0 where
   pub publication : Publication
   pub shown : desk.publication ≡ Some publication
   pub published_at : publication.version ≡ version
-  pub decks_are : (history : History) → Runs history first → publication.decks ≡ decks_of desk
-  pub listing_is : (history : History) → Runs history first → listing_of publication.decks ≡ listing_of (decks_of desk)
-  pub image_is : (history : History) → Runs history first → image_of publication.decks ≡ image_of (decks_of desk)
+  pub decks_are : (begun : ℕ) (history : History) → Runs begun history first → publication.decks ≡ decks_of desk
+  pub listing_is : (begun : ℕ) (history : History) → Runs begun history first → listing_of publication.decks ≡ listing_of (decks_of desk)
+  pub image_is : (begun : ℕ) (history : History) → Runs begun history first → image_of publication.decks ≡ image_of (decks_of desk)
 
 -- where settling ends idle, all is published
 abbrev pub IsSettled : Desk → Settled → Desk → Type 0

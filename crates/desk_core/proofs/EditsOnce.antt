@@ -3,7 +3,7 @@ use Rattle.std.proofs.Common.{◌≡◌, ℕ, ◌==◌, Bool, true, false, cond,
 use Rattle.std.specs.Prelude.{⊤}
 use Rattle.turn_office.specs.Histories.{Leads}
 use Rattle.desk_core.specs.Edits.{Edit}
-use Rattle.desk_core.specs.Desks.{Desk, new_desk}
+use Rattle.desk_core.specs.Desks.{Desk, new_desk_at}
 use Rattle.desk_core.specs.Calls.{Call, EditDeck, Batch, Claim, DeliverDeck, GiveUp, Reply, Changed, DeckJob, Cleared, Refused, Foreign, Start, FromRecord, FromCards}
 use Rattle.desk_core.specs.Steps.{Steps}
 use Rattle.desk_core.specs.Runs.{History, Runs}
@@ -71,7 +71,7 @@ carried_through deck before desk last (e ∷ more) leads told carried =
     (carried_next (accepted_edits deck before) (handed_edits deck before) (since_job deck before) (effect_on deck before e.call e.reply) (step_fits before e.by desk told leads.0 deck e.call e.reply leads.1) carried))
 
 -- what a deck's jobs carried is a part of what was accepted
-pub edits_are_once : (history : History) (desk : Desk) (deck : ℕ) → Runs history desk → IsPartOf (accepted_edits deck (reverse history)) (handed_edits deck (reverse history))
-edits_are_once history desk deck runs =
-    let carried = carried_through deck [] new_desk desk history runs desk_told_first tt in
+pub edits_are_once : (begun : ℕ) (history : History) (desk : Desk) (deck : ℕ) → Runs begun history desk → IsPartOf (accepted_edits deck (reverse history)) (handed_edits deck (reverse history))
+edits_are_once begun history desk deck runs =
+    let carried = carried_through deck [] (new_desk_at begun) desk history runs (desk_told_first begun) tt in
     part_less (accepted_edits deck (reverse history)) (handed_edits deck (reverse history)) (lacking (since_job deck (reverse history))) (subst (IsCarried deck) (append-nil (reverse history)) carried)

@@ -5,7 +5,7 @@ use Rattle.turn_office.specs.declared.history.Entry.{Entry}
 use Rattle.turn_office.specs.Histories.{Leads}
 use Rattle.desk_core.specs.Language.{listing_of, image_of}
 use Rattle.desk_core.specs.Changes.{Change}
-use Rattle.desk_core.specs.Desks.{Desk, Publication, new_desk}
+use Rattle.desk_core.specs.Desks.{Desk, Publication, new_desk_at}
 use Rattle.desk_core.specs.Calls.{Call, Show, Reply, Changed, Shown, Refused, Refusal, OutOfMemory}
 use Rattle.desk_core.specs.Reading.{show_reply}
 use Rattle.desk_core.specs.Steps.{Steps}
@@ -30,38 +30,38 @@ more_when_accepted : (changes : List Change) (entry : Entry Call Reply) (more : 
 more_when_accepted changes entry more change some = ap (λ (o : Option Change). changes ++ cons_option o (changes_in more)) some ∙ sym (append_assoc changes (change ∷ []) (changes_in more))
 
 -- a step with the changes before it and those that follow
-pub record NextTold (changes : List Change) (entry : Entry Call Reply) (more : History) (next : Desk) : Type 0 where
+pub record NextTold (begun : ℕ) (changes : List Change) (entry : Entry Call Reply) (more : History) (next : Desk) : Type 0 where
   pub changes_now : List Change
-  pub told : IsTold changes_now next
+  pub told : IsTold begun changes_now next
   pub same : changes ++ changes_in (entry ∷ more) ≡ changes_now ++ changes_in more
 
-pub next_told : (changes : List Change) (desk next : Desk) (entry : Entry Call Reply) (more : History) → IsTold changes desk → Outcome desk entry.call entry.reply next → NextTold changes entry more next
-next_told changes desk next entry more told (by_staying by) = record { changes_now = changes; told = told_still changes desk next told by.unchanged; same = same_when_silent changes entry more (silent_entry entry by.silent) }
-next_told changes desk next entry more told (by_changing by) = record {
+pub next_told : (begun : ℕ) (changes : List Change) (desk next : Desk) (entry : Entry Call Reply) (more : History) → IsTold begun changes desk → Outcome desk entry.call entry.reply next → NextTold begun changes entry more next
+next_told begun changes desk next entry more told (by_staying by) = record { changes_now = changes; told = told_still begun changes desk next told by.unchanged; same = same_when_silent changes entry more (silent_entry entry by.silent) }
+next_told begun changes desk next entry more told (by_changing by) = record {
   changes_now = changes ++ by.change ∷ [];
-  told = told_change changes desk next entry.call entry.reply told by;
+  told = told_change begun changes desk next entry.call entry.reply told by;
   same = more_when_accepted changes entry more by.change (accepted_entry entry next.version by.change by.asked by.told);
 }
-next_told changes desk next entry more told (by_publishing by) = record {
+next_told begun changes desk next entry more told (by_publishing by) = record {
   changes_now = changes;
-  told = told_publication changes desk next entry.reply told by;
+  told = told_publication begun changes desk next entry.reply told by;
   same = same_when_silent changes entry more (silent_entry entry (ap accepts by.stored));
 }
 
 -- what is told of a desk is told of each later one
-pub told_through : (changes : List Change) (desk last : Desk) (history : History) → Leads Steps desk history last → IsTold changes desk → IsTold (changes ++ changes_in history) last
-told_through changes desk last [] leads told = rw (append-nil changes) (subst (λ d. IsTold changes d) leads told)
-told_through changes desk last (entry ∷ more) leads told =
-    let now : NextTold changes entry more leads.0 = next_told changes desk leads.0 entry more told (step_comes desk entry.call entry.reply leads.0 leads.1) in
-    subst (λ cs. IsTold cs last) (sym now.same) (told_through now.changes_now leads.0 last more leads.2 now.told)
+pub told_through : (begun : ℕ) (changes : List Change) (desk last : Desk) (history : History) → Leads Steps desk history last → IsTold begun changes desk → IsTold begun (changes ++ changes_in history) last
+told_through begun changes desk last [] leads told = rw (append-nil changes) (subst (λ d. IsTold begun changes d) leads told)
+told_through begun changes desk last (entry ∷ more) leads told =
+    let now : NextTold begun changes entry more leads.0 = next_told begun changes desk leads.0 entry more told (step_comes desk entry.call entry.reply leads.0 leads.1) in
+    subst (λ cs. IsTold begun cs last) (sym now.same) (told_through begun now.changes_now leads.0 last more leads.2 now.told)
 
 -- what is told of the last desk of a run
-pub told_last : (history : History) (desk : Desk) → Runs history desk → IsTold (changes_in history) desk
-told_last history desk runs = told_through [] new_desk desk history runs told_first
+pub told_last : (begun : ℕ) (history : History) (desk : Desk) → Runs begun history desk → IsTold begun (changes_in history) desk
+told_last begun history desk runs = told_through begun [] (new_desk_at begun) desk history runs (told_first begun)
 
 -- version and cards are those of the accepted changes
-pub is_of_its_changes : (history : History) (desk : Desk) → Runs history desk → IsOfItsChanges history desk
-is_of_its_changes history desk runs = let told = told_last history desk runs in record { version = told.version; decks = told.decks }
+pub is_of_its_changes : (begun : ℕ) (history : History) (desk : Desk) → Runs begun history desk → IsOfItsChanges begun history desk
+is_of_its_changes begun history desk runs = let told = told_last begun history desk runs in record { version = told.version; decks = told.decks }
 
 -- what is shown is the publication
 shown_is : (publication : Option Publication) (shown : Publication) → Shown shown ≡ show_reply publication → publication ≡ Some shown
@@ -73,13 +73,14 @@ shown_by desk next shown (inl given) = shown_is desk.publication shown given.0
 shown_by desk next shown (inr starved) = let e : Shown shown ≡ Refused OutOfMemory = starved.1 in cc
 
 -- what is shown is the build of the decks after as many changes as its version says
-pub shown_is_build : (history : History) (desk next : Desk) (publication : Publication) → Runs history desk → Steps desk Show (Shown publication) next → IsBuildOf history desk publication
-shown_is_build history desk next publication runs step =
-    let told = told_last history desk runs in
+pub shown_is_build : (begun : ℕ) (history : History) (desk next : Desk) (publication : Publication) → Runs begun history desk → Steps desk Show (Shown publication) next → IsBuildOf begun history desk publication
+shown_is_build begun history desk next publication runs step =
+    let told = told_last begun history desk runs in
     let published = told.published publication (shown_by desk next publication step) in
     let counted = told.version in
     let reached = published.0 in
-    record { reached = omega arith; decks = published.1; listing = ap listing_of published.1; image = ap image_of published.1 }
+    let decks = published.1.1 in
+    record { reached = omega arith; not_before = published.1.0; decks = decks; listing = ap listing_of decks; image = ap image_of decks }
 
 -- a refusal changes nothing that is seen
 refused_comes : (desk next : Desk) (call : Call) (refusal : Refusal) → Outcome desk call (Refused refusal) next → IsUnchanged desk next

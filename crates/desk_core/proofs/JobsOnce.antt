@@ -3,7 +3,7 @@ use Rattle.std.proofs.Common.{◌≡◌, inl, inr, ℕ, [], ◌∷◌, ◌++◌,
 use Rattle.std.proofs.lemmas.List.{reverse-append}
 use Rattle.turn_office.specs.declared.history.Entry.{Entry}
 use Rattle.turn_office.specs.Histories.{Leads, entry}
-use Rattle.desk_core.specs.Desks.{Desk, deck_named, new_desk}
+use Rattle.desk_core.specs.Desks.{Desk, deck_named, new_desk_at}
 use Rattle.desk_core.specs.Calls.{Call, AddDeck, DropDeck, EditDeck, Batch, Cards, Show, Status, Claim, DeliverDeck, DeliverLink, GiveUp, DeckWork, Reply, DeckJob, Refused, OutOfMemory}
 use Rattle.desk_core.specs.Reading.{cards_reply, show_reply}
 use Rattle.desk_core.specs.Steps.{answer, Steps}
@@ -51,7 +51,7 @@ told_through before desk last (e ∷ more) leads told =
     subst (λ (h : History). IsDeskTold h last) (reverse_onto e more before) (told_through (e ∷ before) leads.0 last more leads.2 (step_next before e.by desk told e.call e.reply leads.0 leads.1))
 
 -- each deck job of a run is due by the history before it
-pub jobs_are_due : (history : History) (desk next : Desk) (job : DeckWork) → Runs history desk → Steps desk Claim (DeckJob job) next → IsDue job (reverse history)
-jobs_are_due history desk next job runs step =
-    let told = told_through [] new_desk desk history runs desk_told_first in
+pub jobs_are_due : (begun : ℕ) (history : History) (desk next : Desk) (job : DeckWork) → Runs begun history desk → Steps desk Claim (DeckJob job) next → IsDue job (reverse history)
+jobs_are_due begun history desk next job runs step =
+    let told = told_through [] (new_desk_at begun) desk history runs (desk_told_first begun) in
     step_due (reverse history) 0 desk (subst (λ (h : History). IsDeskTold h desk) (append-nil (reverse history)) told) next job step

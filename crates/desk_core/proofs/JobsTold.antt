@@ -6,7 +6,7 @@ use Rattle.std.specs.List.{AllByRecursion}
 use Rattle.turn_office.specs.declared.history.Entry.{Entry}
 use Rattle.desk_core.specs.Language.{same_text}
 use Rattle.desk_core.specs.Edits.{Edit}
-use Rattle.desk_core.specs.Desks.{Desk, DeskDeck, Lease, new_desk}
+use Rattle.desk_core.specs.Desks.{Desk, DeskDeck, Lease, new_desk_at}
 use Rattle.desk_core.specs.Calls.{Call, AddDeck, Reply, Changed}
 use Rattle.desk_core.specs.Runs.{History}
 use Rattle.desk_core.specs.Jobs.{identity_in, identity_of, leased_in, deck_of_lease, effect_on, after_effect, since_job}
@@ -54,8 +54,8 @@ pub record IsDeskTold (history : History) (desk : Desk) : Type 0 where
   pub unreached : IsUnreached history desk.version
 
 -- a new desk
-pub desk_told_first : IsDeskTold [] new_desk
-desk_told_first = record { decks = tt; link = tt; unreached = λ identity beyond. refl }
+pub desk_told_first : (begun : ℕ) → IsDeskTold [] (new_desk_at begun)
+desk_told_first begun = record { decks = tt; link = tt; unreached = λ identity beyond. refl }
 
 -- an entry that adds no deck
 pub record AddsNone (entry : Entry Call Reply) : Type 0 where

@@ -15,10 +15,10 @@ use Rattle.desk_core.proofs.EveryRun.{NextTold, next_told, told_last}
 same_publication : (version : ℕ) (desk next : Desk) → next.publication ≡ desk.publication → IsPublishedFrom version desk → IsPublishedFrom version next
 same_publication version desk next same from = record { publication = from.publication; shown = same ∙ from.shown; not_before = from.not_before }
 
-next_from : (version : ℕ) (changes : List Change) (desk next : Desk) (call : Call) (reply : Reply) → IsTold changes desk → Outcome desk call reply next → IsPublishedFrom version desk → IsPublishedFrom version next
-next_from version changes desk next call reply told (by_staying by) from = same_publication version desk next by.unchanged.publication from
-next_from version changes desk next call reply told (by_changing by) from = same_publication version desk next by.publication from
-next_from version changes desk next call reply told (by_publishing by) from =
+next_from : (version begun : ℕ) (changes : List Change) (desk next : Desk) (call : Call) (reply : Reply) → IsTold begun changes desk → Outcome desk call reply next → IsPublishedFrom version desk → IsPublishedFrom version next
+next_from version begun changes desk next call reply told (by_staying by) from = same_publication version desk next by.unchanged.publication from
+next_from version begun changes desk next call reply told (by_changing by) from = same_publication version desk next by.publication from
+next_from version begun changes desk next call reply told (by_publishing by) from =
     let reached = (told.published from.publication from.shown).0 in
     let not_before = from.not_before in
     let counted = told.version in
@@ -26,14 +26,14 @@ next_from version changes desk next call reply told (by_publishing by) from =
     record { publication = by.publication; shown = by.shown; not_before = omega arith }
 
 -- through any history from a desk of which this is told
-from_through : (version : ℕ) (changes : List Change) (desk last : Desk) (history : History) → Leads Steps desk history last → IsTold changes desk → IsPublishedFrom version desk → IsPublishedFrom version last
-from_through version changes desk last [] leads told from = subst (λ d. IsPublishedFrom version d) leads from
-from_through version changes desk last (entry ∷ more) leads told from =
+from_through : (version begun : ℕ) (changes : List Change) (desk last : Desk) (history : History) → Leads Steps desk history last → IsTold begun changes desk → IsPublishedFrom version desk → IsPublishedFrom version last
+from_through version begun changes desk last [] leads told from = subst (λ d. IsPublishedFrom version d) leads from
+from_through version begun changes desk last (entry ∷ more) leads told from =
     let comes = step_comes desk entry.call entry.reply leads.0 leads.1 in
-    let now : NextTold changes entry more leads.0 = next_told changes desk leads.0 entry more told comes in
-    from_through version now.changes_now leads.0 last more leads.2 now.told (next_from version changes desk leads.0 entry.call entry.reply told comes from)
+    let now : NextTold begun changes entry more leads.0 = next_told begun changes desk leads.0 entry more told comes in
+    from_through version begun now.changes_now leads.0 last more leads.2 now.told (next_from version begun changes desk leads.0 entry.call entry.reply told comes from)
 
 -- what was published once, or a later version, is published ever after
-pub never_falls : (history more : History) (desk last : Desk) (publication : Publication) → Runs history desk → desk.publication ≡ Some publication → Leads Steps desk more last → IsPublishedFrom publication.version last
-never_falls history more desk last publication runs shown leads =
-    from_through publication.version (changes_in history) desk last more leads (told_last history desk runs) (record { publication = publication; shown = shown; not_before = omega arith })
+pub never_falls : (begun : ℕ) (history more : History) (desk last : Desk) (publication : Publication) → Runs begun history desk → desk.publication ≡ Some publication → Leads Steps desk more last → IsPublishedFrom publication.version last
+never_falls begun history more desk last publication runs shown leads =
+    from_through publication.version begun (changes_in history) desk last more leads (told_last begun history desk runs) (record { publication = publication; shown = shown; not_before = omega arith })

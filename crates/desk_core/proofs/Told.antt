@@ -1,28 +1,29 @@
 -- What the accepted changes tell of a desk: its version, its cards, and its publication. Each step keeps it.
-use Rattle.std.proofs.Common.{◌≡◌, ℕ, ◌≤◌, List, [], ◌∷◌, ◌++◌, take, length, Some, sym, refl, ap, ◌∙◌, arith, length-append}
+use Rattle.std.proofs.Common.{◌≡◌, ℕ, ◌+◌, ◌-◌, ◌≤◌, List, [], ◌∷◌, ◌++◌, take, length, Some, sym, refl, ap, ◌∙◌, arith, length-append}
 use Rattle.std.proofs.lemmas.List.{take-append-le}
 use Rattle.std.proofs.lemmas.List.Sums.{fold-append}
 use Rattle.std.proofs.Math.Seq.{take-length}
 use Rattle.desk_core.specs.Language.{Deck}
 use Rattle.desk_core.specs.Changes.{Change, changed, decks_after}
-use Rattle.desk_core.specs.Desks.{Desk, Publication, new_desk, decks_of}
+use Rattle.desk_core.specs.Desks.{Desk, Publication, new_desk_at, decks_of}
 use Rattle.desk_core.specs.Calls.{Call, Reply}
 use Rattle.desk_core.specs.Runs.{IsUnchanged}
 use Rattle.desk_core.proofs.Outcomes.{Changes, Publishes}
 
 -- the version counts the changes, the cards are what they leave, and the publication is of what the first of them left
-pub record IsTold (changes : List Change) (desk : Desk) : Type 0 where
-  pub version : desk.version ≡ length changes
+pub record IsTold (begun : ℕ) (changes : List Change) (desk : Desk) : Type 0 where
+  pub version : desk.version ≡ begun + length changes
   pub decks : decks_of desk ≡ decks_after changes
-  pub published : (publication : Publication) → desk.publication ≡ Some publication → (publication.version ≤ length changes) × (publication.decks ≡ decks_after (take publication.version changes))
+  pub published : (publication : Publication) → desk.publication ≡ Some publication →
+      (publication.version ≤ begun + length changes) × (begun ≤ publication.version) × (publication.decks ≡ decks_after (take (publication.version - begun) changes))
 
 -- a new desk
-pub told_first : IsTold [] new_desk
-told_first = record { version = refl; decks = refl; published = λ publication shown. cc }
+pub told_first : (begun : ℕ) → IsTold begun [] (new_desk_at begun)
+told_first begun = record { version = omega; decks = refl; published = λ publication shown. cc }
 
 -- what stays is told as before
-pub told_still : (changes : List Change) (desk next : Desk) → IsTold changes desk → IsUnchanged desk next → IsTold changes next
-told_still changes desk next told still = record {
+pub told_still : (begun : ℕ) (changes : List Change) (desk next : Desk) → IsTold begun changes desk → IsUnchanged desk next → IsTold begun changes next
+told_still begun changes desk next told still = record {
   version = still.version ∙ told.version;
   decks = still.decks ∙ told.decks;
   published = λ publication shown. told.published publication (sym still.publication ∙ shown);
@@ -33,8 +34,8 @@ decks_before : (changes : List Change) (change : Change) (version : ℕ) → ver
 decks_before changes change version reached = ap decks_after (take-append-le version changes (change ∷ []) reached)
 
 -- one change more
-pub told_change : (changes : List Change) (desk next : Desk) (call : Call) (reply : Reply) → IsTold changes desk → (by : Changes desk call reply next) → IsTold (changes ++ by.change ∷ []) next
-told_change changes desk next call reply told by =
+pub told_change : (begun : ℕ) (changes : List Change) (desk next : Desk) (call : Call) (reply : Reply) → IsTold begun changes desk → (by : Changes desk call reply next) → IsTold begun (changes ++ by.change ∷ []) next
+told_change begun changes desk next call reply told by =
     let long = length-append changes (by.change ∷ []) in
     let counted = told.version in
     let more = by.version in
@@ -44,18 +45,21 @@ told_change changes desk next call reply told by =
       published = λ publication shown.
           let before = told.published publication (sym by.publication ∙ shown) in
           let reached = before.0 in
-          (omega arith, before.1 ∙ sym (decks_before changes by.change publication.version reached));
+          let not_before = before.1.0 in
+          (omega arith, not_before, before.1.1 ∙ sym (decks_before changes by.change (publication.version - begun) (omega arith)));
     }
 
 -- a publication of the present decks
-pub told_publication : (changes : List Change) (desk next : Desk) (reply : Reply) → IsTold changes desk → Publishes desk reply next → IsTold changes next
-told_publication changes desk next reply told by = record {
+pub told_publication : (begun : ℕ) (changes : List Change) (desk next : Desk) (reply : Reply) → IsTold begun changes desk → Publishes desk reply next → IsTold begun changes next
+told_publication begun changes desk next reply told by = record {
   version = by.version ∙ told.version;
   decks = by.decks ∙ told.decks;
   published = λ publication shown.
       let same : publication ≡ by.publication = cc in
-      let counted : publication.version ≡ length changes = ap (λ (p : Publication). p.version) same ∙ (by.version_of ∙ told.version) in (
+      let counted : publication.version ≡ begun + length changes = ap (λ (p : Publication). p.version) same ∙ (by.version_of ∙ told.version) in
+      let all : publication.version - begun ≡ length changes = omega arith in (
         omega arith,
-        ap (λ (p : Publication). p.decks) same ∙ (by.decks_are ∙ (told.decks ∙ sym (ap decks_after (ap (λ n. take n changes) counted ∙ take-length changes)))),
+        omega arith,
+        ap (λ (p : Publication). p.decks) same ∙ (by.decks_are ∙ (told.decks ∙ sym (ap decks_after (ap (λ n. take n changes) all ∙ take-length changes)))),
       );
 }

@@ -29,7 +29,7 @@ leads_through [] desk = refl
 leads_through (call ∷ calls) desk = ((answer call desk).desk, inl (refl, refl), leads_through calls (answer call desk).desk)
 
 -- so each worked history is a run of a new desk
-pub runs_through : (calls : List Call) → Runs (history_of calls new_desk) (desk_after calls new_desk)
+pub runs_through : (calls : List Call) → Runs 0 (history_of calls new_desk) (desk_after calls new_desk)
 runs_through calls = leads_through calls new_desk
 
 -- the name of the only deck

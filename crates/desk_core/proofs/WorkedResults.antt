@@ -51,7 +51,7 @@ pub all_handed_out : handed_edits 1 (told_by 13) ≡ accepted_edits 1 (told_by 1
 all_handed_out = refl
 
 -- the decks after the first two accepted changes
-pub decks_at_two : decks_at 2 (history_of edits_and_results new_desk) ≡ deck_m B ∷ []
+pub decks_at_two : decks_at 0 2 (history_of edits_and_results new_desk) ≡ deck_m B ∷ []
 decks_at_two = refl
 
 -- a deck dropped and added anew has another identity, and the lease of the old one has ended

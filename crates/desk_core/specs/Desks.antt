@@ -43,9 +43,13 @@ abbrev pub is_leased_at : ℕ → Option Lease → Bool
 is_leased_at version None = false
 is_leased_at version (Some lease) = lease.version == version
 
+-- a new desk, which goes on behind this version: its first change makes the next one
+abbrev pub new_desk_at : ℕ → Desk
+new_desk_at begun = record { version = begun; leases = 0; decks = []; link = None; publication = None }
+
 -- a new desk
 abbrev pub new_desk : Desk
-new_desk = record { version = 0; leases = 0; decks = []; link = None; publication = None }
+new_desk = new_desk_at 0
 
 -- how many decks a desk may have
 abbrev pub most_decks : ℕ

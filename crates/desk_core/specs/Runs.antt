@@ -1,10 +1,10 @@
 -- Runs of a desk: legal histories from a new one, the changes that they accepted, and what is promised of them (ours).
-use Rattle.std.specs.Prelude.{◌≡◌, ℕ, ◌≤◌, Bool, true, false, List, [], ◌∷◌, take, length, filter_map, Option, Some, None, if◌then◌else◌}
+use Rattle.std.specs.Prelude.{◌≡◌, ℕ, ◌+◌, ◌-◌, ◌≤◌, Bool, true, false, List, [], ◌∷◌, take, length, filter_map, Option, Some, None, if◌then◌else◌}
 use Rattle.turn_office.specs.declared.history.Entry.{Entry}
 use Rattle.turn_office.specs.Histories.{Leads}
 use Rattle.desk_core.specs.Language.{Deck, listing_of, image_of}
 use Rattle.desk_core.specs.Changes.{Change, Added, Dropped, Edited, decks_after}
-use Rattle.desk_core.specs.Desks.{Desk, Publication, new_desk, decks_of}
+use Rattle.desk_core.specs.Desks.{Desk, Publication, new_desk_at, decks_of}
 use Rattle.desk_core.specs.Calls.{Call, AddDeck, DropDeck, EditDeck, Batch, Reply, Changed}
 use Rattle.desk_core.specs.Steps.{Steps}
 
@@ -12,9 +12,9 @@ use Rattle.desk_core.specs.Steps.{Steps}
 abbrev pub History : Type 0
 History = List (Entry Call Reply)
 
--- the desk steps through the history, from a new desk to this one
-abbrev pub Runs : History → Desk → Type 0
-Runs history desk = Leads Steps new_desk history desk
+-- the desk steps through the history, from a new desk that goes on behind a version, 0 if it goes on behind none, to this one
+abbrev pub Runs : ℕ → History → Desk → Type 0
+Runs begun history desk = Leads Steps (new_desk_at begun) history desk
 
 -- the change that a call asks for
 abbrev pub change_asked : Call → Option Change
@@ -37,16 +37,17 @@ change_in entry = if accepts entry.reply then change_asked entry.call else None
 abbrev pub changes_in : History → List Change
 changes_in history = filter_map change_in history
 
--- the decks after the first so many accepted changes
-abbrev pub decks_at : ℕ → History → List Deck
-decks_at version history = decks_after (take version (changes_in history))
+-- the decks at a version: after as many accepted changes as it took to come there
+abbrev pub decks_at : ℕ → ℕ → History → List Deck
+decks_at begun version history = decks_after (take (version - begun) (changes_in history))
 
--- a publication at its version: listing and image are the build of the decks after the first so many accepted changes
-pub record IsBuildOf (history : History) (desk : Desk) (publication : Publication) : Type 0 where
+-- a publication at its version: listing and image are the build of the decks after the accepted changes up to it, the first so many where the desk went on behind no version
+pub record IsBuildOf (begun : ℕ) (history : History) (desk : Desk) (publication : Publication) : Type 0 where
   pub reached : publication.version ≤ desk.version
-  pub decks : publication.decks ≡ decks_at publication.version history
-  pub listing : listing_of publication.decks ≡ listing_of (decks_at publication.version history)
-  pub image : image_of publication.decks ≡ image_of (decks_at publication.version history)
+  pub not_before : begun ≤ publication.version
+  pub decks : publication.decks ≡ decks_at begun publication.version history
+  pub listing : listing_of publication.decks ≡ listing_of (decks_at begun publication.version history)
+  pub image : image_of publication.decks ≡ image_of (decks_at begun publication.version history)
 
 -- version, cards and publication are the same
 pub record IsUnchanged (desk next : Desk) : Type 0 where
@@ -55,8 +56,8 @@ pub record IsUnchanged (desk next : Desk) : Type 0 where
   pub publication : next.publication ≡ desk.publication
 
 -- the desk's version counts its accepted changes, and its cards are what they leave
-pub record IsOfItsChanges (history : History) (desk : Desk) : Type 0 where
-  pub version : desk.version ≡ length (changes_in history)
+pub record IsOfItsChanges (begun : ℕ) (history : History) (desk : Desk) : Type 0 where
+  pub version : desk.version ≡ begun + length (changes_in history)
   pub decks : decks_of desk ≡ decks_after (changes_in history)
 
 -- the publication is of this version

@@ -1,6 +1,6 @@
 //! The desk: what it keeps, and where it finds it.
 ghost use Rattle.std.specs.Prelude.{◌≡◌, length, is_some};
-ghost use Rattle.desk_core.specs.Desks.{new_desk, is_named, deck_named};
+ghost use Rattle.desk_core.specs.Desks.{new_desk_at, is_named, deck_named};
 ghost use Rattle.desk_core.specs.OwnNames.{IsPlaceOf};
 ghost use Rattle.desk_core.specs.Answers.{against_next};
 
@@ -15,7 +15,7 @@ use std::marker::Model;
 /// The greatest version, and the greatest number of a lease.
 const GREATEST_NUMBER: u64 = 4_611_686_018_427_387_904;
 
-/// The desk: how many changes it accepted, how many leases it gave, its decks in order of addition, the
+/// The desk: the version that its last change made, how many leases it gave, its decks in order of addition, the
 /// lease of a link, and the last publication. It keeps where its memory comes from.
 #[derive(Drop)]
 pub struct Desk {
@@ -38,11 +38,18 @@ impl Model for Desk {
 impl Desk {
     /// A new desk.
     pub fn new(alloc: Global) -> Desk
-        ensures { result ≡ new_desk }
+        ensures { result ≡ new_desk_at 0 }
+    {
+        Desk::behind(alloc, 0)
+    }
+
+    /// A new desk that goes on behind a version: its first change makes the next one.
+    pub fn behind(alloc: Global, version: u64) -> Desk
+        ensures { result ≡ new_desk_at version }
     {
         Desk {
             alloc,
-            version: 0,
+            version,
             leases: 0,
             decks: DeckList::new(alloc),
             link: None,

@@ -12,17 +12,17 @@ ghost use Rattle.desk_core.specs.Progress.{has_leases, has_work, hands_a_deck, h
 /// is the build of the decks after as many accepted changes as its version says; a refused call
 /// changes no version, card or publication; a claim answers Idle with the desk's version, and that
 /// is published; version and cards are those of the accepted changes; and the published version
-/// never falls.
+/// never falls. A desk that went on behind a version counts from there.
 pub fn every_run()
-    ensures shown { (history : History) (desk next : Desk) (publication : Publication) →
-        Runs history desk → Steps desk Show (Shown publication) next → IsBuildOf history desk publication }
+    ensures shown { (begun : ℕ) (history : History) (desk next : Desk) (publication : Publication) →
+        Runs begun history desk → Steps desk Show (Shown publication) next → IsBuildOf begun history desk publication }
     ensures refused { (desk next : Desk) (call : Call) (refusal : Refusal) →
         Steps desk call (Refused refusal) next → IsUnchanged desk next }
     ensures idle { (desk next : Desk) (version : ℕ) →
         Steps desk Claim (Idle version) next → (version ≡ desk.version) × IsPublishedAt version desk }
-    ensures changes { (history : History) (desk : Desk) → Runs history desk → IsOfItsChanges history desk }
-    ensures published { (history more : History) (desk last : Desk) (publication : Publication) →
-        Runs history desk → desk.publication ≡ Some publication → Leads Steps desk more last →
+    ensures changes { (begun : ℕ) (history : History) (desk : Desk) → Runs begun history desk → IsOfItsChanges begun history desk }
+    ensures published { (begun : ℕ) (history more : History) (desk last : Desk) (publication : Publication) →
+        Runs begun history desk → desk.publication ≡ Some publication → Leads Steps desk more last →
         IsPublishedFrom publication.version last }
 {}
 
@@ -31,10 +31,10 @@ pub fn every_run()
 /// the deck's first or comes after a loss of the record. So what the jobs of a deck carry, one after
 /// the other, is a part of its accepted edits: each stands in at most one job.
 pub fn jobs_once()
-    ensures due { (history : History) (desk next : Desk) (job : DeckWork) →
-        Runs history desk → Steps desk Claim (DeckJob job) next → IsDue job (reverse history) }
-    ensures once { (history : History) (desk : Desk) (deck : ℕ) →
-        Runs history desk → IsPartOf (accepted_edits deck (reverse history)) (handed_edits deck (reverse history)) }
+    ensures due { (begun : ℕ) (history : History) (desk next : Desk) (job : DeckWork) →
+        Runs begun history desk → Steps desk Claim (DeckJob job) next → IsDue job (reverse history) }
+    ensures once { (begun : ℕ) (history : History) (desk : Desk) (deck : ℕ) →
+        Runs begun history desk → IsPartOf (accepted_edits deck (reverse history)) (handed_edits deck (reverse history)) }
 {}
 
 /// Work is handed out: on a desk of which no lease is out, a claim gives a job of a deck where one is
