@@ -28,6 +28,9 @@ mod memory_shelf;
 mod new_files;
 mod system_folder;
 
+// Any file.
+mod whole_files;
+
 pub use deck_shelf::{SaveOver, Shelf, ShelfLoadFault, ShelfSaveFault};
 pub use folder_laws::decks_stand_apart;
 pub use folder_shelf::FolderShelf;
@@ -39,3 +42,4 @@ pub use loading::load;
 pub use memory_shelf::MemoryShelf;
 pub use saving::save;
 pub use system_folder::SystemFolder;
+pub use whole_files::{folder_of, sync_folder, write_whole};

@@ -24,7 +24,7 @@ present-decks : (begun : ℕ) (changes : List Change) (desk : Desk) (publication
 present-decks begun changes desk publication told shown same =
     let counted = told.version in
     let all : publication.version - begun ≡ length changes = omega arith in
-    (told.published publication shown).1.1 ∙ (ap decks_after (ap (λ (n : ℕ). take n changes) all ∙ take-length changes) ∙ sym told.decks)
+    (told.published publication shown).2 ∙ (ap decks_after (ap (λ (n : ℕ). take n changes) all ∙ take-length changes) ∙ sym told.decks)
 
 -- a claim that is answered Idle leaves the publication
 publication-stays : (desk next : Desk) (version : ℕ) → Outcome desk Claim (reply.Idle version) next → (next.version ≡ desk.version) × (next.publication ≡ desk.publication)

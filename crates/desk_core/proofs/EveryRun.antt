@@ -79,8 +79,8 @@ shown_is_build begun history desk next publication runs step =
     let published = told.published publication (shown_by desk next publication step) in
     let counted = told.version in
     let reached = published.0 in
-    let decks = published.1.1 in
-    record { reached = omega arith; not_before = published.1.0; decks = decks; listing = ap listing_of decks; image = ap image_of decks }
+    let decks = published.2 in
+    record { reached = omega arith; not_before = published.1; decks = decks; listing = ap listing_of decks; image = ap image_of decks }
 
 -- a refusal changes nothing that is seen
 refused_comes : (desk next : Desk) (call : Call) (refusal : Refusal) → Outcome desk call (Refused refusal) next → IsUnchanged desk next

@@ -19,7 +19,7 @@ pub record IsTold (begun : ℕ) (changes : List Change) (desk : Desk) : Type 0 w
 
 -- a new desk
 pub told_first : (begun : ℕ) → IsTold begun [] (new_desk_at begun)
-told_first begun = record { version = omega; decks = refl; published = λ publication shown. cc }
+told_first begun = record { version = omega arith; decks = refl; published = λ publication shown. cc }
 
 -- what stays is told as before
 pub told_still : (begun : ℕ) (changes : List Change) (desk next : Desk) → IsTold begun changes desk → IsUnchanged desk next → IsTold begun changes next
@@ -45,8 +45,8 @@ told_change begun changes desk next call reply told by =
       published = λ publication shown.
           let before = told.published publication (sym by.publication ∙ shown) in
           let reached = before.0 in
-          let not_before = before.1.0 in
-          (omega arith, not_before, before.1.1 ∙ sym (decks_before changes by.change (publication.version - begun) (omega arith)));
+          let not_before = before.1 in
+          (omega arith, not_before, before.2 ∙ sym (decks_before changes by.change (publication.version - begun) (omega arith)));
     }
 
 -- a publication of the present decks

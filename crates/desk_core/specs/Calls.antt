@@ -10,6 +10,6 @@ pub use Rattle.desk_core.specs.declared.replies.State.{State}
 pub use Rattle.desk_core.specs.declared.replies.State.TheVariants.{Out, Behind, Ready}
 pub use Rattle.desk_core.specs.declared.replies.Row.{Row}
 pub use Rattle.desk_core.specs.declared.replies.Refusal.{Refusal}
-pub use Rattle.desk_core.specs.declared.replies.Refusal.TheVariants.{OutOfMemory, NoSuchCard, DeckFull, NameTaken, NoDeck, OldVersion, TooManyDecks, UnknownJob, Stale, Foreign, NoPublication, VersionsSpent, BadEdit, BatchSize}
+pub use Rattle.desk_core.specs.declared.replies.Refusal.TheVariants.{OutOfMemory, NoSuchCard, DeckFull, NameTaken, NoDeck, OldVersion, TooManyDecks, UnknownJob, Stale, Foreign, NoPublication, VersionsSpent, BadEdit, BatchSize, NotKept}
 pub use Rattle.desk_core.specs.declared.replies.Reply.{Reply}
 pub use Rattle.desk_core.specs.declared.replies.Reply.TheVariants.{Changed, CardsAre, Shown, StatusIs, DeckJob, LinkJob, Idle, AllOut, Stored, Cleared, Refused}

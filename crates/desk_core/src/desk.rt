@@ -8,6 +8,7 @@ use crate::deck_list::DeckList;
 use crate::leases::Lease;
 use crate::replies::Refusal;
 use crate::shared_publication::SharedPublication;
+use crate::stored_deck::StoredDeck;
 use cards::DeckName;
 use std::alloc::Global;
 use std::marker::Model;
@@ -71,13 +72,21 @@ impl Desk {
         self.place_of(name).is_some()
     }
 
+    /// Its decks, in order of addition.
+    pub fn decks(&self) -> &[StoredDeck]
+        ensures { result.now ≡ self.now.decks }
+    {
+        self.decks.as_slice()
+    }
+
     pub(crate) fn deck_count(&self) -> usize
         ensures { result ≡ length self.now.decks }
     {
         self.decks.as_slice().len()
     }
 
-    pub(crate) fn version(&self) -> u64
+    /// How many changes it accepted.
+    pub fn version(&self) -> u64
         ensures { result ≡ self.now.version }
     {
         self.version

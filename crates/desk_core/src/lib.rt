@@ -51,3 +51,4 @@ pub use listed::Listed;
 pub use new_deck::NewDeck;
 pub use replies::{Refusal, Reply, Row, State};
 pub use shared_publication::SharedPublication;
+pub use stored_deck::StoredDeck;

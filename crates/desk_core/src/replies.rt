@@ -57,6 +57,8 @@ pub enum Refusal {
     BadEdit(usize, EditFault),
     /// A batch has no edit, or more than 100.
     BatchSize,
+    /// The change is not on the disk. A desk never tells this; who keeps a record of its changes does.
+    NotKept,
 }
 
 /// What a desk answers.

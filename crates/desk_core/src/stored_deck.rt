@@ -27,7 +27,7 @@ use std::mem::replace;
 /// the version of the last change of it; its object, if it has one of that version; its record, if it
 /// is here, and the edits that the record lacks; the lease, if one is out. It has at most 20,000 cards.
 #[derive(Drop)]
-pub(crate) struct StoredDeck {
+pub struct StoredDeck {
     name: DeckName,
     cards: Vec<Card>,
     identity: u64,
@@ -197,6 +197,15 @@ impl StoredDeck {
         ensures { result ≡ is_for done.now self.now }
     {
         done.deck == self.identity && is_leased_at(done.version, self.lease)
+    }
+
+    /// Its name and a copy of its cards.
+    pub fn copied(&self, alloc: Global) -> Result<NewDeck, AllocError>
+        ensures deck { IfOk result (λ deck. deck ≡ deck_of self.now) }
+        ensures few { IfOk result (λ deck. length deck.cards ≤ 20000) }
+    {
+        let cards = copied_cards(alloc, &self.cards)?;
+        Ok(NewDeck::new(self.name.copied(), cards))
     }
 
     /// Its object once more.

@@ -13,7 +13,7 @@ use Rattle.std.specs.Prelude.{nat_le}
 use Rattle.journal.specs.declared.changes.Change.{Change}
 use Rattle.journal.specs.declared.changes.Change.TheVariants.{Added, Dropped, Edited, Batch}
 use Rattle.journal.specs.declared.records.Entry.{Entry}
-use Rattle.journal.specs.declared.records.Entry.TheVariants.{Desk, Deck, Made}
+use Rattle.journal.specs.declared.records.Entry.TheVariants.{Begun, Made}
 use Rattle.journal.specs.declared.records.Record.{Record}
 use Rattle.journal.specs.Records.{line_of_change, line_of_entry, first_line, sum_line}
 use Rattle.journal.specs.Lawful.{IsLawfulChange, IsLawfulEntry, IsLawful}
@@ -109,8 +109,7 @@ change-fits (Batch name seen edits) lawful =
     (fits-word 48 (codes "BATCH") (name_and_number name seen rest) (record { plain = refl; short = omega arith }) (fits-target 20 name seen rest lawful.0 lawful.1 (fits-last (length edits) (size-told (length edits) lawful.2))))
 
 entry-fits : (entry : Entry) → IsLawfulEntry entry → Fits 135 (line_of_entry entry)
-entry-fits (Desk decks) lawful = fits-more 26 135 (line_of_entry (Desk decks)) (omega arith) (fits-word 20 (codes "DESK") (behind_a_blank (decimal decks ++ [])) (record { plain = refl; short = omega arith }) (fits-last decks lawful))
-entry-fits (Deck deck) lawful = fits-more 14 135 (line_of_entry (Deck deck)) (omega arith) (fits-word 8 (codes "DECK") (behind_a_blank (deck.name ++ [])) (record { plain = refl; short = omega arith }) (fits-only_name deck.name lawful.0))
+entry-fits Begun lawful = record { plain = refl; short = omega arith }
 entry-fits (Made change) lawful = change-fits change lawful
 
 -- the first line of a record

@@ -18,7 +18,7 @@ use Rattle.session_line.specs.Edits.{is_end, edit_in_batch}
 use Rattle.session_line.specs.Commands.{only_name, command_of}
 use Rattle.session_line.specs.Lines.{behind_a_blank, line_of_edit, line_in_batch, IsLawfulEdit}
 use Rattle.session_line.proofs.ReadBack.{word-decimal, first-word, behind-word, first-number}
-use Rattle.session_line.proofs.LineLaws.{line-back, only-name, batch_line-back}
+use Rattle.session_line.proofs.LineLaws.{line-back, batch_line-back}
 use Rattle.journal.specs.declared.changes.Change.{Change}
 use Rattle.journal.specs.declared.changes.Change.TheVariants.{Added, Dropped, Edited, Batch}
 use Rattle.journal.specs.declared.records.Entry.{Entry}
@@ -31,7 +31,7 @@ use Rattle.journal.specs.declared.steps.Step.TheVariants.{Goes, Ends, Wrong}
 use Rattle.journal.specs.CheckSums.{first_sum, sum_after, sum_over, check_sum}
 use Rattle.journal.specs.Moments.{is_moment, moment_of}
 use Rattle.journal.specs.Records.{ended, text_of_lines, line_of_entry, lines_behind, first_line, lines_of_record, sum_line}
-use Rattle.journal.specs.Begun.{given, unbatched, deck_named, begun_by, begun_of, open_with, opened_by, opened}
+use Rattle.journal.specs.Begun.{given, unbatched, begun_by, begun_of, open_with, opened_by, opened}
 use Rattle.journal.specs.Steps.{deck_with_card, deck_with, edits_with, entry_with, inner_step, has_all, sum_in, end_step, first_step, line_step}
 use Rattle.journal.specs.Lawful.{IsLawfulDeck, IsLawfulChange, IsLawfulEntry, IsLawful}
 use Rattle.journal.proofs.LineChains.{IsLine, IsChain}
@@ -40,18 +40,11 @@ use Rattle.journal.proofs.PlainTexts.{moment-word}
 
 -- what the first line of a record tells
 abbrev pub bare : Entry → Begun
-bare (entry.Desk decks) = record { entry = entry.Desk decks; edits = 0 }
-bare (entry.Deck deck) = record { entry = entry.Deck (record { name = deck.name; cards = [] }); edits = 0 }
+bare entry.Begun = record { entry = entry.Begun; edits = 0 }
 bare (entry.Made (Added deck)) = record { entry = entry.Made (Added (record { name = deck.name; cards = [] })); edits = 0 }
 bare (entry.Made (Dropped name seen)) = record { entry = entry.Made (Dropped name seen); edits = 0 }
 bare (entry.Made (Edited name seen edit)) = record { entry = entry.Made (Edited name seen edit); edits = 0 }
 bare (entry.Made (Batch name seen edits)) = record { entry = entry.Made (Batch name seen []); edits = length edits }
-
-bare-desk : (decks : ℕ) → decks ≤ greatest_number → begun_of (line_of_entry (entry.Desk decks)) ≡ Some (bare (entry.Desk decks))
-bare-desk decks within =
-    let rest = 32 ∷ (decimal decks ++ []) in
-    ap (λ (o : Option ℕ). given {A = ℕ} {B = Begun} o (λ n. if is_end (behind_word rest) then unbatched (entry.Desk n) else None)) (first-number decks [] within refl)
-    ∙ ap (λ (l : List ℕ). if is_end l then unbatched (entry.Desk decks) else None) (behind-word (decimal decks) [] (word-decimal decks within) refl)
 
 bare-edit : (name : List ℕ) (seen : ℕ) (edit : Edit) → is_deck_name name ≡ true → seen ≤ greatest_number → IsLawfulEdit edit →
     begun_of (line_of_edit name seen edit) ≡ Some (bare (entry.Made (Edited name seen edit)))
@@ -61,8 +54,7 @@ bare-edit name seen (Remove at) is within lawful = ap begun_by (line-back (comma
 
 -- what a record tells reads back from its first line
 bare-back : (entry : Entry) → IsLawfulEntry entry → begun_of (line_of_entry entry) ≡ Some (bare entry)
-bare-back (entry.Desk decks) lawful = bare-desk decks lawful
-bare-back (entry.Deck deck) lawful = ap deck_named (only-name deck.name lawful.0)
+bare-back entry.Begun lawful = refl
 bare-back (entry.Made (Added deck)) lawful = ap begun_by (line-back (command.Add deck.name) lawful.0)
 bare-back (entry.Made (Dropped name seen)) lawful = ap begun_by (line-back (command.Drop name seen) lawful)
 bare-back (entry.Made (Edited name seen edit)) lawful = bare-edit name seen edit lawful.0 lawful.1 lawful.2
@@ -148,8 +140,7 @@ cards-chain form with r deck sum all =
 behind-chain : (r : Record) (told : Entry) (sum : ℕ) → IsLawfulEntry told →
     IsChain (Some (open_at r (bare told).edits (bare told).entry sum)) (map behind_a_blank (lines_behind told))
     (open_at r (bare told).edits told (sum_over sum (text_of_lines (map behind_a_blank (lines_behind told)))))
-behind-chain r (entry.Desk decks) sum lawful = refl
-behind-chain r (entry.Deck deck) sum lawful = cards-chain entry.Deck (λ deck text. refl) r deck sum lawful.1
+behind-chain r entry.Begun sum lawful = refl
 behind-chain r (entry.Made (Added deck)) sum lawful = cards-chain (λ (d : Deck). entry.Made (Added d)) added-with r deck sum lawful.1
   where
     added-with : (deck : Deck) (text : List ℕ) → entry_with (entry.Made (Added deck)) text ≡ option_map (λ (d : Deck). entry.Made (Added d)) (deck_with deck text)
@@ -200,8 +191,7 @@ sum-back n within =
     ∙ first-number n [] within refl
 
 all-there : (told : Entry) → has_all told (bare told).edits ≡ true
-all-there (entry.Desk decks) = refl
-all-there (entry.Deck deck) = refl
+all-there entry.Begun = refl
 all-there (entry.Made (Added deck)) = refl
 all-there (entry.Made (Dropped name seen)) = refl
 all-there (entry.Made (Edited name seen edit)) = refl

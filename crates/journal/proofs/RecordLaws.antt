@@ -14,6 +14,7 @@ use Rattle.journal.specs.Records.{ended, text_of_lines, first_line, lines_of_rec
 use Rattle.journal.specs.Steps.{line_step}
 use Rattle.journal.specs.Journals.{Journal, ends, in_front, cut_at, journal_from, journal_of}
 use Rattle.journal.specs.Lawful.{IsLawful}
+use Rattle.journal.specs.Replaying.{fronted}
 use Rattle.journal.proofs.JournalSteps.{stepped, journal-line, journal-nothing}
 use Rattle.journal.proofs.LineChains.{IsLine, chain-journal, chain-cut, advanced-twice, length-ended}
 use Rattle.journal.proofs.LineSizes.{sum-line}
@@ -44,10 +45,6 @@ record-cut : (r : Record) (place : Place) (count : ℕ) → IsLawful r → 0 < c
 record-cut r place count lawful some fewer =
     chain-cut None (lines_of_record r) (open_whole r) (sum_line (open_whole r).sum) place count (record-chain r lawful)
     (sum-line (open_whole r).sum (sum-told (text_of_lines (lines_of_record r)))) some fewer
-
--- records in front of a journal
-abbrev pub fronted : List Record → Journal → Journal
-fronted records journal = record { records = records ++ journal.records; ending = journal.ending }
 
 -- the place behind records
 abbrev behind_all : List Record → Place → Place

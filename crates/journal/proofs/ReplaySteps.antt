@@ -1,9 +1,23 @@
 -- The steps of making the changes of a journal again: the records so far are made, and leave the journal of what is left.
-use Rattle.std.proofs.Common.{ℕ, ◌≡◌, List, [], ◌∷◌, ◌++◌, Option, None, refl, sym, ap, subst, ◌∙◌, append_assoc, append-nil}
+use Rattle.std.proofs.Common.{ℕ, ◌≡◌, ◌+◌, Bool, true, false, List, [], ◌∷◌, ◌++◌, Option, None, Some, length, refl, sym, ap, subst, ◌∙◌, append_assoc, append-nil}
+use Rattle.std.specs.List.{cons_option}
 use Rattle.std.specs.Io.KnownBytes.{Consumes}
 use Rattle.std.proofs.KnownBytes.{Consumes-nil, Consumes-trans}
+use Rattle.std.proofs.lemmas.List.Elements.{filter_map-append}
+use Rattle.turn_office.specs.Histories.{Leads, entry}
+use Rattle.desk_core.specs.Changes as changes
+use Rattle.desk_core.specs.Changes.{decks_after}
+use Rattle.desk_core.specs.Desks.{Desk, new_desk_at}
 use Rattle.desk_core.specs.declared.calls.Call.{Call}
 use Rattle.desk_core.specs.declared.replies.Reply.{Reply}
+use Rattle.desk_core.specs.declared.replies.Reply.TheVariants.{Changed}
+use Rattle.desk_core.specs.Steps.{Steps}
+use Rattle.desk_core.specs.Runs.{History, Runs, change_asked, change_in, changes_in}
+use Rattle.desk_core.proofs.EveryRun.{is_of_its_changes}
+use Rattle.journal.specs.declared.changes.Change.{Change}
+use Rattle.journal.specs.declared.changes.Change.TheVariants as change
+use Rattle.journal.specs.declared.records.Entry.{Entry}
+use Rattle.journal.specs.declared.records.Entry.TheVariants.{Begun, Made}
 use Rattle.journal.specs.declared.records.Record.{Record}
 use Rattle.journal.specs.declared.places.Place.{Place}
 use Rattle.journal.specs.declared.places.Ending.{Ending}
@@ -11,75 +25,141 @@ use Rattle.journal.specs.declared.places.Ending.TheVariants.{Whole, Cut, Faulty}
 use Rattle.journal.specs.declared.reading.Next.TheVariants.{Found, Ended}
 use Rattle.journal.specs.Places.{at_start}
 use Rattle.journal.specs.Journals.{Journal, in_front, journal_from, journal_of}
-use Rattle.journal.specs.Reading.{ReadsNext}
-use Rattle.journal.specs.Replaying.{TellsJournal, MakesAgain, MakesAll, Replays}
-use Rattle.journal.proofs.RecordLaws.{fronted}
+use Rattle.journal.specs.Reading.{TellsEnd, ReadsNext}
+use Rattle.journal.specs.Replaying.{call_of, change_of, change_in_entry, change_told, changes_told, begun_at, begun_by, fronted, IsTakenAs, IsTaken, IsReplayed, TellsJournal, Replays}
 
-module _ {C : Type 0} (makes : C → Call → Reply → C → Type 0) where
-  -- one record more is made
-  MakesAll-more : (records : List Record) (r : Record) (desk mid next : C) → MakesAll makes records desk mid → MakesAgain makes r mid next → MakesAll makes (records ++ r ∷ []) desk next
-  MakesAll-more [] r desk mid next all made =
-      let P : C → Type 0 = λ (d : C). MakesAgain makes r d next in
-      (next, (subst P (sym all) made, refl))
-  MakesAll-more (first ∷ records) r desk mid next all made = (all.0, (all.1.0, MakesAll-more records r all.0 mid next all.1.1 made))
+-- the records so far are made, and leave the journal of what is left
+pub record AreMade (old new : Option (List ℕ)) (first : Bool) (desk : Desk) (place : Place) : Type 0 where
+  pub records : List Record
+  pub none : first ≡ true → records ≡ []
+  pub history : History
+  pub runs : Runs (begun_by records) history desk
+  pub accepted : changes_in history ≡ changes_told records
+  pub taken : List ℕ
+  pub consumed : Consumes old new taken
+  pub goes : (rest : List ℕ) → journal_of (taken ++ rest) ≡ fronted records (journal_from None place rest)
 
-  -- the records so far are made, and leave the journal of what is left
-  pub record AreMade (old new : Option (List ℕ)) (desk next : C) (place : Place) : Type 0 where
-    pub records : List Record
-    pub made : MakesAll makes records desk next
-    pub taken : List ℕ
-    pub consumed : Consumes old new taken
-    pub goes : (rest : List ℕ) → journal_of (taken ++ rest) ≡ fronted records (journal_from None place rest)
+-- no record yet
+pub AreMade-none : (old : Option (List ℕ)) (desk : Desk) (place : Place) → desk ≡ new_desk_at 0 → place ≡ at_start → AreMade old old true desk place
+AreMade-none old desk place new start =
+    let P : Place → Type 0 = λ (p : Place). AreMade old old true desk p in
+    subst P (sym start) (record { records = []; none = λ e. refl; history = []; runs = sym new; accepted = refl; taken = []; consumed = Consumes-nil old; goes = λ rest. refl })
 
-  -- no record yet
-  pub AreMade-none : (old : Option (List ℕ)) (desk : C) (place : Place) → place ≡ at_start → AreMade old old desk desk place
-  AreMade-none old desk place start =
-      let P : Place → Type 0 = λ (p : Place). AreMade old old desk desk p in
-      subst P (sym start) (record { records = []; made = refl; taken = []; consumed = Consumes-nil old; goes = λ rest. refl })
+-- a record with a change behind others leaves where they begin
+begun-more : (records : List Record) (r : Record) (asked : Change) → r.entry ≡ Made asked → begun_by (records ++ r ∷ []) ≡ begun_by records
+begun-more [] r asked told = ap (begun_at r.version) told
+begun-more (first ∷ records) r asked told = refl
 
-  -- one record more
-  pub AreMade-more : (old mid new : Option (List ℕ)) (desk between next : C) (place after : Place) (r : Record) → AreMade old mid desk between place → ReadsNext mid new place after (Found r) →
-      MakesAgain makes r between next → AreMade old new desk next after
-  AreMade-more old mid new desk between next place after r so_far read made = record {
-    records = so_far.records ++ r ∷ [];
-    made = MakesAll-more so_far.records r desk between next so_far.made made;
-    taken = so_far.taken ++ read.taken;
-    consumed = Consumes-trans old mid new so_far.taken read.taken so_far.consumed read.consumed;
-    goes = λ rest.
+-- one entry more
+leads-more : (desk mid last : Desk) (history : History) (call : Call) (reply : Reply) → Leads Steps desk history mid → Steps mid call reply last → Leads Steps desk (history ++ entry 0 call reply ∷ []) last
+leads-more desk mid last [] call reply leads step = (last, subst (λ (d : Desk). Steps d call reply last) (sym leads) step, refl)
+leads-more desk mid last (first ∷ history) call reply leads step = (leads.0, leads.1, leads-more leads.0 mid last history call reply leads.2 step)
+
+-- the change that its call asks for
+asked-is : (asked : Change) → change_asked (call_of asked) ≡ Some (change_of asked)
+asked-is (change.Added deck) = refl
+asked-is (change.Dropped name seen) = refl
+asked-is (change.Edited name seen edit) = refl
+asked-is (change.Batch name seen edits) = refl
+
+-- what is accepted with one change more
+accepted-more : (history : History) (records : List Record) (r : Record) (asked : Change) → r.entry ≡ Made asked → changes_in history ≡ changes_told records →
+    changes_in (history ++ entry 0 (call_of asked) (Changed r.version) ∷ []) ≡ changes_told (records ++ r ∷ [])
+accepted-more history records r asked told same =
+    filter_map-append change_in history (entry 0 (call_of asked) (Changed r.version) ∷ [])
+    ∙ ap (λ (cs : List changes.Change). cs ++ changes_in (entry 0 (call_of asked) (Changed r.version) ∷ [])) same
+    ∙ ap (λ (o : Option changes.Change). changes_told records ++ cons_option o []) (asked-is asked ∙ sym (ap change_in_entry told))
+    ∙ sym (filter_map-append change_told records (r ∷ []))
+
+-- the journal behind one record more
+fronted-more : (records : List Record) (r : Record) (journal : Journal) → fronted records (in_front r journal) ≡ fronted (records ++ r ∷ []) journal
+fronted-more records r journal = ap (λ (rs : List Record). record { records = rs; ending = journal.ending }) (sym (append_assoc records (r ∷ []) journal.records))
+
+-- one record more
+pub AreMade-more : (old mid new : Option (List ℕ)) (first : Bool) (desk next : Desk) (place after : Place) (r : Record) → AreMade old mid first desk place → ReadsNext mid new place after (Found r) →
+    IsTaken first r desk next → AreMade old new false next after
+AreMade-more old mid new first desk next place after r so_far read taken = told-by r.entry refl taken
+  where
+    bytes : List ℕ
+    bytes = so_far.taken ++ read.taken
+
+    consumed : Consumes old new bytes
+    consumed = Consumes-trans old mid new so_far.taken read.taken so_far.consumed read.consumed
+
+    goes : (rest : List ℕ) → journal_of (bytes ++ rest) ≡ fronted (so_far.records ++ r ∷ []) (journal_from None after rest)
+    goes rest =
         ap journal_of (append_assoc so_far.taken read.taken rest)
         ∙ so_far.goes (read.taken ++ rest)
         ∙ ap (fronted so_far.records) (read.told rest)
-        ∙ fronted-more so_far.records r (journal_from None after rest);
-  }
-    where
-      fronted-more : (records : List Record) (r : Record) (journal : Journal) → fronted records (in_front r journal) ≡ fronted (records ++ r ∷ []) journal
-      fronted-more records r journal = ap (λ (rs : List Record). record { records = rs; ending = journal.ending }) (sym (append_assoc records (r ∷ []) journal.records))
+        ∙ fronted-more so_far.records r (journal_from None after rest)
 
-  -- the journal ends
-  pub Replays-ended : (old mid new : Option (List ℕ)) (desk next : C) (place after : Place) (ending : Ending) → AreMade old mid desk next place → ReadsNext mid new place after (Ended ending) →
-      Replays makes old new desk next ending
-  Replays-ended old mid new desk next place after Whole so_far read = record {
-    records = so_far.records;
-    made = so_far.made;
-    taken = so_far.taken ++ read.taken;
-    consumed = Consumes-trans old mid new so_far.taken read.taken so_far.consumed read.consumed;
-    told = (so_far.goes read.taken ∙ ap (fronted so_far.records) read.told.0 ∙ ap (λ (rs : List Record). record { records = rs; ending = Whole }) (append-nil so_far.records), read.told.1);
-  }
-  Replays-ended old mid new desk next place after (Cut begin) so_far read = record {
-    records = so_far.records;
-    made = so_far.made;
-    taken = so_far.taken ++ read.taken;
-    consumed = Consumes-trans old mid new so_far.taken read.taken so_far.consumed read.consumed;
-    told = (so_far.goes read.taken ∙ ap (fronted so_far.records) read.told.0 ∙ ap (λ (rs : List Record). record { records = rs; ending = Cut begin }) (append-nil so_far.records), read.told.1);
-  }
-  Replays-ended old mid new desk next place after (Faulty number begin) so_far read = record {
-    records = so_far.records;
-    made = so_far.made;
-    taken = so_far.taken ++ read.taken;
-    consumed = Consumes-trans old mid new so_far.taken read.taken so_far.consumed read.consumed;
-    told = λ rest.
+    told-by : (e : Entry) → r.entry ≡ e → IsTakenAs first r.version e desk next → AreMade old new false next after
+    told-by Begun told is =
+        let only : so_far.records ++ r ∷ [] ≡ r ∷ [] = ap (λ (rs : List Record). rs ++ r ∷ []) (so_far.none is.0) in
+        record {
+          records = so_far.records ++ r ∷ [];
+          none = λ (e : false ≡ true). cc;
+          history = [];
+          runs = ap new_desk_at (ap begun_by only ∙ ap (begun_at r.version) told) ∙ sym is.1;
+          accepted = sym (ap changes_told only ∙ ap (λ (o : Option changes.Change). cons_option o []) (ap change_in_entry told));
+          taken = bytes;
+          consumed = consumed;
+          goes = goes;
+        }
+    told-by (Made asked) told is =
+        let P : ℕ → Type 0 = λ (begun : ℕ). Runs begun (so_far.history ++ entry 0 (call_of asked) (Changed r.version) ∷ []) next in
+        record {
+          records = so_far.records ++ r ∷ [];
+          none = λ (e : false ≡ true). cc;
+          history = so_far.history ++ entry 0 (call_of asked) (Changed r.version) ∷ [];
+          runs = subst P (sym (begun-more so_far.records r asked told)) (leads-more (new_desk_at (begun_by so_far.records)) desk next so_far.history (call_of asked) (Changed r.version) so_far.runs is);
+          accepted = accepted-more so_far.history so_far.records r asked told so_far.accepted;
+          taken = bytes;
+          consumed = consumed;
+          goes = goes;
+        }
+
+-- the desk of the records so far
+replayed-of : (old new : Option (List ℕ)) (first : Bool) (desk : Desk) (place : Place) → (so_far : AreMade old new first desk place) → IsReplayed so_far.records desk
+replayed-of old new first desk place so_far =
+    let is = is_of_its_changes (begun_by so_far.records) so_far.history desk so_far.runs in
+    record {
+      history = so_far.history;
+      runs = so_far.runs;
+      accepted = so_far.accepted;
+      version = is.version ∙ ap (λ (cs : List changes.Change). begun_by so_far.records + length cs) so_far.accepted;
+      decks = is.decks ∙ ap decks_after so_far.accepted;
+    }
+
+-- the desk has the version that was asked for
+pub Replays-stopped : (old new : Option (List ℕ)) (first : Bool) (last : ℕ) (desk : Desk) (place : Place) → AreMade old new first desk place → desk.version ≡ last → Replays old new last desk None
+Replays-stopped old new first last desk place so_far is = record {
+  records = so_far.records;
+  replayed = replayed-of old new first desk place so_far;
+  taken = so_far.taken;
+  consumed = so_far.consumed;
+  told = (λ rest. (journal_from None place rest, so_far.goes rest), is);
+}
+
+-- the journal ends
+pub Replays-ended : (old mid new : Option (List ℕ)) (first : Bool) (last : ℕ) (desk : Desk) (place after : Place) (ending : Ending) → AreMade old mid first desk place → ReadsNext mid new place after (Ended ending) →
+    Replays old new last desk (Some ending)
+Replays-ended old mid new first last desk place after ending so_far read = record {
+  records = so_far.records;
+  replayed = replayed-of old mid first desk place so_far;
+  taken = so_far.taken ++ read.taken;
+  consumed = Consumes-trans old mid new so_far.taken read.taken so_far.consumed read.consumed;
+  told = ends ending read.told;
+}
+  where
+    only : (ending : Ending) → ◌≡◌ {A = Journal} (record { records = so_far.records ++ []; ending = ending }) (record { records = so_far.records; ending = ending })
+    only ending = ap (λ (rs : List Record). record { records = rs; ending = ending }) (append-nil so_far.records)
+
+    ends : (ending : Ending) → TellsEnd None place ending read.taken new → TellsJournal so_far.records ending (so_far.taken ++ read.taken) new
+    ends Whole told = (so_far.goes read.taken ∙ ap (fronted so_far.records) told.0 ∙ only Whole, told.1)
+    ends (Cut begin) told = (so_far.goes read.taken ∙ ap (fronted so_far.records) told.0 ∙ only (Cut begin), told.1)
+    ends (Faulty number begin) told = λ rest.
         ap journal_of (append_assoc so_far.taken read.taken rest)
         ∙ so_far.goes (read.taken ++ rest)
-        ∙ ap (fronted so_far.records) (read.told rest)
-        ∙ ap (λ (rs : List Record). record { records = rs; ending = Faulty number begin }) (append-nil so_far.records);
-  }
+        ∙ ap (fronted so_far.records) (told rest)
+        ∙ only (Faulty number begin)

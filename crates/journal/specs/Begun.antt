@@ -6,12 +6,12 @@ use Rattle.session_line.specs.declared.commands.Command.{Command}
 use Rattle.session_line.specs.declared.commands.Command.TheVariants as command
 use Rattle.session_line.specs.declared.refusals.Refusal.{Refusal}
 use Rattle.session_line.specs.Words.{from_blank, first_word, first_number, behind_word}
-use Rattle.session_line.specs.Edits.{is_end}
-use Rattle.session_line.specs.Commands.{only_name, command_of}
+use Rattle.session_line.specs.Commands.{command_of}
 use Rattle.journal.specs.declared.changes.Change.{Change}
 use Rattle.journal.specs.declared.changes.Change.TheVariants.{Added, Dropped, Edited, Batch}
 use Rattle.journal.specs.declared.records.Entry.{Entry}
-use Rattle.journal.specs.declared.records.Entry.TheVariants.{Desk, Deck, Made}
+use Rattle.journal.specs.declared.records.Entry.TheVariants as entry
+use Rattle.journal.specs.declared.records.Entry.TheVariants.{Made}
 use Rattle.journal.specs.declared.beginning.Begun.{Begun}
 use Rattle.journal.specs.declared.beginning.Open.{Open}
 use Rattle.journal.specs.CheckSums.{first_sum, sum_over}
@@ -26,15 +26,6 @@ given (Some part) made = made part
 -- an entry that is no batch
 abbrev pub unbatched : Entry → Option Begun
 unbatched entry = Some (record { entry = entry; edits = 0 })
-
--- DESK, and how many decks there are
-abbrev pub desk_in : List ℕ → Option Begun
-desk_in rest = given (first_number rest) (λ decks. if is_end (behind_word rest) then unbatched (Desk decks) else None)
-
--- DECK, and its name
-abbrev pub deck_named : Result (List ℕ) Refusal → Option Begun
-deck_named (Ok name) = unbatched (Deck (record { name = name; cards = [] }))
-deck_named (Err refusal) = None
 
 -- a batch, without its edits
 abbrev pub batch_named : Result (List ℕ) Refusal → ℕ → ℕ → Option Begun
@@ -51,11 +42,7 @@ begun_by _ = None
 
 -- what a record tells, by its text
 abbrev pub begun_of : List ℕ → Option Begun
-begun_of text =
-    let word = unbroken_front text in
-    if same_text word (codes "DESK") then desk_in (from_blank text)
-    else if same_text word (codes "DECK") then deck_named (only_name (from_blank text))
-    else begun_by (command_of text)
+begun_of text = if same_text text (codes "BEGIN") then unbatched entry.Begun else begun_by (command_of text)
 
 -- an open record, whose first line is this one
 abbrev pub open_with : List ℕ → ℕ → List ℕ → ℕ → Begun → Open

@@ -1,5 +1,5 @@
 -- Records whose text reads back (ours): a name, numbers that can be told, cards, and where it is a batch as many edits as it may have.
-use Rattle.std.specs.Prelude.{ℕ, ◌≡◌, ◌≤◌, List, IsTrue, length, All}
+use Rattle.std.specs.Prelude.{ℕ, ◌≡◌, ◌≤◌, ⊤, List, IsTrue, length, All}
 use Rattle.definitions.specs.Cards.{Card, IsCard, card_of}
 use Rattle.definitions.specs.DeckInput.{Deck, is_deck_name}
 use Rattle.session_line.specs.Words.{greatest_number}
@@ -24,8 +24,7 @@ IsLawfulChange (Edited name seen edit) = IsTrue (is_deck_name name) × (seen ≤
 IsLawfulChange (Batch name seen edits) = IsTrue (is_deck_name name) × (seen ≤ greatest_number) × IsTrue (is_batch_size (length edits)) × All IsLawfulEdit edits
 
 abbrev pub IsLawfulEntry : Entry → Type 0
-IsLawfulEntry (entry.Desk decks) = decks ≤ greatest_number
-IsLawfulEntry (entry.Deck deck) = IsLawfulDeck deck
+IsLawfulEntry entry.Begun = ⊤
 IsLawfulEntry (entry.Made change) = IsLawfulChange change
 
 -- a record with a moment, and numbers that can be told

@@ -10,3 +10,4 @@ pub mod Journals
 pub mod Reading
 pub mod Lawful
 pub mod Replaying
+pub mod Compacting

@@ -5,7 +5,7 @@ use Rattle.session_line.specs.Lines.{behind_a_blank, name_and_number, line_of_ed
 use Rattle.journal.specs.declared.changes.Change.{Change}
 use Rattle.journal.specs.declared.changes.Change.TheVariants.{Added, Dropped, Edited, Batch}
 use Rattle.journal.specs.declared.records.Entry.{Entry}
-use Rattle.journal.specs.declared.records.Entry.TheVariants.{Desk, Deck, Made}
+use Rattle.journal.specs.declared.records.Entry.TheVariants.{Begun, Made}
 use Rattle.journal.specs.declared.records.Record.{Record}
 use Rattle.journal.specs.CheckSums.{check_sum}
 
@@ -26,8 +26,7 @@ line_of_change (Batch name seen edits) = codes "BATCH" ++ name_and_number name s
 
 -- what a record tells, as a line
 abbrev pub line_of_entry : Entry → List ℕ
-line_of_entry (Desk decks) = codes "DESK" ++ behind_a_blank (decimal decks ++ [])
-line_of_entry (Deck deck) = codes "DECK" ++ behind_a_blank (deck.name ++ [])
+line_of_entry Begun = codes "BEGIN"
 line_of_entry (Made change) = line_of_change change
 
 -- the cards, or the edits, that belong to a change
@@ -38,13 +37,16 @@ lines_behind_change _ = []
 
 -- the cards, or the edits, that belong to what a record tells
 abbrev pub lines_behind : Entry → List (List ℕ)
-lines_behind (Desk decks) = []
-lines_behind (Deck deck) = deck.cards
+lines_behind Begun = []
 lines_behind (Made change) = lines_behind_change change
 
--- the first line: the version, when it was made, the session, and what the record tells
+-- a record as one line: the version, when it was made, the session, and what the record tells
+abbrev pub log_line : Record → List ℕ
+log_line r = decimal r.version ++ behind_a_blank (r.moment ++ behind_a_blank (decimal r.session ++ behind_a_blank (line_of_entry r.entry)))
+
+-- the first line of its text
 abbrev pub first_line : Record → List ℕ
-first_line r = codes "RECORD" ++ behind_a_blank (decimal r.version ++ behind_a_blank (r.moment ++ behind_a_blank (decimal r.session ++ behind_a_blank (line_of_entry r.entry))))
+first_line r = codes "RECORD" ++ behind_a_blank (log_line r)
 
 -- the lines of a record up to its check sum
 abbrev pub lines_of_record : Record → List (List ℕ)

@@ -1,13 +1,17 @@
--- The changes of a journal made again, one after the other (ours). The relation is that which a desk names for one call.
-use Rattle.std.specs.Prelude.{ℕ, ◌≡◌, List, [], ◌∷◌, ◌++◌, Option, None}
+-- The changes of a journal made again, one after the other, on a desk (ours).
+use Rattle.std.specs.Prelude.{ℕ, ◌≡◌, ◌+◌, Bool, true, List, [], ◌∷◌, ◌++◌, Option, Some, None, length, filter_map}
 use Rattle.std.specs.Io.KnownBytes.{Consumes, IsAtEnd}
+use Rattle.desk_core.specs.Changes as changes
 use Rattle.desk_core.specs.declared.calls.Call.{Call}
 use Rattle.desk_core.specs.declared.calls.Call.TheVariants.{AddDeck, DropDeck, EditDeck, Batch}
-use Rattle.desk_core.specs.declared.replies.Reply.{Reply}
 use Rattle.desk_core.specs.declared.replies.Reply.TheVariants.{Changed}
+use Rattle.desk_core.specs.Desks.{Desk, new_desk_at, decks_of}
+use Rattle.desk_core.specs.Runs.{History, Runs, changes_in}
+use Rattle.desk_core.specs.Steps.{Steps}
 use Rattle.journal.specs.declared.changes.Change.{Change}
 use Rattle.journal.specs.declared.changes.Change.TheVariants as change
-use Rattle.journal.specs.declared.records.Entry.TheVariants.{Made}
+use Rattle.journal.specs.declared.records.Entry.{Entry}
+use Rattle.journal.specs.declared.records.Entry.TheVariants.{Begun, Made}
 use Rattle.journal.specs.declared.records.Record.{Record}
 use Rattle.journal.specs.declared.places.Place.{Place}
 use Rattle.journal.specs.declared.places.Ending.{Ending}
@@ -16,7 +20,7 @@ use Rattle.journal.specs.declared.reading.JournalFault.{JournalFault}
 use Rattle.journal.specs.declared.reading.JournalFault.TheVariants as fault
 use Rattle.journal.specs.declared.replaying.ReplayFault.{ReplayFault}
 use Rattle.journal.specs.declared.replaying.ReplayFault.TheVariants as replay
-use Rattle.journal.specs.Journals.{journal_of}
+use Rattle.journal.specs.Journals.{Journal, journal_of}
 
 -- the call that asks for a change
 abbrev pub call_of : Change → Call
@@ -30,28 +34,78 @@ abbrev pub replay_fault : JournalFault → ReplayFault
 replay_fault fault.ReadFault = replay.ReadFault
 replay_fault fault.OutOfMemory = replay.OutOfMemory
 
+-- the change that a call made, without the version that was seen
+abbrev pub change_of : Change → changes.Change
+change_of (change.Added deck) = changes.Added deck
+change_of (change.Dropped name seen) = changes.Dropped name
+change_of (change.Edited name seen edit) = changes.Edited name (edit ∷ [])
+change_of (change.Batch name seen edits) = changes.Edited name edits
+
+-- the change that a record tells, if it tells one
+abbrev pub change_in_entry : Entry → Option changes.Change
+change_in_entry Begun = None
+change_in_entry (Made asked) = Some (change_of asked)
+
+abbrev pub change_told : Record → Option changes.Change
+change_told r = change_in_entry r.entry
+
+-- the changes that records tell, in order
+abbrev pub changes_told : List Record → List changes.Change
+changes_told records = filter_map change_told records
+
+-- the version behind which a journal goes on that begins with a record
+abbrev pub begun_at : ℕ → Entry → ℕ
+begun_at version Begun = version
+begun_at version (Made asked) = 0
+
+-- the version behind which a journal goes on: that of its first record, where this tells so; or none
+abbrev pub begun_by : List Record → ℕ
+begun_by [] = 0
+begun_by (r ∷ records) = begun_at r.version r.entry
+
+-- a change is made again, and makes the version
+abbrev pub MakesAgain : ℕ → Change → Desk → Desk → Type 0
+MakesAgain version asked desk next = Steps desk (call_of asked) (Changed version) next
+
+-- what a record tells is taken: it begins the journal, where it is the first; or it has a change, which is made again
+abbrev pub IsTakenAs : Bool → ℕ → Entry → Desk → Desk → Type 0
+IsTakenAs first version Begun desk next = (first ≡ true) × (next ≡ new_desk_at version)
+IsTakenAs first version (Made asked) desk next = MakesAgain version asked desk next
+
+abbrev pub IsTaken : Bool → Record → Desk → Desk → Type 0
+IsTaken first r desk next = IsTakenAs first r.version r.entry desk next
+
+-- a desk on which the changes of records were made again: one history from a new desk leads to it, which accepted exactly these changes; so its version is as many behind that with which they begin, and its decks are those that they leave
+pub record IsReplayed (records : List Record) (desk : Desk) : Type 0 where
+  pub history : History
+  pub runs : Runs (begun_by records) history desk
+  pub accepted : changes_in history ≡ changes_told records
+  pub version : desk.version ≡ begun_by records + length (changes_told records)
+  pub decks : decks_of desk ≡ changes.decks_after (changes_told records)
+
+-- records in front of a journal
+abbrev pub fronted : List Record → Journal → Journal
+fronted records journal = record { records = records ++ journal.records; ending = journal.ending }
+
+-- the bytes that were taken are the first records of the journal, whatever follows
+abbrev pub TellsFirst : List Record → List ℕ → Type 0
+TellsFirst records taken = (rest : List ℕ) → (journal : Journal) × (journal_of (taken ++ rest) ≡ fronted records journal)
+
 -- the bytes that were taken are these records, and end like this: nothing is left, or what is left tells nothing
 abbrev pub TellsJournal : List Record → Ending → List ℕ → Option (List ℕ) → Type 0
 TellsJournal records Whole taken left = (journal_of taken ≡ record { records = records; ending = Whole }) × IsAtEnd left
 TellsJournal records (Cut begin) taken left = (journal_of taken ≡ record { records = records; ending = Cut begin }) × IsAtEnd left
 TellsJournal records (Faulty number begin) taken left = (rest : List ℕ) → journal_of (taken ++ rest) ≡ record { records = records; ending = Faulty number begin }
 
-module _ {C : Type 0} (makes : C → Call → Reply → C → Type 0) where
-  -- the change of a record is made again, and makes the record's version
-  pub record MakesAgain (r : Record) (desk next : C) : Type 0 where
-    pub asked : Change
-    pub told : r.entry ≡ Made asked
-    pub made : makes desk (call_of asked) (Changed r.version) next
+-- the bytes that were taken are the records of the journal, to its end; or the first of them, where the desk has the version that was asked for
+abbrev pub TellsSoFar : List Record → ℕ → Desk → Option Ending → List ℕ → Option (List ℕ) → Type 0
+TellsSoFar records last desk None taken left = TellsFirst records taken × (desk.version ≡ last)
+TellsSoFar records last desk (Some ending) taken left = TellsJournal records ending taken left
 
-  -- the changes of records are made again, one after the other
-  abbrev pub MakesAll : List Record → C → C → Type 0
-  MakesAll [] desk next = desk ≡ next
-  MakesAll (r ∷ records) desk next = (mid : C) × (MakesAgain r desk mid × MakesAll records mid next)
-
-  -- a journal is read to its end, and the changes of all its records are made again
-  pub record Replays (old new : Option (List ℕ)) (desk next : C) (ending : Ending) : Type 0 where
-    pub records : List Record
-    pub made : MakesAll records desk next
-    pub taken : List ℕ
-    pub consumed : Consumes old new taken
-    pub told : TellsJournal records ending taken new
+-- a journal is read, to its end or to a version, and the changes of the records that were read are made again
+pub record Replays (old new : Option (List ℕ)) (last : ℕ) (desk : Desk) (ending : Option Ending) : Type 0 where
+  pub records : List Record
+  pub replayed : IsReplayed records desk
+  pub taken : List ℕ
+  pub consumed : Consumes old new taken
+  pub told : TellsSoFar records last desk ending taken new

@@ -43,8 +43,7 @@ change_with (Edited name seen edit) text = None
 
 -- what a record tells with the card or the edit of a text
 abbrev pub entry_with : Entry → List ℕ → Option Entry
-entry_with (entry.Desk decks) text = None
-entry_with (entry.Deck deck) text = option_map entry.Deck (deck_with deck text)
+entry_with entry.Begun text = None
 entry_with (entry.Made change) text = option_map entry.Made (change_with change text)
 
 -- an open record that tells this, with one line more

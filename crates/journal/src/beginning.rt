@@ -3,7 +3,7 @@ ghost use Rattle.std.specs.Prelude.{◌≡◌, List, Result, option_map, option_
 ghost use Rattle.session_line.specs.Words.{first_word};
 ghost use Rattle.session_line.specs.declared.refusals.Refusal.{Refusal as Reason};
 ghost use Rattle.journal.specs.Moments.{moment_of};
-ghost use Rattle.journal.specs.Begun.{unbatched, begun_by, begun_of, batch_named, deck_named, desk_in, opened, opened_by};
+ghost use Rattle.journal.specs.Begun.{unbatched, begun_by, begun_of, batch_named, opened, opened_by};
 
 use crate::changes::Change;
 use crate::check_sums::{FIRST_SUM, sum_over_line};
@@ -13,7 +13,7 @@ use cards::DeckName;
 use definitions::is_same_text;
 use desk_core::{Listed, NewDeck};
 use session_line::{
-    Command, Refusal, behind_blank, behind_word, first_number, first_word, from_blank, only_name,
+    Command, Refusal, behind_blank, behind_word, first_number, first_word, from_blank,
     read_command, to_blank,
 };
 use std::alloc::Global;
@@ -38,28 +38,6 @@ fn unbatched(entry: Entry) -> Option<Begun>
     ensures { result ≡ unbatched entry }
 {
     Some(Begun { entry, edits: 0 })
-}
-
-/// `DESK decks`, from behind the word on.
-fn desk_in(rest: &[u8]) -> Option<Begun>
-    ensures { result ≡ desk_in rest.now }
-{
-    let decks = first_number(rest)?;
-    if behind_word(rest).is_empty() {
-        unbatched(Entry::Desk { decks })
-    } else {
-        None
-    }
-}
-
-/// `DECK name`, from behind the word on.
-fn deck_named(alloc: Global, name: Result<DeckName, Refusal>) -> Option<Begun>
-    ensures { result ≡ deck_named name }
-{
-    match name {
-        Ok(name) => unbatched(Entry::Deck(NewDeck::new(name, Vec::new(alloc)))),
-        Err(_) => None,
-    }
 }
 
 /// A batch, without its edits.
@@ -118,11 +96,8 @@ fn begun_by(alloc: Global, command: Result<Command, Refusal>) -> Option<Begun>
 fn begun_of(alloc: Global, text: &[u8]) -> Option<Begun>
     ensures { result ≡ begun_of text.now }
 {
-    let word = to_blank(text);
-    if is_same_text(word, b"DESK") {
-        desk_in(from_blank(text))
-    } else if is_same_text(word, b"DECK") {
-        deck_named(alloc, only_name(from_blank(text)))
+    if is_same_text(text, b"BEGIN") {
+        unbatched(Entry::Begun)
     } else {
         begun_by(alloc, read_command(text))
     }

@@ -11,10 +11,10 @@
 //! SUM 3248616115
 //! ```
 //!
-//! A deck that was loaded is told by `ADD` with its cards. A journal may begin with `DESK` and the
-//! number of decks, and a `DECK` with its cards for each, in place of the changes that led there. The
-//! last record may be cut or damaged: it is left out, and the byte is told at which it begins. Any other
-//! fault ends the reading, and tells the record and its byte.
+//! A deck that was loaded is told by `ADD` with its cards. A journal may begin with `BEGIN`: its desk
+//! goes on behind the version of this record, so its first change makes the next one. The last record
+//! may be cut or damaged: it is left out, and the byte is told at which it begins. Any other fault ends
+//! the reading, and tells the record and its byte.
 #![tactic(auto)]
 
 // What a record has.
@@ -35,13 +35,15 @@ mod places;
 mod reading;
 mod steps;
 
-// The changes of records made again.
+// The changes of records made again, and what stands for them.
+mod compacting;
 mod replaying;
 
 // What a start may rest on.
 mod laws;
 
 pub use changes::{Asked, Change, asked_of};
+pub use compacting::compacted_text;
 pub use drafts::{Draft, draft_change};
 pub use laws::{cut_records_are_left_out, records_read_back};
 pub use moments::Moment;
@@ -49,5 +51,5 @@ pub use places::{Ending, Place};
 pub use queue::{Batch, Queue};
 pub use reading::{JournalFault, Next, next_record};
 pub use records::{Entry, Record};
-pub use replaying::{ReplayFault, replay};
-pub use writing::record_text;
+pub use replaying::{ReplayFault, Replayed, replay};
+pub use writing::{log_line, record_text};

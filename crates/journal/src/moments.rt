@@ -76,6 +76,14 @@ impl Moment {
         }
     }
 
+    pub(crate) fn copied(&self) -> Moment
+        ensures { result ≡ self.now }
+    {
+        Moment {
+            characters: self.characters,
+        }
+    }
+
     pub fn as_slice(&self) -> &[u8]
         ensures text { result.now ≡ self.now }
         ensures short { length self.now ≡ 20 }

@@ -2,16 +2,12 @@
 
 use crate::changes::Change;
 use crate::moments::Moment;
-use desk_core::NewDeck;
 
 /// What a record tells.
 #[derive(Drop)]
 pub enum Entry {
-    /// The journal begins with a desk of the record's version, and with the decks of so many records
-    /// behind this one.
-    Desk { decks: u64 },
-    /// One of those decks. The record's version is that of the last change of it.
-    Deck(NewDeck),
+    /// The journal begins here: its desk is new, and goes on behind the record's version.
+    Begun,
     /// A change, which made the record's version.
     Made(Change),
 }

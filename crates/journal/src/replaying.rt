@@ -1,16 +1,24 @@
 //! Makes the changes of a journal again.
 ghost use Rattle.std.specs.Prelude.{◌≡◌, IfErr, IfOk, OnErr, OnOk};
-ghost use Rattle.journal.specs.Replaying.{MakesAgain, Replays, call_of};
+ghost use Rattle.desk_core.specs.Steps.{Steps};
+ghost use Rattle.journal.specs.Replaying.{IsTaken, MakesAgain, Replays, call_of};
 
 use crate::changes::Change;
 use crate::places::{Ending, Place};
 use crate::reading::{JournalFault, Next, next_record};
 use crate::records::{Entry, Record};
-use desk_core::{Call, Refusal, Reply};
-use session_line::Calls;
+use desk_core::{Call, Desk, Refusal, Reply};
 use std::alloc::Global;
 use std::io::Read;
 use text_ports::Counted;
+
+/// A desk on which the changes of a journal were made again.
+#[derive(Drop)]
+pub struct Replayed {
+    pub desk: Desk,
+    /// How the journal ends; none where more may stand behind the version that was asked for.
+    pub ending: Option<Ending>,
+}
 
 /// Why the changes of a journal were not all made again.
 #[derive(Clone, Copy, Debug, PartialEq, Eq)]
@@ -19,8 +27,8 @@ pub enum ReplayFault {
     ReadFault,
     /// No memory was left.
     OutOfMemory,
-    /// This record, counted from 1, tells no change, or one that the desk refuses, or that makes another
-    /// version. It begins at this byte.
+    /// This record, counted from 1, is one that the desk refuses, or that makes another version; or it
+    /// tells where the journal begins, and is not the first. It begins at this byte.
     Unmade { number: u64, begin: u64 },
 }
 
@@ -52,41 +60,74 @@ impl Change {
     }
 }
 
-/// Makes the change of the record at a place again.
-fn make_again<C: Calls>(desk: &mut C, found: Record, place: &Place) -> Result<(), ReplayFault>
-    ensures { OnOk result (MakesAgain C.makes found desk.old desk.new) }
+/// Makes a change again, which made this version; else this is the fault, unless there is no memory.
+fn make_again(
+    desk: &mut Desk,
+    change: Change,
+    version: u64,
+    unmade: ReplayFault,
+) -> Result<(), ReplayFault>
+    ensures { OnOk result (MakesAgain version change desk.old desk.new) }
 {
-    let unmade = ReplayFault::Unmade {
-        number: place.records.saturating_add(1),
-        begin: place.begin,
-    };
-    let Record { version, entry, .. } = found;
-    let Entry::Made(change) = entry else {
-        return Err(unmade);
-    };
-    match desk.call(change.into_call()) {
+    match desk.step(change.into_call()) {
         Reply::Changed(made) if made == version => Ok(()),
         Reply::Refused(Refusal::OutOfMemory) => Err(ReplayFault::OutOfMemory),
         _ => Err(unmade),
     }
 }
 
-/// Reads a journal to its end, a line at a time, and makes the changes of all its whole records again,
-/// in their order: how it ends. After a fault the desk has the changes of some of the first records.
-pub fn replay<R: Read, C: Calls>(
+/// Takes the record at a place: the first may tell where the journal begins, and each other has a change.
+fn take_record(
+    alloc: Global,
+    desk: &mut Desk,
+    is_first: bool,
+    found: Record,
+    place: &Place,
+) -> Result<(), ReplayFault>
+    ensures { OnOk result (IsTaken is_first found desk.old desk.new) }
+{
+    let unmade = ReplayFault::Unmade {
+        number: place.records.saturating_add(1),
+        begin: place.begin,
+    };
+    let Record { version, entry, .. } = found;
+    match entry {
+        Entry::Begun if is_first => {
+            *desk = Desk::behind(alloc, version);
+            Ok(())
+        }
+        Entry::Begun => Err(unmade),
+        Entry::Made(change) => make_again(desk, change, version, unmade),
+    }
+}
+
+/// Reads a journal, a line at a time, and makes the changes of its whole records again on a new desk, in
+/// their order: to its end, or until the desk has this version.
+pub fn replay<R: Read>(
     alloc: Global,
     input: &mut Counted<R>,
-    desk: &mut C,
-) -> Result<Ending, ReplayFault>
-    ensures { IfOk result (Replays C.makes (R.remaining input.old.0) (R.remaining input.new.0) desk.old desk.new) }
+    last: u64,
+) -> Result<Replayed, ReplayFault>
+    ensures { IfOk result (λ replayed. Replays (R.remaining input.old.0) (R.remaining input.new.0) last replayed.desk replayed.ending) }
 {
     let mut place = Place::at_start();
+    let mut desk = Desk::new(alloc);
+    let mut is_first = true;
     for _ in 0..u64::MAX {
+        if desk.version() == last {
+            return Ok(Replayed { desk, ending: None });
+        }
         let begin = place;
         match next_record(alloc, input, &mut place)? {
-            Next::Found(record) => make_again(desk, record, &begin)?,
-            Next::Ended(ending) => return Ok(ending),
+            Next::Found(record) => take_record(alloc, &mut desk, is_first, record, &begin)?,
+            Next::Ended(ending) => {
+                return Ok(Replayed {
+                    desk,
+                    ending: Some(ending),
+                });
+            }
         }
+        is_first = false;
     }
     Err(ReplayFault::ReadFault)
 }

@@ -77,11 +77,7 @@ fn entry_with(entry: Entry, text: &[u8]) -> Result<Option<Entry>, AllocError>
     ensures { IfOk result (λ with. with ≡ entry_with entry text.now) }
 {
     match entry {
-        Entry::Desk { .. } => Ok(None),
-        Entry::Deck(deck) => match deck_with(deck, text)? {
-            Some(deck) => Ok(Some(Entry::Deck(deck))),
-            None => Ok(None),
-        },
+        Entry::Begun => Ok(None),
         Entry::Made(change) => match change_with(change, text)? {
             Some(change) => Ok(Some(Entry::Made(change))),
             None => Ok(None),

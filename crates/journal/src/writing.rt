@@ -2,7 +2,7 @@
 ghost use Rattle.std.specs.Prelude.{◌≡◌, ◌++◌, ◌∷◌, [], IfOk, OnOk, codes, decimal, map, flat_map};
 ghost use Rattle.session_line.specs.Lines.{behind_a_blank, line_in_batch, line_of_edit, name_and_number};
 ghost use Rattle.journal.specs.CheckSums.{check_sum};
-ghost use Rattle.journal.specs.Records.{ended, first_line, line_of_change, line_of_entry, lines_behind, lines_behind_change, lines_of_record, sum_line, text_behind_version, text_of_lines, text_of_record, text_with_version};
+ghost use Rattle.journal.specs.Records.{ended, first_line, line_of_change, line_of_entry, log_line, lines_behind, lines_behind_change, lines_of_record, sum_line, text_behind_version, text_of_lines, text_of_record, text_with_version};
 
 use crate::changes::Change;
 use crate::check_sums::{FIRST_SUM, sum_over};
@@ -133,23 +133,40 @@ fn push_entry(text: &mut Text, entry: &Entry) -> Result<(), AllocError>
     ensures { OnOk result (text.new ≡ text.old ++ line_of_entry entry.now) }
 {
     match entry {
-        Entry::Desk { decks } => push_verb_and_number(text, b"DESK", *decks),
-        Entry::Deck(deck) => push_verb_and_name(text, b"DECK", &deck.name),
+        Entry::Begun => text.push_bytes(b"BEGIN"),
         Entry::Made(change) => push_change(text, change),
     }
+}
+
+/// Appends a record as one line, and its line feed.
+fn push_log_line(text: &mut Text, record: &Record) -> Result<(), AllocError>
+    ensures { OnOk result (text.new ≡ text.old ++ ended (log_line record.now)) }
+{
+    let mut buffer = Buffer::new();
+    text.push_bytes(buffer.format(record.version).as_bytes())?;
+    push_word(text, record.moment.as_slice())?;
+    push_number(text, record.session)?;
+    text.push_byte(b' ')?;
+    push_entry(text, &record.entry)?;
+    text.push_byte(b'\n')
 }
 
 /// Appends the first line of a record, and its line feed.
 fn push_first_line(text: &mut Text, record: &Record) -> Result<(), AllocError>
     ensures { OnOk result (text.new ≡ text.old ++ ended (first_line record.now)) }
 {
-    text.push_bytes(b"RECORD")?;
-    push_number(text, record.version)?;
-    push_word(text, record.moment.as_slice())?;
-    push_number(text, record.session)?;
-    text.push_byte(b' ')?;
-    push_entry(text, &record.entry)?;
-    text.push_byte(b'\n')
+    text.push_bytes(b"RECORD ")?;
+    push_log_line(text, record)
+}
+
+/// A record as one line, with its line feed: the version, when it was made, the session, and the line
+/// that asked for the change.
+pub fn log_line(alloc: Global, record: &Record) -> Result<Text, AllocError>
+    ensures { IfOk result (λ text. text ≡ ended (log_line record.now)) }
+{
+    let mut text = Text::new(alloc);
+    push_log_line(&mut text, record)?;
+    Ok(text)
 }
 
 /// Appends the lines of cards.
@@ -192,9 +209,8 @@ fn push_lines_behind(text: &mut Text, entry: &Entry) -> Result<(), AllocError>
     ensures { OnOk result (text.new ≡ text.old ++ text_of_lines (map behind_a_blank (lines_behind entry.now))) }
 {
     match entry {
-        Entry::Deck(deck) => push_cards(text, deck.cards.as_slice()),
+        Entry::Begun => Ok(()),
         Entry::Made(change) => push_lines_behind_change(text, change),
-        Entry::Desk { .. } => Ok(()),
     }
 }
 

@@ -39,3 +39,4 @@ refusal_text (refusal.BadEdit number fault) = codes "BadEdit " ++ (decimal numbe
 refusal_text refusal.BatchSize = codes "BatchSize"
 refusal_text refusal.FileExists = codes "FileExists"
 refusal_text refusal.Busy = codes "Busy"
+refusal_text refusal.NotKept = codes "NotKept"

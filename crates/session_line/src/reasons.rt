@@ -27,6 +27,7 @@ pub(crate) fn desk_reason(refusal: desk_core::Refusal) -> Refusal
             fault,
         },
         desk_core::Refusal::BatchSize => Refusal::BatchSize,
+        desk_core::Refusal::NotKept => Refusal::NotKept,
     }
 }
 

@@ -77,6 +77,7 @@ pub(crate) fn put_refusal(line: &mut ReplyLine, refusal: &Refusal)
         Refusal::BatchSize => line.put(b"BatchSize"),
         Refusal::FileExists => line.put(b"FileExists"),
         Refusal::Busy => line.put(b"Busy"),
+        Refusal::NotKept => line.put(b"NotKept"),
     }
 }
 

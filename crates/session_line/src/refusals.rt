@@ -59,4 +59,6 @@ pub enum Refusal {
     FileExists,
     /// All sessions are taken.
     Busy,
+    /// The record of the change is not on the disk.
+    NotKept,
 }
