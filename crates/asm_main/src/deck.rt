@@ -36,6 +36,14 @@ impl Deck {
         }
     }
 
+    /// A deck of this name and these cards, at most 20,000.
+    pub fn of(name: DeckName, cards: Vec<Card>) -> Deck
+        requires { length cards.items ≤ 20000 }
+        ensures { result ≡ record { name = name; cards = cards.items } }
+    {
+        Deck { name, cards }
+    }
+
     /// Its name: 1 to 7 letters and digits.
     pub fn name(&self) -> &[u8]
         ensures { result.now ≡ self.now.name }

@@ -28,5 +28,7 @@ mod running;
 
 pub use asm_fault::AsmFault;
 pub use chained::{Chained, Part};
+pub use deck::Deck;
+pub use publishing::publish;
 pub use running::{Tally, asm_publish, asm_run, asm_status, tally_of};
 pub use texts::{Chosen, write_chosen};

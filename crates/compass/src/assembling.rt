@@ -1,27 +1,36 @@
 //! `compass asm`: its words, its run and its faults.
 
 use crate::input_files::{InputFault, input_of};
-use crate::output_files::make_anew;
+use crate::journal_files::{DecksFault, JOURNAL_STATUS, JournalError, decks_at, tell_journal};
 use asm_main::{
-    AsmFault, Chained, Chosen, Tally, asm_publish, asm_run, asm_status, tally_of, write_chosen,
+    AsmFault, Chained, Chosen, Deck, Tally, asm_publish, asm_run, asm_status, publish, tally_of,
+    write_chosen,
 };
 use clap::{Arg, ArgAction, ArgMatches, Command};
+use deck_files::write_whole;
+use deck_linker::Publication;
 use std::alloc::{AllocError, Global};
 use std::io::{self, BufRead, BufReader, Read};
 use std::process::ExitCode;
 use std::rt::Files;
 use text_ports::Counted;
 
+/// How many decks are linked at most.
+const MOST_DECKS: usize = 64;
+
 /// What stands below the help.
 const EXAMPLE: &str = "What has no file of its own goes to standard output.
 
 Example:
-  compass asm --listing job.lst -o job.img job.deck";
+  compass asm --listing job.lst -o job.img job.deck
+  compass asm --journal decks/beskloun.journal --version 4711";
 
 /// The files that the words name: those that are read, and those that parts of the output go to.
 #[derive(Drop)]
 struct Named<'w, 'a> {
     inputs: &'w [&'a str],
+    journal: Option<&'a str>,
+    version: Option<u64>,
     listing: Option<&'a str>,
     map: Option<&'a str>,
     image: Option<&'a str>,
@@ -34,6 +43,8 @@ enum RunFault<'a> {
     Asm(AsmFault),
     /// A file of the input can't be read.
     Input(InputFault<'a>),
+    /// The journal has not what is asked for.
+    Journal { name: &'a str, error: JournalError },
     /// A file of the output can't be written.
     Output { name: &'a str, error: io::Error },
 }
@@ -51,6 +62,19 @@ pub(crate) fn asm_words<'a>(alloc: Global) -> Result<Command<'a>, AllocError> {
         .help("Files of cards, one after the other as one input; - or none is standard input")
         .num_args(0..)
         .action(ArgAction::Append);
+    let journal = Arg::new(alloc, "journal")
+        .long("journal")
+        .value_name("FILE")
+        .help("The journal of a service, whose decks are taken in place of files")
+        .action(ArgAction::Set)
+        .conflicts_with("FILE")?;
+    let version = Arg::new(alloc, "version")
+        .long("version")
+        .value_name("V")
+        .help("The version of the decks; the last one unless said")
+        .action(ArgAction::Set)
+        .value_parser(clap::value_parser!(u64))
+        .requires_arg("journal")?;
     let listing = output_word(alloc, "listing", "Where the listings go");
     let map = output_word(alloc, "map", "Where the link map goes");
     let image = output_word(alloc, "image", "Where the octal image goes").short('o');
@@ -58,6 +82,8 @@ pub(crate) fn asm_words<'a>(alloc: Global) -> Result<Command<'a>, AllocError> {
         .about("Assembles decks of cards: listing, link map and octal image")
         .after_help(EXAMPLE)
         .arg(files)?
+        .arg(journal)?
+        .arg(version)?
         .arg(listing)?
         .arg(map)?
         .arg(image)
@@ -95,14 +121,16 @@ where
 {
     let named = Named {
         inputs: words.get_strs("FILE").unwrap_or(&[]),
+        journal: words.get_str("journal"),
+        version: words.get_one("version"),
         listing: words.get_str("listing"),
         map: words.get_str("map"),
         image: words.get_str("image"),
     };
-    let outcome = if named.inputs.is_empty() {
-        from_input(rt, &named)
-    } else {
-        from_files(rt, &named)
+    let outcome = match named.journal {
+        Some(journal) => from_journal(rt, &named, journal),
+        None if named.inputs.is_empty() => from_input(rt, &named),
+        None => from_files(rt, &named),
     };
     tell_run(rt, &outcome)
 }
@@ -114,6 +142,33 @@ where
 {
     match BufReader::new(rt.alloc(), rt.reader()) {
         Ok(reader) => run(rt, &mut Counted::new(reader), named),
+        Err(_) => Err(RunFault::Asm(AsmFault::OutOfMemory)),
+    }
+}
+
+/// A run from the decks of a journal.
+fn from_journal<'a, R>(rt: &R, named: &Named<'_, 'a>, name: &'a str) -> Result<Tally, RunFault<'a>>
+where
+    R: AllocGlobal + Print + Files,
+{
+    match decks_at(rt, rt.alloc(), name, named.version) {
+        Ok(decks) => from_decks(rt, named, decks),
+        Err(DecksFault::Input(error)) => Err(RunFault::Input(InputFault { name, error })),
+        Err(DecksFault::Asm(fault)) => Err(RunFault::Asm(fault)),
+        Err(DecksFault::Journal(error)) => Err(RunFault::Journal { name, error }),
+    }
+}
+
+/// A run from decks.
+fn from_decks<'a, R>(rt: &R, named: &Named<'_, 'a>, decks: Vec<Deck>) -> Result<Tally, RunFault<'a>>
+where
+    R: AllocGlobal + Print + Files,
+{
+    if decks.len() > MOST_DECKS {
+        return Err(RunFault::Asm(AsmFault::TooManyDecks));
+    }
+    match publish(rt.alloc(), decks) {
+        Ok(publication) => write_parts(rt, named, &publication),
         Err(_) => Err(RunFault::Asm(AsmFault::OutOfMemory)),
     }
 }
@@ -163,17 +218,29 @@ where
     R: AllocGlobal + Print + Files,
     B: BufRead,
 {
-    let mut output = Counted::new(io::writer(rt));
     if !named.has_outputs() {
+        let mut output = Counted::new(io::writer(rt));
         return Ok(asm_run(rt.alloc(), input, &mut output)?);
     }
     let publication = asm_publish(rt.alloc(), input)?;
-    let tally = tally_of(&publication);
+    write_parts(rt, named, &publication)
+}
+
+/// Writes the parts of a publication to the files that are named, and the others to standard output.
+fn write_parts<'a, R>(
+    rt: &R,
+    named: &Named<'_, 'a>,
+    publication: &Publication,
+) -> Result<Tally, RunFault<'a>>
+where
+    R: AllocGlobal + Print + Files,
+{
+    let mut output = Counted::new(io::writer(rt));
     write_file(rt, named.listing, publication.listings())?;
     write_file(rt, named.map, publication.map())?;
     write_file(rt, named.image, publication.image())?;
-    match write_chosen(&mut output, &publication, named.others()) {
-        Ok(()) => Ok(tally),
+    match write_chosen(&mut output, publication, named.others()) {
+        Ok(()) => Ok(tally_of(publication)),
         Err(broken) => Err(RunFault::Asm(AsmFault::WriteFault { sent: broken.sent })),
     }
 }
@@ -186,7 +253,7 @@ where
     let Some(name) = name else {
         return Ok(());
     };
-    make_anew(rt, rt.alloc(), name, bytes).map_err(|error| RunFault::Output { name, error })
+    write_whole(rt, rt.alloc(), name, bytes).map_err(|error| RunFault::Output { name, error })
 }
 
 /// The line of a fault on standard error, if there is one, and the status of a run.
@@ -197,6 +264,10 @@ fn tell_run<R: Eprint>(rt: &R, outcome: &Result<Tally, RunFault<'_>>) -> ExitCod
         Err(RunFault::Input(InputFault { name, error })) => {
             tell_file(rt, name, error);
             ExitCode::from(asm_status(&Err(AsmFault::ReadFault)))
+        }
+        Err(RunFault::Journal { name, error }) => {
+            tell_journal(rt, name, *error);
+            ExitCode::from(JOURNAL_STATUS)
         }
         Err(RunFault::Output { name, error }) => {
             tell_file(rt, name, error);

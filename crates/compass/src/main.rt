@@ -4,14 +4,16 @@
 
 mod assembling;
 mod input_files;
-mod output_files;
+mod journal_files;
 mod serving;
+mod stopping;
 
 ghost use Rattle.std.specs.Prelude.{◌≡◌, ◌≢◌, ℕ, ◌<◌, pos};
 
 use asm_main::AsmFault;
 use assembling::{asm_words, assemble, tell};
 use clap::{ArgMatches, Command, Error};
+use journal_files::{log, log_words};
 use serving::{run_service, serve_words, settings_of};
 use std::alloc::Global;
 use std::env;
@@ -23,18 +25,21 @@ use std::rt::{Env, Files};
 use std::sync::Wait;
 use std::thread::Threads;
 use std::time::Clock;
+use stopping::{stop_service, stop_words};
 
 /// The status of a fault of the command line.
 const COMMAND_LINE_STATUS: u8 = 2;
 
-/// The command line: its commands are `asm` and `serve`, and `clap` writes its texts.
+/// The command line: its commands are `asm`, `log`, `serve` and `stop`, and `clap` writes its texts.
 fn read_words<'a>(alloc: Global, words: &'a [String]) -> Result<ArgMatches<'a>, Error> {
     Command::new(alloc, "compass")
         .version("0.1.0")
         .about("COMPASS for the Control Data 6000 series, proved")
         .subcommand_required(true)
         .subcommand(asm_words(alloc)?)?
+        .subcommand(log_words(alloc)?)?
         .subcommand(serve_words(alloc)?)?
+        .subcommand(stop_words(alloc)?)?
         .try_get_matches_from(words)
 }
 
@@ -62,6 +67,12 @@ where
     };
     if let Some(words) = matches.subcommand_matches("asm") {
         return assemble(rt, words);
+    }
+    if let Some(words) = matches.subcommand_matches("log") {
+        return log(rt, words);
+    }
+    if let Some(words) = matches.subcommand_matches("stop") {
+        return stop_service(rt, words);
     }
     match matches.subcommand_matches("serve") {
         Some(words) => match settings_of(rt, words) {

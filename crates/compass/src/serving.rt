@@ -1,9 +1,10 @@
 //! `compass serve`: its words, its run and its faults.
-ghost use Rattle.std.specs.Prelude.{◌≡◌, IfSome};
+ghost use Rattle.std.specs.Prelude.{◌≡◌, ℕ, IfSome};
 ghost use Rattle.desk_service.specs.Services.{AreInRange};
 
+use crate::journal_files::JOURNAL_STATUS;
 use clap::{Arg, ArgAction, ArgMatches, Command};
-use desk_service::{ServeFault, Settings, serve};
+use desk_service::{Journaling, ServeFault, Settings, serve};
 use std::alloc::{AllocError, Global};
 use std::fs::File;
 use std::net::{Net, TcpListener, TcpStream};
@@ -26,8 +27,8 @@ const MEMORY_STATUS: u8 = 4;
 /// The status of a socket fault before the first accept.
 const SOCKET_STATUS: u8 = 6;
 
-/// The status of a folder that can't be had.
-const FOLDER_STATUS: u8 = 7;
+/// The status of a folder that can't be had, or that no service has.
+pub(crate) const FOLDER_STATUS: u8 = 7;
 
 /// What stands below the help.
 const EXAMPLE: &str = "Example:
@@ -67,6 +68,17 @@ pub(crate) fn serve_words<'a>(alloc: Global) -> Result<Command<'a>, AllocError> 
         .help("How long a client may be silent before its session ends; 900 unless said")
         .action(ArgAction::Set)
         .value_parser(clap::value_parser!(u64).range(1..1_000_000_000));
+    let journal = Arg::new(alloc, "journal")
+        .long("journal")
+        .value_name("FILE")
+        .help(
+            "The file that keeps all changes, none for no such file; beskloun.journal in DIR unless said",
+        )
+        .action(ArgAction::Set);
+    let compact = Arg::new(alloc, "compact")
+        .long("compact")
+        .help("Begins the journal anew with the decks that it leaves")
+        .action(ArgAction::SetTrue);
     let once = Arg::new(alloc, "once")
         .long("once")
         .help("Ends when each session has served one connection")
@@ -79,7 +91,18 @@ pub(crate) fn serve_words<'a>(alloc: Global) -> Result<Command<'a>, AllocError> 
         .arg(workers)?
         .arg(sessions)?
         .arg(idle)?
+        .arg(journal)?
+        .arg(compact)?
         .arg(once)
+}
+
+/// Where the words want the journal.
+fn journaling_of<'a>(words: &ArgMatches<'a>) -> Journaling<'a> {
+    match words.get_str("journal") {
+        None => Journaling::InRoot,
+        Some("none") => Journaling::Off,
+        Some(path) => Journaling::At(path),
+    }
 }
 
 /// A number of the words, or else what it is unless said.
@@ -115,6 +138,8 @@ pub(crate) fn settings_of<'a>(rt: &impl Threads, words: &ArgMatches<'a>) -> Opti
     }
     Some(Settings {
         root,
+        journal: journaling_of(words),
+        compact: words.get_flag("compact"),
         port,
         workers,
         sessions,
@@ -165,6 +190,15 @@ fn tell<R: Eprint>(rt: &R, fault: ServeFault, settings: &Settings<'_>) {
         ServeFault::FolderTaken => eprintln!(rt;
             "compass: {fault}: another service runs on {root}; stop it, or choose another folder with --root"
         ),
+        ServeFault::NoJournal => eprintln!(rt;
+            "compass: {fault}: the journal can't be read or written; look at the file and its folder, or choose another with --journal"
+        ),
+        ServeFault::BadVersions => eprintln!(rt;
+            "compass: {fault}: {root}/.beskloun.versions tells no version; put a number above all that were told there, a blank and a name into it"
+        ),
+        ServeFault::BadJournal { number, begin } => eprintln!(rt;
+            "compass: {fault}: record {number} of the journal, at byte {begin}, is damaged or can't be made again; nothing was changed; mend the file, or choose another with --journal"
+        ),
     };
 }
 
@@ -174,10 +208,14 @@ fn status_of(fault: ServeFault) -> u8
     ensures memory { fault ≡ ServeFault.OutOfMemory → result ≡ 4 }
     ensures none { fault ≡ ServeFault.NoFolder → result ≡ 7 }
     ensures taken { fault ≡ ServeFault.FolderTaken → result ≡ 7 }
+    ensures versions { fault ≡ ServeFault.BadVersions → result ≡ 7 }
+    ensures journal { fault ≡ ServeFault.NoJournal → result ≡ 8 }
+    ensures record { (number begin : ℕ) → fault ≡ ServeFault.BadJournal number begin → result ≡ 8 }
 {
     match fault {
         ServeFault::SocketFault => SOCKET_STATUS,
         ServeFault::OutOfMemory => MEMORY_STATUS,
-        ServeFault::NoFolder | ServeFault::FolderTaken => FOLDER_STATUS,
+        ServeFault::NoFolder | ServeFault::FolderTaken | ServeFault::BadVersions => FOLDER_STATUS,
+        ServeFault::NoJournal | ServeFault::BadJournal { .. } => JOURNAL_STATUS,
     }
 }

@@ -1,7 +1,7 @@
 -- The texts of the faults of a service (ours).
 use Rattle.std.specs.Prelude.{ℕ, List, codes}
 use Rattle.desk_service.specs.declared.faults.ServeFault.{ServeFault}
-use Rattle.desk_service.specs.declared.faults.ServeFault.TheVariants.{SocketFault, OutOfMemory, NoFolder, FolderTaken}
+use Rattle.desk_service.specs.declared.faults.ServeFault.TheVariants.{SocketFault, OutOfMemory, NoFolder, FolderTaken, NoJournal, BadJournal, BadVersions}
 
 -- the name
 abbrev pub serve_fault_text : ServeFault → List ℕ
@@ -9,3 +9,6 @@ serve_fault_text SocketFault = codes "SocketFault"
 serve_fault_text OutOfMemory = codes "OutOfMemory"
 serve_fault_text NoFolder = codes "NoFolder"
 serve_fault_text FolderTaken = codes "FolderTaken"
+serve_fault_text NoJournal = codes "NoJournal"
+serve_fault_text (BadJournal number begin) = codes "BadJournal"
+serve_fault_text BadVersions = codes "BadVersions"

@@ -1,4 +1,6 @@
 pub mod Bells
+pub mod Keeping
 pub mod FaultTexts
 pub mod Sessions
 pub mod Services
+pub mod Versions

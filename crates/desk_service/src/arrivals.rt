@@ -1,5 +1,6 @@
 //! Clients that come: each gets a session that is free, or is told that there is none.
 
+use crate::service_end::ServiceEnd;
 use crossbeam_channel::{SendTimeoutError, Sender};
 use session_line::{Refusal, Reply, write_reply};
 use std::net::{Shutdown, TcpListener, TcpStream};
@@ -23,7 +24,7 @@ enum Arrival {
     Failed,
     /// No session was free.
     TurnedAway,
-    /// All sessions have ended.
+    /// All sessions have ended, or the end of the service is asked for.
     NoSessions,
 }
 
@@ -40,11 +41,15 @@ fn receive_client<R: Wait + Clock>(
     rt: &R,
     listener: &TcpListener,
     arrivals: &Sender<TcpStream>,
+    end: &ServiceEnd,
 ) -> Arrival {
     let Ok((stream, _)) = listener.accept() else {
         let _ = thread::sleep(rt, Duration::from_millis(PAUSE));
         return Arrival::Failed;
     };
+    if end.is_asked(rt) {
+        return Arrival::NoSessions;
+    }
     match arrivals.send_timeout(rt, stream, Duration::from_millis(WAIT)) {
         Ok(()) => Arrival::Taken,
         Err(SendTimeoutError::Disconnected(_)) => Arrival::NoSessions,
@@ -57,20 +62,21 @@ fn receive_client<R: Wait + Clock>(
 
 /// Accepts connections and gives each to a session that waits for one. A client that finds none is told
 /// so at once, and its connection is closed. With a number it ends after so many that were taken or could
-/// not be accepted; a service that can't accept sleeps for a moment, so that a fault that stays costs
-/// nothing.
+/// not be accepted, and else with the first that comes once the end of the service is asked for; a service
+/// that can't accept sleeps for a moment, so that a fault that stays costs nothing.
 pub(crate) fn receive_clients<R: Wait + Clock>(
     rt: &R,
     listener: &TcpListener,
     arrivals: &Sender<TcpStream>,
     most: Option<usize>,
+    end: &ServiceEnd,
 ) {
     let mut served: usize = 0;
     for _ in rt.forever() {
         if most == Some(served) {
             return;
         }
-        match receive_client(rt, listener, arrivals) {
+        match receive_client(rt, listener, arrivals, end) {
             Arrival::Taken | Arrival::Failed => served = served.saturating_add(1),
             Arrival::TurnedAway => {}
             Arrival::NoSessions => return,

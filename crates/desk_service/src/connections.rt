@@ -1,6 +1,7 @@
 //! Connections: a session over each, one after the other.
 
 use crate::patience::PatientReader;
+use crate::service_end::ServiceEnd;
 use crate::sessions::serve_session;
 use crossbeam_channel::Receiver;
 use deck_files::Shelf;
@@ -34,22 +35,43 @@ fn serve_connection<R: Clock, C: Calls, S: Shelf>(
     serve_session(alloc, &mut input, &mut output, desk, shelf);
 }
 
-/// Serves the connections that come, each to its end; with `once` it ends after one.
+/// How a session serves connections.
+#[derive(Clone, Copy)]
+pub(crate) struct Serving<'a> {
+    /// The number of its place.
+    pub(crate) session: usize,
+    /// How long a client may be idle.
+    pub(crate) idle: Duration,
+    /// Whether it ends after one connection.
+    pub(crate) once: bool,
+    pub(crate) end: &'a ServiceEnd,
+}
+
+/// Serves the connections that come, each to its end, until none can come any more or the end of the
+/// service is asked for; with `once` it ends after one.
 pub(crate) fn serve_connections<R: Wait + Clock, C: Calls, S: Shelf>(
     rt: &R,
     alloc: Global,
     arrivals: &Receiver<TcpStream>,
-    idle: Duration,
-    once: bool,
+    serving: Serving<'_>,
     desk: &mut C,
     shelf: &mut S,
 ) {
+    let Serving {
+        session,
+        idle,
+        once,
+        end,
+    } = serving;
     for _ in rt.forever() {
         let Ok(stream) = arrivals.recv(rt) else {
             return;
         };
-        serve_connection(rt, alloc, &stream, idle, desk, shelf);
-        if once {
+        if end.enter(rt, session, &stream) {
+            serve_connection(rt, alloc, &stream, idle, desk, shelf);
+            end.leave(rt, session);
+        }
+        if once || end.is_asked(rt) {
             return;
         }
     }

@@ -14,6 +14,13 @@ pub enum ServeFault {
     NoFolder,
     /// Another service has the folder.
     FolderTaken,
+    /// The journal can't be read or written.
+    NoJournal,
+    /// This record of the journal, counted from 1, is none, and not the last; or it tells a change that the
+    /// desk does not make again. It begins at this byte.
+    BadJournal { number: u64, begin: u64 },
+    /// What the folder tells of its versions is no line of a number and a journal, or can't be read.
+    BadVersions,
 }
 
 impl fmt::Display for ServeFault {
@@ -28,6 +35,9 @@ impl fmt::Display for ServeFault {
             ServeFault::OutOfMemory => write!(f, "OutOfMemory"),
             ServeFault::NoFolder => write!(f, "NoFolder"),
             ServeFault::FolderTaken => write!(f, "FolderTaken"),
+            ServeFault::NoJournal => write!(f, "NoJournal"),
+            ServeFault::BadJournal { .. } => write!(f, "BadJournal"),
+            ServeFault::BadVersions => write!(f, "BadVersions"),
         }
     }
 }

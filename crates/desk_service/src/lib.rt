@@ -6,6 +6,7 @@
 //! | receiving | 1 | accepts connections, gives each to a session that is free | in `accept` |
 //! | session | 1 to 16 | takes a connection, serves it to its end, takes the next | till one comes, in a read of the connection |
 //! | worker | 1 to 16 | claims what is due, runs it, delivers it | on the bell |
+//! | control | 1 | hears whether the service is to end | at the socket of the folder |
 //!
 //! Each has a seat of one office over the desk, and waits while others have their turn at it. The bell
 //! is one channel from all sessions to all workers. A session rings it once for each change that was
@@ -20,26 +21,47 @@
 //! assembled after the next one. A job that a worker gave up for want of memory it claims again by itself,
 //! at growing intervals.
 //!
+//! A change is told as made once its record is in the journal, and the system has kept it. A session whose
+//! change the desk made puts the record into a queue; one of those that wait writes for all whose turn it
+//! is, in the order of their versions, and syncs once. A start makes the changes again, and goes on behind
+//! the last version that the folder saw.
+//!
+//! Who says `STOP` at the control connection ends the service: no connection is taken any more, nothing more
+//! is read, and what is being answered goes out.
+//!
 //! Not promised: that a connection is accepted, that a bell is heard, in which order sessions get their
 //! turns, or in what time. What sockets and files of the system take and give is known to no contract.
 #![tactic(auto)]
 
 // One session, over any ports.
 mod bells;
+mod keeping;
 mod sessions;
+
+// What a service begins with, and keeps.
+mod faults;
+mod journal_file;
+mod journals;
+mod opening;
+mod root;
+mod settings;
+mod versions;
 
 // Threads and sockets.
 mod arrivals;
 mod connections;
-mod faults;
+mod control;
 mod patience;
 mod places;
-mod root;
 mod running;
-mod settings;
+mod service_end;
 
 pub use bells::{Ring, Ringing};
+pub use control::stop;
 pub use faults::ServeFault;
+pub use journal_file::JournalFile;
+pub use journals::{Journal, SessionKeeper};
+pub use keeping::{Keep, Keeping};
 pub use running::{serve, serve_on};
 pub use sessions::{Ending, serve_session};
-pub use settings::Settings;
+pub use settings::{Journaling, Settings};

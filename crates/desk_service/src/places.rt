@@ -3,7 +3,10 @@ ghost use Rattle.std.specs.Prelude.{◌≡◌, ◌-◌, ◌≤◌, length, IfOk,
 ghost use Rattle.turn_office.specs.Seats.{AreOf};
 
 use crate::bells::{Ringing, WorkBell};
-use crate::connections::serve_connections;
+use crate::connections::{Serving, serve_connections};
+use crate::journals::{Journal, SessionKeeper};
+use crate::keeping::Keeping;
+use crate::service_end::ServiceEnd;
 use crate::settings::Settings;
 use crossbeam_channel::{Receiver, Sender};
 use deck_files::{FolderShelf, KnownFiles};
@@ -11,11 +14,19 @@ use deck_workers::{Bell, OpenGate, worker};
 use desk_core::Desk;
 use session_line::SeatCalls;
 use std::alloc::{AllocError, Global};
+use std::fs::OpenFile;
+use std::io::Write;
 use std::net::TcpStream;
 use std::rt::Files;
 use std::sync::{Mutex, Wait};
 use std::time::{Clock, Duration};
 use turn_office::{Office, Seat, SeatList};
+
+/// What a thread works with.
+pub(crate) trait Serve {
+    /// Does the work of the thread, to its end.
+    fn serve(self);
+}
 
 /// What a worker works with: a seat of the office, and the end of the bell that it hears.
 #[derive(Drop)]
@@ -28,9 +39,9 @@ pub(crate) struct WorkerPlace<'a, R> {
     ghost seated: { seat.office ≡ office.now.id },
 }
 
-impl<R: Wait + Clock> WorkerPlace<'_, R> {
-    /// Works until no bell can come any more.
-    pub(crate) fn work(self) {
+/// A worker works until no bell can come any more.
+impl<R: Wait + Clock> Serve for WorkerPlace<'_, R> {
+    fn serve(self) {
         worker(
             self.rt,
             self.alloc,
@@ -42,31 +53,29 @@ impl<R: Wait + Clock> WorkerPlace<'_, R> {
     }
 }
 
-/// What a session thread works with.
+/// What a session thread works with: a desk whose changes are kept, and a shelf.
 #[derive(Drop)]
-pub(crate) struct SessionPlace<'a, R> {
+pub(crate) struct SessionPlace<'a, R, F> {
     rt: &'a R,
     alloc: Global,
     arrivals: Receiver<TcpStream>,
-    idle: Duration,
-    once: bool,
-    desk: Ringing<SeatCalls<'a, R>, WorkBell<'a, R>>,
+    serving: Serving<'a>,
+    desk: Keeping<Ringing<SeatCalls<'a, R>, WorkBell<'a, R>>, SessionKeeper<'a, R, F>>,
     shelf: FolderShelf<'a, R>,
 }
 
-impl<R: Wait + Clock + Files> SessionPlace<'_, R> {
-    /// Serves connections until none can come any more.
-    pub(crate) fn serve(self) {
+/// A session thread serves connections until none can come any more.
+impl<R: Wait + Clock + Files, F: Write + OpenFile + Drop> Serve for SessionPlace<'_, R, F> {
+    fn serve(self) {
         let SessionPlace {
             rt,
             alloc,
             arrivals,
-            idle,
-            once,
+            serving,
             mut desk,
             mut shelf,
         } = self;
-        serve_connections(rt, alloc, &arrivals, idle, once, &mut desk, &mut shelf);
+        serve_connections(rt, alloc, &arrivals, serving, &mut desk, &mut shelf);
     }
 }
 
@@ -112,10 +121,10 @@ pub(crate) fn worker_places<'a, R>(
     Ok(places)
 }
 
-/// Places for the sessions of a service, with seats from the list; each has an end of the bell, waits
-/// for connections, and has a shelf of a number of its own over the folder; all note what they loaded
-/// and saved at one place.
-pub(crate) fn session_places<'a, R>(
+/// Places for the sessions of a service, with seats from the list; each has an end of the bell, waits for
+/// connections, keeps its changes in the journal, if there is one, and has a shelf of a number of its own
+/// over the folder; all note what they loaded and saved at one place.
+pub(crate) fn session_places<'a, R, F>(
     rt: &'a R,
     alloc: Global,
     office: &'a Office<Desk>,
@@ -124,7 +133,9 @@ pub(crate) fn session_places<'a, R>(
     bells: &Sender<Bell>,
     arrivals: &Receiver<TcpStream>,
     known: &'a Mutex<KnownFiles>,
-) -> Result<Vec<SessionPlace<'a, R>>, AllocError>
+    end: &'a ServiceEnd,
+    journal: Option<&'a Journal<F>>,
+) -> Result<Vec<SessionPlace<'a, R, F>>, AllocError>
     requires own { AreOf office.now.id seats.old.items }
     requires enough { settings.now.sessions ≤ length seats.old.items }
     ensures { IfOk result (λ places. length places.items ≡ settings.now.sessions) }
@@ -132,13 +143,21 @@ pub(crate) fn session_places<'a, R>(
     let mut places = Vec::new(alloc);
     for number in 0..settings.sessions {
         let seat = SeatCalls::new(rt, office, take_seat(office, seats));
+        let keeper = SessionKeeper::new(rt, alloc, journal, number);
         places.push(SessionPlace {
             rt,
             alloc,
             arrivals: arrivals.clone()?,
-            idle: Duration::from_secs(settings.idle),
-            once: settings.once,
-            desk: Ringing::new(seat, WorkBell::new(rt, bells.clone()?)),
+            serving: Serving {
+                session: number,
+                idle: Duration::from_secs(settings.idle),
+                once: settings.once,
+                end,
+            },
+            desk: Keeping::new(
+                Ringing::new(seat, WorkBell::new(rt, bells.clone()?)),
+                keeper,
+            ),
             shelf: FolderShelf::new(rt, alloc, settings.root, number, known),
         })?;
     }

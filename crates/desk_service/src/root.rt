@@ -10,10 +10,10 @@ fn folder_path(folder: &str) -> &str {
     if folder.is_empty() { "." } else { folder }
 }
 
-/// The path of the file by which a service has a folder.
-fn lock_path(alloc: Global, folder: &str) -> Result<String, AllocError> {
+/// The path of a file of a folder.
+pub(crate) fn path_in(alloc: Global, folder: &str, file: &str) -> Result<String, AllocError> {
     let folder = folder_path(folder);
-    format!(in alloc; "{folder}/.beskloun.lock")
+    format!(in alloc; "{folder}/{file}")
 }
 
 /// Takes a folder for as long as the file that is given is there. `NoFolder` where it is none or can't be
@@ -23,7 +23,7 @@ pub(crate) fn take_folder<R: Files<File = File>>(
     alloc: Global,
     folder: &str,
 ) -> Result<File, ServeFault> {
-    let path = lock_path(alloc, folder)?;
+    let path = path_in(alloc, folder, ".beskloun.lock")?;
     let mut how = OpenOptions::new();
     how.write(true).create(true);
     let Ok(file) = how.open(rt, path.as_str()) else {

@@ -1,18 +1,23 @@
 //! The service: its threads start, and end.
-ghost use Rattle.std.specs.Prelude.{◌≡◌, ◌≤◌};
 ghost use Rattle.desk_service.specs.Services.{AreInRange, IsLocal};
 
 use crate::arrivals::receive_clients;
+use crate::control::{Control, hear};
 use crate::faults::ServeFault;
-use crate::places::{SessionPlace, WorkerPlace, session_places, worker_places};
+use crate::opening::{Opened, open};
+use crate::places::{Serve, SessionPlace, WorkerPlace, session_places, worker_places};
 use crate::root::take_folder;
+use crate::service_end::ServiceEnd;
 use crate::settings::Settings;
+use crate::versions::Seen;
 use crossbeam_channel::{Sender, bounded, unbounded};
 use deck_files::{KnownFiles, clear_folder};
 use desk_core::Desk;
 use std::alloc::{AllocError, AllocGlobal, Global};
-use std::fs::File;
+use std::fs::{File, OpenFile};
+use std::io::Write;
 use std::net::{IpAddr, Ipv4Addr, Net, SocketAddr, TcpListener, TcpStream};
+use std::os::unix::net::UnixStream;
 use std::rt::Files;
 use std::sync::{Mutex, Wait};
 use std::thread;
@@ -27,13 +32,17 @@ fn local_address(port: u16) -> SocketAddr
     SocketAddr::new(IpAddr::V4(Ipv4Addr::new(127, 0, 0, 1)), port)
 }
 
+/// The port at which a listener listens.
+fn port_of(listener: &TcpListener, settings: &Settings<'_>) -> u16 {
+    match listener.local_addr() {
+        Ok(address) => address.port(),
+        Err(_) => settings.port,
+    }
+}
+
 /// Tells on standard error that the service listens: where, for which folder, and with how many
 /// workers and sessions.
-fn announce<R: Eprint>(rt: &R, listener: &TcpListener, settings: &Settings<'_>) {
-    let address = match listener.local_addr() {
-        Ok(address) => address,
-        Err(_) => local_address(settings.port),
-    };
+fn announce<R: Eprint>(rt: &R, address: SocketAddr, settings: &Settings<'_>) {
     let Settings {
         root,
         workers,
@@ -54,79 +63,213 @@ fn most_clients(settings: &Settings<'_>) -> Option<usize> {
     }
 }
 
-/// Runs each place in a thread of its own, receives clients once all threads are there, and returns when
-/// all have ended. Where a thread can't be made, those that were made end at once.
-fn run<R: Threads + Wait + Sync + Files + Clock + Eprint>(
-    rt: &R,
-    alloc: Global,
-    workers: Vec<WorkerPlace<'_, R>>,
-    sessions: Vec<SessionPlace<'_, R>>,
+/// What receives the clients of a service.
+#[derive(Drop)]
+struct Receiving<'a, R> {
+    rt: &'a R,
+    listener: &'a TcpListener,
+    settings: &'a Settings<'a>,
+    port: u16,
     arrivals: Sender<TcpStream>,
-    listener: &TcpListener,
-    settings: &Settings<'_>,
-) -> Result<(), AllocError>
+    end: &'a ServiceEnd,
+}
+
+/// It tells that the service listens, and receives clients to the end of the service.
+impl<R: Wait + Clock + Eprint> Serve for Receiving<'_, R> {
+    fn serve(self) {
+        announce(self.rt, local_address(self.port), self.settings);
+        let most = most_clients(self.settings);
+        receive_clients(self.rt, self.listener, &self.arrivals, most, self.end);
+    }
+}
+
+/// What a thread of a service works with.
+#[derive(Drop)]
+enum Place<'a, R, F> {
+    Worker(WorkerPlace<'a, R>),
+    Session(SessionPlace<'a, R, F>),
+    Receiving(Receiving<'a, R>),
+}
+
+impl<R: Wait + Clock + Files + Eprint, F: Write + OpenFile + Drop> Serve for Place<'_, R, F> {
+    fn serve(self) {
+        match self {
+            Place::Worker(place) => place.serve(),
+            Place::Session(place) => place.serve(),
+            Place::Receiving(place) => place.serve(),
+        }
+    }
+}
+
+/// What hears of the end of a service.
+trait Hear {
+    /// Waits until somebody asks for the end, or the service ends by itself. What it gives stays open until
+    /// the service is over.
+    fn hear(self) -> Option<UnixStream>;
+
+    /// The service ends by itself: nobody waits any more.
+    fn close(self);
+}
+
+/// What waits at the control connection of a service, if there is one.
+struct Hearing<'a, R> {
+    rt: &'a R,
+    control: Option<&'a Control>,
+    port: u16,
+    end: &'a ServiceEnd,
+}
+
+impl<R> Clone for Hearing<'_, R> {
+    fn clone(&self) -> Result<Self, AllocError> {
+        Ok(*self)
+    }
+}
+
+impl<R> Copy for Hearing<'_, R> {}
+
+impl<R: Wait + Clock + Files + Net> Hear for Hearing<'_, R> {
+    fn hear(self) -> Option<UnixStream> {
+        hear(self.rt, self.control, local_address(self.port), self.end)
+    }
+
+    fn close(self) {
+        self.end.ask(self.rt);
+        if let Some(control) = self.control {
+            control.close(self.rt);
+        }
+    }
+}
+
+/// Runs each place in a thread of its own, and returns when all have ended. Where a thread can't be made,
+/// those that were made end at once.
+///
+/// It is over any places, since what a thread is sent has to be shown to be `Send` with no more than it
+/// needs: with all that is known of a service's runtime the search for that does not end.
+fn run<R, P, H>(rt: &R, alloc: Global, places: Vec<P>, hearing: H) -> Result<(), AllocError>
 where
-    R::File: Send,
-    R::Dir: Send,
+    R: Threads + Wait + Sync,
+    P: Serve + Send + Drop,
+    H: Hear + Send + Copy,
 {
     thread::scope(
         thread::scope_env(),
         rt,
         move |scope| -> Result<(), AllocError> {
             let mut threads = Vec::new(alloc);
-            for place in workers {
-                threads.push(scope.spawn(move || place.work())?)?;
-            }
-            for place in sessions {
+            for place in places {
                 threads.push(scope.spawn(move || place.serve())?)?;
             }
-            announce(rt, listener, settings);
-            receive_clients(rt, listener, &arrivals, most_clients(settings));
-            drop(arrivals);
+            let stopped = scope.spawn(move || hearing.hear())?;
             for thread in threads {
                 thread.join(rt);
             }
+            hearing.close();
+            drop(stopped.join(rt));
             Ok(())
         },
     )
 }
 
-/// Serves at a listener: the desk is new, each worker and each session has a seat of its own at it.
-/// With `once` it returns when each session thread has served one connection; else it returns only
-/// where a thread can't be made.
-pub fn serve_on<R: Threads + Wait + Sync + Files + Drop + Clock + Eprint>(
-    rt: &R,
+/// Serves what was opened at a listener: each worker and each session has a seat of its own at its desk.
+fn serve_opened<'a, R>(
+    rt: &'a R,
     alloc: Global,
-    listener: &TcpListener,
-    settings: &Settings<'_>,
+    listener: &'a TcpListener,
+    control: Option<&'a Control>,
+    settings: &'a Settings<'a>,
+    opened: Opened<R::File>,
 ) -> Result<(), ServeFault>
 where
+    R: Threads + Wait + Sync + Files + Drop + Clock + Eprint + Net,
     R::File: Send,
     R::Dir: Send,
+    R::Listener: Send,
+    R::Stream: Send,
     requires { AreInRange settings.now }
 {
+    let Opened { desk, journal } = opened;
     let Settings {
         workers,
         sessions,
         ..
     } = *settings;
-    let (office, mut seats) = Office::open(alloc, Desk::new(alloc), workers + sessions)?;
+    let (office, mut seats) = Office::open(alloc, desk, workers + sessions)?;
     let (bells, heard) = unbounded(alloc)?;
     let (arrivals, received) = bounded(alloc, 0)?;
     let known = Mutex::new(KnownFiles::new(alloc));
-    let workers = worker_places(rt, alloc, &office, &mut seats, workers, &heard)?;
-    let sessions = session_places(
-        rt, alloc, &office, &mut seats, settings, &bells, &received, &known,
-    )?;
+    let end = &ServiceEnd::new(alloc, sessions)?;
+    let journal = journal.as_ref();
+    let mut places = Vec::new(alloc);
+    for place in worker_places(rt, alloc, &office, &mut seats, workers, &heard)? {
+        places.push(Place::Worker(place))?;
+    }
+    for place in session_places(
+        rt, alloc, &office, &mut seats, settings, &bells, &received, &known, end, journal,
+    )? {
+        places.push(Place::Session(place))?;
+    }
     drop((bells, heard, received));
-    Ok(run(rt, alloc, workers, sessions, arrivals, listener, settings)?)
+    let port = port_of(listener, settings);
+    let hearing = Hearing {
+        rt,
+        control,
+        port,
+        end,
+    };
+    places.push(Place::Receiving(Receiving {
+        rt,
+        listener,
+        settings,
+        port,
+        arrivals,
+        end,
+    }))?;
+    Ok(run(rt, alloc, places, hearing)?)
+}
+
+/// Serves at a listener: the desk is new, or as its journal leaves it; each worker and each session has a
+/// seat of its own at it. What its folder has seen of versions is not asked, and it has no control
+/// connection.
+/// With `once` it returns when each session thread has served one connection; else it returns only
+/// where a thread can't be made.
+pub fn serve_on<'a, R>(
+    rt: &'a R,
+    alloc: Global,
+    listener: &'a TcpListener,
+    settings: &'a Settings<'a>,
+) -> Result<(), ServeFault>
+where
+    R: Threads + Wait + Sync + Files + Drop + Clock + Eprint + Net,
+    R::File: Send,
+    R::Dir: Send,
+    R::Listener: Send,
+    R::Stream: Send,
+    requires { AreInRange settings.now }
+{
+    let opened = open(rt, alloc, settings, &Seen::nothing(alloc))?;
+    serve_opened(rt, alloc, listener, None, settings, opened)
+}
+
+/// What a service begins with in its folder, which has kept the versions that it may tell.
+fn open_in_folder<R: Files + Eprint + Clock>(
+    rt: &R,
+    alloc: Global,
+    settings: &Settings<'_>,
+) -> Result<Opened<R::File>, ServeFault> {
+    let seen = Seen::read(rt, alloc, settings.root)?;
+    let opened = open(rt, alloc, settings, &seen)?;
+    let begun = opened.desk.version();
+    seen.take(rt, alloc, settings.root, settings.journal, begun)?;
+    Ok(opened)
 }
 
 /// Serves on a port of 127.0.0.1, where no other service has the folder; what saves of a killed service
 /// left there is taken away. The faults come in this order: want of memory for the name of a file,
-/// `NoFolder`, `FolderTaken`, `SocketFault`, want of memory. A port that can't be listened on is the one
-/// fault that is told of sockets: later ones end a session at most.
-pub fn serve<R>(rt: &R, alloc: Global, settings: &Settings<'_>) -> Result<(), ServeFault>
+/// `NoFolder`, `FolderTaken`, `SocketFault`, then those of versions and journal, and want of memory. A
+/// port that can't be listened on is the one fault that is told of sockets: later ones end a session at
+/// most. It returns without a fault where `STOP` is said at the control connection of the folder, and with
+/// `once` as `serve_on`.
+pub fn serve<'a, R>(rt: &'a R, alloc: Global, settings: &'a Settings<'a>) -> Result<(), ServeFault>
 where
     R: Threads
         + Wait
@@ -144,8 +287,10 @@ where
 {
     let _taken = take_folder(rt, alloc, settings.root)?;
     clear_folder(rt, settings.root);
-    match TcpListener::bind(rt, local_address(settings.port)) {
-        Ok(listener) => serve_on(rt, alloc, &listener, settings),
-        Err(_) => Err(ServeFault::SocketFault),
-    }
+    let Ok(listener) = TcpListener::bind(rt, local_address(settings.port)) else {
+        return Err(ServeFault::SocketFault);
+    };
+    let opened = open_in_folder(rt, alloc, settings)?;
+    let control = Control::open(rt, alloc, settings.root);
+    serve_opened(rt, alloc, &listener, control.as_ref(), settings, opened)
 }

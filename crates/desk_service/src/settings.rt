@@ -1,11 +1,41 @@
 //! What a service is started with.
 
-/// What a service is started with: the folder of the deck files, the port on 127.0.0.1, how many
-/// workers and session threads it has, for how many seconds a client may be idle, and whether each session
-/// thread ends after one connection.
+/// Where a service keeps the journal of its changes.
+#[derive(Clone, Copy)]
+pub enum Journaling<'a> {
+    /// Nowhere.
+    Off,
+    /// In the file `beskloun.journal` of the folder.
+    InRoot,
+    /// In the file of this path.
+    At(&'a str),
+}
+
+impl<'a> Journaling<'a> {
+    /// By which name a folder tells of the journal.
+    pub(crate) fn name(self) -> &'a str {
+        match self {
+            Journaling::Off => "none",
+            Journaling::InRoot => "beskloun.journal",
+            Journaling::At(path) => path,
+        }
+    }
+
+    /// Whether it keeps anything.
+    pub(crate) fn is_kept(self) -> bool {
+        !matches!(self, Journaling::Off)
+    }
+}
+
+/// What a service is started with: the folder of the deck files, where its journal is, the port on
+/// 127.0.0.1, how many workers and session threads it has, for how many seconds a client may be idle, and
+/// whether each session thread ends after one connection.
 #[derive(Clone, Copy)]
 pub struct Settings<'a> {
     pub root: &'a str,
+    pub journal: Journaling<'a>,
+    /// Whether the journal is begun anew with the present decks.
+    pub compact: bool,
     pub port: u16,
     pub workers: usize,
     pub sessions: usize,

@@ -17,9 +17,15 @@ mod tests_files;
 #[cfg(test)]
 mod tests_folders;
 #[cfg(test)]
+mod tests_journals;
+#[cfg(test)]
+mod tests_keeping;
+#[cfg(test)]
 mod tests_lines;
 #[cfg(test)]
 mod tests_offices;
+#[cfg(test)]
+mod tests_replaying;
 #[cfg(test)]
 mod tests_results;
 #[cfg(test)]

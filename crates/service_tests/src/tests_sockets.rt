@@ -2,7 +2,7 @@
 ghost use Rattle.std.specs.Prelude.{◌≤◌};
 ghost use Rattle.desk_service.specs.Services.{AreInRange};
 
-use desk_service::{ServeFault, Settings, serve_on};
+use desk_service::{Journaling, ServeFault, Settings, serve_on};
 use std::alloc::Global;
 use std::io::{BufRead, BufReader, Write};
 use std::net::{Net, SocketAddr, TcpListener, TcpStream};
@@ -83,6 +83,8 @@ fn settings(root: &str, workers: usize, sessions: usize) -> Settings<'_>
 {
     Settings {
         root,
+        journal: Journaling::Off,
+        compact: false,
         port: 0,
         workers,
         sessions,
@@ -304,12 +306,45 @@ fn clients_that_go_away_leave_the_others(rt: HostRuntime) -> Result<(), Fail> {
 }
 
 #[test]
+fn a_service_goes_on_with_its_journal(rt: HostRuntime) -> Result<(), Fail> {
+    let alloc = rt.alloc();
+    let _ = fs::remove_file(&rt, "service_test.journal");
+    let kept = Settings {
+        journal: Journaling::At("service_test.journal"),
+        ..settings("", 1, 1)
+    };
+    let first = [
+        ("ADD M", "OK 1"),
+        ("INS M 1 1 *A", "OK 2"),
+        ("INS M 1 1 *B", "NO OldVersion 2"),
+    ];
+    let second = [("INS M 2 2 *B", "OK 3"), ("CARDS M", "OK 3 2")];
+    for rows in [first.as_slice(), second.as_slice()] {
+        let listener = TcpListener::bind(&rt, "127.0.0.1:0")?;
+        let address = listener.local_addr()?;
+        let (served, _) = thread::join(
+            &rt,
+            || serve_on(&rt, alloc, &listener, &kept),
+            || {
+                let stream = connected(&rt, address);
+                Client::new(&rt, alloc, &stream).asks(&rt, rows);
+            },
+        );
+        assert_eq!(rt; served, Ok(()));
+    }
+    fs::remove_file(&rt, "service_test.journal")?;
+    Ok(())
+}
+
+#[test]
 fn texts_of_faults(rt: HostRuntime) -> Result<(), Fail> {
     for (fault, text) in [
         (ServeFault::SocketFault, "SocketFault"),
         (ServeFault::OutOfMemory, "OutOfMemory"),
         (ServeFault::NoFolder, "NoFolder"),
         (ServeFault::FolderTaken, "FolderTaken"),
+        (ServeFault::NoJournal, "NoJournal"),
+        (ServeFault::BadVersions, "BadVersions"),
     ] {
         assert_eq!(rt; fault.to_string(rt.alloc())?.as_str(), text);
     }

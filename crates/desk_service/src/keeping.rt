@@ -1,0 +1,96 @@
+//! A desk whose changes are kept: none is told as made before its record is.
+ghost use Rattle.std.specs.Prelude.{◌≡◌};
+ghost use Rattle.desk_service.specs.Keeping.{MakesChange, TellsKept};
+
+use desk_core::{Call, Refusal, Reply};
+use journal::{Asked, Change, Draft, asked_of};
+use session_line::Calls;
+use std::marker::Model;
+
+/// Who keeps the records of changes. The members say what its calls make of it.
+pub trait Keep {
+    ghost use Rattle.std.specs.Prelude.{ℕ, List, Bool, Result};
+    ghost use Rattle.desk_core.specs.declared.replies.Refusal.{Refusal as Reason};
+    ghost use Rattle.journal.specs.declared.changes.Change.{Change as Asking};
+
+    // The keeper before, the change, its record or why none may be made, and the keeper after.
+    ghost begins: { Self → Asking → Result (List ℕ) Reason → Self → Type 0 };
+
+    // The keeper before, version and record, whether the record is kept with all before it, and the
+    // keeper after.
+    ghost keeps: { Self → ℕ → List ℕ → Bool → Self → Type 0 };
+
+    /// Makes the record of a change that is asked for, or refuses the change.
+    fn begin(&mut self, change: &Change) -> Result<Draft, Refusal>
+        ensures { begins self.old change.now result self.new };
+
+    /// Keeps the record of a change that was made: whether it is kept, with all records before it.
+    fn keep(&mut self, version: u64, draft: Draft) -> bool
+        ensures { keeps self.old version draft result self.new };
+}
+
+/// A desk with a keeper of its changes. A change for whose record there is no memory, or that the keeper
+/// refuses, is not asked of the desk. One that the desk makes is told as made where the keeper has kept
+/// its record, and else as `NotKept`. Contracts see the two as a pair.
+#[derive(Drop)]
+pub struct Keeping<C, K> {
+    desk: C,
+    keeper: K,
+}
+
+impl<C, K> Model for Keeping<C, K> {
+    ghost Value = { C × K };
+
+    ghost view = { λ k. (k.desk, k.keeper) };
+}
+
+impl<C, K> Keeping<C, K> {
+    pub fn new(desk: C, keeper: K) -> Keeping<C, K>
+        ensures { result ≡ (desk, keeper) }
+    {
+        Keeping { desk, keeper }
+    }
+}
+
+/// What is told of a call that asked for a change, whose record this is.
+fn kept_reply<K: Keep>(keeper: &mut K, reply: Reply, draft: Draft) -> Reply
+    ensures { TellsKept K.keeps draft reply keeper.old result keeper.new }
+{
+    if let Reply::Changed(version) = reply {
+        if keeper.keep(version, draft) {
+            Reply::Changed(version)
+        } else {
+            Reply::Refused(Refusal::NotKept)
+        }
+    } else {
+        reply
+    }
+}
+
+/// Makes a change.
+fn make_change<C: Calls, K: Keep>(desk: &mut C, keeper: &mut K, change: Change) -> Reply
+    ensures { MakesChange C.makes K.begins K.keeps change desk.old keeper.old result desk.new keeper.new }
+{
+    match keeper.begin(&change) {
+        Ok(draft) => {
+            let reply = desk.call(change.into_call());
+            kept_reply(keeper, reply, draft)
+        }
+        Err(refusal) => Reply::Refused(refusal),
+    }
+}
+
+/// The calls are the desk's, but for changes that are refused, or not kept.
+impl<C: Calls, K: Keep> Calls for Keeping<C, K> {
+    ghost use Rattle.journal.specs.Asking.{asked_of};
+    ghost use Rattle.desk_service.specs.Keeping.{MakesKept};
+
+    ghost makes = { λ old call reply new. MakesKept C.makes K.begins K.keeps old (asked_of call) reply new };
+
+    fn call(&mut self, call: Call) -> Reply {
+        match asked_of(call) {
+            Asked::Change(change) => make_change(&mut self.desk, &mut self.keeper, change),
+            Asked::Other(call) => self.desk.call(call),
+        }
+    }
+}

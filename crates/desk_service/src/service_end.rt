@@ -1,0 +1,88 @@
+//! The end of a service, where it is asked for: no connection is taken any more, nothing more is read of
+//! those that are open, and what is being answered goes out.
+
+use std::alloc::{AllocError, Global};
+use std::net::{Shutdown, TcpStream};
+use std::sync::{Mutex, Wait};
+
+/// What the threads of a service know of its end.
+#[derive(Drop)]
+struct Known {
+    is_asked: bool,
+    /// The connection of each session, where it serves one.
+    open: Vec<Option<TcpStream>>,
+}
+
+/// The end of a service.
+#[derive(Drop)]
+pub(crate) struct ServiceEnd {
+    known: Mutex<Known>,
+}
+
+/// Ends one direction of each connection that is open, or both.
+fn shut(open: &[Option<TcpStream>], how: Shutdown) {
+    for stream in open.iter().flatten() {
+        let _ = stream.shutdown(how);
+    }
+}
+
+impl ServiceEnd {
+    /// The end of a service with so many sessions, which nobody has asked for.
+    pub(crate) fn new(alloc: Global, sessions: usize) -> Result<ServiceEnd, AllocError> {
+        let mut open = Vec::new(alloc);
+        for _ in 0..sessions {
+            open.push(None)?;
+        }
+        Ok(ServiceEnd {
+            known: Mutex::new(Known {
+                is_asked: false,
+                open,
+            }),
+        })
+    }
+
+    /// Whether somebody has asked for it.
+    pub(crate) fn is_asked<R: Wait>(&self, rt: &R) -> bool {
+        self.known.lock(rt).is_asked
+    }
+
+    /// A session of this number begins to serve a connection: whether it may. It may not where the end was
+    /// asked for, or where the system has no descriptor to end it by.
+    pub(crate) fn enter<R: Wait>(&self, rt: &R, session: usize, stream: &TcpStream) -> bool {
+        let mut known = self.known.lock(rt);
+        if known.is_asked {
+            return false;
+        }
+        match (stream.try_clone(), known.open.get_mut(session)) {
+            (Ok(same), Some(place)) => {
+                *place = Some(same);
+                true
+            }
+            _ => false,
+        }
+    }
+
+    /// A session has served its connection.
+    pub(crate) fn leave<R: Wait>(&self, rt: &R, session: usize) {
+        if let Some(place) = self.known.lock(rt).open.get_mut(session) {
+            *place = None;
+        }
+    }
+
+    /// Asks for the end: nothing more is read of the connections that are open.
+    pub(crate) fn ask<R: Wait>(&self, rt: &R) {
+        let mut known = self.known.lock(rt);
+        known.is_asked = true;
+        shut(known.open.as_slice(), Shutdown::Read);
+    }
+
+    /// Whether no connection is open any more.
+    pub(crate) fn is_over<R: Wait>(&self, rt: &R) -> bool {
+        self.known.lock(rt).open.iter().all(|place| place.is_none())
+    }
+
+    /// Closes what is open still.
+    pub(crate) fn cut<R: Wait>(&self, rt: &R) {
+        shut(self.known.lock(rt).open.as_slice(), Shutdown::Both);
+    }
+}
