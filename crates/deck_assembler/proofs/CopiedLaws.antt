@@ -1,9 +1,8 @@
 -- A line whose fields are taken over is the line of the same statement.
-use Rattle.std.proofs.Common.{◌≡◌, ◌∙◌, ℕ, ◌+◌, ◌-◌, ◌≤◌, List, [], ◌∷◌, ◌++◌, length, take, drop, map, refl, ap, sym, subst, arith}
+use Rattle.std.proofs.Common.{◌≡◌, ◌∙◌, ℕ, ◌-◌, List, ◌++◌, length, take, drop, map, refl, ap, sym, subst, arith}
 use Rattle.std.specs.Prelude.{slice_get}
 use Rattle.std.proofs.lemmas.List.{drop-map, drop_at, length-map, take_all, length-drop}
 use Rattle.definitions.specs.Lengths.{BlockRow}
-use Rattle.definitions.specs.StatementItems.{Item}
 use Rattle.definitions.specs.Words.{Coded}
 use Rattle.definitions.specs.declared.deck_kind.DeckKind.{DeckKind}
 use Rattle.operations.specs.OperationsAs.{operation_as}
@@ -13,7 +12,7 @@ use Rattle.statement_coder.specs.declared.items.Item as code
 use Rattle.statement_coder.proofs.ListLaws.{kept-length}
 use Rattle.deck_assembler.specs.CodedLines.{IsCoded, IsNamed}
 use Rattle.deck_assembler.specs.CopiedFields.{AreListedAlike, AreCopied}
-use Rattle.deck_assembler.specs.LineItems.{listed, kept_from, AreBitsOf, AreShort, AreKept}
+use Rattle.deck_assembler.specs.LineItems.{kept_from, AreBitsOf, AreShort, AreKept}
 use Rattle.deck_assembler.specs.declared.lines.CodedLine as lines
 use Rattle.deck_assembler.specs.declared.lines.LineFields.{LineFields}
 use Rattle.deck_assembler.specs.declared.lines.LineFields.TheVariants as kept

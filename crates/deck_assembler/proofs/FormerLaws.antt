@@ -6,7 +6,7 @@ use Rattle.definitions.specs.Cards.{Card}
 use Rattle.definitions.specs.DeckInput.{Deck}
 use Rattle.definitions.specs.DeckKinds.{behind_end, kind_of_statements}
 use Rattle.definitions.specs.Literals.{literal_words}
-use Rattle.definitions.specs.Letters.{in_order, letters_of}
+use Rattle.definitions.specs.Letters.{in_order}
 use Rattle.definitions.specs.Objects.{Shown, shown_of, only_listed, coded_of, context_of, object_of}
 use Rattle.definitions.specs.Rebound.{is_rebound}
 use Rattle.definitions.specs.Settled.{Settled, defined}
@@ -16,11 +16,10 @@ use Rattle.definitions.specs.Statements.{Statement, statements_of}
 use Rattle.definitions.specs.States.{unnumbered}
 use Rattle.definitions.specs.Words.{Coded}
 use Rattle.definitions.specs.declared.deck_kind.DeckKind.{DeckKind}
-use Rattle.definitions.specs.declared.letter.Letter.{Letter}
 use Rattle.definitions.specs.Lengths.{BlockRow}
 use Rattle.definitions.proofs.ReboundLaws.{letters-enough, fields-enough}
 use Rattle.statement_coder.specs.declared.items.Item as code
-use Rattle.deck_assembler.specs.CodedLines.{IsCoded, IsShown, IsStored, AreShown}
+use Rattle.deck_assembler.specs.CodedLines.{IsCoded, IsStored, AreShown}
 use Rattle.deck_assembler.specs.DeckParts.{sized_in}
 use Rattle.deck_assembler.specs.DeckWalks.{IsWalked}
 use Rattle.deck_assembler.specs.FormerLines.{IsTaken, IsNextLine, WasLine, WasLineIfAny, shown_from, AreBeside, AreBesideIfAny, IsWalkedBeside}

@@ -1,10 +1,10 @@
 -- The test of what a statement reads tells whether it is bound otherwise.
-use Rattle.std.proofs.Common.{◌≡◌, ◌∙◌, ℕ, Bool, true, false, not, ◌||◌, List, [], ◌∷◌, ◌++◌, Option, Some, None, map, flat_map, refl, ap, ap₂, sym, subst}
+use Rattle.std.proofs.Common.{◌≡◌, ◌∙◌, ℕ, Bool, true, false, not, ◌||◌, List, [], ◌∷◌, ◌++◌, Option, Some, None, flat_map, refl, ap, ap₂, sym}
 use Rattle.std.specs.Prelude.{Result, Ok, Err, ◌&&◌, pos, length, nat_le, if◌then◌else◌}
 use Rattle.std.specs.List.{list_any}
 use Rattle.std.proofs.lemmas.Bool.Decides.{Decides-int_eq}
 use Rattle.definitions.specs.CountedItems.{CountedItem}
-use Rattle.definitions.specs.Expressions.{Element, ASymbol, Literal, Expression, elements_of, LocationCounter}
+use Rattle.definitions.specs.Expressions.{Element, Expression, elements_of, LocationCounter}
 use Rattle.definitions.specs.Forms.{Form, Names, absolute, characters_number, number_form, counted_item_form, element_form}
 use Rattle.definitions.specs.Lengths.{BlockRow}
 use Rattle.definitions.specs.Literals.{literal_form}
@@ -13,16 +13,14 @@ use Rattle.definitions.specs.Matching as matching
 use Rattle.definitions.specs.Operands as operands
 use Rattle.definitions.specs.Operands.{Operand}
 use Rattle.definitions.specs.Operations.{Operation}
-use Rattle.definitions.specs.PeripheralTable as table
 use Rattle.definitions.specs.PeripheralTable.{PeripheralForm}
 use Rattle.definitions.specs.Rebound.{field_elements, form_elements, value_elements, coded_elements, same_value, bound_alike, is_rebound}
-use Rattle.definitions.specs.Settled.{Settled, defined}
-use Rattle.definitions.specs.Settling.{View}
+use Rattle.definitions.specs.Settled.{Settled}
 use Rattle.definitions.specs.StatementItems.{Context, final_names}
 use Rattle.definitions.specs.Symbols.{Number, Value, TooGreat}
 use Rattle.definitions.specs.declared.letter.Letter.{Letter}
 use Rattle.definitions.specs.declared.letter.Letter.TheVariants as letter
-use Rattle.expr_forms.specs.Shapes.{field_as, instruction_with, instruction_as, long_values, HasForm}
+use Rattle.expr_forms.specs.Shapes.{field_as, instruction_with, long_values, HasForm}
 use Rattle.expr_forms.specs.declared.shapes.Field as code
 use Rattle.expr_forms.specs.declared.shapes.Field.TheVariants as field
 use Rattle.expr_forms.specs.declared.shapes.Shape.{Shape}
@@ -35,7 +33,6 @@ use Rattle.expr_forms.specs.declared.use_fields.UseField as uses
 use Rattle.expr_forms.specs.declared.use_fields.UseField.TheVariants as use_field
 use Rattle.expr_forms.specs.Readings.{use_as}
 use Rattle.operations.specs.OperationsAs.{operation_as}
-use Rattle.deck_assembler.specs.FirstSymbols.{symbol_in}
 use Rattle.deck_assembler.specs.Rebindings.{names_in, context_at, differs, shape_elements, reading_elements, AreBindings, IsRebinding}
 use Rattle.deck_assembler.specs.declared.rebinding.Bindings.{Bindings}
 use Rattle.deck_assembler.specs.declared.rebinding.Rebinding.{Rebinding}

@@ -1,5 +1,5 @@
 -- The lines of an object, and the statements of the definitions that they are.
-use Rattle.std.specs.Prelude.{ℕ, ◌≡◌, ⊤, ◌+◌, List, [], ◌∷◌, Option, Some, None, slice_get, take, drop, length, ◌↔◌}
+use Rattle.std.specs.Prelude.{ℕ, ◌≡◌, ⊤, ◌+◌, List, [], ◌∷◌, Option, Some, None, slice_get, take, drop, ◌↔◌}
 use Rattle.definitions.specs.Cards.{Card}
 use Rattle.definitions.specs.Lengths.{BlockRow}
 use Rattle.definitions.specs.Objects.{Shown}

@@ -1,5 +1,5 @@
 -- What a statement reads once all names have their values, and whether it has another value in the deck before an edit.
-use Rattle.std.specs.Prelude.{ℕ, ◌≡◌, Bool, not, List, [], ◌∷◌, ◌++◌, Option, Some, None, flat_map}
+use Rattle.std.specs.Prelude.{◌≡◌, Bool, not, List, [], ◌∷◌, ◌++◌, flat_map}
 use Rattle.definitions.specs.Expressions.{Element, LocationCounter, elements_of}
 use Rattle.definitions.specs.Forms.{Form, Names, element_form}
 use Rattle.definitions.specs.Lengths.{BlockRow}

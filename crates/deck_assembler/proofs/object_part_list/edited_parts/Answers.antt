@@ -1,4 +1,4 @@
-use Rattle.std.proofs.Common.{◌∙◌, [], sym, subst}
+use Rattle.std.proofs.Common.{[], subst}
 use Rattle.deck_assembler.specs.FormerLines.{AreBesideIfAny}
 use Rattle.deck_assembler.proofs.object_part_list.edited_parts.Goals as goal
 

@@ -1,4 +1,4 @@
-use Rattle.std.proofs.Common.{◌∙◌, ◌+◌, ◌≤◌, List, Some, map, reverse, length, ap, sym, subst}
+use Rattle.std.proofs.Common.{◌∙◌, ◌≤◌, List, Some, map, reverse, length, sym, subst}
 use Rattle.definitions.specs.Objects.{Shown, coded_of, shown_of}
 use Rattle.definitions.specs.Settling.{settle, settled_all}
 use Rattle.use_blocks.proofs.SizeLaws.{rows-few}

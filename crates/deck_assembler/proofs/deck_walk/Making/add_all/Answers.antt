@@ -1,4 +1,4 @@
-use Rattle.std.proofs.Common.{◌≡◌, ◌∙◌, ◌+◌, List, ◌∷◌, ◌++◌, drop, ap, sym, subst, arith}
+use Rattle.std.proofs.Common.{◌∙◌, ◌+◌, List, ◌++◌, drop, subst, arith}
 use Rattle.deck_assembler.specs.FormerLines.{IsWalkedBeside}
 use Rattle.deck_assembler.specs.Walks.{whole_of}
 use Rattle.deck_assembler.specs.declared.sized_statement.SizedStatement.{SizedStatement}

@@ -1,4 +1,4 @@
-use Rattle.std.proofs.Common.{◌≡◌, ◌∙◌, ◌+◌, List, ◌++◌, length, drop, ap, sym, subst, arith}
+use Rattle.std.proofs.Common.{◌∙◌, ◌+◌, List, ◌++◌, length, drop, ap, sym, subst, arith}
 use Rattle.deck_assembler.specs.DeckParts.{DeckPiece, sized_in}
 use Rattle.deck_assembler.specs.FormerLines.{IsWalkedBeside}
 use Rattle.deck_assembler.specs.Walks.{whole_of}

@@ -1,6 +1,5 @@
-use Rattle.std.proofs.Common.{◌≡◌, ◌∙◌, ◌||◌, Bool, ap, sym}
+use Rattle.std.proofs.Common.{ap}
 use Rattle.std.specs.List.{list_any}
-use Rattle.expr_forms.specs.ElementLists.{elements_in}
 use Rattle.expr_forms.proofs.ElementListLaws.{elements_in-links}
 use Rattle.deck_assembler.specs.Rebindings.{differs}
 use Rattle.deck_assembler.proofs.rebinding.Rebinding.expression_differs.Goals as goal

@@ -1,4 +1,4 @@
-use Rattle.std.proofs.Common.{◌∙◌, ap, refl, subst, sym}
+use Rattle.std.proofs.Common.{◌∙◌, ap, refl, subst}
 use Rattle.edit_core.specs.Edited.{statement_count}
 use Rattle.edit_core.specs.Records.{Record, ArePieces}
 use Rattle.edit_core.proofs.EditLaws.{kept-pieces}
