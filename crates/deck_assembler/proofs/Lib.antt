@@ -18,7 +18,11 @@ pub mod EndLaws
 pub mod KindLaws
 -- One statement more.
 pub mod SizerSteps
+pub mod AgreeLaws
+pub mod OldLaws
 pub mod HeadLaws
+pub mod TrialLaws
+pub mod MeetLaws
 -- All of a deck.
 pub mod DeckLaws
 -- Known fields as one number.

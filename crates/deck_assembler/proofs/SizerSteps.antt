@@ -111,12 +111,16 @@ change-accepted UseBefore state = tt
 change-accepted operand state = tt
 
 -- a statement that was sized behind these has a change that the state behind them accepts
-pub sized-accepted : (kind : DeckKind) (cards : List Card) (earlier : List Statement) (given : Statement) (count : ℕ) (ahead' : List Card) (sized : SizedStatement) (sizer : Sizer) →
-    IsSizer kind cards earlier sizer → IsSizedStatement kind earlier count ahead' sized given → IsAccepted (change_as sized.sizing.change) sizer.state
-sized-accepted kind cards earlier given count ahead' sized sizer is sized_is =
+pub state-accepted : (kind : DeckKind) (earlier : List Statement) (given : Statement) (count : ℕ) (ahead' : List Card) (sized : SizedStatement) (state : BlockState) →
+    state ≡ state_after (settled_all kind earlier) → IsSizedStatement kind earlier count ahead' sized given → IsAccepted (change_as sized.sizing.change) state
+state-accepted kind earlier given count ahead' sized state is sized_is =
     let all = settled_all kind earlier in
     let settled = settle kind all given in
     let there : IsAccepted (change_of settled.read.operand (names_of_blocks (state_after all).blocks)) (state_after all) = change-accepted settled.read.operand (state_after all) in
     let named : names_of_blocks (state_after all).blocks ≡ (seen_of all).blocks = ap (λ (seen : Seen). seen.blocks) (sym (seen_of-state all)) in
     let here : IsAccepted settled.change (state_after all) = subst (λ names. IsAccepted (change_of settled.read.operand names) (state_after all)) named there in
-    subst (λ (both : BlockChange × BlockState). IsAccepted both.0 both.1) (λ i. (sym sized_is.sizing.change i, sym is.state i)) here
+    subst (λ (both : BlockChange × BlockState). IsAccepted both.0 both.1) (λ i. (sym sized_is.sizing.change i, sym is i)) here
+
+pub sized-accepted : (kind : DeckKind) (cards : List Card) (earlier : List Statement) (given : Statement) (count : ℕ) (ahead' : List Card) (sized : SizedStatement) (sizer : Sizer) →
+    IsSizer kind cards earlier sizer → IsSizedStatement kind earlier count ahead' sized given → IsAccepted (change_as sized.sizing.change) sizer.state
+sized-accepted kind cards earlier given count ahead' sized sizer is = state-accepted kind earlier given count ahead' sized sizer.state is.state

@@ -13,7 +13,8 @@ pub mod SizedDecks
 pub mod LiteralsRead
 pub mod PieceSteps
 pub mod Sizers
-pub mod Heads
+pub mod Agreements
+pub mod OldDecks
 pub mod FirstStatements
 -- The fields of a statement, as a line keeps them.
 pub mod KeptFields

@@ -43,6 +43,13 @@ pub(crate) fn next_cards(cards: &[Card], stood: usize, count: u32) -> &[Card]
         .0
 }
 
+/// The cards behind the next so many.
+pub(crate) fn later_cards(cards: &[Card], count: u32) -> &[Card]
+    ensures { count ≤ length cards.now → result.now ≡ drop count cards.now }
+{
+    cards.split_at((count as usize).min(cards.len())).1
+}
+
 impl DeckLines {
     /// Those of no statement, with memory for so many lines.
     pub(crate) fn new(alloc: Global, room: usize) -> Result<DeckLines, AllocError>

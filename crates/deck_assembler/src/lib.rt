@@ -8,8 +8,9 @@
 //! `Piece` has up to 128 statements, with the state before the first. `object_parts` goes over
 //! pieces and cards together and makes a `Line` of each; cards are read again only where what was
 //! read was not kept, or names are given or taken. Behind END a line has cards alone. Of an edited deck,
-//! `SizedDeck::edited` keeps the statements in front of the edited card, and `edited_parts` takes their
-//! lines over from the object before, but for those of which `Rebinding` finds a name bound otherwise.
+//! `SizedDeck::edited` keeps the statements in front of the edited card, and all those from where the
+//! deck agrees again with the one before; `edited_parts` takes the lines of those in front over from the
+//! object before, but for those of which `Rebinding` finds a name bound otherwise.
 //!
 //! A line keeps its fields as one number where they are known and have at most 60 bits, else in the
 //! object's list. That need not be the definitions' list of fields: it is as wide, has the same
@@ -35,7 +36,9 @@ mod symbol_key;
 mod symbol_table;
 
 // All statements of a deck, sized.
-mod head;
+mod early_symbols;
+mod early_trial;
+mod old_deck;
 mod sized_deck;
 mod sizer;
 mod up_to_end;
@@ -69,6 +72,7 @@ pub use linking::{Linking, Unlinked, coded_or_zero, linked_bits};
 pub use literal_words::literal_word;
 pub use object::{Object, ObjectParts};
 pub use object_part_list::{edited_parts, object_parts};
+pub use old_deck::OldCards;
 pub use pieces::Piece;
 pub use shared_object::SharedObject;
 pub use sized_deck::SizedDeck;

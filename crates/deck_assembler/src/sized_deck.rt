@@ -5,12 +5,14 @@ ghost use Rattle.definitions.specs.Cards as deck_cards;
 ghost use Rattle.definitions.specs.DeckKinds.{up_to_end, kind_of_statements};
 ghost use Rattle.definitions.specs.Statements.{statements_of};
 ghost use Rattle.statement_coder.specs.Meters.{RisesBy};
+ghost use Rattle.deck_assembler.specs.Agreements.{HaveSameEnd};
 ghost use Rattle.deck_assembler.specs.Formers.{IsFormerOf};
-ghost use Rattle.deck_assembler.specs.Heads.{AreKeptFrom};
+ghost use Rattle.deck_assembler.specs.OldDecks.{IsKeptOn};
 ghost use Rattle.deck_assembler.specs.SizedDecks.{IsSizedDeck};
+ghost use Rattle.deck_assembler.specs.declared.old_deck.Stage.TheVariants as stages;
 
 use crate::former::{EditedDeck, Former};
-use crate::head::Head;
+use crate::old_deck::{OldCards, OldDeck, Stage};
 use crate::pieces::Piece;
 use crate::sizer::Sizer;
 use crate::symbol_table::SymbolTable;
@@ -54,55 +56,70 @@ impl SizedDeck {
     {
         let list = statements(alloc, cards)?;
         let kind = kind_of(cards, list.as_slice());
-        let head = Head::of(alloc, Vec::new(alloc), 0);
-        made(alloc, kind, cards, list.as_slice(), head, meter)
+        let none = OldCards {
+            cards,
+            before: 0,
+            behind: 0,
+        };
+        let old_deck = OldDeck::of(alloc, none, Vec::new(alloc), kind, Stage::Over)?;
+        made(alloc, kind, cards, list.as_slice(), old_deck, meter)
     }
 
-    /// What these cards make, of which so many are the first ones of the deck that this was made of:
-    /// the statements of these cards stay as they were sized, and the others are sized once; and what
+    /// What these cards make, where so many of the first and of the last are those of the deck that this
+    /// was made of. The statements of the first ones stay as they were sized, and so do all those behind
+    /// the edited card from a place on where both decks agree; the others are sized once. And what
     /// coding needs of this deck. An error where memory runs out: then some of them were counted.
     pub fn edited(
         self,
         alloc: Global,
+        old: OldCards<'_>,
         cards: &[Card],
-        before: usize,
         meter: &mut Meter,
     ) -> Result<EditedDeck, AllocError>
-        requires { (old : List deck_cards.Card) × (IsSizedDeck old self × (take before old ≡ take before cards.now)) }
+        requires deck { IsSizedDeck old.cards.now self }
+        requires before { take old.before old.cards.now ≡ take old.before cards.now }
+        requires behind { HaveSameEnd old.behind old.cards.now cards.now }
         ensures deck { IfOk result (λ edited. IsSizedDeck cards.now edited.deck) }
-        ensures former { IfOk result (λ edited. (old : List deck_cards.Card) → IsSizedDeck old self → IsFormerOf old edited.former) }
-        ensures before { IfOk result (λ edited. edited.former.before ≡ before) }
+        ensures former { IfOk result (λ edited. IsFormerOf old.entry.cards.now edited.former) }
+        ensures before { IfOk result (λ edited. edited.former.before ≡ old.entry.before) }
         ensures sized { meter.new.sized ≤ meter.old.sized + length (up_to_end (statements_of (reverse cards.now))) }
         ensures rises { meter.old.sized ≤ meter.new.sized }
         ensures coded { meter.new.coded ≡ meter.old.coded }
     {
         let list = statements(alloc, cards)?;
         let kind = kind_of(cards, list.as_slice());
-        let parted = self.parted(alloc, kind, before);
-        let deck = made(alloc, kind, cards, list.as_slice(), parted.head, meter)?;
+        let parted = self.parted(alloc, kind, old)?;
+        let deck = made(alloc, kind, cards, list.as_slice(), parted.old_deck, meter)?;
         Ok(EditedDeck {
             deck,
             former: parted.former,
         })
     }
 
-    /// Its statements, of which those of so many cards stay in a deck of this kind, and none in one of
-    /// another kind; and what coding needs of it.
-    fn parted(self, alloc: Global, kind: DeckKind, before: usize) -> Parted
-        ensures head { (old cards : List deck_cards.Card) → IsSizedDeck old self → take before old ≡ take before cards → AreKeptFrom kind cards result.head.before [] 0 result.head.statements }
-        ensures former { (old : List deck_cards.Card) → IsSizedDeck old self → IsFormerOf old result.former }
-        ensures before { result.former.before ≡ before }
+    /// Its statements, of which none stays in a deck of another kind; and what coding needs of it.
+    fn parted<'a>(
+        self,
+        alloc: Global,
+        kind: DeckKind,
+        old: OldCards<'a>,
+    ) -> Result<Parted<'a>, AllocError>
+        requires { IsSizedDeck old.cards.now self }
+        ensures old_deck { IfOk result (λ parted. (cards : List deck_cards.Card) → take old.entry.before old.entry.cards.now ≡ take old.entry.before cards → HaveSameEnd old.entry.behind old.entry.cards.now cards →
+            IsKeptOn kind old.entry.cards.now cards [] parted.old_deck) }
+        ensures former { IfOk result (λ parted. IsFormerOf old.entry.cards.now parted.former) }
+        ensures before { IfOk result (λ parted. parted.former.before ≡ old.entry.before) }
     {
-        let stays = stays(self.kind, kind, before);
-        Parted {
-            head: Head::of(alloc, self.pieces, stays),
+        let stage = first_stage(self.kind, kind);
+        let old_deck = OldDeck::of(alloc, old, self.pieces, kind, stage)?;
+        Ok(Parted {
+            old_deck,
             former: Former {
                 kind: self.kind,
                 symbols: self.symbols,
                 literals: self.literals,
-                before,
+                before: old.before,
             },
-        }
+        })
     }
 
     pub fn kind(&self) -> DeckKind
@@ -146,39 +163,43 @@ impl SizedDeck {
 
 /// The statements of a deck, and what coding needs of it besides.
 #[derive(Drop)]
-struct Parted {
-    head: Head,
+struct Parted<'a> {
+    old_deck: OldDeck<'a>,
     former: Former,
 }
 
-/// How many of the first cards have the statements that they had: none in a deck of another kind.
-fn stays(old: DeckKind, kind: DeckKind, before: usize) -> usize
-    ensures { (result ≡ 0) ⊎ ((result ≡ before) × (old ≡ kind)) }
+/// Where an edited deck of a kind begins beside one of another: nothing stays unless the kinds are one.
+fn first_stage(old: DeckKind, kind: DeckKind) -> Stage
+    ensures { (result ≡ stages.Over) ⊎ ((result ≡ stages.Front) × (old ≡ kind)) }
 {
-    if old == kind { before } else { 0 }
+    if old == kind {
+        Stage::Front
+    } else {
+        Stage::Over
+    }
 }
 
-/// What these statements make, in a deck of this kind.
+/// What these statements make, in a deck of this kind, beside the old deck.
 fn made(
     alloc: Global,
     kind: DeckKind,
     cards: &[Card],
     spans: &[Span],
-    head: Head,
+    old_deck: OldDeck<'_>,
     meter: &mut Meter,
 ) -> Result<SizedDeck, AllocError>
     requires statements { statements_at cards.now spans.now ≡ reverse (statements_of (reverse cards.now)) }
     requires spans { All (IsSpan (length cards.now)) spans.now }
     requires kind { kind ≡ kind_of_statements (up_to_end (statements_of (reverse cards.now))) }
-    requires head { AreKeptFrom kind cards.now head.before [] 0 head.statements }
+    requires old_deck { (of : List deck_cards.Card) × IsKeptOn kind of cards.now [] old_deck }
     ensures deck { IfOk result (IsSizedDeck cards.now) }
     ensures sized { meter.new.sized ≤ meter.old.sized + length (up_to_end (statements_of (reverse cards.now))) }
     ensures rises { meter.old.sized ≤ meter.new.sized }
-    ensures all { OnOk result (head.before ≡ 0 → RisesBy (length (up_to_end (statements_of (reverse cards.now)))) meter.old.sized meter.new.sized) }
+    ensures all { OnOk result (old_deck.entry.stage ≡ stages.Over → RisesBy (length (up_to_end (statements_of (reverse cards.now)))) meter.old.sized meter.new.sized) }
     ensures coded { meter.new.coded ≡ meter.old.coded }
 {
     let mut sizer = Sizer::new(alloc)?;
-    let count = sizer.take_up_to_end(alloc, kind, cards, spans, head, meter)?;
+    let count = sizer.take_up_to_end(alloc, kind, cards, spans, old_deck, meter)?;
     let behind = card_counts(alloc, spans.split_at(count).1)?;
     Ok(SizedDeck {
         kind,

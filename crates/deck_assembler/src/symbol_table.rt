@@ -1,6 +1,6 @@
 //! The symbols of a deck, each with the value of its first definition (COMPASS 60492600, location
 //! field, EQU, EXT).
-ghost use Rattle.std.specs.Prelude.{◌≡◌, ℕ, ◌==◌, nat_eq, Some, None, OnOk, OnErr, if◌then◌else◌};
+ghost use Rattle.std.specs.Prelude.{◌≡◌, ℕ, ◌==◌, nat_eq, Some, None, IfOk, OnOk, OnErr, if◌then◌else◌};
 ghost use Rattle.std.specs.Map.{lookup};
 ghost use Rattle.definitions.specs.Settled.{or_form};
 ghost use Rattle.deck_assembler.specs.FirstSymbols.{symbol_in, with_symbol};
@@ -36,6 +36,14 @@ impl SymbolTable {
         SymbolTable {
             forms: BTreeMap::new(alloc),
         }
+    }
+
+    /// A copy.
+    pub(crate) fn copy(&self) -> Result<SymbolTable, AllocError>
+        ensures { IfOk result (λ table. table ≡ self.now) }
+    {
+        let forms = self.forms.clone()?;
+        Ok(SymbolTable { forms })
     }
 
     /// The value of a symbol, if it is defined.

@@ -2,6 +2,7 @@
 ghost use Rattle.std.specs.Prelude.{ℕ, ◌≡◌, ◌≤◌, ◌+◌, ◌-◌, ◌^◌, ◌∷◌, [], List, All, IfOk, OnOk, length, map, min};
 ghost use Rattle.cards.specs.Spans.{IsSpan, statement_at};
 ghost use Rattle.cards.specs.declared.statement_list.Span.{Span};
+ghost use Rattle.definitions.specs.Cards as deck_cards;
 ghost use Rattle.definitions.specs.DeckKinds.{is_end, up_to_end, kind_of_statements};
 ghost use Rattle.definitions.specs.Fields.{Fields, fields_of};
 ghost use Rattle.definitions.specs.Statements as statements;
@@ -13,11 +14,12 @@ ghost use Rattle.use_blocks.specs.BlockLengths.{block_names};
 ghost use Rattle.use_blocks.specs.Changes.{IsAccepted};
 ghost use Rattle.use_blocks.specs.EffectsAs.{change_as};
 ghost use Rattle.deck_assembler.specs.FirstStatements.{all_statements, first_statements, IsEnding};
-ghost use Rattle.deck_assembler.specs.Heads.{AreKeptFrom, IsReady};
+ghost use Rattle.deck_assembler.specs.OldDecks.{IsKeptOn, IsOnSpan};
 ghost use Rattle.deck_assembler.specs.SizedDecks.{IsSizedStatement};
 ghost use Rattle.deck_assembler.specs.Sizers.{stood, ahead, IsNext, IsSizer};
+ghost use Rattle.deck_assembler.specs.declared.old_deck.Stage.TheVariants as stages;
 
-use crate::head::Head;
+use crate::old_deck::OldDeck;
 use crate::sized_statement::SizedStatement;
 use crate::sizer::Sizer;
 use cards::{Card, Span, StatementRoom, fields};
@@ -101,59 +103,60 @@ impl Sizer {
         Ok(ended)
     }
 
-    /// The statement of a span, which is the next one: it is kept where it is one of the head, and else
-    /// sized. Tells whether it is END.
+    /// The statement of a span, which is the next one: it is kept where it stays as it was in the old
+    /// deck, and else sized. Tells whether it is END.
     fn take_next(
         &mut self,
         alloc: Global,
         kind: DeckKind,
         cards: &[Card],
         span: Span,
-        head: &mut Head,
+        old_deck: &mut OldDeck<'_>,
         room: &mut StatementRoom,
         meter: &mut Meter,
     ) -> Result<bool, AllocError>
         requires span { IsSpan (length cards.now) span }
-        requires ready { (earlier : List statements.Statement) × IsReady kind cards.now earlier span self.old head.old }
+        requires ready { (of : List deck_cards.Card) × (earlier : List statements.Statement) × IsOnSpan kind of cards.now earlier span self.old old_deck.old }
         ensures end { IfOk result (λ ended. ended ≡ is_end (fields_of (statement_at cards.now span).cards)) }
-        ensures taken { OnOk result ((earlier : List statements.Statement) → IsReady kind cards.now earlier span self.old head.old →
+        ensures taken { OnOk result ((of : List deck_cards.Card) (earlier : List statements.Statement) → IsOnSpan kind of cards.now earlier span self.old old_deck.old →
             let now = statement_at cards.now span ∷ earlier in
-            IsSizer kind cards.now now self.new × AreKeptFrom kind cards.now head.new.before now (stood now) head.new.statements) }
-        ensures before { head.new.before ≤ head.old.before }
+            IsSizer kind cards.now now self.new × IsKeptOn kind of cards.now now old_deck.new) }
+        ensures over { old_deck.old.stage ≡ stages.Over → old_deck.new.stage ≡ stages.Over }
         ensures sized { meter.new.sized ≤ meter.old.sized + 1 }
         ensures rises { meter.old.sized ≤ meter.new.sized }
-        ensures all { OnOk result (head.old.before ≡ 0 → meter.new.sized ≡ min (meter.old.sized + 1) (2 ^ 64 - 1)) }
+        ensures all { OnOk result (old_deck.old.stage ≡ stages.Over → meter.new.sized ≡ min (meter.old.sized + 1) (2 ^ 64 - 1)) }
         ensures coded { meter.new.coded ≡ meter.old.coded }
     {
-        match head.kept(span) {
+        let kept = old_deck.kept(alloc, cards, span, self, room)?;
+        match kept {
             Some(sized) => self.keep_span(alloc, kind, cards, span, room, sized),
             None => self.take_span(alloc, kind, cards, span, room, meter),
         }
     }
 
-    /// Takes the statements of these spans up to END, and tells how many they are: those of the head
-    /// stay as they are, the others are sized. Where memory runs out some of them are taken.
+    /// Takes the statements of these spans up to END, and tells how many they are: those that stay of
+    /// the old deck are as they were, the others are sized. Where memory runs out some of them are taken.
     pub(crate) fn take_up_to_end(
         &mut self,
         alloc: Global,
         kind: DeckKind,
         cards: &[Card],
         spans: &[Span],
-        head: Head,
+        old_deck: OldDeck<'_>,
         meter: &mut Meter,
     ) -> Result<usize, AllocError>
         requires none { IsSizer kind cards.now [] self.old }
         requires spans { All (IsSpan (length cards.now)) spans.now }
         requires numbered { AreNumbered (all_statements cards.now spans.now) }
-        requires head { AreKeptFrom kind cards.now head.before [] 0 head.statements }
+        requires old_deck { (of : List deck_cards.Card) × IsKeptOn kind of cards.now [] old_deck }
         ensures ended { IfOk result (λ count. IsEnding cards.now spans.now count) }
         ensures taken { IfOk result (λ count. IsSizer kind cards.now (first_statements cards.now spans.now count) self.new) }
         ensures sized { meter.new.sized ≤ meter.old.sized + length (up_to_end (all_statements cards.now spans.now)) }
         ensures rises { meter.old.sized ≤ meter.new.sized }
-        ensures all { OnOk result (head.before ≡ 0 → RisesBy (length (up_to_end (all_statements cards.now spans.now))) meter.old.sized meter.new.sized) }
+        ensures all { OnOk result (old_deck.entry.stage ≡ stages.Over → RisesBy (length (up_to_end (all_statements cards.now spans.now))) meter.old.sized meter.new.sized) }
         ensures coded { meter.new.coded ≡ meter.old.coded }
     {
-        let mut kept = head;
+        let mut kept = old_deck;
         let mut room = StatementRoom::new();
         for (k, span) in spans.iter().enumerate() {
             if self.take_next(alloc, kind, cards, *span, &mut kept, &mut room, meter)? {

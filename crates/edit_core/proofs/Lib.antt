@@ -2,3 +2,5 @@
 pub mod PieceLaws
 -- What edits leave of its cards.
 pub mod EditLaws
+-- And of the last of them.
+pub mod EndLaws

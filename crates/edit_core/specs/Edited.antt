@@ -23,6 +23,12 @@ front_of (Insert place card) = place - 1
 front_of (Replace place card) = place - 1
 front_of (Remove place) = place - 1
 
+-- how many of so many cards stand behind the one that an edit is of
+abbrev pub count_behind : Edit → ℕ → ℕ
+count_behind (Insert place card) count = count - (place - 1)
+count_behind (Replace place card) count = count - (place - 1) - 1
+count_behind (Remove place) count = count - (place - 1) - 1
+
 -- a record of this name and these cards, with all that is kept of them
 pub record IsRecordOf (name : List ℕ) (cards : List Card) (made : Record) : Type 0 where
   pub name_is : made.name ≡ name

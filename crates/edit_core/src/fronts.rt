@@ -1,6 +1,10 @@
-//! The cards in front of edits, which stay.
-ghost use Rattle.std.specs.Prelude.{◌≡◌, ◌≤◌, All};
-ghost use Rattle.edit_core.specs.Edited.{front_of};
+//! The cards in front of edits, and those behind them, which stay.
+ghost use Rattle.std.specs.Prelude.{◌≡◌, ◌≤◌, All, List, None, length};
+ghost use Rattle.definitions.specs.Cards as deck_cards;
+ghost use Rattle.cards.specs.Edits.{edited_by, first_fault};
+ghost use Rattle.deck_assembler.specs.Agreements.{HaveSameEnd};
+ghost use Rattle.cards.specs.Counts.{count_after};
+ghost use Rattle.edit_core.specs.Edited.{count_behind, front_of};
 
 use cards::Edit;
 
@@ -24,4 +28,41 @@ pub(crate) fn cards_before_all(edits: &[Edit]) -> usize
         before = before.min(cards_before(edit));
     }
     before
+}
+
+/// How many of so many cards stand behind the one that an edit is of.
+fn cards_behind(edit: &Edit, count: usize) -> usize
+    ensures { result ≡ count_behind edit.now count }
+{
+    let from = count.saturating_sub(cards_before(edit));
+    match edit {
+        Edit::Insert { at: _, card: _ } => from,
+        Edit::Replace { at: _, card: _ } => from.saturating_sub(1),
+        Edit::Remove { at: _ } => from.saturating_sub(1),
+    }
+}
+
+/// How many cards an edit leaves of so many.
+fn cards_after(edit: &Edit, count: usize) -> usize
+    ensures { count ≤ 20000 → result ≡ count_after edit.now count }
+{
+    match edit {
+        Edit::Insert { at: _, card: _ } => count.saturating_add(1),
+        Edit::Replace { at: _, card: _ } => count,
+        Edit::Remove { at: _ } => count.saturating_sub(1),
+    }
+}
+
+/// So many of the last of so many cards that none of these edits is of one of them, or of a card that
+/// was put between them; each of the edits applies to what the ones before it leave.
+pub(crate) fn cards_behind_all(edits: &[Edit], count: usize) -> usize
+    ensures { (cards : List deck_cards.Card) → length cards ≡ count → count ≤ 20000 → first_fault edits.now cards ≡ None → HaveSameEnd result cards (edited_by edits.now cards) }
+{
+    let mut behind = count;
+    let mut left = count;
+    for edit in edits {
+        behind = behind.min(cards_behind(edit, left));
+        left = cards_after(edit, left);
+    }
+    behind
 }

@@ -12,10 +12,10 @@ ghost use Rattle.edit_core.specs.Records.{ArePieces};
 
 use crate::assembling::{edited_object, object_of};
 use crate::faults::{RecordFault, record_fault};
-use crate::fronts::cards_before_all;
+use crate::fronts::{cards_before_all, cards_behind_all};
 use crate::piece_counts::piece_counts;
 use cards::{Card, DeckName, Edit, edited_copy, first_fault};
-use deck_assembler::{SharedObject, SizedDeck};
+use deck_assembler::{OldCards, SharedObject, SizedDeck};
 use statement_coder::Meter;
 use std::alloc::{AllocError, Global};
 use std::marker::Model;
@@ -97,8 +97,9 @@ impl Kept {
 
     /// Makes an edit. Where the record is spent, or else where the edit doesn't apply, it says so and
     /// changes nothing; where memory runs out it is spent. The statements in front of the edited card
-    /// stay as they were sized, and keep their lines in the object unless a name is bound otherwise;
-    /// where the kind of the deck changes, none does. The meter counts at most one statement sized, and
+    /// stay as they were sized, and keep their lines in the object unless a name is bound otherwise; and
+    /// from the first piece on behind which all is sized as before, the others stay as they were sized,
+    /// too. Where the kind of the deck changes, none does. The meter counts at most one statement sized, and
     /// one coded, for each up to END of the edited cards.
     pub fn edit(&mut self, alloc: Global, edit: &Edit, meter: &mut Meter) -> Result<(), RecordFault>
         ensures refused { ForSome (against edit.now self.old.is_spent self.old.cards) (λ fault. (result ≡ Err fault) × (self.new ≡ self.old) × (meter.new ≡ meter.old)) }
@@ -114,7 +115,8 @@ impl Kept {
     }
 
     /// Makes edits in order, all at once: the cards are edited first, and then their statements are
-    /// sized and coded as for one edit, those in front of all edited cards staying as for one.
+    /// sized and coded as for one edit, those in front of all edited cards and behind them staying as
+    /// for one.
     /// Where the record is spent, or else at the first edit that doesn't apply to what the ones before
     /// it leave, it says so and changes nothing; where memory runs out it is spent. The meter counts at
     /// most one statement sized, and one coded, for each up to END of the cards that all of them leave,
@@ -208,8 +210,14 @@ impl Kept {
         ensures coded { meter.new.coded ≤ meter.old.coded + statement_count (edited_by edits.now self.now.cards) }
         ensures coded_rises { meter.old.coded ≤ meter.new.coded }
     {
-        let cards = edited_copy(alloc, self.cards(), edits)?;
-        let edited = sized.edited(alloc, &cards, cards_before_all(edits), meter)?;
+        let own = self.cards();
+        let old = OldCards {
+            cards: own,
+            before: cards_before_all(edits),
+            behind: cards_behind_all(edits, own.len()),
+        };
+        let cards = edited_copy(alloc, own, edits)?;
+        let edited = sized.edited(alloc, old, &cards, meter)?;
         let object = edited_object(alloc, self.object.object(), cards, &edited, meter)?;
         Kept::of(alloc, object, edited.deck)
     }

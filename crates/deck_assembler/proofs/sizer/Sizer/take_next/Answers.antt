@@ -1,49 +1,39 @@
--- The next statement is one more, kept or sized, and the head goes on behind it.
-use Rattle.std.proofs.Common.{◌∷◌, List, ℕ, refl, sym, subst}
+-- The next statement is one more, kept or sized, and the old deck goes on behind it.
+use Rattle.std.proofs.Common.{ℕ, sym, subst}
+use Rattle.std.specs.Prelude.{Option, IfSome}
 use Rattle.deck_assembler.proofs.ResultLaws.{on_ok_one}
 use Rattle.cards.specs.Spans.{statement_at}
-use Rattle.definitions.specs.Statements.{Statement}
-use Rattle.deck_assembler.specs.Heads.{AreKeptFrom}
+use Rattle.deck_assembler.specs.OldDecks.{IsThatOf}
 use Rattle.deck_assembler.specs.Sizers.{stood, ahead, IsNext}
-use Rattle.deck_assembler.proofs.HeadLaws.{ended-kept, next-kept}
+use Rattle.deck_assembler.specs.declared.sized_statement.SizedStatement.{SizedStatement}
 use Rattle.deck_assembler.proofs.SizerSteps.{sized-accepted}
 use Rattle.deck_assembler.proofs.sizer.Sizer.take_next.Goals as goal
+
+pub kept-requires-clause-ready : goal.kept-requires-clause-ready
+kept-requires-clause-ready c = let r = c.requires.ready in (c.args.kind, r.0, r.1, r.2)
 
 pub keep_span-requires-clause-accepted : goal.keep_span-requires-clause-accepted
 keep_span-requires-clause-accepted c =
     let kind = c.args.kind in
     let cards = c.args.cards.now in
     let span = c.args.span in
-    let earlier = c.requires.ready.0 in
-    let ready = c.requires.ready.1 in
-    let sized = c.in-Some.sized in
-    let h = c.in-Some.ensures.kept in
-    let both = next-kept kind cards earlier span c.args.self.now c.args.head.now sized c.kept.new.self.statements ready c.requires.span h.0 h.1 h.2 in
-    sized-accepted kind cards earlier (statement_at cards span) (stood earlier) (ahead cards earlier) sized c.args.self.now ready.sizer_is both.0
+    let r = c.requires.ready in
+    let earlier = r.1 in
+    let both = subst (λ (found : Option SizedStatement). IfSome found (IsThatOf cards span c.args.self.now c.args.old_deck.now)) c.in-Some.is c.in_ok-kept.ensures.sized kind r.0 earlier r.2 in
+    sized-accepted kind cards earlier (statement_at cards span) (stood earlier) (ahead cards earlier) c.in-Some.sized c.args.self.now r.2.sizer_is both.0
 
 pub returns-in-Some-clause-taken : goal.returns-in-Some-clause-taken
 returns-in-Some-clause-taken c =
     let kind = c.args.kind in
     let cards = c.args.cards.now in
     let span = c.args.span in
-    let sized = c.in-Some.sized in
-    let later = c.kept.new.self.statements in
-    let h = c.in-Some.ensures.kept in
-    on_ok_one c.keep_span.result _ _ (λ step earlier ready.
-    let now : List Statement = statement_at cards span ∷ earlier in
-    let both = next-kept kind cards earlier span c.args.self.now c.args.head.now sized later ready c.requires.span h.0 h.1 h.2 in
-    let next = subst (λ (n : ℕ). IsNext cards earlier n (statement_at cards span)) (sym h.1) ready.next in (
-      step earlier next ready.sizer_is both.0,
-      subst (λ (n : ℕ). AreKeptFrom kind cards n now (stood now) later) (sym h.3) both.1,
-    )) c.keep_span.ensures.kept
+    let found = subst (λ (found : Option SizedStatement). IfSome found (IsThatOf cards span c.args.self.now c.args.old_deck.now)) c.in-Some.is c.in_ok-kept.ensures.sized in
+    on_ok_one c.keep_span.result _ _ (λ step old earlier on.
+    let both = found kind old earlier on in
+    let next = subst (λ (n : ℕ). IsNext cards earlier n (statement_at cards span)) (sym both.1) on.next in
+    (step earlier next on.sizer_is both.0, c.in_ok-kept.ensures.kept kind old earlier on)) c.keep_span.ensures.kept
 
 pub returns-in-None-clause-taken : goal.returns-in-None-clause-taken
 returns-in-None-clause-taken c =
     let kind = c.args.kind in
-    let cards = c.args.cards.now in
-    let span = c.args.span in
-    on_ok_one c.take_span.result _ _ (λ step earlier ready.
-    let now : List Statement = statement_at cards span ∷ earlier in (
-      step earlier ready.next ready.sizer_is,
-      ended-kept kind cards now (stood now) c.kept.new.self (c.in-None.ensures.ended refl),
-    )) c.take_span.ensures.taken
+    on_ok_one c.take_span.result _ _ (λ step old earlier on. (step earlier on.next on.sizer_is, c.in_ok-kept.ensures.kept kind old earlier on)) c.take_span.ensures.taken

@@ -4,8 +4,8 @@ use Rattle.cards.specs.declared.statement_list.Span.{Span}
 use Rattle.definitions.specs.DeckKinds.{has_end}
 use Rattle.definitions.specs.Statements.{Statement}
 use Rattle.deck_assembler.specs.FirstStatements.{first_statements, IsEnding}
-use Rattle.deck_assembler.specs.Heads.{AreKeptFrom}
-use Rattle.deck_assembler.specs.Sizers.{stood, IsSizer}
+use Rattle.deck_assembler.specs.OldDecks.{IsKeptOn}
+use Rattle.deck_assembler.specs.Sizers.{IsSizer}
 use Rattle.deck_assembler.proofs.EndLaws.{first-step, next-at, few-sized, ending-here, open-step, ending-none, ending-length, few-all}
 use Rattle.deck_assembler.proofs.sizer.Sizer.take_up_to_end.Goals as goal
 
@@ -23,7 +23,8 @@ returns-in_err-take_next-clause-sized c =
 pub take_next-requires-clause-ready : goal.take_next-requires-clause-ready
 take_next-requires-clause-ready c =
     let next = next-at c.args.cards.now c.args.spans.now c.loop-k.k other c.loop-k-test.true c.requires.spans c.requires.numbered in
-    (first_statements c.args.cards.now c.args.spans.now c.loop-k.k, record { sizer_is = c.loop-k.invariant.taken; next = next; kept = c.loop-k.invariant.kept })
+    let old = c.requires.old_deck in
+    (old.0, first_statements c.args.cards.now c.args.spans.now c.loop-k.k, record { sizer_is = c.loop-k.invariant.taken; next = next; kept_on = c.loop-k.invariant.kept old.0 old.1 })
 
 pub returns-then-branch-clause-ended : goal.returns-then-branch-clause-ended
 returns-then-branch-clause-ended c =
@@ -39,7 +40,8 @@ returns-then-branch-clause-taken c =
     let step = sym (first-step cards spans c.loop-k.k other c.loop-k-test.true) ∙ ap (first_statements cards spans) one in
     let next = next-at cards spans c.loop-k.k other c.loop-k-test.true c.requires.spans c.requires.numbered in
     subst (λ (statements : List Statement). IsSizer c.args.kind cards statements c.take_next.new.self) step
-    (c.in_ok-take_next.ensures.taken (first_statements cards spans c.loop-k.k) (record { sizer_is = c.loop-k.invariant.taken; next = next; kept = c.loop-k.invariant.kept })).0
+    let old = c.requires.old_deck in
+    (c.in_ok-take_next.ensures.taken old.0 (first_statements cards spans c.loop-k.k) (record { sizer_is = c.loop-k.invariant.taken; next = next; kept_on = c.loop-k.invariant.kept old.0 old.1 })).0
 
 pub returns-then-branch-clause-sized : goal.returns-then-branch-clause-sized
 returns-then-branch-clause-sized c =
@@ -53,8 +55,7 @@ returns-then-branch-clause-all c =
     let counted = ending-length c.args.cards.now c.args.spans.now (c.loop-k.k + 1) (returns-then-branch-clause-ended c) in
     λ none room.
     let all = c.loop-k.invariant.all none (omega (arith, room, counted)) in
-    let few = c.loop-k.invariant.few in
-    let more = c.in_ok-take_next.ensures.all (omega (arith, none, few)) in
+    let more = c.in_ok-take_next.ensures.all (c.loop-k.invariant.over none) in
     omega (arith, room, counted, all, more)
 
 pub loop-k-preserved : goal.loop-k-preserved
@@ -66,19 +67,21 @@ loop-k-preserved c =
     let so_far = c.loop-k.invariant.sized in
     let more = c.in_ok-take_next.ensures.sized in
     let next = next-at cards spans c.loop-k.k other c.loop-k-test.true c.requires.spans c.requires.numbered in
-    let both = c.in_ok-take_next.ensures.taken (first_statements cards spans c.loop-k.k) (record { sizer_is = c.loop-k.invariant.taken; next = next; kept = c.loop-k.invariant.kept }) in
+    let old = c.requires.old_deck in
+    let first = first_statements cards spans c.loop-k.k in
+    let here = c.in_ok-take_next.ensures.taken old.0 first (record { sizer_is = c.loop-k.invariant.taken; next = next; kept_on = c.loop-k.invariant.kept old.0 old.1 }) in
     record {
-      taken = subst (λ (statements : List Statement). IsSizer c.args.kind cards statements c.take_next.new.self) step both.0;
-      kept = subst (λ (statements : List Statement). AreKeptFrom c.args.kind cards c.take_next.new.head.before statements (stood statements) c.take_next.new.head.statements) step both.1;
+      taken = subst (λ (statements : List Statement). IsSizer c.args.kind cards statements c.take_next.new.self) step here.0;
+      kept = λ of kept. subst (λ (statements : List Statement). IsKeptOn c.args.kind of cards statements c.take_next.new.old_deck) step
+          (c.in_ok-take_next.ensures.taken of first (record { sizer_is = c.loop-k.invariant.taken; next = next; kept_on = c.loop-k.invariant.kept of kept })).1;
       open' = ap (λ n. has_end (first_statements cards spans n)) (sym one)
           ∙ open-step cards spans c.loop-k.k other c.loop-k-test.true c.loop-k.invariant.open' (sym c.in_ok-take_next.ensures.end ∙ c.if-branch.false);
       sized = omega (arith, so_far, more);
       rises = let rises = c.loop-k.invariant.rises in let here = c.in_ok-take_next.ensures.rises in omega (arith, rises, here);
-      few = let few = c.loop-k.invariant.few in let here = c.in_ok-take_next.ensures.before in omega (arith, few, here);
+      over = λ none. c.take_next.ensures.over (c.loop-k.invariant.over none);
       all = λ none room.
           let all = c.loop-k.invariant.all none (omega (arith, room)) in
-          let few = c.loop-k.invariant.few in
-          let here = c.in_ok-take_next.ensures.all (omega (arith, none, few)) in
+          let here = c.in_ok-take_next.ensures.all (c.loop-k.invariant.over none) in
           omega (arith, room, all, here);
       coded = c.in_ok-take_next.ensures.coded ∙ c.loop-k.invariant.coded;
     }

@@ -1,33 +1,49 @@
--- The edited cards are few, and those before the edited ones are of the deck before.
-use Rattle.std.proofs.Common.{◌≡◌, ◌≤◌, List, length, take, sym, ap, arith, subst, ◌∙◌}
-use Rattle.cards.specs.Edits.{edited_by}
+-- The edited cards are few, and those before and behind the edited ones are of the deck before.
+use Rattle.std.proofs.Common.{◌≡◌, ◌≤◌, None, List, length, take, refl, sym, ap, arith, subst, ◌∙◌}
+use Rattle.cards.specs.Edits.{edited_by, first_fault}
 use Rattle.definitions.specs.Cards.{Card}
 use Rattle.definitions.specs.DeckInput.{Deck}
+use Rattle.deck_assembler.specs.Agreements.{HaveSameEnd}
 use Rattle.deck_assembler.specs.Formers.{IsFormerOf}
+use Rattle.deck_assembler.specs.SizedDecks.{IsSizedDeck}
 use Rattle.edit_core.specs.Records.{Record}
 use Rattle.edit_core.proofs.EditLaws.{few-all, front-all}
 use Rattle.edit_core.proofs.kept.Kept.remade.Goals as goal
 
-pub edited-requires : goal.edited-requires
-edited-requires c =
+pub edited-requires-clause-deck : goal.edited-requires-clause-deck
+edited-requires-clause-deck c = subst (λ (cards : List Card). IsSizedDeck cards c.args.sized) (sym c.cards-own.ensures.cards) c.requires.deck
+
+pub edited-requires-clause-before : goal.edited-requires-clause-before
+edited-requires-clause-before c =
     let n = c.cards_before_all.result in
-    let now = c.deref.ensures.value ∙ c.in_ok-cards.ensures ∙ ap (λ (cards : List Card). edited_by c.args.edits.now cards) c.cards.ensures.cards in
-    (c.args.self.now.cards, (c.requires.deck, sym (ap (take n) now ∙ front-all n c.args.edits.now c.args.self.now.cards c.cards_before_all.ensures c.requires.apply)))
+    let now = c.deref.ensures.value ∙ c.in_ok-cards.ensures in
+    let apply = subst (λ (cards : List Card). first_fault c.args.edits.now cards ≡ None) (sym c.cards-own.ensures.cards) c.requires.apply in
+    sym (ap (take n) now ∙ front-all n c.args.edits.now c.cards-own.result.now c.cards_before_all.ensures apply)
+
+pub edited-requires-clause-behind : goal.edited-requires-clause-behind
+edited-requires-clause-behind c =
+    let own = c.cards-own.result.now in
+    let now = c.deref.ensures.value ∙ c.in_ok-cards.ensures in
+    let apply = subst (λ (cards : List Card). first_fault c.args.edits.now cards ≡ None) (sym c.cards-own.ensures.cards) c.requires.apply in
+    let few = subst (λ (cards : List Card). length cards ≤ 20000) (sym c.cards-own.ensures.cards) c.cards-own.ensures.few in
+    subst (HaveSameEnd c.cards_behind_all.result own) (sym now)
+    (c.cards_behind_all.ensures own refl few apply)
 
 pub edited_object-requires-clause-few : goal.edited_object-requires-clause-few
 edited_object-requires-clause-few c =
-    let now = c.in_ok-cards.ensures ∙ ap (λ (cards : List Card). edited_by c.args.edits.now cards) c.cards.ensures.cards in
-    subst (λ (cards : List Card). length cards ≤ 20000) (sym now) (few-all c.args.edits.now c.args.self.now.cards c.requires.apply c.cards.ensures.few)
+    let now = c.in_ok-cards.ensures ∙ ap (λ (cards : List Card). edited_by c.args.edits.now cards) c.cards-own.ensures.cards in
+    subst (λ (cards : List Card). length cards ≤ 20000) (sym now) (few-all c.args.edits.now c.args.self.now.cards c.requires.apply c.cards-own.ensures.few)
 
 pub edited_object-requires-clause-former : goal.edited_object-requires-clause-former
 edited_object-requires-clause-former c =
-    subst (λ (cards : List Card). IsFormerOf cards c.in_ok-edited.edited.former) (sym (ap (λ (r : Record). r.cards) c.self.view_is) ∙ sym (ap (λ (d : Deck). d.cards) c.object.ensures))
-    (c.in_ok-edited.ensures.former c.args.self.now.cards c.requires.deck)
+    subst (λ (cards : List Card). IsFormerOf cards c.in_ok-edited.edited.former)
+    (c.cards-own.ensures.cards ∙ sym (ap (λ (r : Record). r.cards) c.self.view_is) ∙ sym (ap (λ (d : Deck). d.cards) c.object.ensures))
+    c.in_ok-edited.ensures.former
 
 pub edited_object-requires-clause-same : goal.edited_object-requires-clause-same
 edited_object-requires-clause-same c =
     let n = c.in_ok-edited.edited.former.before in
-    let now = c.in_ok-cards.ensures ∙ ap (λ (cards : List Card). edited_by c.args.edits.now cards) c.cards.ensures.cards in
+    let now = c.in_ok-cards.ensures ∙ ap (λ (cards : List Card). edited_by c.args.edits.now cards) c.cards-own.ensures.cards in
     let unchanged = front-all c.cards_before_all.result c.args.edits.now c.args.self.now.cards c.cards_before_all.ensures c.requires.apply in
     ap (λ (d : Deck). take n d.cards) c.object.ensures
     ∙ ap (λ (r : Record). take n r.cards) c.self.view_is
@@ -35,8 +51,8 @@ edited_object-requires-clause-same c =
 
 pub of-requires-clause-few : goal.of-requires-clause-few
 of-requires-clause-few c =
-    let now = c.in_ok-cards.ensures ∙ ap (λ (cards : List Card). edited_by c.args.edits.now cards) c.cards.ensures.cards in
-    let few = few-all c.args.edits.now c.args.self.now.cards c.requires.apply c.cards.ensures.few in
+    let now = c.in_ok-cards.ensures ∙ ap (λ (cards : List Card). edited_by c.args.edits.now cards) c.cards-own.ensures.cards in
+    let few = few-all c.args.edits.now c.args.self.now.cards c.requires.apply c.cards-own.ensures.few in
     let made = ap (λ (d : Deck). length d.cards) c.in_ok-object.ensures.object in
     let own = ap (λ (cards : List Card). length cards) now in
     omega (arith, few, made, own)

@@ -1,0 +1,85 @@
+-- Where an old deck and an edited one agree, all that is left of the old one stays.
+use Rattle.std.proofs.Common.{◌≡◌, ◌+◌, ◌-◌, ◌≤◌, List, [], ◌∷◌, drop, length, refl, sym, ap, ◌∙◌, subst, arith}
+use Rattle.std.specs.Prelude.{Option, Some, None, Result, Ok, Err, IfOk, IfSome}
+use Rattle.std.proofs.lemmas.List.{length-drop}
+use Rattle.cards.specs.Spans.{statement_at}
+use Rattle.cards.specs.declared.statement_list.Span.{Span}
+use Rattle.definitions.specs.Cards.{Card}
+use Rattle.definitions.specs.Settling.{View, settled_all}
+use Rattle.definitions.specs.Statements.{Statement}
+use Rattle.definitions.specs.declared.deck_kind.DeckKind.{DeckKind}
+use Rattle.deck_assembler.specs.Agreements.{left, AreAlikeFrom, HasFront, HaveSameEnd, IsAgreeing, IsOfSameDeck}
+use Rattle.deck_assembler.specs.OldDecks.{AreKeptFrom, IsAtStage, IsKeptOn, IsOnSpan}
+use Rattle.deck_assembler.specs.SizedDecks.{IsSizedStatement, AreSizedFrom}
+use Rattle.deck_assembler.specs.Sizers.{stood, ahead, IsNext, IsSizer}
+use Rattle.deck_assembler.specs.declared.old_deck.OldDeck.{OldDeck}
+use Rattle.deck_assembler.specs.declared.old_deck.Stage.TheVariants as stages
+use Rattle.deck_assembler.specs.declared.sized_statement.SizedStatement.{SizedStatement}
+use Rattle.deck_assembler.specs.declared.sizer.Sizer.{Sizer}
+use Rattle.deck_assembler.proofs.AgreeLaws.{tail-kept}
+use Rattle.deck_assembler.proofs.ForwardLaws.{stood-more}
+use Rattle.deck_assembler.proofs.OldLaws.{same-ahead}
+
+pub meet-kept : (kind : DeckKind) (old cards : List Card) (earlier : List Statement) (sizer : Sizer) (deck : OldDeck) →
+    IsSizer kind cards earlier sizer → deck.kind ≡ kind → HasFront old (left deck) deck → HaveSameEnd deck.behind old cards → stood earlier ≤ length cards →
+    length deck.ahead.now ≡ length cards - stood earlier → length cards - stood earlier ≤ deck.behind → deck.state ≡ sizer.state → IsAgreeing deck sizer.symbols →
+    AreKeptFrom kind cards earlier (stood earlier) (left deck)
+meet-kept kind old cards earlier sizer deck sizer_is kinds has same here many few state agrees =
+    let k = deck.kind in
+    let is = subst (λ (k : DeckKind). IsSizer k cards earlier sizer) (sym kinds) sizer_is in
+    let there = same-ahead deck.behind has.stood (stood earlier) old cards same has.within here (sym (length-drop has.stood old) ∙ ap length (sym has.ahead) ∙ many) few in
+    let rest = subst (λ (l : List Card). AreSizedFrom k has.front has.stood l (left deck) has.later has.behind has.others) (sym has.ahead) has.rest in
+    let alike = subst (λ (both : View × View). AreAlikeFrom k both.0 both.1 has.front (left deck) has.later) (λ i. (has.symbols i, is.symbols i))
+    (agrees has.front has.stood has.later has.behind has.others rest) in
+    subst (λ (k : DeckKind). AreKeptFrom k cards earlier (stood earlier) (left deck)) kinds
+    (tail-kept k cards (settled_all k has.front) (settled_all k earlier) [] [] has.front earlier has.stood (stood earlier) (drop has.stood old) (left deck) has.later has.behind has.others
+    refl refl refl (sym has.state ∙ state ∙ is.state) there has.rest alike)
+
+-- the next statement of a tail stays, and the others behind it
+pub next-in-tail : (kind : DeckKind) (cards : List Card) (earlier : List Statement) (span : Span) (sized : SizedStatement) (later : List SizedStatement) →
+    IsNext cards earlier span.count (statement_at cards span) → AreKeptFrom kind cards earlier (stood earlier) (sized ∷ later) → sized.cards ≡ span.count →
+    let now = statement_at cards span ∷ earlier in
+    IsSizedStatement kind earlier (stood earlier) (ahead cards earlier) sized (statement_at cards span) × AreKeptFrom kind cards now (stood now) later
+next-in-tail kind cards earlier span sized later next kept count =
+    let there : IsSizedStatement kind earlier (stood earlier) (ahead cards earlier) sized (statement_at cards span) × AreKeptFrom kind cards (statement_at cards span ∷ earlier) (stood earlier + span.count) later =
+    subst (λ (s : Span). IsSizedStatement kind earlier (stood earlier) (ahead cards earlier) sized (statement_at cards s) × AreKeptFrom kind cards (statement_at cards s ∷ earlier) (stood earlier + s.count) later)
+    (λ i. record { start = sym next.before i; count = count i }) kept in
+    let more = stood-more earlier (statement_at cards span) (ahead cards earlier) span.count next.cards next.within in
+    (there.0, subst (λ n. AreKeptFrom kind cards (statement_at cards span ∷ earlier) n later) more there.1)
+
+-- the same deck goes on behind a statement
+pub goes-on : (kind : DeckKind) (old cards : List Card) (earlier now : List Statement) (span : Span) (sizer : Sizer) (deck new : OldDeck) → IsOnSpan kind old cards earlier span sizer deck →
+    IsOfSameDeck deck new → IsAtStage kind old cards now new new.stage → IsKeptOn kind old cards now new
+goes-on kind old cards earlier now span sizer deck new on same standing = record {
+  standing = standing;
+  kinds = same.kind ∙ on.kept_on.kinds;
+  same = subst (λ n. HaveSameEnd n old cards) (sym same.behind) on.kept_on.same;
+}
+
+-- where it agrees the old deck goes on with its tail
+pub on-tail : (kind : DeckKind) (old cards : List Card) (earlier : List Statement) (span : Span) (sizer : Sizer) (deck passed new : OldDeck) → IsOnSpan kind old cards earlier span sizer deck →
+    span.start + span.count ≤ length cards → HasFront old (left passed) passed → IsOfSameDeck deck passed → IsOfSameDeck passed new → left new ≡ left passed →
+    length passed.ahead.now ≡ length cards - span.start → length cards - span.start ≤ passed.behind → passed.state ≡ sizer.state → IsAgreeing passed sizer.symbols → new.stage ≡ stages.Tail →
+    IsOnSpan kind old cards earlier span sizer new
+on-tail kind old cards earlier span sizer deck passed new on within has same there rest many few state agrees stage =
+    let start = on.next.before in
+    let kept = meet-kept kind old cards earlier sizer passed on.sizer_is (same.kind ∙ on.kept_on.kinds) has (subst (λ n. HaveSameEnd n old cards) (sym same.behind) on.kept_on.same) (omega (arith, start, within))
+    (many ∙ ap (λ n. length cards - n) start) (subst (λ n. length cards - n ≤ passed.behind) start few) state agrees in
+    record {
+      sizer_is = on.sizer_is;
+      next = on.next;
+      kept_on = record {
+        standing = subst (IsAtStage kind old cards earlier new) (sym stage) (subst (AreKeptFrom kind cards earlier (stood earlier)) (sym rest) kept);
+        kinds = there.kind ∙ same.kind ∙ on.kept_on.kinds;
+        same = subst (λ n. HaveSameEnd n old cards) (sym (there.behind ∙ same.behind)) on.kept_on.same;
+      };
+    }
+
+-- what is told of what was found, if anything was
+pub some-weaker : {T : Type 0} {P Q : T → Type 0} (found : Option T) → ((x : T) → P x → Q x) → IfSome found P → IfSome found Q
+some-weaker None f h = tt
+some-weaker (Some x) f h = f x h
+
+pub found-weaker : {T E : Type 0} {P Q : T → Type 0} (r : Result (Option T) E) → ((x : T) → P x → Q x) → IfOk r (λ found. IfSome found P) → IfOk r (λ found. IfSome found Q)
+found-weaker (Ok found) f h = some-weaker found f h
+found-weaker (Err e) f h = tt

@@ -1,0 +1,11 @@
+use Rattle.std.proofs.Common.{length}
+use Rattle.definitions.specs.States.{Agree, lawful_names}
+use Rattle.deck_assembler.specs.FirstSymbols.{symbol_in}
+use Rattle.deck_assembler.proofs.early_symbols.are_names_alike.Given as goal
+
+-- all names are alike where those that are left are
+abbrev pub invariant-names : goal.invariant-names
+invariant-names l = Agree (symbol_in l.first) (symbol_in l.second) (lawful_names l.rest) → Agree (symbol_in l.first) (symbol_in l.second) (lawful_names l.fn.names)
+
+abbrev pub decreases-names : goal.decreases-names
+decreases-names l = length l.rest

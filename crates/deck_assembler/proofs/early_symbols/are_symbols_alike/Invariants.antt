@@ -1,0 +1,11 @@
+use Rattle.std.proofs.Common.{length}
+use Rattle.definitions.specs.States.{Agree, symbols_in}
+use Rattle.deck_assembler.specs.FirstSymbols.{symbol_in}
+use Rattle.deck_assembler.proofs.early_symbols.are_symbols_alike.Given as goal
+
+-- all symbols are alike where those that are left are
+abbrev pub invariant-symbols : goal.invariant-symbols
+invariant-symbols l = Agree (symbol_in l.first) (symbol_in l.second) l.rest → Agree (symbol_in l.first) (symbol_in l.second) (symbols_in l.expression)
+
+abbrev pub decreases-symbols : goal.decreases-symbols
+decreases-symbols l = length l.rest

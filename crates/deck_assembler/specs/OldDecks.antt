@@ -1,0 +1,62 @@
+-- The old deck beside the statements of an edited one that were taken.
+use Rattle.std.specs.Prelude.{ℕ, ◌≡◌, ⊤, ◌≤◌, ◌+◌, List, [], ◌∷◌, take, drop, length}
+use Rattle.cards.specs.Spans.{statement_at}
+use Rattle.cards.specs.declared.statement_list.Span.{Span}
+use Rattle.definitions.specs.Cards.{Card}
+use Rattle.definitions.specs.Statements.{Statement}
+use Rattle.definitions.specs.declared.deck_kind.DeckKind.{DeckKind}
+use Rattle.deck_assembler.specs.Agreements.{left, HasFront, HaveSameEnd}
+use Rattle.deck_assembler.specs.SizedDecks.{IsSizedStatement, AreSizedFrom}
+use Rattle.deck_assembler.specs.Sizers.{stood, ahead, IsNext, IsSizer}
+use Rattle.deck_assembler.specs.declared.old_deck.OldDeck.{OldDeck}
+use Rattle.deck_assembler.specs.declared.old_deck.Stage.{Stage}
+use Rattle.deck_assembler.specs.declared.old_deck.Stage.TheVariants as stages
+use Rattle.deck_assembler.specs.declared.sized_statement.SizedStatement.{SizedStatement}
+use Rattle.deck_assembler.specs.declared.sizer.Sizer.{Sizer}
+
+-- statements in order are sized behind these of a deck, and so many of its cards stood before them
+abbrev pub AreKeptFrom : DeckKind → List Card → List Statement → ℕ → List SizedStatement → Type 0
+AreKeptFrom kind cards earlier stood [] = ⊤
+AreKeptFrom kind cards earlier stood (sized ∷ later) =
+    let statement = statement_at cards (record { start = stood; count = sized.cards }) in
+    IsSizedStatement kind earlier stood (drop stood cards) sized statement × AreKeptFrom kind cards (statement ∷ earlier) (stood + sized.cards) later
+
+-- in front of the edited card the same statements were taken of both decks, and these of the old one are sized behind them
+pub record IsInFront (old cards : List Card) (earlier : List Statement) (sized : List SizedStatement) (deck : OldDeck) : Type 0 where
+  pub later : List Statement
+  pub behind : List ℕ
+  pub others : List Statement
+  pub within : stood earlier ≤ length old
+  pub ahead : deck.ahead.now ≡ drop (stood earlier) old
+  pub rest : AreSizedFrom deck.kind earlier (stood earlier) (drop (stood earlier) old) sized later behind others
+  pub unchanged : take deck.before old ≡ take deck.before cards
+
+-- what is left of the old deck behind these statements of the new one
+abbrev pub IsAtStage : DeckKind → List Card → List Card → List Statement → OldDeck → Stage → Type 0
+IsAtStage kind old cards earlier deck stages.Front = IsInFront old cards earlier (left deck) deck
+IsAtStage kind old cards earlier deck stages.Between = HasFront old (left deck) deck
+IsAtStage kind old cards earlier deck stages.Tail = AreKeptFrom kind cards earlier (stood earlier) (left deck)
+IsAtStage kind old cards earlier deck stages.Over = ⊤
+
+-- the old deck goes on with these statements of the new one
+pub record IsKeptOn (kind : DeckKind) (old cards : List Card) (earlier : List Statement) (deck : OldDeck) : Type 0 where
+  pub standing : IsAtStage kind old cards earlier deck deck.stage
+  pub kinds : deck.kind ≡ kind
+  pub same : HaveSameEnd deck.behind old cards
+
+-- the statement of a span is the next one behind these; those before it are taken, and the old deck goes on with it
+pub record IsOnSpan (kind : DeckKind) (old cards : List Card) (earlier : List Statement) (span : Span) (sizer : Sizer) (deck : OldDeck) : Type 0 where
+  pub sizer_is : IsSizer kind cards earlier sizer
+  pub next : IsNext cards earlier span.count (statement_at cards span)
+  pub kept_on : IsKeptOn kind old cards earlier deck
+
+-- wherever a span is the next one of these cards, the old deck goes on behind it
+abbrev pub KeepsOn : List Card → Span → Sizer → OldDeck → OldDeck → Type 0
+KeepsOn cards span sizer deck new =
+    (kind : DeckKind) (old : List Card) (earlier : List Statement) → IsOnSpan kind old cards earlier span sizer deck → IsKeptOn kind old cards (statement_at cards span ∷ earlier) new
+
+-- wherever a span is the next one of these cards, a statement is that of the span as it was sized
+abbrev pub IsThatOf : List Card → Span → Sizer → OldDeck → SizedStatement → Type 0
+IsThatOf cards span sizer deck sized =
+    (kind : DeckKind) (old : List Card) (earlier : List Statement) → IsOnSpan kind old cards earlier span sizer deck →
+    IsSizedStatement kind earlier (stood earlier) (ahead cards earlier) sized (statement_at cards span) × (sized.cards ≡ span.count)

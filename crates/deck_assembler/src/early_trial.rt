@@ -1,0 +1,115 @@
+//! A trial of the statements that are left of a deck: whether what they define or read early has one
+//! value in front of them in two decks (ours).
+ghost use Rattle.std.specs.Prelude.{◌≡◌, ◌∷◌, ◌++◌, true, None, List};
+ghost use Rattle.deck_assembler.specs.Agreements.{IsNextAlike, AreTried};
+ghost use Rattle.deck_assembler.specs.DeckParts.{sized_in};
+ghost use Rattle.deck_assembler.specs.declared.sized_statement.SizedStatement as code;
+
+use crate::deck_lines::{later_cards, next_cards};
+use crate::early_symbols::{is_operand_alike, is_own_alike};
+use crate::symbol_table::SymbolTable;
+use crate::{Piece, SizedStatement};
+use cards::{Card, StatementRoom};
+use definitions::DeckKind;
+use statement_coder::Statement;
+
+/// The cards of the statements that are left, and what is defined in front of them in both decks.
+#[derive(Clone, Copy)]
+pub(crate) struct Trial<'a> {
+    pub(crate) kind: DeckKind,
+    pub(crate) ahead: &'a [Card],
+    pub(crate) first: &'a SymbolTable,
+    pub(crate) second: &'a SymbolTable,
+}
+
+/// A piece that was found to differ: so many pieces with so many cards are left from it on.
+#[derive(Clone, Copy, Debug, PartialEq, Eq)]
+pub(crate) struct Missed {
+    pub(crate) pieces: usize,
+    pub(crate) cards: usize,
+}
+
+impl<'a> Trial<'a> {
+    /// Whether what the next statement defines or reads early is alike; its cards are read once more.
+    fn is_alike_again(&self, sized: &SizedStatement, room: &mut StatementRoom) -> bool
+        ensures { result ≡ true → IsNextAlike self.now sized.now }
+    {
+        let cards = next_cards(self.ahead, 0, sized.cards);
+        let statement = Statement::read(self.kind, cards, room);
+        let read = statement.read_operand(sized.sizing.number_base);
+        let operation = statement.operation;
+        if !is_own_alike(self.first, self.second, operation, statement.location) {
+            return false;
+        }
+        let defines = sized.sizing.defines;
+        is_operand_alike(self.first, self.second, &read.reading, operation, defines)
+    }
+
+    /// Whether what the next statement defines or reads early is alike.
+    fn is_alike(&self, sized: &SizedStatement, room: &mut StatementRoom) -> bool
+        ensures { result ≡ true → IsNextAlike self.now sized.now }
+    {
+        let Some(label) = &sized.label else {
+            return self.is_alike_again(sized, room);
+        };
+        let Some(reading) = sized.kept.reading() else {
+            return self.is_alike_again(sized, room);
+        };
+        if !is_own_alike(self.first, self.second, sized.operation, label.as_slice()) {
+            return false;
+        }
+        let defines = sized.sizing.defines;
+        is_operand_alike(self.first, self.second, &reading, sized.operation, defines)
+    }
+
+    /// Whether what the next statement defines or reads early is alike; the trial goes on behind it.
+    fn passes(&mut self, sized: &SizedStatement, room: &mut StatementRoom) -> bool
+        ensures { result ≡ true → (later : List code.SizedStatement) → AreTried self.old self.new (sized.now ∷ later) later }
+    {
+        if !self.is_alike(sized, room) {
+            return false;
+        }
+        self.ahead = later_cards(self.ahead, sized.cards);
+        true
+    }
+
+    /// The same of some statements.
+    pub(crate) fn passes_all(
+        &mut self,
+        statements: &[SizedStatement],
+        room: &mut StatementRoom,
+    ) -> bool
+        ensures { result ≡ true → (later : List code.SizedStatement) → AreTried self.old self.new (statements.now ++ later) later }
+    {
+        for sized in statements {
+            if !self.passes(sized, room) {
+                return false;
+            }
+        }
+        true
+    }
+
+    /// Goes over the statements of some pieces, behind which so many others are left: where the trial
+    /// of one fails, that piece.
+    pub(crate) fn first_missed(
+        &mut self,
+        pieces: &[Piece],
+        others: usize,
+        room: &mut StatementRoom,
+    ) -> Option<Missed>
+        ensures { result ≡ None → (later : List code.SizedStatement) → AreTried self.old self.new (sized_in pieces.now ++ later) later }
+    {
+        let mut left = pieces.len().saturating_add(others);
+        for piece in pieces {
+            let cards = self.ahead.len();
+            if !self.passes_all(piece.statements(), room) {
+                return Some(Missed {
+                    pieces: left,
+                    cards,
+                });
+            }
+            left = left.saturating_sub(1);
+        }
+        None
+    }
+}

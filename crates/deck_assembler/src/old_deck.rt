@@ -1,0 +1,344 @@
+//! The deck that an edited one is made of: what is left of it, one statement after the other, and which
+//! of that stays as it was sized.
+ghost use Rattle.std.specs.Prelude.{◌≡◌, ◌≤◌, ◌+◌, ◌∷◌, ◌++◌, true, [], List, Ok, None, IfOk, IfSome, OnOk, length};
+ghost use Rattle.std.specs.Option.{option_to_list};
+ghost use Rattle.cards.specs.Spans.{IsSpan};
+ghost use Rattle.definitions.specs.Cards as deck_cards;
+ghost use Rattle.definitions.specs.Statements as statements;
+ghost use Rattle.definitions.specs.declared.deck_kind.DeckKind as kinds;
+ghost use Rattle.deck_assembler.specs.Agreements.{left, HasFront, IsAgreeing, IsOfSameDeck, IsSameFront};
+ghost use Rattle.deck_assembler.specs.DeckParts.{sized_in};
+ghost use Rattle.deck_assembler.specs.OldDecks.{IsInFront, IsOnSpan, IsThatOf, KeepsOn};
+ghost use Rattle.deck_assembler.specs.Sizers.{IsSizer};
+ghost use Rattle.deck_assembler.specs.declared.old_deck.Stage.TheVariants as stages;
+ghost use Rattle.deck_assembler.specs.declared.sized_statement.SizedStatement as code;
+ghost use Rattle.deck_assembler.specs.declared.sizer.Sizer as sizers;
+
+use crate::deck_lines::{later_cards, next_cards};
+use crate::definitions_kept::define;
+use crate::early_trial::{Missed, Trial};
+use crate::pieces::Piece;
+use crate::sized_statement::SizedStatement;
+use crate::sizer::Sizer;
+use crate::symbol_table::SymbolTable;
+use cards::{Card, Span, StatementRoom};
+use definitions::DeckKind;
+use statement_coder::Statement;
+use std::alloc::{AllocError, Global};
+use std::collections::VecDeque;
+use use_blocks::BlockState;
+
+/// The cards of a deck before an edit, and how many of the first and of the last of them stand
+/// unchanged in the edited deck.
+#[derive(Clone, Copy)]
+pub struct OldCards<'a> {
+    pub cards: &'a [Card],
+    pub before: usize,
+    pub behind: usize,
+}
+
+/// How far an edited deck has come beside the one before.
+#[derive(Clone, Copy, Debug, PartialEq, Eq)]
+pub(crate) enum Stage {
+    /// The same statements were taken of both.
+    Front,
+    /// The statements of the edited card were passed, and the decks don't agree yet.
+    Between,
+    /// The decks agree: all that is left stays.
+    Tail,
+    /// Nothing more stays.
+    Over,
+}
+
+/// What is left of a deck: its statements and their cards; and, between front and tail, what the
+/// statements make that were passed, and the piece where the decks were found to differ.
+#[derive(Drop)]
+pub(crate) struct OldDeck<'a> {
+    pub(crate) kind: DeckKind,
+    pub(crate) ahead: &'a [Card],
+    pub(crate) statements: VecDeque<SizedStatement, Global>,
+    pub(crate) pieces: VecDeque<Piece, Global>,
+    pub(crate) before: usize,
+    pub(crate) behind: usize,
+    pub(crate) stage: Stage,
+    pub(crate) state: BlockState,
+    pub(crate) symbols: SymbolTable,
+    pub(crate) missed: Option<Missed>,
+}
+
+impl<'a> OldDeck<'a> {
+    /// All of a deck of this kind, which is made of these cards.
+    pub(crate) fn of(
+        alloc: Global,
+        old: OldCards<'a>,
+        pieces: Vec<Piece>,
+        kind: DeckKind,
+        stage: Stage,
+    ) -> Result<OldDeck<'a>, AllocError>
+        ensures kind { IfOk result (λ deck. deck.kind ≡ kind) }
+        ensures ahead { IfOk result (λ deck. deck.ahead.now ≡ old.entry.cards.now) }
+        ensures left { IfOk result (λ deck. left deck ≡ sized_in pieces.items) }
+        ensures before { IfOk result (λ deck. deck.before ≡ old.entry.before) }
+        ensures behind { IfOk result (λ deck. deck.behind ≡ old.entry.behind) }
+        ensures stage { IfOk result (λ deck. deck.stage ≡ stage) }
+    {
+        Ok(OldDeck {
+            kind,
+            ahead: old.cards,
+            statements: VecDeque::new(alloc),
+            pieces: VecDeque::from_vec(pieces),
+            before: old.before,
+            behind: old.behind,
+            stage,
+            state: BlockState::new(alloc)?,
+            symbols: SymbolTable::new(alloc),
+            missed: None,
+        })
+    }
+
+    /// The next of its statements.
+    fn next(&mut self) -> Option<SizedStatement>
+        ensures next { left self.old ≡ option_to_list result ++ left self.new }
+        ensures last { result ≡ None → left self.new ≡ [] }
+        ensures same { IsSameFront self.old self.new }
+    {
+        if let Some(sized) = self.statements.pop_front() {
+            return Some(sized);
+        }
+        let piece = self.pieces.pop_front()?;
+        self.statements = VecDeque::from_vec(piece.into_statements());
+        self.statements.pop_front()
+    }
+
+    /// Goes behind a statement, which was the next one.
+    fn pass(&mut self, sized: &SizedStatement, room: &mut StatementRoom) -> Result<(), AllocError>
+        requires front { (cards : List deck_cards.Card) × (later : List code.SizedStatement) × HasFront cards (sized.now ∷ later) self.old }
+        ensures front { OnOk result ((cards : List deck_cards.Card) (later : List code.SizedStatement) → HasFront cards (sized.now ∷ later) self.old → HasFront cards later self.new) }
+        ensures rest { left self.new ≡ left self.old }
+        ensures deck { IsOfSameDeck self.old self.new }
+        ensures stage { self.new.stage ≡ self.old.stage }
+    {
+        let statement = Statement::read(self.kind, next_cards(self.ahead, 0, sized.cards), room);
+        let read = statement.read_operand(sized.sizing.number_base);
+        let defines = sized.sizing.defines;
+        define(
+            &mut self.symbols,
+            statement.location,
+            &read.reading,
+            defines,
+        )?;
+        self.state.advance(&sized.sizing.effect(&statement))?;
+        self.ahead = later_cards(self.ahead, sized.cards);
+        Ok(())
+    }
+
+    /// Goes on to where at most so many cards are left, or to the end of its statements.
+    fn pass_to(&mut self, count: usize, room: &mut StatementRoom) -> Result<(), AllocError>
+        requires front { (cards : List deck_cards.Card) × HasFront cards (left self.old) self.old }
+        ensures front { OnOk result ((cards : List deck_cards.Card) → HasFront cards (left self.old) self.old → HasFront cards (left self.new) self.new) }
+        ensures deck { IsOfSameDeck self.old self.new }
+        ensures stage { self.new.stage ≡ self.old.stage }
+    {
+        'statements: loop {
+            if self.ahead.len() <= count {
+                return Ok(());
+            }
+            match self.next() {
+                None => return Ok(()),
+                Some(sized) => self.pass(&sized, room)?,
+            }
+        }
+    }
+
+    /// A trial under these symbols of all that is left.
+    fn trial<'t>(&'t self, symbols: &'t SymbolTable) -> Trial<'t>
+        ensures kind { result.kind ≡ self.now.kind }
+        ensures ahead { result.ahead.now ≡ self.now.ahead.now }
+        ensures first { result.first.now ≡ self.now.symbols }
+        ensures second { result.second.now ≡ symbols.now }
+    {
+        Trial {
+            kind: self.kind,
+            ahead: self.ahead,
+            first: &self.symbols,
+            second: symbols,
+        }
+    }
+
+    /// Whether the piece where the decks were found to differ is left, and they still do: so no other
+    /// piece need be tried.
+    fn differs_still<'t>(&'t self, symbols: &'t SymbolTable, room: &mut StatementRoom) -> bool {
+        let Some(missed) = self.missed else {
+            return false;
+        };
+        let passed = self.pieces.len().saturating_sub(missed.pieces);
+        let Some(piece) = self.pieces.get(passed) else {
+            return false;
+        };
+        let mut trial = self.trial(symbols);
+        let stood = self.ahead.len().saturating_sub(missed.cards);
+        trial.ahead = self.ahead.split_at(stood).1;
+        !trial.passes_all(piece.statements(), room)
+    }
+
+    /// The first piece in which something is not alike under these symbols. Asked where a piece begins.
+    fn find_missed<'t>(
+        &'t self,
+        symbols: &'t SymbolTable,
+        room: &mut StatementRoom,
+    ) -> Option<Missed>
+        requires { self.now.statements.items ≡ [] }
+        ensures { result ≡ None → IsAgreeing self.now symbols.now }
+    {
+        let mut trial = self.trial(symbols);
+        let pieces = self.pieces.as_slices();
+        match trial.first_missed(pieces.0, pieces.1.len(), room) {
+            Some(missed) => Some(missed),
+            None => trial.first_missed(pieces.1, 0, room),
+        }
+    }
+
+    /// Whether so many cards are left behind the edited one, and all that is left defines and reads
+    /// early what it did, behind the statements that were taken. Asked where a piece begins.
+    fn is_met(&mut self, count: usize, sizer: &Sizer, room: &mut StatementRoom) -> bool
+        ensures place { result ≡ true → length self.old.ahead.now ≡ count }
+        ensures behind { result ≡ true → count ≤ self.old.behind }
+        ensures state { result ≡ true → self.old.state ≡ sizer.now.state }
+        ensures alike { result ≡ true → IsAgreeing self.old sizer.now.symbols }
+        ensures same { IsSameFront self.old self.new }
+        ensures rest { left self.new ≡ left self.old }
+    {
+        if self.ahead.len() != count || count > self.behind {
+            return false;
+        }
+        if !self.statements.is_empty() || !self.state.same(&sizer.state) {
+            return false;
+        }
+        if self.differs_still(&sizer.symbols, room) {
+            return false;
+        }
+        self.missed = self.find_missed(&sizer.symbols, room);
+        self.missed.is_none()
+    }
+
+    /// Leaves the front with its next statement: what stands in front of that is what was taken of both
+    /// decks.
+    fn leave_front(
+        &mut self,
+        alloc: Global,
+        sizer: &Sizer,
+        sized: &SizedStatement,
+        room: &mut StatementRoom,
+    ) -> Result<(), AllocError>
+        requires { (old : List deck_cards.Card) × (cards : List deck_cards.Card) × (earlier : List statements.Statement) × (later : List code.SizedStatement) ×
+            (IsSizer self.old.kind cards earlier sizer.now × IsInFront old cards earlier (sized.now ∷ later) self.old) }
+        ensures front { OnOk result ((old cards : List deck_cards.Card) (earlier : List statements.Statement) (later : List code.SizedStatement) →
+            IsSizer self.old.kind cards earlier sizer.now → IsInFront old cards earlier (sized.now ∷ later) self.old → HasFront old later self.new) }
+        ensures rest { left self.new ≡ left self.old }
+        ensures deck { IsOfSameDeck self.old self.new }
+        ensures stage { OnOk result (self.new.stage ≡ stages.Between) }
+    {
+        let state = sizer.state.copy(alloc)?;
+        let symbols = sizer.symbols.copy()?;
+        self.state = state;
+        self.symbols = symbols;
+        self.stage = Stage::Between;
+        self.pass(sized, room)
+    }
+
+    /// The next of its statements, if it ends before the edited card and has the cards of a span.
+    fn kept_in_front(
+        &mut self,
+        alloc: Global,
+        span: Span,
+        sizer: &Sizer,
+        room: &mut StatementRoom,
+    ) -> Result<Option<SizedStatement>, AllocError>
+        requires stage { self.old.stage ≡ stages.Front }
+        requires ready { (kind : kinds.DeckKind) × (old : List deck_cards.Card) × (cards : List deck_cards.Card) × (earlier : List statements.Statement) × IsOnSpan kind old cards earlier span sizer.now self.old }
+        ensures kept { OnOk result ((cards : List deck_cards.Card) → KeepsOn cards span sizer.now self.old self.new) }
+        ensures sized { IfOk result (λ found. IfSome found (λ sized. (cards : List deck_cards.Card) → IsThatOf cards span sizer.now self.old sized)) }
+    {
+        let Some(sized) = self.next() else {
+            self.stage = Stage::Over;
+            return Ok(None);
+        };
+        if is_within(&sized, span, self.before) {
+            self.ahead = later_cards(self.ahead, sized.cards);
+            return Ok(Some(sized));
+        }
+        self.leave_front(alloc, sizer, &sized, room)?;
+        Ok(None)
+    }
+
+    /// The next of its statements, where all that is left stays, for a span of as many cards.
+    fn kept_in_tail(&mut self, span: Span) -> Option<SizedStatement>
+        requires { self.old.stage ≡ stages.Tail }
+        ensures kept { (cards : List deck_cards.Card) (sizer : sizers.Sizer) → KeepsOn cards span sizer self.old self.new }
+        ensures sized { IfSome result (λ sized. (cards : List deck_cards.Card) (sizer : sizers.Sizer) → IsThatOf cards span sizer self.old sized) }
+    {
+        let sized = self.next()?;
+        if sized.cards as usize == span.count {
+            return Some(sized);
+        }
+        self.stage = Stage::Over;
+        None
+    }
+
+    /// The next of its statements, if the decks agree where as many cards are left of it as a span and
+    /// those behind it have.
+    fn kept_between(
+        &mut self,
+        cards: &[Card],
+        span: Span,
+        sizer: &Sizer,
+        room: &mut StatementRoom,
+    ) -> Result<Option<SizedStatement>, AllocError>
+        requires span { IsSpan (length cards.now) span }
+        requires stage { self.old.stage ≡ stages.Between }
+        requires ready { (kind : kinds.DeckKind) × (old : List deck_cards.Card) × (earlier : List statements.Statement) × IsOnSpan kind old cards.now earlier span sizer.now self.old }
+        ensures kept { OnOk result (KeepsOn cards.now span sizer.now self.old self.new) }
+        ensures sized { IfOk result (λ found. IfSome found (IsThatOf cards.now span sizer.now self.old)) }
+    {
+        let count = cards.len() - span.start;
+        self.pass_to(count, room)?;
+        if !self.is_met(count, sizer, room) {
+            return Ok(None);
+        }
+        self.stage = Stage::Tail;
+        Ok(self.kept_in_tail(span))
+    }
+
+    /// The next of its statements, if it stays as that of a span, which is the next one of the edited
+    /// deck.
+    pub(crate) fn kept(
+        &mut self,
+        alloc: Global,
+        cards: &[Card],
+        span: Span,
+        sizer: &Sizer,
+        room: &mut StatementRoom,
+    ) -> Result<Option<SizedStatement>, AllocError>
+        requires span { IsSpan (length cards.now) span }
+        requires ready { (kind : kinds.DeckKind) × (old : List deck_cards.Card) × (earlier : List statements.Statement) × IsOnSpan kind old cards.now earlier span sizer.now self.old }
+        ensures kept { OnOk result (KeepsOn cards.now span sizer.now self.old self.new) }
+        ensures sized { IfOk result (λ found. IfSome found (IsThatOf cards.now span sizer.now self.old)) }
+        ensures none { self.old.stage ≡ stages.Over → result ≡ Ok None }
+        ensures over { self.old.stage ≡ stages.Over → self.new.stage ≡ stages.Over }
+    {
+        match self.stage {
+            Stage::Front => self.kept_in_front(alloc, span, sizer, room),
+            Stage::Between => self.kept_between(cards, span, sizer, room),
+            Stage::Tail => Ok(self.kept_in_tail(span)),
+            Stage::Over => Ok(None),
+        }
+    }
+}
+
+/// Whether a statement has as many cards as a span, and those of the span are among so many first ones.
+fn is_within(sized: &SizedStatement, span: Span, before: usize) -> bool
+    ensures count { result ≡ true → sized.now.cards ≡ span.count }
+    ensures within { result ≡ true → span.start + span.count ≤ before }
+{
+    sized.cards as usize == span.count && span.count <= before && span.start <= before - span.count
+}

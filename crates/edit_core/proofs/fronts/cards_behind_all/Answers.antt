@@ -1,0 +1,25 @@
+-- The last cards are the same behind each edit.
+use Rattle.std.proofs.Common.{List, refl, sym, ap, subst, ◌∙◌, arith}
+use Rattle.std.proofs.lemmas.List.{drop_all}
+use Rattle.cards.specs.declared.edits.Edit.{Edit}
+use Rattle.cards.specs.Edits.{edited_by}
+use Rattle.deck_assembler.specs.Agreements.{HaveSameEnd}
+use Rattle.edit_core.proofs.EndLaws.{left-more}
+use Rattle.edit_core.proofs.fronts.cards_behind_all.Goals as goal
+
+pub loop-edit-init : goal.loop-edit-init
+loop-edit-init c = λ cards count few none. record { current = cards; count = sym count; few = few; none = none; made = refl; same = refl }
+
+pub loop-edit-preserved : goal.loop-edit-preserved
+loop-edit-preserved c = λ cards count few none.
+    let so_far = c.loop-edit.invariant cards count few none in
+    let least = c.min-behind.ensures in
+    let here = c.cards_behind.ensures in
+    left-more c.args.edits.now c.loop-edit.edit-index c.loop-edit.left c.loop-edit.behind c.cards_after-left.result c.min-behind.result c.edit-item.result cards c.loop-edit-test.true c.edit-item.is so_far
+    (c.cards_after-left.ensures so_far.few) (omega (arith, least)) (omega (arith, least, here))
+
+pub returns : goal.returns
+returns c = λ cards count few none.
+    let so_far = c.loop-edit.invariant cards count few none in
+    let over = drop_all c.loop-edit.edit-index c.args.edits.now (omega (arith, c.loop-edit-test.false)) in
+    subst (HaveSameEnd c.loop-edit.behind cards) (sym (so_far.made ∙ ap (λ (edits : List Edit). edited_by edits so_far.current) over)) so_far.same
