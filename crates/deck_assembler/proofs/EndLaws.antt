@@ -106,7 +106,19 @@ end-behind (last ∷ later) earlier statement e = by (has_end whole) (end-behind
     by true h = h
     by false h = let all = length-append later (statement ∷ earlier) in omega (arith, all)
 
-length-first : (cards : List Card) (spans : List Span) (count : ℕ) → count ≤ length spans → length (first_statements cards spans count) ≡ count
+-- and it stands there with those before it
+end-open : (later earlier : List Statement) (statement : Statement) → has_end earlier ≡ false → (others : List Statement) × (up_to_end (later ++ statement ∷ earlier) ≡ others ++ statement ∷ earlier)
+end-open [] earlier statement e = ([], ap (λ b. front_if b (up_to_end earlier) (statement ∷ earlier)) e)
+end-open (last ∷ later) earlier statement e = by (has_end whole) (end-open later earlier statement e)
+  where
+    whole : List Statement
+    whole = later ++ statement ∷ earlier
+
+    by : (b : Bool) → (others : List Statement) × (up_to_end whole ≡ others ++ statement ∷ earlier) → (others : List Statement) × (front_if b (up_to_end whole) (last ∷ whole) ≡ others ++ statement ∷ earlier)
+    by true h = h
+    by false h = (last ∷ later, refl)
+
+pub length-first : (cards : List Card) (spans : List Span) (count : ℕ) → count ≤ length spans → length (first_statements cards spans count) ≡ count
 length-first cards spans count within =
     length-reverse (statements_at cards (take count spans)) ∙ length-map (take count spans) (statement_at cards) ∙ length-take-le count spans within
 
@@ -120,6 +132,15 @@ few-sized cards spans count span within e =
     let n = length-first cards spans count (omega arith) in
     let all = ap (λ (l : List Statement). length (up_to_end l)) split in
     omega (arith, h, n, all)
+
+-- the next statement among those up to END, and those before it
+pub open-at : (cards : List Card) (spans : List Span) (count : ℕ) (span : Span) → count < length spans → has_end (first_statements cards spans count) ≡ false →
+    (others : List Statement) × (up_to_end (all_statements cards spans) ≡ others ++ statement_at cards (get_or spans count span) ∷ first_statements cards spans count)
+open-at cards spans count span within e =
+    let later = reverse (statements_at cards (drop (suc count) spans)) in
+    let split = all-split cards spans (suc count) ∙ ap (λ (l : List Statement). later ++ l) (first-step cards spans count span within) in
+    let there = end-open later (first_statements cards spans count) (statement_at cards (get_or spans count span)) e in
+    (there.0, ap up_to_end split ∙ there.1)
 
 -- the first END
 pub ending-here : (cards : List Card) (spans : List Span) (count : ℕ) (span : Span) → count < length spans → has_end (first_statements cards spans count) ≡ false →

@@ -1,7 +1,7 @@
 -- The statements in front of an edited card are sized behind the same statements in both decks.
-use Rattle.std.proofs.Common.{◌≡◌, ℕ, ◌+◌, ◌-◌, ◌≤◌, List, [], ◌∷◌, take, drop, length, sym, ap, ◌∙◌, subst, arith, length-take-le}
+use Rattle.std.proofs.Common.{◌≡◌, ℕ, ◌+◌, ◌-◌, ◌≤◌, List, [], ◌∷◌, ◌++◌, take, drop, length, sym, ap, ◌∙◌, subst, arith, length-take-le}
 use Rattle.std.specs.Prelude.{reverse}
-use Rattle.std.proofs.lemmas.List.{take-take, drop-take, length-take, length-drop}
+use Rattle.std.proofs.lemmas.List.{take-take, drop-take, length-take, length-drop, reverse-reverse}
 use Rattle.cards.specs.Spans.{statement_at}
 use Rattle.cards.specs.declared.statement_list.Span.{Span}
 use Rattle.definitions.specs.Cards.{Card}
@@ -23,8 +23,8 @@ use Rattle.deck_assembler.specs.declared.old_deck.Stage.TheVariants as stages
 use Rattle.deck_assembler.specs.declared.sized_statement.SizedStatement.{SizedStatement}
 use Rattle.deck_assembler.specs.declared.sizer.Sizer.{Sizer}
 use Rattle.deck_assembler.proofs.ForwardLaws.{stood-more}
-use Rattle.deck_assembler.proofs.OldLaws.{has-next}
-use Rattle.deck_assembler.proofs.OntoLaws.{drop-more}
+use Rattle.deck_assembler.proofs.OldLaws.{all-next, has-next}
+use Rattle.deck_assembler.proofs.OntoLaws.{append-none, drop-more}
 
 -- the first cards of two decks are the same: so are those between
 between : (count from before : ℕ) (cards : List Card) → from + count ≤ before → take count (drop from (take before cards)) ≡ take count (drop from cards)
@@ -85,6 +85,7 @@ next-in-front kind old cards earlier span deck new sized later next kinds front 
         rest = subst (λ (all : (DeckKind × Statement) × (ℕ × List Card)). AreSizedFrom all.0.0 (all.0.1 ∷ earlier) all.1.0 all.1.1 later nx.statements front.behind front.others)
             (λ i. ((sym same_kind i, is_given i), (more i, less i))) nx.are;
         unchanged = subst (λ m. take m old ≡ take m cards) (sym same_before) front.unchanged;
+        all = ap (λ s. reverse nx.statements ++ s ∷ earlier) (sym is_given) ∙ all-next deck.kind earlier n (drop n old) sized later front.later front.behind front.others front.rest ∙ front.all;
       },
     )
 
@@ -115,6 +116,7 @@ in-front-same old cards earlier sized other deck new e same front = record {
   ahead = same.ahead ∙ front.ahead;
   rest = subst (λ (both : DeckKind × List SizedStatement). AreSizedFrom both.0 earlier (stood earlier) (drop (stood earlier) old) both.1 front.later front.behind front.others) (λ i. (sym same.deck.kind i, e i)) front.rest;
   unchanged = subst (λ n. take n old ≡ take n cards) (sym same.deck.before) front.unchanged;
+  all = front.all;
 }
 
 -- its next statement is taken
@@ -138,4 +140,5 @@ deck-in-front old cards parts deck is kind ahead all unchanged =
       ahead = ahead;
       rest = subst (λ (both : DeckKind × List SizedStatement). AreSizedFrom both.0 [] 0 old both.1 (reverse (up_to_end statements)) parts.behind (reverse (behind_end statements))) (λ i. (sym kind i, sym all i)) is.sized;
       unchanged = unchanged;
+      all = append-none (reverse (reverse (up_to_end statements))) ∙ reverse-reverse (up_to_end statements);
     }

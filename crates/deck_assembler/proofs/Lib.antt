@@ -21,6 +21,7 @@ pub mod SizerSteps
 pub mod AgreeLaws
 pub mod OldLaws
 pub mod HeadLaws
+pub mod FrontLaws
 pub mod TrialLaws
 pub mod MeetLaws
 -- All of a deck.

@@ -1,6 +1,7 @@
 -- One statement after the other of a deck that an edited one is made of.
-use Rattle.std.proofs.Common.{◌≡◌, ℕ, ◌+◌, ◌-◌, ◌≤◌, List, [], ◌∷◌, drop, length, sym, ap, ap₂, ◌∙◌, subst, arith}
-use Rattle.std.proofs.lemmas.List.{length-drop}
+use Rattle.std.proofs.Common.{◌≡◌, ℕ, ◌+◌, ◌-◌, ◌≤◌, List, [], ◌∷◌, ◌++◌, drop, length, sym, ap, ap₂, ◌∙◌, subst, arith, append_assoc}
+use Rattle.std.specs.Prelude.{reverse}
+use Rattle.std.proofs.lemmas.List.{length-drop, reverse-append}
 use Rattle.definitions.specs.Cards.{Card}
 use Rattle.definitions.specs.Settled.{defined}
 use Rattle.definitions.specs.Forms.{Form}
@@ -29,6 +30,15 @@ pub has-next : (kind : DeckKind) (front : List Statement) (stood : ℕ) (ahead :
     AreSizedFrom kind front stood ahead (sized ∷ later) statements behind others → HasNext kind front stood ahead sized later behind others
 has-next kind front stood ahead sized later [] behind others are = absurd are
 has-next kind front stood ahead sized later (statement ∷ statements) behind others are = record { statement = statement; statements = statements; is = are.0; are = are.1 }
+
+-- the next statement, and those behind it
+pub all-next : (kind : DeckKind) (earlier : List Statement) (stood : ℕ) (ahead : List Card) (sized : SizedStatement) (later : List SizedStatement) (statements : List Statement) (behind : List ℕ) (others : List Statement) →
+    (are : AreSizedFrom kind earlier stood ahead (sized ∷ later) statements behind others) → let next = has-next kind earlier stood ahead sized later statements behind others are in
+    reverse next.statements ++ next.statement ∷ earlier ≡ reverse statements ++ earlier
+unfolding has-next
+all-next kind earlier stood ahead sized later [] behind others are = absurd are
+all-next kind earlier stood ahead sized later (statement ∷ statements) behind others are =
+    sym (append_assoc (reverse statements) (statement ∷ []) earlier) ∙ ap (λ l. l ++ earlier) (sym (reverse-append (statement ∷ []) statements))
 
 pub next-of : (cards : List Card) (sized : SizedStatement) (later : List SizedStatement) (deck : OldDeck) (has : HasFront cards (sized ∷ later) deck) →
     HasNext deck.kind has.front has.stood (drop has.stood cards) sized later has.behind has.others

@@ -8,3 +8,8 @@ on_ok_both (Err e) f p q = tt
 pub on_ok_one : {T E : Type 0} (r : Result T E) (P Q : Type 0) → (P → Q) → OnOk r P → OnOk r Q
 on_ok_one (Ok x) P Q f p = f p
 on_ok_one (Err e) P Q f p = tt
+
+-- what holds in any case
+pub on_ok_any : {T E P : Type 0} (r : Result T E) → P → OnOk r P
+on_ok_any (Ok x) p = p
+on_ok_any (Err e) p = tt

@@ -1,11 +1,13 @@
 -- The old deck beside the statements of an edited one that were taken.
-use Rattle.std.specs.Prelude.{ℕ, ◌≡◌, ⊤, ◌≤◌, ◌+◌, List, [], ◌∷◌, take, drop, length}
+use Rattle.std.specs.Prelude.{ℕ, ◌≡◌, ⊤, ◌≤◌, ◌<◌, ◌+◌, List, [], ◌∷◌, ◌++◌, Option, true, is_some, take, drop, length, reverse}
 use Rattle.cards.specs.Spans.{statement_at}
 use Rattle.cards.specs.declared.statement_list.Span.{Span}
 use Rattle.definitions.specs.Cards.{Card}
+use Rattle.definitions.specs.Edits.{Edited, IsUntouched}
 use Rattle.definitions.specs.Statements.{Statement}
 use Rattle.definitions.specs.declared.deck_kind.DeckKind.{DeckKind}
 use Rattle.deck_assembler.specs.Agreements.{left, HasFront, HaveSameEnd}
+use Rattle.deck_assembler.specs.Formers.{known_in}
 use Rattle.deck_assembler.specs.SizedDecks.{IsSizedStatement, AreSizedFrom}
 use Rattle.deck_assembler.specs.Sizers.{stood, ahead, IsNext, IsSizer}
 use Rattle.deck_assembler.specs.declared.old_deck.OldDeck.{OldDeck}
@@ -30,6 +32,7 @@ pub record IsInFront (old cards : List Card) (earlier : List Statement) (sized :
   pub ahead : deck.ahead.now ≡ drop (stood earlier) old
   pub rest : AreSizedFrom deck.kind earlier (stood earlier) (drop (stood earlier) old) sized later behind others
   pub unchanged : take deck.before old ≡ take deck.before cards
+  pub all : reverse later ++ earlier ≡ known_in old
 
 -- what is left of the old deck behind these statements of the new one
 abbrev pub IsAtStage : DeckKind → List Card → List Card → List Statement → OldDeck → Stage → Type 0
@@ -60,3 +63,30 @@ abbrev pub IsThatOf : List Card → Span → Sizer → OldDeck → SizedStatemen
 IsThatOf cards span sizer deck sized =
     (kind : DeckKind) (old : List Card) (earlier : List Statement) → IsOnSpan kind old cards earlier span sizer deck →
     IsSizedStatement kind earlier (stood earlier) (ahead cards earlier) sized (statement_at cards span) × (sized.cards ≡ span.count)
+
+-- statements that stand untouched in front of the old deck and of these statements
+pub record StandsInFront (old : List Card) (new front : List Statement) (deck : OldDeck) : Type 0 where
+  pub decks : Edited
+  pub untouched : IsUntouched decks front
+  pub of_old : decks.old ≡ known_in old
+  pub of_new : decks.new ≡ new
+  pub before : decks.before ≤ deck.before
+  pub stage : deck.stage ≡ stages.Front
+
+-- they go on with the statement of a span
+pub record GoesOn (old cards : List Card) (earlier : List Statement) (span : Span) (deck : OldDeck) : Type 0 where
+  pub others : List Statement
+  pub front : List Statement
+  pub stands : StandsInFront old (others ++ statement_at cards span ∷ earlier) front deck
+  pub longer : length earlier < length front
+
+-- a statement is kept, and the front goes on
+pub record IsFrontOn (old new : OldDeck) (found : Option SizedStatement) : Type 0 where
+  pub some : is_some found ≡ true
+  pub stage : new.stage ≡ stages.Front
+  pub before : new.before ≡ old.before
+
+-- wherever an untouched front goes on with the statement of a span, that is kept
+abbrev pub KeepsFront : List Card → Span → Sizer → OldDeck → OldDeck → Option SizedStatement → Type 0
+KeepsFront cards span sizer deck new found =
+    (kind : DeckKind) (old : List Card) (earlier : List Statement) → IsOnSpan kind old cards earlier span sizer deck → GoesOn old cards earlier span deck → IsFrontOn deck new found

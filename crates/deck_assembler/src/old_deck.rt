@@ -8,7 +8,7 @@ ghost use Rattle.definitions.specs.Statements as statements;
 ghost use Rattle.definitions.specs.declared.deck_kind.DeckKind as kinds;
 ghost use Rattle.deck_assembler.specs.Agreements.{left, HasFront, IsAgreeing, IsOfSameDeck, IsSameFront};
 ghost use Rattle.deck_assembler.specs.DeckParts.{sized_in};
-ghost use Rattle.deck_assembler.specs.OldDecks.{IsInFront, IsOnSpan, IsThatOf, KeepsOn};
+ghost use Rattle.deck_assembler.specs.OldDecks.{IsInFront, IsOnSpan, IsThatOf, KeepsFront, KeepsOn};
 ghost use Rattle.deck_assembler.specs.Sizers.{IsSizer};
 ghost use Rattle.deck_assembler.specs.declared.old_deck.Stage.TheVariants as stages;
 ghost use Rattle.deck_assembler.specs.declared.sized_statement.SizedStatement as code;
@@ -258,6 +258,7 @@ impl<'a> OldDeck<'a> {
         requires ready { (kind : kinds.DeckKind) × (old : List deck_cards.Card) × (cards : List deck_cards.Card) × (earlier : List statements.Statement) × IsOnSpan kind old cards earlier span sizer.now self.old }
         ensures kept { OnOk result ((cards : List deck_cards.Card) → KeepsOn cards span sizer.now self.old self.new) }
         ensures sized { IfOk result (λ found. IfSome found (λ sized. (cards : List deck_cards.Card) → IsThatOf cards span sizer.now self.old sized)) }
+        ensures front { IfOk result (λ found. (cards : List deck_cards.Card) → KeepsFront cards span sizer.now self.old self.new found) }
     {
         let Some(sized) = self.next() else {
             self.stage = Stage::Over;
@@ -323,6 +324,7 @@ impl<'a> OldDeck<'a> {
         requires ready { (kind : kinds.DeckKind) × (old : List deck_cards.Card) × (earlier : List statements.Statement) × IsOnSpan kind old cards.now earlier span sizer.now self.old }
         ensures kept { OnOk result (KeepsOn cards.now span sizer.now self.old self.new) }
         ensures sized { IfOk result (λ found. IfSome found (IsThatOf cards.now span sizer.now self.old)) }
+        ensures front { IfOk result (KeepsFront cards.now span sizer.now self.old self.new) }
         ensures none { self.old.stage ≡ stages.Over → result ≡ Ok None }
         ensures over { self.old.stage ≡ stages.Over → self.new.stage ≡ stages.Over }
     {
@@ -339,6 +341,7 @@ impl<'a> OldDeck<'a> {
 fn is_within(sized: &SizedStatement, span: Span, before: usize) -> bool
     ensures count { result ≡ true → sized.now.cards ≡ span.count }
     ensures within { result ≡ true → span.start + span.count ≤ before }
+    ensures all { sized.now.cards ≡ span.count → span.start + span.count ≤ before → result ≡ true }
 {
     sized.cards as usize == span.count && span.count <= before && span.start <= before - span.count
 }

@@ -3,11 +3,13 @@ ghost use Rattle.std.specs.Prelude.{◌≡◌, ◌≤◌, ◌+◌, ◌⊎◌, Li
 ghost use Rattle.cards.specs.Spans.{IsSpan, statements_at};
 ghost use Rattle.definitions.specs.Cards as deck_cards;
 ghost use Rattle.definitions.specs.DeckKinds.{up_to_end, kind_of_statements};
+ghost use Rattle.definitions.specs.Edits.{Edited, IsUntouched};
+ghost use Rattle.definitions.specs.Statements as deck_statements;
 ghost use Rattle.definitions.specs.Statements.{statements_of};
 ghost use Rattle.statement_coder.specs.Meters.{RisesBy};
 ghost use Rattle.deck_assembler.specs.Agreements.{HaveSameEnd};
-ghost use Rattle.deck_assembler.specs.Formers.{IsFormerOf};
-ghost use Rattle.deck_assembler.specs.OldDecks.{IsKeptOn};
+ghost use Rattle.deck_assembler.specs.Formers.{IsFormerOf, known_in};
+ghost use Rattle.deck_assembler.specs.OldDecks.{IsKeptOn, StandsInFront};
 ghost use Rattle.deck_assembler.specs.SizedDecks.{IsSizedDeck};
 ghost use Rattle.deck_assembler.specs.declared.old_deck.Stage.TheVariants as stages;
 
@@ -83,6 +85,8 @@ impl SizedDeck {
         ensures former { IfOk result (λ edited. IsFormerOf old.entry.cards.now edited.former) }
         ensures before { IfOk result (λ edited. edited.former.before ≡ old.entry.before) }
         ensures sized { meter.new.sized ≤ meter.old.sized + length (up_to_end (statements_of (reverse cards.now))) }
+        ensures front { (decks : Edited) (front : List deck_statements.Statement) → decks.old ≡ known_in old.entry.cards.now → decks.new ≡ known_in cards.now → decks.before ≤ old.entry.before →
+            kind_of_statements decks.old ≡ kind_of_statements decks.new → IsUntouched decks front → length front + meter.new.sized ≤ length decks.new + meter.old.sized }
         ensures rises { meter.old.sized ≤ meter.new.sized }
         ensures coded { meter.new.coded ≡ meter.old.coded }
     {
@@ -108,6 +112,7 @@ impl SizedDeck {
             IsKeptOn kind old.entry.cards.now cards [] parted.old_deck) }
         ensures former { IfOk result (λ parted. IsFormerOf old.entry.cards.now parted.former) }
         ensures before { IfOk result (λ parted. parted.former.before ≡ old.entry.before) }
+        ensures front { IfOk result (λ parted. kind_of_statements (known_in old.entry.cards.now) ≡ kind → (parted.old_deck.stage ≡ stages.Front) × (parted.old_deck.before ≡ old.entry.before)) }
     {
         let stage = first_stage(self.kind, kind);
         let old_deck = OldDeck::of(alloc, old, self.pieces, kind, stage)?;
@@ -170,7 +175,8 @@ struct Parted<'a> {
 
 /// Where an edited deck of a kind begins beside one of another: nothing stays unless the kinds are one.
 fn first_stage(old: DeckKind, kind: DeckKind) -> Stage
-    ensures { (result ≡ stages.Over) ⊎ ((result ≡ stages.Front) × (old ≡ kind)) }
+    ensures either { (result ≡ stages.Over) ⊎ ((result ≡ stages.Front) × (old ≡ kind)) }
+    ensures same { old ≡ kind → result ≡ stages.Front }
 {
     if old == kind {
         Stage::Front
@@ -194,6 +200,8 @@ fn made(
     requires old_deck { (of : List deck_cards.Card) × IsKeptOn kind of cards.now [] old_deck }
     ensures deck { IfOk result (IsSizedDeck cards.now) }
     ensures sized { meter.new.sized ≤ meter.old.sized + length (up_to_end (statements_of (reverse cards.now))) }
+    ensures front { (of : List deck_cards.Card) (front : List deck_statements.Statement) → IsKeptOn kind of cards.now [] old_deck.entry → StandsInFront of (known_in cards.now) front old_deck.entry →
+        length front + meter.new.sized ≤ length (known_in cards.now) + meter.old.sized }
     ensures rises { meter.old.sized ≤ meter.new.sized }
     ensures all { OnOk result (old_deck.entry.stage ≡ stages.Over → RisesBy (length (up_to_end (statements_of (reverse cards.now)))) meter.old.sized meter.new.sized) }
     ensures coded { meter.new.coded ≡ meter.old.coded }

@@ -14,7 +14,7 @@ ghost use Rattle.use_blocks.specs.BlockLengths.{block_names};
 ghost use Rattle.use_blocks.specs.Changes.{IsAccepted};
 ghost use Rattle.use_blocks.specs.EffectsAs.{change_as};
 ghost use Rattle.deck_assembler.specs.FirstStatements.{all_statements, first_statements, IsEnding};
-ghost use Rattle.deck_assembler.specs.OldDecks.{IsKeptOn, IsOnSpan};
+ghost use Rattle.deck_assembler.specs.OldDecks.{GoesOn, IsKeptOn, IsOnSpan, StandsInFront};
 ghost use Rattle.deck_assembler.specs.SizedDecks.{IsSizedStatement};
 ghost use Rattle.deck_assembler.specs.Sizers.{stood, ahead, IsNext, IsSizer};
 ghost use Rattle.deck_assembler.specs.declared.old_deck.Stage.TheVariants as stages;
@@ -122,6 +122,10 @@ impl Sizer {
             let now = statement_at cards.now span ∷ earlier in
             IsSizer kind cards.now now self.new × IsKeptOn kind of cards.now now old_deck.new) }
         ensures over { old_deck.old.stage ≡ stages.Over → old_deck.new.stage ≡ stages.Over }
+        ensures front { OnOk result ((of : List deck_cards.Card) (earlier : List statements.Statement) → IsOnSpan kind of cards.now earlier span self.old old_deck.old → GoesOn of cards.now earlier span old_deck.old →
+            (old_deck.new.stage ≡ stages.Front) × (old_deck.new.before ≡ old_deck.old.before)) }
+        ensures kept { (of : List deck_cards.Card) (earlier : List statements.Statement) → IsOnSpan kind of cards.now earlier span self.old old_deck.old → GoesOn of cards.now earlier span old_deck.old →
+            meter.new.sized ≡ meter.old.sized }
         ensures sized { meter.new.sized ≤ meter.old.sized + 1 }
         ensures rises { meter.old.sized ≤ meter.new.sized }
         ensures all { OnOk result (old_deck.old.stage ≡ stages.Over → meter.new.sized ≡ min (meter.old.sized + 1) (2 ^ 64 - 1)) }
@@ -152,6 +156,8 @@ impl Sizer {
         ensures ended { IfOk result (λ count. IsEnding cards.now spans.now count) }
         ensures taken { IfOk result (λ count. IsSizer kind cards.now (first_statements cards.now spans.now count) self.new) }
         ensures sized { meter.new.sized ≤ meter.old.sized + length (up_to_end (all_statements cards.now spans.now)) }
+        ensures front { (of : List deck_cards.Card) (front : List statements.Statement) → IsKeptOn kind of cards.now [] old_deck.entry → StandsInFront of (up_to_end (all_statements cards.now spans.now)) front old_deck.entry →
+            length front + meter.new.sized ≤ length (up_to_end (all_statements cards.now spans.now)) + meter.old.sized }
         ensures rises { meter.old.sized ≤ meter.new.sized }
         ensures all { OnOk result (old_deck.entry.stage ≡ stages.Over → RisesBy (length (up_to_end (all_statements cards.now spans.now))) meter.old.sized meter.new.sized) }
         ensures coded { meter.new.coded ≡ meter.old.coded }

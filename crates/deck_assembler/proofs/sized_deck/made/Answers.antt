@@ -4,6 +4,7 @@ use Rattle.cards.specs.Spans.{IsSpan}
 use Rattle.definitions.specs.DeckKinds.{up_to_end, kind_of_statements}
 use Rattle.definitions.specs.Statements.{Statement}
 use Rattle.deck_assembler.proofs.DeckLaws.{all-statements, all-numbered, all-behind, deck-made, counts_of}
+use Rattle.deck_assembler.proofs.FrontLaws.{front-in, stands-still}
 use Rattle.deck_assembler.proofs.sized_deck.made.Goals as goal
 
 pub take_up_to_end-requires-clause-numbered : goal.take_up_to_end-requires-clause-numbered
@@ -23,3 +24,24 @@ returns-clause-deck c =
     deck-made cards spans c.in_ok-count.count c.args.kind c.take_up_to_end.new.self c.in_ok-behind.behind.items
     c.requires.statements c.requires.spans kind c.in_ok-count.ensures.ended c.in_ok-count.ensures.taken
     (c.in_ok-behind.ensures ∙ ap counts_of c.split_at.ensures.back)
+
+pub returns-in_err-sizer-clause-front : goal.returns-in_err-sizer-clause-front
+returns-in_err-sizer-clause-front c = λ of front kept stands. stands-still of _ front c.args.old_deck _ stands
+
+pub returns-in_err-count-clause-front : goal.returns-in_err-count-clause-front
+returns-in_err-count-clause-front c = λ of front kept stands.
+    let cards = c.args.cards.now in
+    let spans = c.args.spans.now in
+    front-in of cards spans front c.args.old_deck _ _ (all-statements cards spans c.requires.statements) (c.take_up_to_end.ensures.front of front kept) stands
+
+pub returns-in_err-behind-clause-front : goal.returns-in_err-behind-clause-front
+returns-in_err-behind-clause-front c = λ of front kept stands.
+    let cards = c.args.cards.now in
+    let spans = c.args.spans.now in
+    front-in of cards spans front c.args.old_deck _ _ (all-statements cards spans c.requires.statements) (c.take_up_to_end.ensures.front of front kept) stands
+
+pub returns-clause-front : goal.returns-clause-front
+returns-clause-front c = λ of front kept stands.
+    let cards = c.args.cards.now in
+    let spans = c.args.spans.now in
+    front-in of cards spans front c.args.old_deck _ _ (all-statements cards spans c.requires.statements) (c.take_up_to_end.ensures.front of front kept) stands

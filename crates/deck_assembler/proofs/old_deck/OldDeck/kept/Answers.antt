@@ -1,5 +1,5 @@
 -- What is kept at each stage.
-use Rattle.std.proofs.lemmas.Result.{on_ok_weaker}
+use Rattle.std.proofs.lemmas.Result.{on_ok_weaker, IfOk-weaker}
 use Rattle.std.proofs.Common.{refl, sym, subst}
 use Rattle.deck_assembler.specs.OldDecks.{IsAtStage}
 use Rattle.deck_assembler.proofs.MeetLaws.{found-weaker, some-weaker, goes-on}
@@ -21,3 +21,6 @@ pub returns-in-Over-clause-kept : goal.returns-in-Over-clause-kept
 returns-in-Over-clause-kept c = λ kind old earlier on.
     goes-on kind old c.args.cards.now earlier _ c.args.span c.args.sizer.now c.args.self.now c.args.self.now on (record { kind = refl; before = refl; behind = refl })
     (subst (IsAtStage kind old c.args.cards.now _ c.args.self.now) (sym c.in-Over.is) tt)
+
+pub returns-in-Front-clause-front : goal.returns-in-Front-clause-front
+returns-in-Front-clause-front c = IfOk-weaker c.kept_in_front.result _ _ (λ found step. step c.args.cards.now) c.kept_in_front.ensures.front

@@ -1,11 +1,12 @@
 -- A statement that ends before the edited card stays; with another the front is left.
-use Rattle.std.proofs.Common.{◌∷◌, ◌∙◌, List, refl, sym, subst}
+use Rattle.std.proofs.Common.{◌∷◌, ◌∙◌, ◌+◌, ◌≤◌, List, true≢false, refl, sym, subst}
 use Rattle.cards.specs.Spans.{statement_at}
 use Rattle.definitions.specs.Statements.{Statement}
 use Rattle.deck_assembler.specs.Agreements.{left, HasFront}
 use Rattle.deck_assembler.specs.OldDecks.{IsAtStage}
 use Rattle.deck_assembler.specs.declared.old_deck.OldDeck.{OldDeck}
 use Rattle.deck_assembler.specs.declared.old_deck.Stage.TheVariants as stages
+use Rattle.deck_assembler.proofs.FrontLaws.{goes-no-more, goes-within}
 use Rattle.deck_assembler.proofs.HeadLaws.{front-next, next-in-front}
 use Rattle.deck_assembler.proofs.MeetLaws.{goes-on}
 use Rattle.deck_assembler.proofs.OldLaws.{at_stage, same-again, same-at}
@@ -56,3 +57,18 @@ returns-clause-kept c = λ cards kind old earlier on.
     let front = c.in_ok-leave_front.ensures.front old cards earlier (left next) both.0 both.1 in
     goes-on kind old cards earlier now c.args.span c.args.sizer.now c.args.self.now new on (same-again same.deck c.leave_front.ensures.deck)
     (subst (IsAtStage kind old cards now new) (sym c.in_ok-leave_front.ensures.stage) (subst (λ l. HasFront old l new) (sym c.leave_front.ensures.rest) front))
+
+pub returns-in_default-clause-front : goal.returns-in_default-clause-front
+returns-in_default-clause-front c = λ cards kind old earlier on goes.
+    absurd (goes-no-more kind old cards earlier c.args.span c.args.sizer.now c.args.self.now on goes (c.in_default.ensures.next ∙ c.in_default.ensures.last refl))
+
+pub returns-then-is_within-clause-front : goal.returns-then-is_within-clause-front
+returns-then-is_within-clause-front c = λ cards kind old earlier on goes.
+    let same = c.next.ensures.same in
+    record { some = refl; stage = same.stage ∙ c.requires.stage; before = same.deck.before }
+
+pub returns-clause-front : goal.returns-clause-front
+returns-clause-front c = λ cards kind old earlier on goes.
+    let both = goes-within kind old cards earlier c.args.span c.args.sizer.now c.args.self.now c.in-Some.sized (left c.next.new.self) on goes c.in-Some.ensures.next in
+    let same = c.next.ensures.same.deck.before in
+    absurd (true≢false (sym (c.is_within.ensures.all both.0 (subst (λ n. c.args.span.start + c.args.span.count ≤ n) (sym same) both.1)) ∙ c.if-is_within.false))

@@ -13,7 +13,7 @@ returns-clause-old_deck c = λ cards unchanged same_end.
     let is = subst (IsSizedDeck old) (sym c.self.view_is) c.requires in
     let made = c.in_ok-old_deck.ensures in
     record {
-      standing = elim c.first_stage-stage.ensures [
+      standing = elim c.first_stage-stage.ensures.either [
         | inl over ↦ subst (IsAtStage c.args.kind old cards [] deck) (sym (made.stage ∙ over)) tt
         | inr both ↦ subst (IsAtStage c.args.kind old cards [] deck) (sym (made.stage ∙ both.0))
             (deck-in-front old cards _ deck is (made.kind ∙ sym both.1) made.ahead made.left (subst (λ n. take n old ≡ take n cards) (sym made.before) unchanged))
@@ -26,3 +26,9 @@ pub returns-clause-former : goal.returns-clause-former
 returns-clause-former c =
     let here = subst (IsSizedDeck c.args.old.cards.now) (sym c.self.view_is) c.requires in
     record { kind = here.kind; symbols = here.symbols; literals = here.literals }
+
+pub returns-clause-front : goal.returns-clause-front
+returns-clause-front c = λ kinds.
+    let is = subst (IsSizedDeck c.args.old.cards.now) (sym c.self.view_is) c.requires in
+    let made = c.in_ok-old_deck.ensures in
+    (made.stage ∙ c.first_stage-stage.ensures.same (is.kind ∙ kinds), made.before)

@@ -1,7 +1,7 @@
 -- The next statement is one more, kept or sized, and the old deck goes on behind it.
-use Rattle.std.proofs.Common.{ℕ, sym, subst}
-use Rattle.std.specs.Prelude.{Option, IfSome}
-use Rattle.deck_assembler.proofs.ResultLaws.{on_ok_one}
+use Rattle.std.proofs.Common.{ℕ, true≢false, ap, sym, subst, ◌∙◌}
+use Rattle.std.specs.Prelude.{Option, IfSome, is_some}
+use Rattle.deck_assembler.proofs.ResultLaws.{on_ok_any, on_ok_one}
 use Rattle.cards.specs.Spans.{statement_at}
 use Rattle.deck_assembler.specs.OldDecks.{IsThatOf}
 use Rattle.deck_assembler.specs.Sizers.{stood, ahead, IsNext}
@@ -37,3 +37,18 @@ pub returns-in-None-clause-taken : goal.returns-in-None-clause-taken
 returns-in-None-clause-taken c =
     let kind = c.args.kind in
     on_ok_one c.take_span.result _ _ (λ step old earlier on. (step earlier on.next on.sizer_is, c.in_ok-kept.ensures.kept kind old earlier on)) c.take_span.ensures.taken
+
+pub returns-in-Some-clause-front : goal.returns-in-Some-clause-front
+returns-in-Some-clause-front c = on_ok_any c.keep_span.result (λ old earlier on goes.
+    let front = c.in_ok-kept.ensures.front c.args.kind old earlier on goes in
+    (front.stage, front.before))
+
+pub returns-in-None-clause-front : goal.returns-in-None-clause-front
+returns-in-None-clause-front c = on_ok_any c.take_span.result (λ old earlier on goes.
+    let front = c.in_ok-kept.ensures.front c.args.kind old earlier on goes in
+    (front.stage, front.before))
+
+pub returns-in-None-clause-kept : goal.returns-in-None-clause-kept
+returns-in-None-clause-kept c = λ old earlier on goes.
+    let front = c.in_ok-kept.ensures.front c.args.kind old earlier on goes in
+    absurd (true≢false (sym front.some ∙ ap is_some c.in-None.is))

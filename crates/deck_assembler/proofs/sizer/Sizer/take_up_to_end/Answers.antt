@@ -7,6 +7,7 @@ use Rattle.deck_assembler.specs.FirstStatements.{first_statements, IsEnding}
 use Rattle.deck_assembler.specs.OldDecks.{IsKeptOn}
 use Rattle.deck_assembler.specs.Sizers.{IsSizer}
 use Rattle.deck_assembler.proofs.EndLaws.{first-step, next-at, few-sized, ending-here, open-step, ending-none, ending-length, few-all}
+use Rattle.deck_assembler.proofs.FrontLaws.{front-bound, front-end, front-more, goes-at, stands-few}
 use Rattle.deck_assembler.proofs.sizer.Sizer.take_up_to_end.Goals as goal
 
 -- what stands where there is no span
@@ -19,6 +20,19 @@ returns-in_err-take_next-clause-sized c =
     let sized = c.loop-k.invariant.sized in
     let more = c.take_next.ensures.sized in
     omega (arith, few, sized, more)
+
+pub returns-in_err-take_next-clause-front : goal.returns-in_err-take_next-clause-front
+returns-in_err-take_next-clause-front c = λ of front kept stands.
+    let cards = c.args.cards.now in
+    let spans = c.args.spans.now in
+    let k = c.loop-k.k in
+    let so_far = c.loop-k.invariant in
+    let taken = so_far.front of front kept stands in
+    front-bound k _ front c.args.old_deck c.loop-k.kept _ _ _ taken c.take_next.ensures.sized
+    (λ less. c.take_next.ensures.kept of (first_statements cards spans k)
+    (record { sizer_is = so_far.taken; next = next-at cards spans k other c.loop-k-test.true c.requires.spans c.requires.numbered; kept_on = so_far.kept of kept })
+    (goes-at of cards spans k other front c.args.old_deck c.loop-k.kept _ _ c.loop-k-test.true so_far.open' stands taken less))
+    (few-sized cards spans k other c.loop-k-test.true so_far.open') (stands-few of _ front c.args.old_deck stands)
 
 pub take_next-requires-clause-ready : goal.take_next-requires-clause-ready
 take_next-requires-clause-ready c =
@@ -50,6 +64,19 @@ returns-then-branch-clause-sized c =
     let more = c.in_ok-take_next.ensures.sized in
     omega (arith, few, sized, more)
 
+pub returns-then-branch-clause-front : goal.returns-then-branch-clause-front
+returns-then-branch-clause-front c = λ of front kept stands.
+    let cards = c.args.cards.now in
+    let spans = c.args.spans.now in
+    let k = c.loop-k.k in
+    let so_far = c.loop-k.invariant in
+    let taken = so_far.front of front kept stands in
+    front-bound k _ front c.args.old_deck c.loop-k.kept _ _ _ taken c.take_next.ensures.sized
+    (λ less. c.take_next.ensures.kept of (first_statements cards spans k)
+    (record { sizer_is = so_far.taken; next = next-at cards spans k other c.loop-k-test.true c.requires.spans c.requires.numbered; kept_on = so_far.kept of kept })
+    (goes-at of cards spans k other front c.args.old_deck c.loop-k.kept _ _ c.loop-k-test.true so_far.open' stands taken less))
+    (few-sized cards spans k other c.loop-k-test.true so_far.open') (stands-few of _ front c.args.old_deck stands)
+
 pub returns-then-branch-clause-all : goal.returns-then-branch-clause-all
 returns-then-branch-clause-all c =
     let counted = ending-length c.args.cards.now c.args.spans.now (c.loop-k.k + 1) (returns-then-branch-clause-ended c) in
@@ -78,6 +105,13 @@ loop-k-preserved c =
           ∙ open-step cards spans c.loop-k.k other c.loop-k-test.true c.loop-k.invariant.open' (sym c.in_ok-take_next.ensures.end ∙ c.if-branch.false);
       sized = omega (arith, so_far, more);
       rises = let rises = c.loop-k.invariant.rises in let here = c.in_ok-take_next.ensures.rises in omega (arith, rises, here);
+      front = λ of front kept stands.
+          let taken = c.loop-k.invariant.front of front kept stands in
+          front-more c.loop-k.k front c.args.old_deck c.loop-k.kept c.take_next.new.old_deck _ _ _ taken more
+          (λ less.
+          let goes = goes-at of cards spans c.loop-k.k other front c.args.old_deck c.loop-k.kept _ _ c.loop-k-test.true c.loop-k.invariant.open' stands taken less in
+          let both = c.in_ok-take_next.ensures.front of first (record { sizer_is = c.loop-k.invariant.taken; next = next; kept_on = c.loop-k.invariant.kept of kept }) goes in
+          (both.0, (both.1, c.in_ok-take_next.ensures.kept of first (record { sizer_is = c.loop-k.invariant.taken; next = next; kept_on = c.loop-k.invariant.kept of kept }) goes)));
       over = λ none. c.take_next.ensures.over (c.loop-k.invariant.over none);
       all = λ none room.
           let all = c.loop-k.invariant.all none (omega (arith, room)) in
@@ -98,6 +132,13 @@ returns-clause-sized c =
     let few = few-all c.args.cards.now c.args.spans.now c.loop-k.k n c.loop-k.invariant.open' in
     let sized = c.loop-k.invariant.sized in
     omega (arith, few, sized)
+
+pub returns-clause-front : goal.returns-clause-front
+returns-clause-front c = λ of front kept stands.
+    let spans = c.args.spans.now in
+    let n : c.loop-k.k ≡ length spans = omega (arith, c.loop-k.auto.k-end, c.loop-k-test.false) in
+    let all = ending-length c.args.cards.now spans (length spans) (returns-clause-ended c) in
+    front-end c.loop-k.k _ front c.args.old_deck c.loop-k.kept _ _ (c.loop-k.invariant.front of front kept stands) (n ∙ sym all) (stands-few of _ front c.args.old_deck stands)
 
 pub returns-clause-all : goal.returns-clause-all
 returns-clause-all c =

@@ -1,11 +1,13 @@
 use Rattle.std.proofs.Common.{◌≡◌, ◌+◌, ◌≤◌, List, [], false}
 use Rattle.definitions.specs.Cards.{Card}
-use Rattle.definitions.specs.DeckKinds.{has_end}
+use Rattle.definitions.specs.DeckKinds.{has_end, up_to_end}
+use Rattle.definitions.specs.Statements.{Statement}
 use Rattle.statement_coder.specs.Meters.{RisesBy}
-use Rattle.deck_assembler.specs.FirstStatements.{first_statements}
-use Rattle.deck_assembler.specs.OldDecks.{IsKeptOn}
+use Rattle.deck_assembler.specs.FirstStatements.{first_statements, all_statements}
+use Rattle.deck_assembler.specs.OldDecks.{IsKeptOn, StandsInFront}
 use Rattle.deck_assembler.specs.Sizers.{IsSizer}
 use Rattle.deck_assembler.specs.declared.old_deck.Stage.TheVariants as stages
+use Rattle.deck_assembler.proofs.FrontLaws.{IsFrontTaken}
 use Rattle.deck_assembler.proofs.sizer.Sizer.take_up_to_end.Given as goal
 
 -- the statements so far are sized, and none of them is END
@@ -16,6 +18,8 @@ invariant-loop-k l = record {
   open' : has_end (first_statements l.cards l.spans l.k) ≡ false;
   sized : l.meter.sized ≤ l.initial.meter.sized + l.k;
   rises : l.initial.meter.sized ≤ l.meter.sized;
+  front : (of : List Card) (front : List Statement) → IsKeptOn l.kind of l.cards [] l.fn.old_deck → StandsInFront of (up_to_end (all_statements l.cards l.spans)) front l.fn.old_deck →
+      IsFrontTaken l.k front l.fn.old_deck l.kept l.initial.meter.sized l.meter.sized;
   over : l.fn.old_deck.stage ≡ stages.Over → l.kept.stage ≡ stages.Over;
   all : l.fn.old_deck.stage ≡ stages.Over → RisesBy l.k l.initial.meter.sized l.meter.sized;
   coded : l.meter.coded ≡ l.initial.meter.coded;
