@@ -6,14 +6,19 @@ use Rattle.std.proofs.lemmas.Bool.{eqb-true}
 use Rattle.std.proofs.lemmas.List.{nil_from_length, take-take}
 use Rattle.std.proofs.lemmas.List.Elements.{All-head, All-tail, All-push, All-weaker}
 use Rattle.definitions.specs.Cards.{Card}
+use Rattle.definitions.specs.DeckKinds.{kind_of_statements}
+use Rattle.definitions.specs.Edits.{Edited, IsUntouched}
+use Rattle.definitions.specs.Statements.{Statement}
 use Rattle.cards.specs.declared.edits.Edit.{Edit}
 use Rattle.cards.specs.declared.edits.Edit.TheVariants.{Insert, Replace, Remove}
 use Rattle.cards.specs.declared.edits.EditFault.{EditFault}
 use Rattle.cards.specs.Edits.{fault_of, edited, edited_by, first_fault}
 use Rattle.cards.proofs.FaultLaws.{applies-in, edited-few, insert-front, replace-front, remove-front}
 use Rattle.deck_assembler.specs.DeckParts.{DeckParts}
+use Rattle.deck_assembler.specs.Formers.{known_in}
 use Rattle.deck_assembler.specs.SizedDecks.{IsSizedDeck}
-use Rattle.edit_core.specs.Edited.{edits_bound, front_of, statement_count, IsRecordOf}
+use Rattle.deck_assembler.proofs.FrontLaws.{front-still as still}
+use Rattle.edit_core.specs.Edited.{edits_bound, front_of, statement_count, AreDecksOf, IsRecordOf, RisesBehindFront}
 use Rattle.edit_core.specs.Faults.{against, against_all, record_fault}
 use Rattle.edit_core.specs.Records.{Record, ArePieces, piece_counts}
 use Rattle.edit_core.proofs.PieceLaws.{deck-pieces}
@@ -85,3 +90,19 @@ none-made edits made none is = subst (λ (es : List Edit). IsRecordOf made.name 
 pub bound-some : (edits : List Edit) (cards : List Card) → (length edits == 0) ≡ false → edits_bound edits cards ≡ statement_count (edited_by edits cards)
 bound-some [] cards some = cc
 bound-some (edit ∷ edits) cards some = refl
+
+-- where nothing is counted
+pub front-still : (edits : List Edit) (cards : List Card) (count : ℕ) → RisesBehindFront edits cards count count
+front-still edits cards count = λ decks front are is. still decks front count is
+
+-- so many cards stand before each one that an edit is of
+pub decks-before : (edits : List Edit) (cards : List Card) (count : ℕ) (decks : Edited) → ((n : ℕ) → n ≤ 20000 → All (λ edit. n ≤ front_of edit) edits → n ≤ count) → AreDecksOf edits cards decks → length cards ≤ 20000 →
+    decks.before ≤ count
+decks-before edits cards count decks most are few = let within = are.within in most decks.before (omega (arith, within, few)) are.before
+
+-- no statement of an untouched front is counted where none of one beside these places is
+pub front-edited : (edits : List Edit) (own cards made : List Card) (before count now : ℕ) → own ≡ cards → made ≡ edited_by edits own → ((n : ℕ) → n ≤ 20000 → All (λ edit. n ≤ front_of edit) edits → n ≤ before) → length cards ≤ 20000 →
+    ((decks : Edited) (front : List Statement) → decks.old ≡ known_in own → decks.new ≡ known_in made → decks.before ≤ before → kind_of_statements decks.old ≡ kind_of_statements decks.new → IsUntouched decks front →
+    length front + now ≤ length decks.new + count) → RisesBehindFront edits cards count now
+front-edited edits own cards made before count now same after most few bound = λ decks front are is.
+    bound decks front (are.old ∙ ap known_in (sym same)) (are.new ∙ ap (λ (l : List Card). known_in (edited_by edits l)) (sym same) ∙ ap known_in (sym after)) (decks-before edits cards before decks most are few) are.kinds is

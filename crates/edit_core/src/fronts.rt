@@ -1,5 +1,5 @@
 //! The cards in front of edits, and those behind them, which stay.
-ghost use Rattle.std.specs.Prelude.{◌≡◌, ◌≤◌, All, List, None, length};
+ghost use Rattle.std.specs.Prelude.{ℕ, ◌≡◌, ◌≤◌, All, List, None, length};
 ghost use Rattle.definitions.specs.Cards as deck_cards;
 ghost use Rattle.cards.specs.Edits.{edited_by, first_fault};
 ghost use Rattle.deck_assembler.specs.Agreements.{HaveSameEnd};
@@ -21,7 +21,8 @@ fn cards_before(edit: &Edit) -> usize
 
 /// So many cards that none of these edits is of one of them.
 pub(crate) fn cards_before_all(edits: &[Edit]) -> usize
-    ensures { All (λ edit. result ≤ front_of edit) edits.now }
+    ensures all { All (λ edit. result ≤ front_of edit) edits.now }
+    ensures most { (count : ℕ) → count ≤ 20000 → All (λ edit. count ≤ front_of edit) edits.now → count ≤ result }
 {
     let mut before = usize::MAX;
     for edit in edits {

@@ -1,12 +1,12 @@
 //! What is kept of a deck from one edit to the next.
-ghost use Rattle.std.specs.Prelude.{◌≡◌, ◌≤◌, ◌+◌, true, false, length, reverse, None, Err, IfOk, IfErr, OnOk, ◌↔◌};
+ghost use Rattle.std.specs.Prelude.{◌≡◌, ◌≤◌, ◌∷◌, [], ◌+◌, true, false, length, reverse, None, Err, IfOk, IfErr, OnOk, ◌↔◌};
 ghost use Rattle.std.specs.Option.{ForSome};
 ghost use Rattle.definitions.specs.DeckKinds.{up_to_end};
 ghost use Rattle.definitions.specs.Statements.{statements_of};
 ghost use Rattle.cards.specs.Edits.{edited, edited_by, first_fault};
 ghost use Rattle.statement_coder.specs.Meters.{RisesBy};
 ghost use Rattle.deck_assembler.specs.SizedDecks.{IsSizedDeck};
-ghost use Rattle.edit_core.specs.Edited.{edits_bound, statement_count, IsRecordOf};
+ghost use Rattle.edit_core.specs.Edited.{edits_bound, statement_count, IsRecordOf, RisesBehindFront};
 ghost use Rattle.edit_core.specs.Faults.{against, against_all};
 ghost use Rattle.edit_core.specs.Records.{ArePieces};
 
@@ -100,13 +100,15 @@ impl Kept {
     /// stay as they were sized, and keep their lines in the object unless a name is bound otherwise; and
     /// from the first piece on behind which all is sized as before, the others stay as they were sized,
     /// too. Where the kind of the deck changes, none does. The meter counts at most one statement sized, and
-    /// one coded, for each up to END of the edited cards.
+    /// one coded, for each up to END of the edited cards; and where the kind stays, none sized of those
+    /// that stand untouched in front of both decks.
     pub fn edit(&mut self, alloc: Global, edit: &Edit, meter: &mut Meter) -> Result<(), RecordFault>
         ensures refused { ForSome (against edit.now self.old.is_spent self.old.cards) (λ fault. (result ≡ Err fault) × (self.new ≡ self.old) × (meter.new ≡ meter.old)) }
         ensures accepted { against edit.now self.old.is_spent self.old.cards ≡ None → IfErr result (λ fault. fault ≡ RecordFault.OutOfMemory) }
         ensures made { IfOk result (λ _. IsRecordOf self.old.name (edited self.old.cards edit.now) self.new) }
         ensures lost { result ≡ Err RecordFault.OutOfMemory → self.new.is_spent ≡ true }
         ensures sized { meter.new.sized ≤ meter.old.sized + statement_count (edited self.old.cards edit.now) }
+        ensures sized_front { RisesBehindFront (edit.now ∷ []) self.old.cards meter.old.sized meter.new.sized }
         ensures sized_rises { meter.old.sized ≤ meter.new.sized }
         ensures coded { meter.new.coded ≤ meter.old.coded + statement_count (edited self.old.cards edit.now) }
         ensures coded_rises { meter.old.coded ≤ meter.new.coded }
@@ -120,7 +122,8 @@ impl Kept {
     /// Where the record is spent, or else at the first edit that doesn't apply to what the ones before
     /// it leave, it says so and changes nothing; where memory runs out it is spent. The meter counts at
     /// most one statement sized, and one coded, for each up to END of the cards that all of them leave,
-    /// and none where there are no edits.
+    /// and none where there are no edits; and where the kind stays, none sized of those that stand
+    /// untouched in front of both decks.
     pub fn edit_all(
         &mut self,
         alloc: Global,
@@ -132,6 +135,7 @@ impl Kept {
         ensures made { IfOk result (λ _. IsRecordOf self.old.name (edited_by edits.now self.old.cards) self.new) }
         ensures lost { result ≡ Err RecordFault.OutOfMemory → self.new.is_spent ≡ true }
         ensures sized { meter.new.sized ≤ meter.old.sized + edits_bound edits.now self.old.cards }
+        ensures sized_front { RisesBehindFront edits.now self.old.cards meter.old.sized meter.new.sized }
         ensures sized_rises { meter.old.sized ≤ meter.new.sized }
         ensures coded { meter.new.coded ≤ meter.old.coded + edits_bound edits.now self.old.cards }
         ensures coded_rises { meter.old.coded ≤ meter.new.coded }
@@ -154,6 +158,7 @@ impl Kept {
         ensures made { IfOk result (λ _. IsRecordOf self.old.name (edited_by edits.now self.old.cards) self.new) }
         ensures lost { result ≡ Err RecordFault.OutOfMemory → self.new.is_spent ≡ true }
         ensures sized { meter.new.sized ≤ meter.old.sized + edits_bound edits.now self.old.cards }
+        ensures sized_front { RisesBehindFront edits.now self.old.cards meter.old.sized meter.new.sized }
         ensures sized_rises { meter.old.sized ≤ meter.new.sized }
         ensures coded { meter.new.coded ≤ meter.old.coded + edits_bound edits.now self.old.cards }
         ensures coded_rises { meter.old.coded ≤ meter.new.coded }
@@ -206,6 +211,7 @@ impl Kept {
         requires deck { IsSizedDeck self.now.cards sized }
         ensures made { IfOk result (IsRecordOf self.now.name (edited_by edits.now self.now.cards)) }
         ensures sized { meter.new.sized ≤ meter.old.sized + statement_count (edited_by edits.now self.now.cards) }
+        ensures sized_front { RisesBehindFront edits.now self.now.cards meter.old.sized meter.new.sized }
         ensures sized_rises { meter.old.sized ≤ meter.new.sized }
         ensures coded { meter.new.coded ≤ meter.old.coded + statement_count (edited_by edits.now self.now.cards) }
         ensures coded_rises { meter.old.coded ≤ meter.new.coded }

@@ -1,5 +1,6 @@
-use Rattle.std.proofs.Common.{◌≤◌, List, All, arith, subst}
+use Rattle.std.proofs.Common.{◌≤◌, List, All, arith, subst, sym}
 use Rattle.std.proofs.lemmas.List.{take_all}
+use Rattle.std.proofs.lemmas.List.Elements.{All-get_or}
 use Rattle.cards.specs.declared.edits.Edit.{Edit}
 use Rattle.edit_core.specs.Edited.{front_of}
 use Rattle.edit_core.proofs.EditLaws.{front-more}
@@ -9,9 +10,18 @@ pub loop-edit-preserved : goal.loop-edit-preserved
 loop-edit-preserved c =
     let least = c.min-before.ensures in
     let front = c.cards_before.ensures in
-    front-more c.args.edits.now c.loop-edit.edit-index c.edit-item.result c.loop-edit.before c.min-before.result c.loop-edit-test.true c.edit-item.is
-    (omega (arith, least)) (omega (arith, least, front)) c.loop-edit.invariant
+    let edits = c.args.edits.now in
+    let edit = c.edit-item.result in
+    let so_far = c.loop-edit.invariant in
+    record {
+      all = front-more edits c.loop-edit.edit-index edit c.loop-edit.before c.min-before.result c.loop-edit-test.true c.edit-item.is
+          (omega (arith, least)) (omega (arith, least, front)) so_far.all;
+      most = λ count few all.
+          let before = so_far.most count few all in
+          let here = subst (λ (e : Edit). count ≤ front_of e) (sym c.edit-item.is) (All-get_or (λ (e : Edit). count ≤ front_of e) edits c.loop-edit.edit-index edit c.loop-edit-test.true all) in
+          omega (arith, least, front, before, here);
+    }
 
-pub returns : goal.returns
-returns c =
-    subst (λ (edits : List Edit). All (λ edit. c.loop-edit.before ≤ front_of edit) edits) (take_all c.loop-edit.edit-index c.args.edits.now (omega (arith, c.loop-edit-test.false))) c.loop-edit.invariant
+pub returns-clause-all : goal.returns-clause-all
+returns-clause-all c =
+    subst (λ (edits : List Edit). All (λ edit. c.loop-edit.before ≤ front_of edit) edits) (take_all c.loop-edit.edit-index c.args.edits.now (omega (arith, c.loop-edit-test.false))) c.loop-edit.invariant.all

@@ -1,8 +1,8 @@
-use Rattle.std.proofs.Common.{◌∙◌, ap, arith, sym}
+use Rattle.std.proofs.Common.{◌∙◌, ap, arith, subst, sym}
 use Rattle.cards.specs.Edits.{edited_by}
-use Rattle.edit_core.specs.Edited.{statement_count}
+use Rattle.edit_core.specs.Edited.{statement_count, RisesBehindFront}
 use Rattle.edit_core.specs.Records.{Record}
-use Rattle.edit_core.proofs.EditLaws.{bound-some, none-made, not-spent}
+use Rattle.edit_core.proofs.EditLaws.{bound-some, front-still, none-made, not-spent}
 use Rattle.edit_core.proofs.kept.Kept.edit_soundly.Goals as goal
 
 pub is_whole-requires : goal.is_whole-requires
@@ -24,3 +24,15 @@ returns-in-Ok-clause-coded c =
     let same = ap (λ (r : Record). statement_count (edited_by c.args.edits.now r.cards)) c.self.view_is in
     let coded = c.in-Ok.ensures.coded in
     omega (arith, bound, same, coded)
+
+pub returns-then-is_empty-clause-sized_front : goal.returns-then-is_empty-clause-sized_front
+returns-then-is_empty-clause-sized_front c = front-still c.args.edits.now c.args.self.now.cards c.args.meter.now.sized
+
+pub returns-in_default-clause-sized_front : goal.returns-in_default-clause-sized_front
+returns-in_default-clause-sized_front c = front-still c.args.edits.now c.args.self.now.cards c.args.meter.now.sized
+
+pub returns-in-Ok-clause-sized_front : goal.returns-in-Ok-clause-sized_front
+returns-in-Ok-clause-sized_front c = subst (λ (r : Record). RisesBehindFront c.args.edits.now r.cards c.args.meter.now.sized c.remade.new.meter.sized) c.self.view_is c.remade.ensures.sized_front
+
+pub returns-in-Err-clause-sized_front : goal.returns-in-Err-clause-sized_front
+returns-in-Err-clause-sized_front c = subst (λ (r : Record). RisesBehindFront c.args.edits.now r.cards c.args.meter.now.sized c.remade.new.meter.sized) c.self.view_is c.remade.ensures.sized_front

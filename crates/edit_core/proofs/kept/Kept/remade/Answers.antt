@@ -6,8 +6,9 @@ use Rattle.definitions.specs.DeckInput.{Deck}
 use Rattle.deck_assembler.specs.Agreements.{HaveSameEnd}
 use Rattle.deck_assembler.specs.Formers.{IsFormerOf}
 use Rattle.deck_assembler.specs.SizedDecks.{IsSizedDeck}
+use Rattle.edit_core.specs.Edited.{RisesBehindFront}
 use Rattle.edit_core.specs.Records.{Record}
-use Rattle.edit_core.proofs.EditLaws.{few-all, front-all}
+use Rattle.edit_core.proofs.EditLaws.{few-all, front-all, front-edited, front-still}
 use Rattle.edit_core.proofs.kept.Kept.remade.Goals as goal
 
 pub edited-requires-clause-deck : goal.edited-requires-clause-deck
@@ -18,7 +19,7 @@ edited-requires-clause-before c =
     let n = c.cards_before_all.result in
     let now = c.deref.ensures.value ∙ c.in_ok-cards.ensures in
     let apply = subst (λ (cards : List Card). first_fault c.args.edits.now cards ≡ None) (sym c.cards-own.ensures.cards) c.requires.apply in
-    sym (ap (take n) now ∙ front-all n c.args.edits.now c.cards-own.result.now c.cards_before_all.ensures apply)
+    sym (ap (take n) now ∙ front-all n c.args.edits.now c.cards-own.result.now c.cards_before_all.ensures.all apply)
 
 pub edited-requires-clause-behind : goal.edited-requires-clause-behind
 edited-requires-clause-behind c =
@@ -44,7 +45,7 @@ pub edited_object-requires-clause-same : goal.edited_object-requires-clause-same
 edited_object-requires-clause-same c =
     let n = c.in_ok-edited.edited.former.before in
     let now = c.in_ok-cards.ensures ∙ ap (λ (cards : List Card). edited_by c.args.edits.now cards) c.cards-own.ensures.cards in
-    let unchanged = front-all c.cards_before_all.result c.args.edits.now c.args.self.now.cards c.cards_before_all.ensures c.requires.apply in
+    let unchanged = front-all c.cards_before_all.result c.args.edits.now c.args.self.now.cards c.cards_before_all.ensures.all c.requires.apply in
     ap (λ (d : Deck). take n d.cards) c.object.ensures
     ∙ ap (λ (r : Record). take n r.cards) c.self.view_is
     ∙ sym (ap (take n) now ∙ subst (λ m. take m (edited_by c.args.edits.now c.args.self.now.cards) ≡ take m c.args.self.now.cards) (sym c.in_ok-edited.ensures.before) unchanged)
@@ -56,3 +57,21 @@ of-requires-clause-few c =
     let made = ap (λ (d : Deck). length d.cards) c.in_ok-object.ensures.object in
     let own = ap (λ (cards : List Card). length cards) now in
     omega (arith, few, made, own)
+
+pub returns-in_err-cards-clause-sized_front : goal.returns-in_err-cards-clause-sized_front
+returns-in_err-cards-clause-sized_front c = front-still c.args.edits.now c.args.self.now.cards c.args.meter.now.sized
+
+pub returns-in_err-edited-clause-sized_front : goal.returns-in_err-edited-clause-sized_front
+returns-in_err-edited-clause-sized_front c =
+    (front-edited c.args.edits.now c.cards-own.result.now c.args.self.now.cards _ c.cards_before_all.result _ _ c.cards-own.ensures.cards (c.deref.ensures.value ∙ c.in_ok-cards.ensures)
+    c.cards_before_all.ensures.most c.cards-own.ensures.few c.edited.ensures.front)
+
+pub returns-in_err-object-clause-sized_front : goal.returns-in_err-object-clause-sized_front
+returns-in_err-object-clause-sized_front c = subst (RisesBehindFront c.args.edits.now c.args.self.now.cards c.args.meter.now.sized) (sym c.edited_object.ensures.sized)
+    (front-edited c.args.edits.now c.cards-own.result.now c.args.self.now.cards _ c.cards_before_all.result _ _ c.cards-own.ensures.cards (c.deref.ensures.value ∙ c.in_ok-cards.ensures)
+    c.cards_before_all.ensures.most c.cards-own.ensures.few c.edited.ensures.front)
+
+pub returns-clause-sized_front : goal.returns-clause-sized_front
+returns-clause-sized_front c = subst (RisesBehindFront c.args.edits.now c.args.self.now.cards c.args.meter.now.sized) (sym c.edited_object.ensures.sized)
+    (front-edited c.args.edits.now c.cards-own.result.now c.args.self.now.cards _ c.cards_before_all.result _ _ c.cards-own.ensures.cards (c.deref.ensures.value ∙ c.in_ok-cards.ensures)
+    c.cards_before_all.ensures.most c.cards-own.ensures.few c.edited.ensures.front)
