@@ -1,12 +1,14 @@
 -- Changes made at the place where a deck was found.
-use Rattle.std.proofs.Common.{◌≡◌, ℕ, ◌+◌, List, [], ◌∷◌, remove, Some, None, refl, sym, ap, ◌∙◌}
+use Rattle.std.proofs.Common.{◌≡◌, ℕ, ◌+◌, ◌==◌, Bool, true, false, cond, List, [], ◌∷◌, remove, inl, Some, None, refl, sym, ap, ◌∙◌, subst, eq-eqb, ne_eqb}
 use Rattle.std.specs.Prelude.{slice_get}
+use Rattle.desk_core.specs.Language.{Deck}
 use Rattle.desk_core.specs.Edits.{Edit}
-use Rattle.desk_core.specs.Desks.{Desk, DeskDeck, is_named}
-use Rattle.desk_core.specs.Calls.{Changed}
-use Rattle.desk_core.specs.Changing.{accepted, against_drop, dropped, drop_deck, edited_deck, edited, against_edit, edit_deck, against_batch, batch}
+use Rattle.desk_core.specs.Desks.{Desk, DeskDeck, is_named, deck_named}
+use Rattle.desk_core.specs.Calls.{Reply, Changed, Refused, NoDeck}
+use Rattle.desk_core.specs.Answers.{Answer, unless}
+use Rattle.desk_core.specs.Changing.{accepted, against_add, added, add_deck, against_put, replaced_deck, put, put_where, put_deck, against_drop, dropped, drop_deck, edited_deck, edited, against_edit, edit_deck, against_batch, batch}
 use Rattle.desk_core.specs.OwnNames.{IsPlaceOf, changed_at}
-use Rattle.desk_core.specs.Turns.{IsAnswer}
+use Rattle.desk_core.specs.Turns.{IsAnswer, MayAnswer}
 use Rattle.desk_core.proofs.AnswerLaws.{done}
 use Rattle.desk_core.proofs.PlaceLaws.{element-at, found-with, found-removed}
 
@@ -44,3 +46,30 @@ pub batch-done : (name : List ℕ) (seen : ℕ) (edits : List Edit) (desk : Desk
 batch-done name seen edits desk place is clear =
     let both = is.some place refl in
     done _ desk (accepted (edited name edits desk)) _ _ (ap (against_batch seen edits desk) both.0 ∙ clear) (refl, sym (edited-same name edits desk place is))
+
+-- what is put where no deck has the name: one more where none was seen
+module _ (new : Deck) (seen : ℕ) (desk : Desk) (none : deck_named new.name desk ≡ None) where
+  put-where : (zero : Bool) → (seen == 0) ≡ zero → put_deck new seen desk ≡ unless (cond zero (against_add new desk) (Some NoDeck)) desk (accepted (added new desk))
+  put-where zero is = ap (put_where new seen desk) none ∙ ap (λ b. unless (cond b (against_add new desk) (Some NoDeck)) desk (accepted (added new desk))) is
+
+  pub put-new : (reply : Reply) (next : Desk) → seen ≡ 0 → MayAnswer desk (add_deck new desk) reply next → MayAnswer desk (put_deck new seen desk) reply next
+  put-new reply next is may = subst (λ (a : Answer). MayAnswer desk a reply next) (sym (put-where true (eq-eqb seen 0 is))) may
+
+  pub put-gone : (seen ≡ 0 → ⊥) → MayAnswer desk (put_deck new seen desk) (Refused NoDeck) desk
+  put-gone is = subst (λ (a : Answer). MayAnswer desk a (Refused NoDeck) desk) (sym (put-where false (ne_eqb seen 0 is))) (inl (refl, refl))
+
+-- what is put in the place of the deck of its name
+module _ (new : Deck) (seen : ℕ) (desk : Desk) (place : ℕ) (is : IsPlaceOf (is_named new.name) (Some place) desk.decks) where
+  there : (deck : DeskDeck) × (slice_get desk.decks place ≡ Some deck)
+  there = element-at desk.decks place (is.some place refl).1
+
+  over : put_deck new seen desk ≡ put_where new seen desk (Some there.0)
+  over = ap (put_where new seen desk) ((is.some place refl).0 ∙ there.1)
+
+  pub put-done : against_put seen new desk (slice_get desk.decks place) ≡ None →
+      IsAnswer (put_deck new seen desk) (Changed (desk.version + 1)) (changed_at place (replaced_deck (desk.version + 1) new.cards) (next_with desk desk.decks))
+  put-done clear =
+      let next = changed_at place (replaced_deck (desk.version + 1) new.cards) (next_with desk desk.decks) in
+      let same = found-with new.name (replaced_deck (desk.version + 1) new.cards) desk.decks place there.0 is.own ((is.some place refl).0 ∙ there.1) there.1 in
+      subst (λ (a : Answer). IsAnswer a (Changed (desk.version + 1)) next) (sym over)
+      (done _ desk (accepted (put new desk (Some there.0))) _ _ (ap (against_put seen new desk) (sym there.1) ∙ clear) (refl, ap (next_with desk) (sym same)))

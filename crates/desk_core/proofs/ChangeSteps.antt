@@ -1,20 +1,21 @@
 -- What is told of a desk after a call that changes decks.
-use Rattle.std.proofs.Common.{◌≡◌, ℕ, ◌+◌, Bool, true, false, cond, not, ◌||◌, List, [], ◌∷◌, ◌++◌, is_some, inl, inr, Option, Some, None, option_map, refl, sym, ap, ◌∙◌, subst, arith, eq-eqb, ne_eqb}
+use Rattle.std.proofs.Common.{◌≡◌, ℕ, ◌+◌, ◌==◌, Bool, true, false, cond, not, ◌||◌, List, [], ◌∷◌, ◌++◌, is_some, inl, inr, Option, Some, None, option_map, refl, sym, ap, ◌∙◌, subst, arith, eq-eqb, ne_eqb}
 use Rattle.std.specs.Option.{option_or}
 use Rattle.std.proofs.lemmas.Bool.{cases_Bool}
+use Rattle.turn_office.specs.declared.history.Entry.{Entry}
 use Rattle.turn_office.specs.Histories.{entry}
 use Rattle.desk_core.specs.Language.{Deck, same_text}
 use Rattle.desk_core.specs.Causes.{when, first_cause}
 use Rattle.desk_core.specs.Edits.{Edit}
 use Rattle.desk_core.specs.Desks.{Desk, DeskDeck, deck_named, is_named}
-use Rattle.desk_core.specs.Calls.{Call, AddDeck, DropDeck, EditDeck, Batch, Reply, Changed, Refused, Refusal}
+use Rattle.desk_core.specs.Calls.{Call, AddDeck, PutDeck, DropDeck, EditDeck, Batch, Reply, Changed, Refused, Refusal}
 use Rattle.desk_core.specs.Answers.{Answer, unless}
-use Rattle.desk_core.specs.Changing.{accepted, against_add, added_deck, added, add_deck, against_drop, dropped, drop_deck, edited_deck, edited, against_edit, edit_deck, against_batch, batch}
+use Rattle.desk_core.specs.Changing.{accepted, against_add, added_deck, added, add_deck, against_put, replaced_deck, put, put_where, put_deck, against_drop, dropped, drop_deck, edited_deck, edited, against_edit, edit_deck, against_batch, batch}
 use Rattle.desk_core.specs.Runs.{History}
-use Rattle.desk_core.specs.Jobs.{identity_of, Edits, effect_if}
+use Rattle.desk_core.specs.Jobs.{identity_in, identity_of, Effect, Edits, Leaves, effect_if, effect_on, after_effect, since_job}
 use Rattle.desk_core.proofs.Same.{equal_texts, same_text-itself}
-use Rattle.desk_core.proofs.JobsTold.{name_of, IsMeant, IsDeckTold, IsDeskTold, lease_told_still, deck_told_next}
-use Rattle.desk_core.proofs.TellingDecks.{found_told, none_found, all_next, all_added}
+use Rattle.desk_core.proofs.JobsTold.{name_in, name_of, since_of, IsMeant, IsLeaseTold, IsDeckTold, IsUnreached, IsDeskTold, LeasesNone, lease_told_still, deck_told_next}
+use Rattle.desk_core.proofs.TellingDecks.{found_told, none_found, all_next, all_added, all_put}
 use Rattle.desk_core.proofs.QuietSteps.{IsQuiet, quiet, told_quiet, told_dropped}
 use Rattle.desk_core.proofs.TouchedSteps.{Touches, told_touched}
 
@@ -48,50 +49,96 @@ module _ (history : History) (by : ℕ) (desk : Desk) (told : IsDeskTold history
   next_unless call None a silent next = next refl
   next_unless call (Some refusal) a silent next = next_quiet call (Refused refusal) (silent refusal)
 
-  -- a deck that was there, after the addition of one of another name
-  added_other : (deck : Deck) (other : DeskDeck) → IsDeckTold history desk.version desk.leases other → is_named deck.name other ≡ false →
-      IsDeckTold (entry by (AddDeck deck) (Changed (desk.version + 1)) ∷ history) (desk.version + 1) desk.leases other
-  added_other deck other was differ =
-      let e = entry by (AddDeck deck) (Changed (desk.version + 1)) in
+  -- an entry that brings a deck as the next change
+  record Brings (deck : Deck) (e : Entry Call Reply) : Type 0 where
+    pub identities : (name : List ℕ) → identity_in name e.call e.reply ≡ cond (same_text name deck.name) (Some (desk.version + 1)) None
+    pub names : (identity : ℕ) → name_in identity e.call e.reply ≡ cond (desk.version + 1 == identity) (Some deck.name) None
+    pub leases_none : LeasesNone e desk.leases
+    pub leaves : (identity : ℕ) → effect_on identity history e.call e.reply ≡ Leaves
+
+  -- a deck that was there, where one of another name is brought
+  brought_other : (deck : Deck) (e : Entry Call Reply) → Brings deck e → (other : DeskDeck) → IsDeckTold history desk.version desk.leases other → is_named deck.name other ≡ false →
+      IsDeckTold (e ∷ history) (desk.version + 1) desk.leases other
+  brought_other deck e brings other was differ =
       let v = desk.version in
       let reached = was.reached in
       let apart = ne_eqb (v + 1) other.identity (λ same. absurd (omega arith)) in
       let meant : IsMeant (e ∷ history) other.name other.identity = record {
-        identity_is = ap (λ b. option_or (cond b (Some (v + 1)) None) (identity_of other.name history)) (differ_both deck.name other.name differ) ∙ was.meant.identity_is;
-        name_is = ap (λ b. option_or (cond b (Some deck.name) None) (name_of other.identity history)) apart ∙ was.meant.name_is;
+        identity_is = ap (λ (o : Option ℕ). option_or o (identity_of other.name history)) (brings.identities other.name ∙ ap (λ b. cond b (Some (v + 1)) None) (differ_both deck.name other.name differ)) ∙ was.meant.identity_is;
+        name_is = ap (λ (o : Option (List ℕ)). option_or o (name_of other.identity history)) (brings.names other.identity ∙ ap (λ b. cond b (Some deck.name) None) apart) ∙ was.meant.name_is;
       } in
-      deck_told_next history e v (v + 1) desk.leases desk.leases other other was refl refl meant (omega arith) refl
-      (lease_told_still history e desk.leases desk.leases (Some other.identity) other.lease (λ n few. refl) (omega arith) was.leased)
+      deck_told_next history e v (v + 1) desk.leases desk.leases other other was refl refl meant (omega arith)
+      (ap (λ (f : Effect). after_effect f (since_of other)) (brings.leaves other.identity))
+      (lease_told_still history e desk.leases desk.leases (Some other.identity) other.lease brings.leases_none (omega arith) was.leased)
 
-  -- the deck that is added
-  added_itself : (deck : Deck) → IsDeckTold (entry by (AddDeck deck) (Changed (desk.version + 1)) ∷ history) (desk.version + 1) desk.leases (added_deck (desk.version + 1) deck)
-  added_itself deck =
+  -- the deck that is brought
+  brought_itself : (deck : Deck) (e : Entry Call Reply) → Brings deck e → IsDeckTold (e ∷ history) (desk.version + 1) desk.leases (added_deck (desk.version + 1) deck)
+  brought_itself deck e brings =
       let v = desk.version in
       record {
         meant = record {
-          identity_is = ap (λ b. option_or (cond b (Some (v + 1)) None) (identity_of deck.name history)) (same_text-itself deck.name);
-          name_is = ap (λ b. option_or (cond b (Some deck.name) None) (name_of (v + 1) history)) (eq-eqb (v + 1) (v + 1) refl);
+          identity_is = ap (λ (o : Option ℕ). option_or o (identity_of deck.name history)) (brings.identities deck.name ∙ ap (λ b. cond b (Some (v + 1)) None) (same_text-itself deck.name));
+          name_is = ap (λ (o : Option (List ℕ)). option_or o (name_of (v + 1) history)) (brings.names (v + 1) ∙ ap (λ b. cond b (Some deck.name) None) (eq-eqb (v + 1) (v + 1) refl));
         };
         reached = omega arith;
-        since = told.unreached (v + 1) (omega arith);
+        since = ap (λ (f : Effect). after_effect f (since_job (v + 1) history)) (brings.leaves (v + 1)) ∙ told.unreached (v + 1) (omega arith);
         leased = tt;
       }
 
-  next_added : (deck : Deck) → against_add deck desk ≡ None → Next (AddDeck deck) (accepted (added deck desk))
-  next_added deck free =
-      let e = entry by (AddDeck deck) (Changed (desk.version + 1)) in
+  -- and in the place of one of its name
+  brought_over : (deck : Deck) (e : Entry Call Reply) → Brings deck e → (before : DeskDeck) → is_named deck.name before ≡ true →
+      IsDeckTold (e ∷ history) (desk.version + 1) desk.leases (replaced_deck (desk.version + 1) deck.cards before)
+  brought_over deck e brings before named =
+      subst (λ (name : List ℕ). IsDeckTold (e ∷ history) (desk.version + 1) desk.leases (added_deck (desk.version + 1) (record { name = name; cards = deck.cards })))
+      (equal_texts deck.name before.name named) (brought_itself deck e brings)
+
+  -- no link is brought, nor what is not reached
+  brought_link : (deck : Deck) (e : Entry Call Reply) → Brings deck e → IsLeaseTold (e ∷ history) desk.leases None desk.link
+  brought_link deck e brings = lease_told_still history e desk.leases desk.leases None desk.link brings.leases_none (omega arith) told.link
+
+  brought_unreached : (deck : Deck) (e : Entry Call Reply) → Brings deck e → IsUnreached (e ∷ history) (desk.version + 1)
+  brought_unreached deck e brings identity beyond =
+      ap (λ (f : Effect). after_effect f (since_job identity history)) (brings.leaves identity) ∙ told.unreached identity (omega arith)
+
+  -- a deck of a name of its own
+  next_added : (call : Call) (deck : Deck) → Brings deck (entry by call (Changed (desk.version + 1))) → deck_named deck.name desk ≡ None → Next call (accepted (added deck desk))
+  next_added call deck brings none =
+      let e = entry by call (Changed (desk.version + 1)) in
       let v = desk.version in
       let P = IsDeckTold (e ∷ history) (v + 1) desk.leases in
-      let unnamed = none_found (is_named deck.name) desk.decks (nothing_there (deck_named deck.name desk) (absent (is_some (deck_named deck.name desk)) _ _ free)) in
       record {
         decks = all_added P desk.decks (added_deck (v + 1) deck)
-            (all_next (IsDeckTold history v desk.leases) (λ other. is_named deck.name other ≡ false) P (added_other deck) desk.decks told.decks unnamed) (added_itself deck);
-        link = lease_told_still history e desk.leases desk.leases None desk.link (λ n few. refl) (omega arith) told.link;
-        unreached = λ identity beyond. told.unreached identity (omega arith);
+            (all_next (IsDeckTold history v desk.leases) (λ other. is_named deck.name other ≡ false) P (brought_other deck e brings) desk.decks told.decks (none_found (is_named deck.name) desk.decks none))
+            (brought_itself deck e brings);
+        link = brought_link deck e brings;
+        unreached = brought_unreached deck e brings;
+      }
+
+  -- a deck in the place of the one of its name
+  next_replaced : (call : Call) (deck : Deck) (before : DeskDeck) → Brings deck (entry by call (Changed (desk.version + 1))) → Next call (accepted (put deck desk (Some before)))
+  next_replaced call deck before brings =
+      let e = entry by call (Changed (desk.version + 1)) in
+      let v = desk.version in
+      let P = IsDeckTold (e ∷ history) (v + 1) desk.leases in
+      record {
+        decks = all_put (IsDeckTold history v desk.leases) P deck.name (replaced_deck (v + 1) deck.cards) (λ other was named. brought_over deck e brings other named) (brought_other deck e brings) desk.decks told.decks;
+        link = brought_link deck e brings;
+        unreached = brought_unreached deck e brings;
       }
 
   pub add_next : (deck : Deck) → Next (AddDeck deck) (add_deck deck desk)
-  add_next deck = next_unless (AddDeck deck) (against_add deck desk) (accepted (added deck desk)) (λ r. quiet _ _ _ (λ n. refl) (λ i. refl) (λ n. refl) (λ d. refl)) (next_added deck)
+  add_next deck = next_unless (AddDeck deck) (against_add deck desk) (accepted (added deck desk)) (λ r. quiet _ _ _ (λ n. refl) (λ i. refl) (λ n. refl) (λ d. refl))
+      (λ free. next_added (AddDeck deck) deck (record { identities = λ n. refl; names = λ i. refl; leases_none = λ n few. refl; leaves = λ d. refl })
+      (nothing_there (deck_named deck.name desk) (absent (is_some (deck_named deck.name desk)) _ _ free)))
+
+  put_where_next : (deck : Deck) (seen : ℕ) (found : Option DeskDeck) → deck_named deck.name desk ≡ found → Next (PutDeck deck seen) (put_where deck seen desk found)
+  put_where_next deck seen None none = next_unless (PutDeck deck seen) (against_put seen deck desk None) (accepted (put deck desk None)) (λ r. quiet _ _ _ (λ n. refl) (λ i. refl) (λ n. refl) (λ d. refl))
+      (λ free. next_added (PutDeck deck seen) deck (record { identities = λ n. refl; names = λ i. refl; leases_none = λ n few. refl; leaves = λ d. refl }) none)
+  put_where_next deck seen (Some before) found = next_unless (PutDeck deck seen) (against_put seen deck desk (Some before)) (accepted (put deck desk (Some before))) (λ r. quiet _ _ _ (λ n. refl) (λ i. refl) (λ n. refl) (λ d. refl))
+      (λ free. next_replaced (PutDeck deck seen) deck before (record { identities = λ n. refl; names = λ i. refl; leases_none = λ n few. refl; leaves = λ d. refl }))
+
+  pub put_next : (deck : Deck) (seen : ℕ) → Next (PutDeck deck seen) (put_deck deck seen desk)
+  put_next deck seen = put_where_next deck seen (deck_named deck.name desk) refl
 
   pub drop_next : (name : List ℕ) (seen : ℕ) → Next (DropDeck name seen) (drop_deck name seen desk)
   drop_next name seen = next_unless (DropDeck name seen) (against_drop seen desk (deck_named name desk)) (accepted (dropped name desk)) (λ r. quiet _ _ _ (λ n. refl) (λ i. refl) (λ n. refl) (λ d. refl))

@@ -1,11 +1,12 @@
 -- Names and cards of a desk's decks, after each way in which the desk puts its decks in another form.
-use Rattle.std.proofs.Common.{◌≡◌, ℕ, Bool, true, false, cond, not, List, [], ◌∷◌, ◌++◌, map, filter, refl, ap, ap₂}
+use Rattle.std.proofs.Common.{◌≡◌, ℕ, Bool, true, false, cond, not, ◌||◌, List, [], ◌∷◌, ◌++◌, map, filter, find, is_some, Option, None, Some, refl, sym, ap, ap₂, ◌∙◌}
+use Rattle.std.specs.List.{list_any}
 use Rattle.std.proofs.lemmas.List.{map-append}
-use Rattle.desk_core.specs.Language.{Deck, same_text}
+use Rattle.desk_core.specs.Language.{Card, Deck, same_text}
 use Rattle.desk_core.specs.Edits.{Edit, edited_by}
-use Rattle.desk_core.specs.Changes.{edited_if_named}
+use Rattle.desk_core.specs.Changes.{Put, edited_if_named, put_over, changed}
 use Rattle.desk_core.specs.Desks.{DeskDeck, deck_of, is_named, put_if_named}
-use Rattle.desk_core.specs.Changing.{edited_deck, added_deck}
+use Rattle.desk_core.specs.Changing.{edited_deck, added_deck, replaced_deck}
 
 kept_head : (named : Bool) (form deck : DeskDeck) → deck_of form ≡ deck_of deck → deck_of (cond named form deck) ≡ deck_of deck
 kept_head true form deck same = same
@@ -41,3 +42,35 @@ decks_of-dropped name (deck ∷ decks) = dropped_head (is_named name deck) deck 
 -- a deck that is added is seen at the end
 pub decks_of-added : (version : ℕ) (deck : Deck) (decks : List DeskDeck) → map deck_of (decks ++ added_deck version deck ∷ []) ≡ map deck_of decks ++ deck ∷ []
 decks_of-added version deck decks = map-append deck_of decks (added_deck version deck ∷ [])
+
+either_named : (named : Bool) (deck : DeskDeck) (found : Option DeskDeck) (later : Bool) → later ≡ is_some found → (named || later) ≡ is_some (cond named (Some deck) found)
+either_named true deck found later same = refl
+either_named false deck found later same = same
+
+-- a deck of a name is seen where one is found
+any_named : (name : List ℕ) (decks : List DeskDeck) → list_any (λ (deck : Deck). same_text name deck.name) (map deck_of decks) ≡ is_some (find (is_named name) decks)
+any_named name [] = refl
+any_named name (deck ∷ decks) = either_named (is_named name deck) deck (find (is_named name) decks) _ (any_named name decks)
+
+-- the decks that are seen after a put, by whether there is one of that name
+put_seen : (new : Deck) (decks : List DeskDeck) (named : Bool) → is_some (find (is_named new.name) decks) ≡ named →
+    changed (map deck_of decks) (Put new) ≡ cond named (map (put_over new) (map deck_of decks)) (map deck_of decks ++ new ∷ [])
+put_seen new decks named is = ap (λ b. cond b (map (put_over new) (map deck_of decks)) (map deck_of decks ++ new ∷ [])) (any_named new.name decks ∙ is)
+
+-- a deck that is put under a name of its own is seen at the end
+pub decks_of-put_new : (version : ℕ) (new : Deck) (decks : List DeskDeck) → find (is_named new.name) decks ≡ None → map deck_of (decks ++ added_deck version new ∷ []) ≡ changed (map deck_of decks) (Put new)
+decks_of-put_new version new decks none = decks_of-added version new decks ∙ sym (put_seen new decks false (ap (λ (o : Option DeskDeck). is_some o) none))
+
+replaced_head : (named : Bool) (version : ℕ) (cards : List Card) (deck : DeskDeck) →
+    deck_of (cond named (replaced_deck version cards deck) deck) ≡ cond named (record { name = deck.name; cards = cards }) (deck_of deck)
+replaced_head true version cards deck = refl
+replaced_head false version cards deck = refl
+
+replaced_seen : (version : ℕ) (new : Deck) (decks : List DeskDeck) → map deck_of (map (put_if_named new.name (replaced_deck version new.cards)) decks) ≡ map (put_over new) (map deck_of decks)
+replaced_seen version new [] = refl
+replaced_seen version new (deck ∷ decks) = ap₂ (λ (d : Deck) (ds : List Deck). d ∷ ds) (replaced_head (is_named new.name deck) version new.cards deck) (replaced_seen version new decks)
+
+-- and else in the place of the one of its name
+pub decks_of-put_over : (version : ℕ) (new : Deck) (decks : List DeskDeck) (deck : DeskDeck) → find (is_named new.name) decks ≡ Some deck →
+    map deck_of (map (put_if_named new.name (replaced_deck version new.cards)) decks) ≡ changed (map deck_of decks) (Put new)
+decks_of-put_over version new decks deck found = replaced_seen version new decks ∙ sym (put_seen new decks true (ap (λ (o : Option DeskDeck). is_some o) found))

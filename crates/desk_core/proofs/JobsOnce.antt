@@ -4,14 +4,14 @@ use Rattle.std.proofs.lemmas.List.{reverse-append}
 use Rattle.turn_office.specs.declared.history.Entry.{Entry}
 use Rattle.turn_office.specs.Histories.{Leads, entry}
 use Rattle.desk_core.specs.Desks.{Desk, deck_named, new_desk_at}
-use Rattle.desk_core.specs.Calls.{Call, AddDeck, DropDeck, EditDeck, Batch, Cards, Show, Status, Claim, DeliverDeck, DeliverLink, GiveUp, DeckWork, Reply, DeckJob, Refused, OutOfMemory}
+use Rattle.desk_core.specs.Calls.{Call, AddDeck, PutDeck, DropDeck, EditDeck, Batch, Cards, Show, Status, Claim, DeliverDeck, DeliverLink, GiveUp, DeckWork, Reply, DeckJob, Refused, OutOfMemory}
 use Rattle.desk_core.specs.Reading.{cards_reply, show_reply}
 use Rattle.desk_core.specs.Steps.{answer, Steps}
 use Rattle.desk_core.specs.Runs.{History, Runs}
 use Rattle.desk_core.specs.Jobs.{IsDue}
 use Rattle.desk_core.proofs.JobsTold.{IsDeskTold, desk_told_first}
 use Rattle.desk_core.proofs.QuietSteps.{quiet, starved_quiet}
-use Rattle.desk_core.proofs.ChangeSteps.{Next, next_quiet, add_next, drop_next, edit_next, batch_next}
+use Rattle.desk_core.proofs.ChangeSteps.{Next, next_quiet, add_next, put_next, drop_next, edit_next, batch_next}
 use Rattle.desk_core.proofs.ClaimSteps.{claim_next, claim_due}
 use Rattle.desk_core.proofs.ResultSteps.{deliver_deck_next, deliver_link_next, give_up_next}
 
@@ -19,6 +19,7 @@ module _ (history : History) (by : ℕ) (desk : Desk) (told : IsDeskTold history
   -- what is told after each answer
   answer_next : (call : Call) → Next history by desk told call (answer call desk)
   answer_next (AddDeck deck) = add_next history by desk told deck
+  answer_next (PutDeck deck seen) = put_next history by desk told deck seen
   answer_next (DropDeck name seen) = drop_next history by desk told name seen
   answer_next (EditDeck name seen edit) = edit_next history by desk told name seen edit
   answer_next (Batch name seen edits) = batch_next history by desk told name seen edits

@@ -7,14 +7,15 @@ use Rattle.turn_office.specs.declared.history.Entry.{Entry}
 use Rattle.desk_core.specs.Language.{same_text}
 use Rattle.desk_core.specs.Edits.{Edit}
 use Rattle.desk_core.specs.Desks.{Desk, DeskDeck, Lease, new_desk_at}
-use Rattle.desk_core.specs.Calls.{Call, AddDeck, Reply, Changed}
+use Rattle.desk_core.specs.Calls.{Call, AddDeck, PutDeck, Reply, Changed}
 use Rattle.desk_core.specs.Runs.{History}
 use Rattle.desk_core.specs.Jobs.{identity_in, identity_of, leased_in, deck_of_lease, effect_on, after_effect, since_job}
 use Rattle.desk_core.proofs.Same.{equal_texts, same_text-itself}
 
--- the name that an entry gives to a deck of this identity, if it adds it
+-- the name that an entry gives to a deck of this identity, if it adds or puts it
 abbrev pub name_in : ℕ → Call → Reply → Option (List ℕ)
 name_in identity (AddDeck deck) (Changed version) = if version == identity then Some deck.name else None
+name_in identity (PutDeck deck seen) (Changed version) = if version == identity then Some deck.name else None
 name_in identity _ _ = None
 
 -- the name of a deck, by its identity

@@ -24,6 +24,7 @@ pub mod WorkedResults
 pub mod WorkedForeign
 pub mod WorkedLinks
 pub mod WorkedChanges
+pub mod WorkedPuts
 pub mod PlaceLaws
 pub mod AnswerLaws
 pub mod ChangeDone

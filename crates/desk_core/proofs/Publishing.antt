@@ -2,13 +2,13 @@
 use Rattle.std.proofs.Common.{inl, inr, ℕ, ◌==◌, not, refl, eqb-true}
 use Rattle.std.proofs.lemmas.Bool.{cond_both, not-false}
 use Rattle.desk_core.specs.Desks.{Desk, Publication, decks_of, is_leased, is_leased_at}
-use Rattle.desk_core.specs.Calls.{Call, AddDeck, DropDeck, EditDeck, Batch, Cards, Show, Status, Claim, DeliverDeck, DeliverLink, GiveUp, Reply, OutOfMemory}
+use Rattle.desk_core.specs.Calls.{Call, AddDeck, PutDeck, DropDeck, EditDeck, Batch, Cards, Show, Status, Claim, DeliverDeck, DeliverLink, GiveUp, Reply, OutOfMemory}
 use Rattle.desk_core.specs.Delivering.{deliver_link, take_link, same_decks}
 use Rattle.desk_core.specs.Steps.{answer, Steps}
 use Rattle.desk_core.proofs.Same.{equal_lists}
 use Rattle.desk_core.proofs.Outcomes.{Outcome, Comes, by_publishing, refused_stays, either_comes}
 use Rattle.desk_core.proofs.Staying.{cards_stay, show_stays, status_stays, claim_stays, deliver_deck_stays, give_up_stays, unlinks}
-use Rattle.desk_core.proofs.Accepting.{add_comes, drop_comes, edit_comes, batch_comes}
+use Rattle.desk_core.proofs.Accepting.{add_comes, put_comes, drop_comes, edit_comes, batch_comes}
 
 take_link_comes : (number : ℕ) (publication : Publication) (desk : Desk) → Comes desk (DeliverLink number publication) (take_link publication desk)
 take_link_comes number publication desk =
@@ -32,6 +32,7 @@ link_comes number publication desk = either_comes desk (DeliverLink number publi
 -- the outcome of each answer
 pub answer_comes : (call : Call) (desk : Desk) → Comes desk call (answer call desk)
 answer_comes (AddDeck deck) desk = add_comes deck desk
+answer_comes (PutDeck deck seen) desk = put_comes deck seen desk
 answer_comes (DropDeck name seen) desk = drop_comes name seen desk
 answer_comes (EditDeck name seen edit) desk = edit_comes name seen edit desk
 answer_comes (Batch name seen edits) desk = batch_comes name seen edits desk

@@ -42,7 +42,7 @@ pub full_deck : replies_to (
 full_deck = refl
 
 -- so many decks, with numbers for names
-abbrev decks_from : ℕ → ℕ → List Call
+abbrev pub decks_from : ℕ → ℕ → List Call
 decks_from first count = map (λ n. AddDeck (record { name = n ∷ []; cards = [] })) (range_with_len first count)
 
 -- a desk has at most 64 decks, each of another name
@@ -52,7 +52,7 @@ pub full_desk : replies_to (AddDeck (record { name = 5 ∷ []; cards = replicate
 full_desk = refl
 
 -- a desk that has come to the last version, or given the last lease
-abbrev worn : ℕ → ℕ → Desk
+abbrev pub worn : ℕ → ℕ → Desk
 worn version leases = record { version = version; leases = leases; decks = (record { name = M; cards = []; identity = 1; version = 1; built = false; kept = None; waiting = []; lease = None }) ∷ []; link = None; publication = None }
 
 pub spent : replies_to (AddDeck (deck_m []) ∷ AddDeck (record { name = []; cards = [] }) ∷ DropDeck M 2 ∷ DropDeck M 1 ∷ EditDeck M 1 (E.Remove 1) ∷ EditDeck M 1 (E.Insert 1 []) ∷ Batch M 1 (E.Remove 1 ∷ []) ∷ Batch M 1 (E.Insert 1 [] ∷ []) ∷ Claim ∷ [])

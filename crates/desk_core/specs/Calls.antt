@@ -1,7 +1,7 @@
 -- The calls of a desk, its replies and its refusals, as the code has them. Declares nothing.
 pub use Rattle.desk_core.specs.declared.calls.Done.{Done}
 pub use Rattle.desk_core.specs.declared.calls.Call.{Call}
-pub use Rattle.desk_core.specs.declared.calls.Call.TheVariants.{AddDeck, DropDeck, EditDeck, Batch, Cards, Show, Status, Claim, DeliverDeck, DeliverLink, GiveUp}
+pub use Rattle.desk_core.specs.declared.calls.Call.TheVariants.{AddDeck, PutDeck, DropDeck, EditDeck, Batch, Cards, Show, Status, Claim, DeliverDeck, DeliverLink, GiveUp}
 pub use Rattle.desk_core.specs.declared.jobs.Start.{Start}
 pub use Rattle.desk_core.specs.declared.jobs.Start.TheVariants.{FromRecord, FromCards}
 pub use Rattle.desk_core.specs.declared.jobs.DeckWork.{DeckWork}

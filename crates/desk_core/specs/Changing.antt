@@ -1,6 +1,6 @@
--- Calls that change decks: Add, DropDeck, an edit, a Batch (ours).
+-- Calls that change decks: Add, PutDeck, DropDeck, an edit, a Batch (ours).
 use Rattle.std.specs.Prelude.{ℕ, ◌+◌, ◌==◌, Bool, false, not, ◌&&◌, ◌||◌, nat_le, nat_lt, List, [], ◌∷◌, ◌++◌, length, filter, is_some, Option, Some, None, option_map, if◌then◌else◌}
-use Rattle.desk_core.specs.Language.{Deck}
+use Rattle.desk_core.specs.Language.{Card, Deck}
 use Rattle.desk_core.specs.Causes.{when, first_cause}
 use Rattle.desk_core.specs.Edits as E
 use Rattle.desk_core.specs.Desks.{Desk, DeskDeck, most_decks, is_named, deck_named, with_deck}
@@ -35,6 +35,28 @@ added deck desk = record desk { version = desk.version + 1; decks = desk.decks +
 -- Add
 abbrev pub add_deck : Deck → Desk → Answer
 add_deck deck desk = unless (against_add deck desk) desk (accepted (added deck desk))
+
+-- what speaks against a deck that is put, by who has seen this version of the one of its name: 0 tells that there was none
+abbrev pub against_put : ℕ → Deck → Desk → Option DeskDeck → Option Refusal
+against_put seen new desk None = if seen == 0 then against_add new desk else Some NoDeck
+against_put seen new desk (Some deck) = first_cause (against_seen seen deck ∷ when (nat_lt E.most_cards (length new.cards)) DeckFull ∷ against_next desk.version ∷ [])
+
+-- a deck with other cards is one that was added anew
+abbrev pub replaced_deck : ℕ → List Card → DeskDeck → DeskDeck
+replaced_deck version cards deck = added_deck version (record { name = deck.name; cards = cards })
+
+-- the desk with a deck in the place of the one of its name, or behind the others where there is none
+abbrev pub put : Deck → Desk → Option DeskDeck → Desk
+put new desk None = added new desk
+put new desk (Some deck) = with_deck new.name (replaced_deck (desk.version + 1) new.cards) (record desk { version = desk.version + 1 })
+
+-- PutDeck, by the deck of its name
+abbrev pub put_where : Deck → ℕ → Desk → Option DeskDeck → Answer
+put_where new seen desk found = unless (against_put seen new desk found) desk (accepted (put new desk found))
+
+-- PutDeck
+abbrev pub put_deck : Deck → ℕ → Desk → Answer
+put_deck new seen desk = put_where new seen desk (deck_named new.name desk)
 
 -- what speaks against the drop of a deck
 abbrev pub against_drop : ℕ → Desk → Option DeskDeck → Option Refusal

@@ -13,7 +13,7 @@ pub record Publication : Type 0 where
   pub version : ℕ
   pub decks : List Deck
 
--- a deck on the desk: its identity is the version that its addition made, its version that of the last change of it; whether it has an object of that version;
+-- a deck on the desk: its identity is the version that its addition made, or that of the last deck put in its place, its version that of the last change of it; whether it has an object of that version;
 -- its record, where the desk has one; the edits that the record lacks; the lease, where one is out
 pub record DeskDeck : Type 0 where
   pub name : List ℕ

@@ -3,15 +3,16 @@ use Rattle.std.specs.Prelude.{◌≡◌, ◌⊎◌, ⊤, ℕ, ◌==◌, List, []
 use Rattle.std.specs.Option.{option_or}
 use Rattle.desk_core.specs.Language.{same_text}
 use Rattle.desk_core.specs.Edits.{Edit}
-use Rattle.desk_core.specs.Calls.{Call, AddDeck, EditDeck, Batch, Claim, DeliverDeck, GiveUp, Reply, Changed, DeckJob, LinkJob, Cleared, Refused, Foreign, DeckWork, Start, FromRecord, FromCards}
+use Rattle.desk_core.specs.Calls.{Call, AddDeck, PutDeck, EditDeck, Batch, Claim, DeliverDeck, GiveUp, Reply, Changed, DeckJob, LinkJob, Cleared, Refused, Foreign, DeckWork, Start, FromRecord, FromCards}
 use Rattle.desk_core.specs.Runs.{History}
 
--- the identity that an entry gives to a deck of this name where it adds one: the version that it makes
+-- the identity that an entry gives to a deck of this name where it adds or puts one: the version that it makes
 abbrev pub identity_in : List ℕ → Call → Reply → Option ℕ
 identity_in name (AddDeck deck) (Changed version) = if same_text name deck.name then Some version else None
+identity_in name (PutDeck deck seen) (Changed version) = if same_text name deck.name then Some version else None
 identity_in name _ _ = None
 
--- the deck of a name, by its identity: the latest addition of that name
+-- the deck of a name, by its identity: the latest that was added or put under that name
 abbrev pub identity_of : List ℕ → History → Option ℕ
 identity_of name [] = None
 identity_of name (entry ∷ earlier) = option_or (identity_in name entry.call entry.reply) (identity_of name earlier)

@@ -3,9 +3,9 @@ use Rattle.std.specs.Prelude.{◌≡◌, ℕ, ◌+◌, ◌-◌, ◌≤◌, Bool,
 use Rattle.turn_office.specs.declared.history.Entry.{Entry}
 use Rattle.turn_office.specs.Histories.{Leads}
 use Rattle.desk_core.specs.Language.{Deck, listing_of, image_of}
-use Rattle.desk_core.specs.Changes.{Change, Added, Dropped, Edited, decks_after}
+use Rattle.desk_core.specs.Changes.{Change, Added, Dropped, Edited, Put, decks_after}
 use Rattle.desk_core.specs.Desks.{Desk, Publication, new_desk_at, decks_of}
-use Rattle.desk_core.specs.Calls.{Call, AddDeck, DropDeck, EditDeck, Batch, Reply, Changed}
+use Rattle.desk_core.specs.Calls.{Call, AddDeck, PutDeck, DropDeck, EditDeck, Batch, Reply, Changed}
 use Rattle.desk_core.specs.Steps.{Steps}
 
 -- calls with their replies, oldest first
@@ -19,6 +19,7 @@ Runs begun history desk = Leads Steps (new_desk_at begun) history desk
 -- the change that a call asks for
 abbrev pub change_asked : Call → Option Change
 change_asked (AddDeck deck) = Some (Added deck)
+change_asked (PutDeck deck seen) = Some (Put deck)
 change_asked (DropDeck name seen) = Some (Dropped name)
 change_asked (EditDeck name seen edit) = Some (Edited name (edit ∷ []))
 change_asked (Batch name seen edits) = Some (Edited name edits)

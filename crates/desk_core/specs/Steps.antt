@@ -1,9 +1,9 @@
 -- The step of a desk (ours): a function of the call and the desk, and one free choice.
 use Rattle.std.specs.Prelude.{◌≡◌, ◌⊎◌, Bool, true, false, not, ◌&&◌, IsTrue}
 use Rattle.desk_core.specs.Desks.{Desk}
-use Rattle.desk_core.specs.Calls.{Call, AddDeck, DropDeck, EditDeck, Batch, Cards, Show, Status, Claim, DeliverDeck, DeliverLink, GiveUp, Reply, Changed, CardsAre, Shown, StatusIs, DeckJob, LinkJob, Refused, OutOfMemory}
+use Rattle.desk_core.specs.Calls.{Call, AddDeck, PutDeck, DropDeck, EditDeck, Batch, Cards, Show, Status, Claim, DeliverDeck, DeliverLink, GiveUp, Reply, Changed, CardsAre, Shown, StatusIs, DeckJob, LinkJob, Refused, OutOfMemory}
 use Rattle.desk_core.specs.Answers.{Answer}
-use Rattle.desk_core.specs.Changing.{add_deck, drop_deck, edit_deck, batch}
+use Rattle.desk_core.specs.Changing.{add_deck, put_deck, drop_deck, edit_deck, batch}
 use Rattle.desk_core.specs.Reading.{cards, show, status}
 use Rattle.desk_core.specs.Claiming.{claim}
 use Rattle.desk_core.specs.Delivering.{deliver_deck, deliver_link, give_up}
@@ -11,6 +11,7 @@ use Rattle.desk_core.specs.Delivering.{deliver_deck, deliver_link, give_up}
 -- the answer of a desk to a call, where memory is found
 abbrev pub answer : Call → Desk → Answer
 answer (AddDeck deck) desk = add_deck deck desk
+answer (PutDeck deck seen) desk = put_deck deck seen desk
 answer (DropDeck name seen) desk = drop_deck name seen desk
 answer (EditDeck name seen edit) desk = edit_deck name seen edit desk
 answer (Batch name seen edits) desk = batch name seen edits desk

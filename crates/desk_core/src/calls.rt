@@ -23,6 +23,11 @@ pub struct Done {
 pub enum Call {
     /// A new deck.
     AddDeck(NewDeck),
+    /// A deck in the place of the one of its name, or a new one where none was seen, which 0 tells.
+    PutDeck {
+        deck: NewDeck,
+        seen: u64,
+    },
     /// The deck goes.
     DropDeck {
         name: DeckName,

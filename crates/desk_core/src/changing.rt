@@ -1,10 +1,10 @@
 //! Calls that change decks.
-ghost use Rattle.std.specs.Prelude.{◌≡◌, ◌+◌, ◌<◌, [], ◌∷◌, length, is_ok, None, Some, slice_get, remove, IfOk, if◌then◌else◌};
+ghost use Rattle.std.specs.Prelude.{◌≡◌, ◌+◌, ◌<◌, ◌≤◌, [], ◌∷◌, length, is_ok, None, Some, slice_get, remove, IfOk, if◌then◌else◌};
 ghost use Rattle.std.specs.Option.{ForSome};
-ghost use Rattle.desk_core.specs.Desks.{is_named};
+ghost use Rattle.desk_core.specs.Desks.{is_named, deck_named};
 ghost use Rattle.desk_core.specs.Edits.{fault_of, first_fault};
 ghost use Rattle.desk_core.specs.Answers.{against_next};
-ghost use Rattle.desk_core.specs.Changing.{add_deck, added, accepted, against_add, drop_deck, against_drop, edit_deck, edited_deck, against_edit, batch, against_batch};
+ghost use Rattle.desk_core.specs.Changing.{add_deck, added, accepted, against_add, put_deck, replaced_deck, against_put, drop_deck, against_drop, edit_deck, edited_deck, against_edit, batch, against_batch};
 ghost use Rattle.desk_core.specs.OwnNames.{IsPlaceOf, changed_at};
 ghost use Rattle.desk_core.specs.Turns.{IsAnswer, MayAnswer};
 
@@ -12,7 +12,7 @@ use crate::desk::{Desk, against_next};
 use crate::new_deck::NewDeck;
 use crate::replies::{Refusal, Reply};
 use crate::stored_deck::StoredDeck;
-use cards::{DeckName, Edit, EditFault, MOST_CARDS, fault_of, first_fault};
+use cards::{Card, DeckName, Edit, EditFault, MOST_CARDS, fault_of, first_fault};
 use std::alloc::AllocError;
 
 /// How many decks a desk has at most.
@@ -60,6 +60,60 @@ impl Desk {
             }
             Err(_) => Reply::Refused(Refusal::OutOfMemory),
         }
+    }
+
+    /// The deck takes the place of the one of its name, whose lease goes with it; or it is one more where
+    /// none was seen.
+    pub(crate) fn put_deck(&mut self, deck: NewDeck, seen: u64) -> Reply
+        ensures { MayAnswer self.old (put_deck deck seen self.old) result self.new }
+    {
+        let Some(place) = self.place_of(&deck.name) else {
+            return self.put_new(deck, seen);
+        };
+        match self.against_put(place, seen, &deck) {
+            Some(refusal) => Reply::Refused(refusal),
+            None => Reply::Changed(self.put_at(place, deck.cards)),
+        }
+    }
+
+    /// A deck whose name no other has.
+    fn put_new(&mut self, deck: NewDeck, seen: u64) -> Reply
+        requires { deck_named deck.name self.old ≡ None }
+        ensures { MayAnswer self.old (put_deck deck seen self.old) result self.new }
+    {
+        if seen == 0 {
+            self.add_deck(deck)
+        } else {
+            Reply::Refused(Refusal::NoDeck)
+        }
+    }
+
+    fn against_put(&self, place: usize, seen: u64, new: &NewDeck) -> Option<Refusal>
+        requires { place < length self.now.decks }
+        ensures { result ≡ against_put seen new.now self.now (slice_get self.now.decks place) }
+    {
+        let deck = self.decks.deck_at(place);
+        if seen != deck.version() {
+            return Some(Refusal::OldVersion(deck.version()));
+        }
+        if new.cards.len() > MOST_CARDS {
+            return Some(Refusal::DeckFull);
+        }
+        against_next(self.version)
+    }
+
+    /// Puts cards in place of those of the deck at a place, as the next change.
+    fn put_at(&mut self, place: usize, cards: Vec<Card>) -> u64
+        requires within { place < length self.old.decks }
+        requires few { length cards.items ≤ 20000 }
+        requires room { against_next self.old.version ≡ None }
+        ensures desk { self.new ≡ changed_at place (replaced_deck (self.old.version + 1) cards.items) (record self.old { version = self.old.version + 1 }) }
+        ensures version { result ≡ self.old.version + 1 }
+    {
+        let version = self.version + 1;
+        self.decks.replace_at(place, version, cards);
+        self.version = version;
+        version
     }
 
     /// The deck goes, and its lease with it.

@@ -1,10 +1,10 @@
 //! The decks of a desk.
-ghost use Rattle.std.specs.Prelude.{◌≡◌, ◌<◌, [], ◌∷◌, ◌++◌, length, position, find, slice_get, remove, is_ok, Some, None, IfOk, if◌then◌else◌};
+ghost use Rattle.std.specs.Prelude.{◌≡◌, ◌<◌, ◌≤◌, [], ◌∷◌, ◌++◌, length, position, find, slice_get, remove, is_ok, Some, None, IfOk, if◌then◌else◌};
 ghost use Rattle.std.specs.List.{list_any};
 ghost use Rattle.std.specs.Option.{ForSome};
 ghost use Rattle.desk_core.specs.Desks.{is_named, deck_of};
 ghost use Rattle.desk_core.specs.Edits.{fault_of, first_fault};
-ghost use Rattle.desk_core.specs.Changing.{edited_deck};
+ghost use Rattle.desk_core.specs.Changing.{edited_deck, replaced_deck};
 ghost use Rattle.desk_core.specs.Claiming.{is_behind, is_free, given, deck_work};
 ghost use Rattle.desk_core.specs.Delivering.{lost, given_back, stored};
 ghost use Rattle.desk_core.specs.OwnNames.{HaveOwnNames, IsPlaceOf, has_lease, with_at};
@@ -12,7 +12,7 @@ ghost use Rattle.desk_core.specs.OwnNames.{HaveOwnNames, IsPlaceOf, has_lease, w
 use crate::held::Held;
 use crate::jobs::DeckWork;
 use crate::stored_deck::StoredDeck;
-use cards::{DeckName, Edit};
+use cards::{Card, DeckName, Edit};
 use deck_assembler::SharedObject;
 use std::alloc::{AllocError, Global};
 use std::marker::Model;
@@ -102,6 +102,16 @@ impl DeckList {
         ensures { self.new ≡ remove self.old place }
     {
         self.decks.remove(place);
+    }
+
+    /// The deck at a place has other cards from this version on.
+    pub(crate) fn replace_at(&mut self, place: usize, version: u64, cards: Vec<Card>)
+        requires within { place < length self.old }
+        requires few { length cards.items ≤ 20000 }
+        ensures { self.new ≡ with_at place (replaced_deck version cards.items) self.old }
+    {
+        let deck = &mut self.decks[place];
+        deck.replace(version, cards);
     }
 
     /// Makes an edit that applies to the deck at a place.

@@ -15,6 +15,7 @@ impl Desk {
     {
         match call {
             Call::AddDeck(deck) => self.add_deck(deck),
+            Call::PutDeck { deck, seen } => self.put_deck(deck, seen),
             Call::DropDeck { name, seen } => self.drop_deck(&name, seen),
             Call::EditDeck { name, seen, edit } => self.edit_deck(&name, seen, &edit),
             Call::Batch { name, seen, edits } => self.batch(&name, seen, edits.as_slice()),

@@ -2,7 +2,7 @@
 ghost use Rattle.std.specs.Prelude.{◌≡◌, ◌≤◌, ◌||◌, length, None, Some, [], ◌∷◌, is_ok, is_some, true, IfOk, if◌then◌else◌};
 ghost use Rattle.desk_core.specs.Desks.{is_named, is_leased, deck_of};
 ghost use Rattle.desk_core.specs.Edits.{fault_of, first_fault};
-ghost use Rattle.desk_core.specs.Changing.{added_deck, edited_deck};
+ghost use Rattle.desk_core.specs.Changing.{added_deck, replaced_deck, edited_deck};
 ghost use Rattle.desk_core.specs.Claiming.{is_behind, is_free, given, deck_work};
 ghost use Rattle.desk_core.specs.Delivering.{is_for, same_deck, lost, given_back, stored};
 ghost use Rattle.desk_core.specs.Reading.{row_of, state_of};
@@ -23,7 +23,8 @@ use std::alloc::{AllocError, Global};
 use std::marker::Model;
 use std::mem::replace;
 
-/// A deck on the desk: its name and cards; its identity, which is the version that its addition made;
+/// A deck on the desk: its name and cards; its identity, which is the version that its addition made, or
+/// that of the last deck put in its place;
 /// the version of the last change of it; its object, if it has one of that version; its record, if it
 /// is here, and the edits that the record lacks; the lease, if one is out. It has at most 20,000 cards.
 #[derive(Drop)]
@@ -136,6 +137,20 @@ impl StoredDeck {
         self.version = version;
         self.object = None;
         Ok(())
+    }
+
+    /// Other cards take the place of its own, and it is as a deck that was added at this version.
+    pub(crate) fn replace(&mut self, version: u64, cards: Vec<Card>)
+        requires { length cards.items ≤ 20000 }
+        ensures { self.new ≡ replaced_deck version cards.items self.old }
+    {
+        self.cards = cards;
+        self.identity = version;
+        self.version = version;
+        self.object = None;
+        self.kept = None;
+        self.waiting.clear();
+        self.lease = None;
     }
 
     /// Its row in the status of the desk.

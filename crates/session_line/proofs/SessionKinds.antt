@@ -2,7 +2,7 @@
 use Rattle.std.proofs.Common.{ℕ, ◌≡◌, true, false, Option, None, Some, inl, inr, refl, ap, ◌∙◌}
 use Rattle.desk_core.specs.Desks.{Desk, DeskDeck, Publication, deck_named}
 use Rattle.desk_core.specs.Answers.{Answer, unless}
-use Rattle.desk_core.specs.Changing.{accepted, against_add, against_drop, against_edit, against_batch, added, dropped, edited}
+use Rattle.desk_core.specs.Changing.{accepted, against_add, against_put, against_drop, against_edit, against_batch, added, put, dropped, edited}
 use Rattle.desk_core.specs.Reading.{cards_reply, show_reply}
 use Rattle.desk_core.specs.Steps.{Steps, answer}
 use Rattle.desk_core.specs.declared.calls.Call.{Call}
@@ -26,6 +26,7 @@ show_reply-kind (Some publication) = refl
 
 answer-kind : (asked : Call) (desk : Desk) → is_session_call asked ≡ true → is_session_kind (answer asked desk).reply ≡ true
 answer-kind (call.AddDeck deck) desk h = unless-kind (against_add deck desk) desk _
+answer-kind (call.PutDeck deck seen) desk h = unless-kind (against_put seen deck desk (deck_named deck.name desk)) desk _
 answer-kind (call.DropDeck name seen) desk h = unless-kind (against_drop seen desk (deck_named name desk)) desk _
 answer-kind (call.EditDeck name seen edit) desk h = unless-kind (against_edit seen edit desk (deck_named name desk)) desk _
 answer-kind (call.Batch name seen edits) desk h = unless-kind (against_batch seen edits desk (deck_named name desk)) desk _

@@ -8,6 +8,7 @@ use Rattle.desk_core.specs.declared.replies.Reply.TheVariants as reply
 -- whether a session makes this call
 abbrev pub is_session_call : Call → Bool
 is_session_call (call.AddDeck deck) = true
+is_session_call (call.PutDeck deck seen) = true
 is_session_call (call.DropDeck name seen) = true
 is_session_call (call.EditDeck name seen edit) = true
 is_session_call (call.Batch name seen edits) = true
