@@ -62,6 +62,10 @@ fn command_text(rt: &impl Abort, alloc: Global, command: &Command) -> String {
             let fault = head.name.as_ref().err();
             format!(in alloc; "batch {fault:?} {} {}", head.version, head.count)
         }
+        Command::Put(head) => {
+            let fault = head.name.as_ref().err();
+            format!(in alloc; "put {fault:?} {} {}", head.version, head.count)
+        }
         Command::Bye => format!(in alloc; "bye"),
     };
     text.expect(rt, "memory")
@@ -111,6 +115,10 @@ fn lines(rt: HostRuntime) {
         ("BYE", "bye"),
         ("BATCH M 3 3", "batch None 3 3"),
         ("BATCH M+ 3 1", "batch Some(BadName) 3 1"),
+        ("PUT M 3 20001", "BadCommand"),
+        ("PUT M 3", "BadCommand"),
+        ("PUT M 3 20000", "put None 3 20000"),
+        ("PUT M+ 0 0", "put Some(BadName) 0 0"),
     ] {
         text_is(&rt, line_text(&rt, rt.alloc(), line).as_str(), wanted, line);
     }

@@ -12,12 +12,13 @@ use Rattle.deck_files.specs.declared.deck_shelf.SaveOver.{SaveOver}
 use Rattle.deck_files.specs.declared.deck_shelf.SaveOver.TheVariants.{Known, Any}
 use Rattle.session_line.specs.declared.commands.Command.{Command}
 use Rattle.session_line.specs.declared.commands.Command.TheVariants as command
+use Rattle.session_line.specs.declared.commands.LinesHead.{LinesHead}
 use Rattle.session_line.specs.declared.refusals.Refusal.{Refusal}
 use Rattle.session_line.specs.declared.refusals.Refusal.TheVariants.{BadName}
 use Rattle.session_line.specs.Words.{first_word, behind_word, first_number, greatest_number}
 use Rattle.session_line.specs.Edits.{needs, only_if, made_of, is_end, card_or_fault, fits_edit, edit_at, edit_in_batch}
-use Rattle.session_line.specs.Commands.{name_in, only_name, save_over_in, save_in, drop_in, edit_of, edit_in, batch_in, is_batch_size, command_of}
-use Rattle.session_line.specs.Lines.{name_and_number, line_of_edit, line_in_batch, line_of_batch, line_of_command, IsLawfulEdit, IsLawfulName, IsLawful}
+use Rattle.session_line.specs.Commands.{name_in, only_name, save_over_in, save_in, drop_in, edit_of, edit_in, head_in, sized, is_batch_size, is_put_size, command_of}
+use Rattle.session_line.specs.Lines.{name_and_number, line_of_edit, line_in_batch, line_of_head, line_of_command, IsLawfulEdit, IsLawfulName, IsLawful}
 use Rattle.session_line.proofs.ReadBack.{IsRest, word-name, word-decimal, first-word, behind-word, first-number}
 
 -- a lawful name
@@ -95,21 +96,35 @@ batch_line-back (Replace place card) lawful =
     ∙ ap (λ (r : CardRead). made_of (Replace place) (card_or_fault r)) lawful.1
 batch_line-back (Remove place) lawful = number-made (λ p l. only_if (fits_edit kind.Remove l) (edit_at kind.Remove p l)) place [] lawful refl
 
--- the first line of a batch
-batch-made : (name : List ℕ) (version count : ℕ) → is_deck_name name ≡ true → version ≤ greatest_number → is_batch_size count ≡ true →
-    batch_in (name_and_number name version (32 ∷ (decimal count ++ []))) ≡ Ok (command.Batch (record { name = Ok name; version = version; count = count }))
-batch-made name version count is within size =
-    let few : count ≤ 100 = leb-true count 100 (and_parts (nat_le 1 count) (nat_le count 100) size).1 in
-    let head : Result (List ℕ) Refusal → ℕ → ℕ → Result Command Refusal = λ r v n. Ok (command.Batch (record { name = r; version = v; count = n })) in
-    both-made (λ w v l. needs (first_number l) (λ n. only_if (is_end (behind_word l) && is_batch_size n) (head (name_in w) v n))) name version (32 ∷ (decimal count ++ [])) is within refl
-    ∙ number-made (λ n l. only_if (is_end l && is_batch_size n) (head (name_in name) version n)) count [] (omega (arith, few)) refl
-    ∙ ap (λ (t : Bool). only_if t (head (name_in name) version count)) size
+-- the first line of a command with lines behind it
+head-made : (name : List ℕ) (version count : ℕ) → is_deck_name name ≡ true → version ≤ greatest_number → count ≤ greatest_number →
+    head_in (name_and_number name version (32 ∷ (decimal count ++ []))) ≡ Ok (record { name = Ok name; version = version; count = count })
+head-made name version count is within few =
+    let head : Result (List ℕ) Refusal → ℕ → ℕ → Result LinesHead Refusal = λ r v n. Ok (record { name = r; version = v; count = n }) in
+    both-made (λ w v l. needs (first_number l) (λ n. only_if (is_end (behind_word l)) (head (name_in w) v n))) name version (32 ∷ (decimal count ++ [])) is within refl
+    ∙ number-made (λ n l. only_if (is_end l) (head (name_in name) version n)) count [] few refl
     ∙ ap (λ (r : Result (List ℕ) Refusal). head r version count) (name-is name is)
 
+-- and the command, where it may have so many lines
+sized-made : (fits : ℕ → Bool) (make : LinesHead → Command) (name : List ℕ) (version count : ℕ) → is_deck_name name ≡ true → version ≤ greatest_number → count ≤ greatest_number → fits count ≡ true →
+    sized fits make (head_in (name_and_number name version (32 ∷ (decimal count ++ [])))) ≡ Ok (make (record { name = Ok name; version = version; count = count }))
+sized-made fits make name version count is within few size =
+    ap (λ (r : Result LinesHead Refusal). sized fits make r) (head-made name version count is within few)
+    ∙ ap (λ (t : Bool). only_if t (Ok (make (record { name = Ok name; version = version; count = count })))) size
+
 batch-back : (name : Result (List ℕ) Refusal) (version count : ℕ) → IsLawfulName name → version ≤ greatest_number → is_batch_size count ≡ true →
-    command_of (line_of_batch name version count) ≡ Ok (command.Batch (record { name = name; version = version; count = count }))
-batch-back (Ok name) version count is within size = batch-made name version count is within size
+    command_of (line_of_head (codes "BATCH") name version count) ≡ Ok (command.Batch (record { name = name; version = version; count = count }))
+batch-back (Ok name) version count is within size =
+    let few : count ≤ 100 = leb-true count 100 (and_parts (nat_le 1 count) (nat_le count 100) size).1 in
+    sized-made is_batch_size (λ (head : LinesHead). command.Batch head) name version count is within (omega (arith, few)) size
 batch-back (Err refusal) version count is within size = absurd is
+
+put-back : (name : Result (List ℕ) Refusal) (version count : ℕ) → IsLawfulName name → version ≤ greatest_number → is_put_size count ≡ true →
+    command_of (line_of_head (codes "PUT") name version count) ≡ Ok (command.Put (record { name = name; version = version; count = count }))
+put-back (Ok name) version count is within size =
+    let few : count ≤ 20000 = leb-true count 20000 size in
+    sized-made is_put_size (λ (head : LinesHead). command.Put head) name version count is within (omega (arith, few)) size
+put-back (Err refusal) version count is within size = absurd is
 
 -- each command
 pub line-back : (command : Command) → IsLawful command → command_of (line_of_command command) ≡ Ok command
@@ -124,4 +139,5 @@ line-back command.Image _ = refl
 line-back command.List _ = refl
 line-back command.Status _ = refl
 line-back (command.Batch head) lawful = batch-back head.name head.version head.count lawful.0 lawful.1 lawful.2
+line-back (command.Put head) lawful = put-back head.name head.version head.count lawful.0 lawful.1 lawful.2
 line-back command.Bye _ = refl

@@ -1,22 +1,20 @@
--- The steps of reading a command: lines, the edits that they show, and where the reader breaks off.
-use Rattle.std.proofs.Common.{ℕ, ◌≡◌, ◌+◌, ◌<◌, List, [], ◌∷◌, ◌++◌, Option, Result, Ok, Err, length, map, refl, sym, ap, subst, ◌∙◌, arith, append_assoc, length-append}
+-- The steps of reading a command: lines, the items that they show, and where the reader breaks off.
+use Rattle.std.proofs.Common.{ℕ, suc, ◌≡◌, ◌+◌, ◌<◌, List, [], ◌∷◌, ◌++◌, Option, Result, Ok, Err, length, map, refl, sym, ap, subst, ◌∙◌, arith, append_assoc, length-append}
 use Rattle.std.proofs.lemmas.List.{map-append}
 use Rattle.std.proofs.KnownBytes.{Consumes-nil, Consumes-trans}
 use Rattle.definitions.specs.InputLines.{InputLine, Line, lines_of}
 use Rattle.text_ports.specs.Lines.{ReadsLine}
 use Rattle.text_ports.specs.declared.lines.LineIs.TheVariants as is
 use Rattle.text_ports.proofs.LineLaws.{lines_of-taken}
-use Rattle.cards.specs.declared.edits.Edit.{Edit}
 use Rattle.session_line.specs.Commands.{command_of}
-use Rattle.session_line.specs.Edits.{edit_in_batch}
 use Rattle.session_line.specs.declared.commands.Command.{Command}
 use Rattle.session_line.specs.declared.refusals.Refusal.{Refusal}
-use Rattle.session_line.specs.declared.batches.EditsRead.{EditsRead}
+use Rattle.session_line.specs.declared.line_items.ItemsRead.{ItemsRead}
 use Rattle.session_line.specs.declared.reading.Stop.{Stop}
 use Rattle.session_line.specs.declared.tasks.Task.{Task}
-use Rattle.session_line.specs.Tasks.{edit_in_front, edits_of, lines_due, task_by}
+use Rattle.session_line.specs.Tasks.{item_in_front, items_from, lines_due, task_by}
 use Rattle.session_line.specs.Taking.{TakesLines, BreaksOff, Stops, IsTaskFor, TakesTask}
-use Rattle.session_line.specs.Batches.{IsRead, edit_behind, TakesEdits, StopsWithin}
+use Rattle.session_line.specs.LineItems.{IsRead, item_behind, TakesItems, StopsWithin}
 
 -- nothing is taken
 pub TakesLines-none : (a : Option (List ℕ)) → TakesLines a a []
@@ -39,65 +37,75 @@ TakesLines-trans a b c lines others first second = record {
       ∙ ap (λ (l : List InputLine). l ++ lines_of rest) (sym (map-append Line lines others));
 }
 
--- an edit in front of edits with one more behind them
-edit_in_front-behind : (first : Result Edit Refusal) (edits : Result (List Edit) Refusal) (last : Result Edit Refusal) →
-    edit_in_front first (edit_behind edits last) ≡ edit_behind (edit_in_front first edits) last
-edit_in_front-behind (Ok first) (Ok edits) (Ok last) = refl
-edit_in_front-behind (Ok first) (Ok edits) (Err reason) = refl
-edit_in_front-behind (Ok first) (Err reason) last = refl
-edit_in_front-behind (Err reason) edits last = refl
+module _ {A : Type 0} where
+  -- an item in front of items with one more behind them
+  item_in_front-behind : (first : Result A Refusal) (items : Result (List A) Refusal) (last : Result A Refusal) →
+      item_in_front first (item_behind items last) ≡ item_behind (item_in_front first items) last
+  item_in_front-behind (Ok first) (Ok items) (Ok last) = refl
+  item_in_front-behind (Ok first) (Ok items) (Err reason) = refl
+  item_in_front-behind (Ok first) (Err reason) last = refl
+  item_in_front-behind (Err reason) items last = refl
 
-edit_in_front-nil : (last : Result Edit Refusal) → edit_in_front last (Ok []) ≡ edit_behind (Ok []) last
-edit_in_front-nil (Ok last) = refl
-edit_in_front-nil (Err reason) = refl
+  item_in_front-nil : (last : Result A Refusal) → item_in_front last (Ok []) ≡ item_behind (Ok []) last
+  item_in_front-nil (Ok last) = refl
+  item_in_front-nil (Err reason) = refl
 
--- the edits of one line more
-pub edits_of-more : (lines : List (List ℕ)) (line : List ℕ) → edits_of (lines ++ line ∷ []) ≡ edit_behind (edits_of lines) (edit_in_batch line)
-edits_of-more [] line = edit_in_front-nil (edit_in_batch line)
-edits_of-more (first ∷ lines) line = ap (edit_in_front (edit_in_batch first)) (edits_of-more lines line) ∙ edit_in_front-behind (edit_in_batch first) (edits_of lines) (edit_in_batch line)
+  -- the items of one line more
+  pub items_from-more : (item : ℕ → List ℕ → Result A Refusal) (number : ℕ) (lines : List (List ℕ)) (line : List ℕ) →
+      items_from item number (lines ++ line ∷ []) ≡ item_behind (items_from item number lines) (item (number + length lines) line)
+  items_from-more item number [] line =
+      item_in_front-nil (item number line) ∙ ap (λ (n : ℕ). item_behind (Ok []) (item n line)) (let e : number ≡ number + 0 = omega arith in e)
+  items_from-more item number (first ∷ lines) line =
+      ap (item_in_front (item number first)) (items_from-more item (number + 1) lines line)
+      ∙ item_in_front-behind (item number first) (items_from item (number + 1) lines) (item (number + 1 + length lines) line)
+      ∙ ap (λ (n : ℕ). item_behind (item_in_front (item number first) (items_from item (number + 1) lines)) (item n line)) (let e : number + 1 + length lines ≡ number + suc (length lines) = omega arith in e)
 
--- no line is read as an edit yet
-pub TakesEdits-none : (a : Option (List ℕ)) (edits : EditsRead) → IsRead (Ok []) edits → TakesEdits a a 0 edits
-TakesEdits-none a edits read = record { lines = []; taken = TakesLines-none a; count_is = refl; read = read }
+  -- no line is read yet
+  pub TakesItems-none : (item : ℕ → List ℕ → Result A Refusal) (a : Option (List ℕ)) (items : ItemsRead A) → IsRead (Ok []) items → TakesItems item a a 0 items
+  TakesItems-none item a items read = record { lines = []; taken = TakesLines-none a; count_is = refl; read = read }
 
--- one line more is read as an edit
-pub TakesEdits-more : (a b c : Option (List ℕ)) (count : ℕ) (edits after : EditsRead) (line text : List ℕ) → TakesEdits a b count edits → ReadsLine b c is.Line line → text ≡ line →
-    ((read : Result (List Edit) Refusal) → IsRead read edits → IsRead (edit_behind read (edit_in_batch text)) after) → TakesEdits a c (count + 1) after
-TakesEdits-more a b c count edits after line text taken reads same goes =
-    let P : Result (List Edit) Refusal → Type 0 = λ (r : Result (List Edit) Refusal). IsRead r after in
-    let e : edit_behind (edits_of taken.lines) (edit_in_batch text) ≡ edits_of (taken.lines ++ line ∷ []) =
-    ap (λ (t : List ℕ). edit_behind (edits_of taken.lines) (edit_in_batch t)) same ∙ sym (edits_of-more taken.lines line) in
-    record {
-      lines = taken.lines ++ line ∷ [];
-      taken = TakesLines-trans a b c taken.lines (line ∷ []) taken.taken (TakesLines-line b c line reads);
-      count_is = let n = taken.count_is in omega (arith, length-append taken.lines (line ∷ []));
-      read = subst P e (goes (edits_of taken.lines) taken.read);
-    }
+  -- one line more is read
+  pub TakesItems-more : (item : ℕ → List ℕ → Result A Refusal) (a b c : Option (List ℕ)) (count : ℕ) (items after : ItemsRead A) (line text : List ℕ) → TakesItems item a b count items → ReadsLine b c is.Line line → text ≡ line →
+      ((read : Result (List A) Refusal) → IsRead read items → IsRead (item_behind read (item (count + 1) text)) after) → TakesItems item a c (count + 1) after
+  TakesItems-more item a b c count items after line text taken reads same goes =
+      let P : Result (List A) Refusal → Type 0 = λ (r : Result (List A) Refusal). IsRead r after in
+      let numbered : count + 1 ≡ 1 + length taken.lines = let n = taken.count_is in omega arith in
+      let e : item_behind (items_from item 1 taken.lines) (item (count + 1) text) ≡ items_from item 1 (taken.lines ++ line ∷ []) =
+      ap (λ (t : List ℕ). item_behind (items_from item 1 taken.lines) (item (count + 1) t)) same
+      ∙ ap (λ (n : ℕ). item_behind (items_from item 1 taken.lines) (item n line)) numbered
+      ∙ sym (items_from-more item 1 taken.lines line) in
+      record {
+        lines = taken.lines ++ line ∷ [];
+        taken = TakesLines-trans a b c taken.lines (line ∷ []) taken.taken (TakesLines-line b c line reads);
+        count_is = let n = taken.count_is in omega (arith, length-append taken.lines (line ∷ []));
+        read = subst P e (goes (items_from item 1 taken.lines) taken.read);
+      }
 
--- the reader breaks off behind some lines
-pub StopsWithin-here : (a b c : Option (List ℕ)) (number count : ℕ) (edits : EditsRead) (stop : Stop) → TakesEdits a b number edits → number < count → BreaksOff b c stop → StopsWithin a c count stop
-StopsWithin-here a b c number count edits stop taken fewer broken = record {
-  lines = taken.lines;
-  between = b;
-  taken = taken.taken;
-  fewer = let n = taken.count_is in omega arith;
-  broken = broken;
-}
+  -- the reader breaks off behind some lines
+  pub StopsWithin-here : (item : ℕ → List ℕ → Result A Refusal) (a b c : Option (List ℕ)) (number count : ℕ) (items : ItemsRead A) (stop : Stop) → TakesItems item a b number items → number < count → BreaksOff b c stop →
+      StopsWithin a c count stop
+  StopsWithin-here item a b c number count items stop taken fewer broken = record {
+    lines = taken.lines;
+    between = b;
+    taken = taken.taken;
+    fewer = let n = taken.count_is in omega arith;
+    broken = broken;
+  }
 
--- all lines of a command are taken
-pub TakesTask-whole : (a b c : Option (List ℕ)) (line text : List ℕ) (command : Result Command Refusal) (count : ℕ) (edits : EditsRead) (task : Task) →
-    ReadsLine a b is.Line line → text ≡ line → command ≡ command_of text → count ≡ lines_due command → TakesEdits b c count edits →
-    ((read : Result (List Edit) Refusal) → IsRead read edits → IsTaskFor (task_by command read) task) → TakesTask a c task
-TakesTask-whole a b c line text command count edits task reads same reading due taken goes =
-    let e : command ≡ command_of line = reading ∙ ap command_of same in
-    let P : Result Command Refusal → Type 0 = λ (k : Result Command Refusal). IsTaskFor (task_by k (edits_of taken.lines)) task in
-    record {
-      first = line;
-      others = taken.lines;
-      taken = TakesLines-trans a b c (line ∷ []) taken.lines (TakesLines-line a b line reads) taken.taken;
-      whole = taken.count_is ∙ due ∙ ap lines_due e;
-      asked = subst P e (goes (edits_of taken.lines) taken.read);
-    }
+  -- all lines of a command are taken
+  pub TakesTask-whole : (item : ℕ → List ℕ → Result A Refusal) (a b c : Option (List ℕ)) (line text : List ℕ) (command : Result Command Refusal) (count : ℕ) (items : ItemsRead A) (task : Task) →
+      ReadsLine a b is.Line line → text ≡ line → command ≡ command_of text → count ≡ lines_due command → TakesItems item b c count items →
+      ((lines : List (List ℕ)) → IsRead (items_from item 1 lines) items → IsTaskFor (task_by command lines) task) → TakesTask a c task
+  TakesTask-whole item a b c line text command count items task reads same reading due taken goes =
+      let e : command ≡ command_of line = reading ∙ ap command_of same in
+      let P : Result Command Refusal → Type 0 = λ (k : Result Command Refusal). IsTaskFor (task_by k taken.lines) task in
+      record {
+        first = line;
+        others = taken.lines;
+        taken = TakesLines-trans a b c (line ∷ []) taken.lines (TakesLines-line a b line reads) taken.taken;
+        whole = taken.count_is ∙ due ∙ ap lines_due e;
+        asked = subst P e (goes taken.lines taken.read);
+      }
 
 -- the reader breaks off in the first line
 pub Stops-first : (a b : Option (List ℕ)) (stop : Stop) → BreaksOff a b stop → Stops a b stop

@@ -61,6 +61,20 @@ batch = refl
 pub batch-bad_name : command_of (codes "BATCH M+ 3 1") ≡ Ok (command.Batch (record { name = Err BadName; version = 3; count = 1 }))
 batch-bad_name = refl
 
+pub put : command_of (codes "PUT M 3 2") ≡ Ok (command.Put (record { name = Ok (codes "M"); version = 3; count = 2 }))
+put = refl
+
+-- a new deck, without cards
+pub put-new : command_of (codes "PUT M 0 0") ≡ Ok (command.Put (record { name = Ok (codes "M"); version = 0; count = 0 }))
+put-new = refl
+
+pub put-most : command_of (codes "PUT M 3 20000") ≡ Ok (command.Put (record { name = Ok (codes "M"); version = 3; count = 20000 }))
+put-most = refl
+
+-- the name of a put is told later, too
+pub put-bad_name : command_of (codes "PUT M+ 3 1") ≡ Ok (command.Put (record { name = Err BadName; version = 3; count = 1 }))
+put-bad_name = refl
+
 -- the empty card, with a blank behind the place and without
 pub empty_card : command_of (codes "INS M 1 1") ≡ Ok (command.Edit (codes "M") 1 (Insert 1 (codes "")))
 empty_card = refl
@@ -124,6 +138,18 @@ empty_batch = refl
 
 pub long_batch : command_of (codes "BATCH M 4 101") ≡ Err BadCommand
 long_batch = refl
+
+pub long_put : command_of (codes "PUT M 4 20001") ≡ Err BadCommand
+long_put = refl
+
+pub put_more : command_of (codes "PUT M 4 2 3") ≡ Err BadCommand
+put_more = refl
+
+pub put_without_version : command_of (codes "PUT M 2") ≡ Err BadCommand
+put_without_version = refl
+
+pub put_of_nobody : command_of (codes "PUT M+ 4 20001") ≡ Err BadCommand
+put_of_nobody = refl
 
 pub batch_of_nobody : command_of (codes "BATCH M+ 4 0") ≡ Err BadCommand
 batch_of_nobody = refl

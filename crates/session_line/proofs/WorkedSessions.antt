@@ -9,7 +9,7 @@ use Rattle.desk_core.specs.declared.replies.Reply.TheVariants as reply
 use Rattle.desk_core.specs.declared.replies.State.TheVariants.{Behind}
 use Rattle.desk_core.specs.declared.replies.Refusal.TheVariants as desk
 use Rattle.deck_files.specs.declared.deck_shelf.SaveOver.TheVariants.{Known}
-use Rattle.session_line.specs.declared.refusals.Refusal.TheVariants.{BadCommand, BadName, BadCard}
+use Rattle.session_line.specs.declared.refusals.Refusal.TheVariants.{BadCommand, BadName, BadCard, BadLine}
 use Rattle.session_line.specs.Commands.{command_of}
 use Rattle.session_line.specs.declared.tasks.PublishedText.TheVariants.{Image, Listing}
 use Rattle.session_line.specs.declared.tasks.Task.TheVariants.{Ask, LoadDeck, SaveDeck, Leave, Refuse}
@@ -57,6 +57,29 @@ bad_card = refl
 -- a head that is malformed takes no lines
 pub lines_of_bad_head : lines_due (command_of (codes "BATCH M 4 0")) ≡ 0
 lines_of_bad_head = refl
+
+-- a put is one call, and each of its lines is a card, one that looks like a command too
+pub put : task_of (codes "PUT M 3 3") (codes "          IDENT  M " ∷ codes "DROP M 3" ∷ codes "" ∷ [])
+    ≡ Ask (call.PutDeck (record { name = codes "M"; cards = codes "          IDENT  M" ∷ codes "DROP M 3" ∷ codes "" ∷ [] }) 3) Listing
+put = refl
+
+pub put-new : task_of (codes "PUT M 0 0") [] ≡ Ask (call.PutDeck (record { name = codes "M"; cards = [] }) 0) Listing
+put-new = refl
+
+-- its lines are taken whatever its name is, and the name counts before them
+pub lines_of_put : lines_due (command_of (codes "PUT M+ 4 20000")) ≡ 20000
+lines_of_put = refl
+
+pub put-bad_name : task_of (codes "PUT M+ 4 2") (codes "a" ∷ codes "b" ∷ []) ≡ Refuse BadName
+put-bad_name = refl
+
+-- the first line that is no card counts, and is told with its number
+pub put-bad_line : task_of (codes "PUT M 4 3") (codes "*A" ∷ codes "*Ba" ∷ codes "c" ∷ []) ≡ Refuse (BadLine 2 (card.BadCharacter 3))
+put-bad_line = refl
+
+-- a head that is malformed takes no lines
+pub lines_of_bad_put : lines_due (command_of (codes "PUT M 4 20001")) ≡ 0
+lines_of_bad_put = refl
 
 -- replies of the desk
 pub changed : reply_text Listing (reply.Changed 4) ≡ codes "OK 4\n"

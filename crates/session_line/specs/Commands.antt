@@ -10,6 +10,7 @@ use Rattle.cards.specs.declared.edits.Edit.{Edit}
 use Rattle.deck_files.specs.declared.deck_shelf.SaveOver.{SaveOver}
 use Rattle.deck_files.specs.declared.deck_shelf.SaveOver.TheVariants as over
 use Rattle.session_line.specs.declared.commands.Command.{Command}
+use Rattle.session_line.specs.declared.commands.LinesHead.{LinesHead}
 use Rattle.session_line.specs.declared.commands.Command.TheVariants as command
 use Rattle.session_line.specs.declared.refusals.Refusal.{Refusal}
 use Rattle.session_line.specs.declared.refusals.Refusal.TheVariants.{BadName}
@@ -68,15 +69,27 @@ most_edits = 100
 abbrev pub is_batch_size : ℕ → Bool
 is_batch_size count = nat_le 1 count && nat_le count most_edits
 
--- name version n; the name is looked at when the lines of the batch are read
-abbrev pub batch_in : List ℕ → Result Command Refusal
-batch_in rest =
+-- how many cards a put has at most
+abbrev pub most_put_cards : ℕ
+most_put_cards = 20000
+
+-- whether a put may have so many cards
+abbrev pub is_put_size : ℕ → Bool
+is_put_size count = nat_le count most_put_cards
+
+-- name version n; the name is looked at when the lines behind are read
+abbrev pub head_in : List ℕ → Result LinesHead Refusal
+head_in rest =
     let behind = behind_word (behind_word rest) in
     needs (first_word rest) (λ name.
     needs (first_number (behind_word rest)) (λ version.
     needs (first_number behind) (λ count.
-    only_if (is_end (behind_word behind) && is_batch_size count)
-    (Ok (command.Batch (record { name = name_in name; version = version; count = count }))))))
+    only_if (is_end (behind_word behind)) (Ok (record { name = name_in name; version = version; count = count })))))
+
+-- a command of so many lines, where it may have as many
+abbrev pub sized : (ℕ → Bool) → (LinesHead → Command) → Result LinesHead Refusal → Result Command Refusal
+sized fits make (Ok head) = only_if (fits head.count) (Ok (make head))
+sized fits make (Err refusal) = Err refusal
 
 -- the command of a verb, by what stands behind it
 abbrev pub command_by : Verb → List ℕ → Result Command Refusal
@@ -89,7 +102,8 @@ command_by verb.Save rest = save_in rest
 command_by verb.Image rest = alone command.Image rest
 command_by verb.List rest = alone command.List rest
 command_by verb.Status rest = alone command.Status rest
-command_by verb.Batch rest = batch_in rest
+command_by verb.Batch rest = sized is_batch_size command.Batch (head_in rest)
+command_by verb.Put rest = sized is_put_size command.Put (head_in rest)
 command_by verb.Bye rest = alone command.Bye rest
 
 -- the command that a line is, or why it is refused

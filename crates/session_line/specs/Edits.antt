@@ -1,4 +1,4 @@
--- Edits in a session's lines, and the lines of a batch (ours).
+-- Edits in a session's lines, the lines of a batch, and those of a deck that is put (ours).
 use Rattle.std.specs.Prelude.{ℕ, List, Option, Some, None, Result, Ok, Err, Bool, true, ◌==◌, length, drop, if◌then◌else◌}
 use Rattle.definitions.specs.Cards.{Card, CardRead, IsCard, TooWide, BadCharacter, card_of}
 use Rattle.definitions.specs.Fields.{unbroken_front}
@@ -8,7 +8,7 @@ use Rattle.session_line.specs.declared.verbs.EditKind.TheVariants as kind
 use Rattle.cards.specs.declared.edits.Edit.{Edit}
 use Rattle.cards.specs.declared.edits.Edit.TheVariants.{Insert, Replace, Remove}
 use Rattle.session_line.specs.declared.refusals.Refusal.{Refusal}
-use Rattle.session_line.specs.declared.refusals.Refusal.TheVariants.{BadCommand, BadCard}
+use Rattle.session_line.specs.declared.refusals.Refusal.TheVariants.{BadCommand, BadCard, BadLine}
 use Rattle.session_line.specs.Words.{from_blank, first_number, behind_word}
 use Rattle.session_line.specs.Verbs.{edit_kind_of}
 
@@ -59,3 +59,13 @@ edit_in_batch line =
     needs (edit_kind_of (unbroken_front line)) (λ kind.
     needs (first_number rest) (λ at.
     only_if (fits_edit kind (behind_word rest)) (edit_at kind at (behind_word rest))))
+
+-- a card, or the fault of the line that shows none
+abbrev pub card_or_bad_line : ℕ → CardRead → Result Card Refusal
+card_or_bad_line number (IsCard columns) = Ok columns
+card_or_bad_line number TooWide = Err (BadLine number card.TooWide)
+card_or_bad_line number (BadCharacter column) = Err (BadLine number (card.BadCharacter column))
+
+-- the card that a line of a put is, all of it; of one that is none, its number is told
+abbrev pub card_in_put : ℕ → List ℕ → Result Card Refusal
+card_in_put number line = card_or_bad_line number (card_of line)

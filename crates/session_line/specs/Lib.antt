@@ -7,7 +7,7 @@ pub mod Refusals
 pub mod Replies
 pub mod Tasks
 pub mod Taking
-pub mod Batches
+pub mod LineItems
 pub mod Reasons
 pub mod Answers
 pub mod Executing

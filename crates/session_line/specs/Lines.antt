@@ -9,7 +9,7 @@ use Rattle.session_line.specs.declared.commands.Command.{Command}
 use Rattle.session_line.specs.declared.commands.Command.TheVariants as command
 use Rattle.session_line.specs.declared.refusals.Refusal.{Refusal}
 use Rattle.session_line.specs.Words.{greatest_number}
-use Rattle.session_line.specs.Commands.{is_batch_size}
+use Rattle.session_line.specs.Commands.{is_batch_size, is_put_size}
 
 -- a blank, and a text behind it
 abbrev pub behind_a_blank : List ℕ → List ℕ
@@ -31,10 +31,10 @@ line_in_batch (Insert at card) = codes "INS" ++ behind_a_blank (decimal at ++ be
 line_in_batch (Replace at card) = codes "REP" ++ behind_a_blank (decimal at ++ behind_a_blank card)
 line_in_batch (Remove at) = codes "DEL" ++ behind_a_blank (decimal at ++ [])
 
--- the first line of a batch; one whose name is none has no line of its own
-abbrev pub line_of_batch : Result (List ℕ) Refusal → ℕ → ℕ → List ℕ
-line_of_batch (Ok name) version count = codes "BATCH" ++ name_and_number name version (behind_a_blank (decimal count ++ []))
-line_of_batch (Err refusal) version count = []
+-- the first line of a command with lines behind it; one whose name is none has no line of its own
+abbrev pub line_of_head : List ℕ → Result (List ℕ) Refusal → ℕ → ℕ → List ℕ
+line_of_head verb (Ok name) version count = verb ++ name_and_number name version (behind_a_blank (decimal count ++ []))
+line_of_head verb (Err refusal) version count = []
 
 -- the line of a command
 abbrev pub line_of_command : Command → List ℕ
@@ -48,7 +48,8 @@ line_of_command (command.Save name Any) = codes "SAVE" ++ behind_a_blank (name +
 line_of_command command.Image = codes "IMAGE"
 line_of_command command.List = codes "LIST"
 line_of_command command.Status = codes "STATUS"
-line_of_command (command.Batch head) = line_of_batch head.name head.version head.count
+line_of_command (command.Batch head) = line_of_head (codes "BATCH") head.name head.version head.count
+line_of_command (command.Put head) = line_of_head (codes "PUT") head.name head.version head.count
 line_of_command command.Bye = codes "BYE"
 
 -- a place that can be told, and a card
@@ -62,7 +63,7 @@ abbrev pub IsLawfulName : Result (List ℕ) Refusal → Type 0
 IsLawfulName (Ok name) = IsTrue (is_deck_name name)
 IsLawfulName (Err refusal) = ⊥
 
--- a command with a lawful name, numbers that can be told, and a card; and where it is a batch, with a name and 1 to 100 edits
+-- a command with a lawful name, numbers that can be told, and a card; where it is a batch, with a name and 1 to 100 edits; where it is a put, with a name and at most 20,000 cards
 abbrev pub IsLawful : Command → Type 0
 IsLawful (command.Add name) = IsTrue (is_deck_name name)
 IsLawful (command.Load name) = IsTrue (is_deck_name name)
@@ -74,4 +75,5 @@ IsLawful command.Image = ⊤
 IsLawful command.List = ⊤
 IsLawful command.Status = ⊤
 IsLawful (command.Batch head) = IsLawfulName head.name × (head.version ≤ greatest_number) × IsTrue (is_batch_size head.count)
+IsLawful (command.Put head) = IsLawfulName head.name × (head.version ≤ greatest_number) × IsTrue (is_put_size head.count)
 IsLawful command.Bye = ⊤

@@ -6,7 +6,7 @@ use Rattle.text_ports.specs.Lines.{ReadsLine}
 use Rattle.text_ports.specs.Faults.{count_up}
 use Rattle.text_ports.specs.declared.lines.LineIs.{LineIs}
 use Rattle.text_ports.specs.declared.lines.LineIs.TheVariants as line
-use Rattle.desk_core.specs.declared.calls.Call.TheVariants.{Batch}
+use Rattle.desk_core.specs.declared.calls.Call.TheVariants.{Batch, PutDeck}
 use Rattle.session_line.specs.Commands.{command_of}
 use Rattle.session_line.specs.declared.refusals.Refusal.TheVariants.{OutOfMemory}
 use Rattle.session_line.specs.declared.tasks.Task.{Task}
@@ -49,14 +49,15 @@ pub record Stops (old new : Option (List ℕ)) (stop : Stop) : Type 0 where
   pub begun : IsBegun lines
   pub broken : BreaksOff between new stop
 
--- whether a task is a batch, whose edits are a list in memory
-abbrev pub is_batch : Task → Bool
-is_batch (Ask (Batch name version edits) text) = true
-is_batch _ = false
+-- whether a task is a batch or a put, whose edits or cards are a list in memory
+abbrev pub has_list : Task → Bool
+has_list (Ask (Batch name version edits) text) = true
+has_list (Ask (PutDeck deck version) text) = true
+has_list _ = false
 
--- the task of some lines; of a batch also that there is no memory for its edits
+-- the task of some lines; of a batch or a put also that there is no memory for its list
 abbrev pub IsTaskFor : Task → Task → Type 0
-IsTaskFor asked task = (task ≡ asked) ⊎ (IsTrue (is_batch asked) × (task ≡ Refuse OutOfMemory))
+IsTaskFor asked task = (task ≡ asked) ⊎ (IsTrue (has_list asked) × (task ≡ Refuse OutOfMemory))
 
 -- the reader lost exactly the lines of one command, which ask for this task
 pub record TakesTask (old new : Option (List ℕ)) (task : Task) : Type 0 where

@@ -1,12 +1,13 @@
 -- What a session asks for: the lines of one command, and the task that they are (ours).
-use Rattle.std.specs.Prelude.{ℕ, List, [], ◌∷◌, Result, Ok, Err}
+use Rattle.std.specs.Prelude.{ℕ, ◌+◌, Bool, true, false, List, [], ◌∷◌, Result, Ok, Err}
+use Rattle.definitions.specs.Cards.{Card}
 use Rattle.cards.specs.declared.edits.Edit.{Edit}
 use Rattle.desk_core.specs.declared.calls.Call.{Call}
-use Rattle.desk_core.specs.declared.calls.Call.TheVariants.{AddDeck, DropDeck, EditDeck, Batch, Cards, Show, Status}
+use Rattle.desk_core.specs.declared.calls.Call.TheVariants.{AddDeck, PutDeck, DropDeck, EditDeck, Batch, Cards, Show, Status}
 use Rattle.session_line.specs.declared.commands.Command.{Command}
 use Rattle.session_line.specs.declared.commands.Command.TheVariants as command
 use Rattle.session_line.specs.declared.refusals.Refusal.{Refusal}
-use Rattle.session_line.specs.Edits.{edit_in_batch}
+use Rattle.session_line.specs.Edits.{edit_in_batch, card_in_put}
 use Rattle.session_line.specs.Commands.{command_of}
 use Rattle.session_line.specs.declared.tasks.PublishedText.TheVariants.{Image, Listing}
 use Rattle.session_line.specs.declared.tasks.Task.{Task}
@@ -15,6 +16,7 @@ use Rattle.session_line.specs.declared.tasks.Task.TheVariants.{Ask, LoadDeck, Sa
 -- how many lines belong to a command behind its first
 abbrev pub lines_behind : Command → ℕ
 lines_behind (command.Batch head) = head.count
+lines_behind (command.Put head) = head.count
 lines_behind _ = 0
 
 -- how many lines belong to a first line; one that is no command has none
@@ -22,16 +24,29 @@ abbrev pub lines_due : Result Command Refusal → ℕ
 lines_due (Ok command) = lines_behind command
 lines_due (Err refusal) = 0
 
--- an edit in front of others, or the first refusal
-abbrev pub edit_in_front : Result Edit Refusal → Result (List Edit) Refusal → Result (List Edit) Refusal
-edit_in_front (Ok edit) (Ok edits) = Ok (edit ∷ edits)
-edit_in_front (Ok edit) (Err refusal) = Err refusal
-edit_in_front (Err refusal) edits = Err refusal
+-- whether a first line begins a put, whose lines are cards
+abbrev pub is_put : Result Command Refusal → Bool
+is_put (Ok (command.Put head)) = true
+is_put first = false
 
--- the edits of a batch's lines, or the refusal of the first line that is none
+-- an item in front of others, or the first refusal
+abbrev pub item_in_front : {A : Type 0} → Result A Refusal → Result (List A) Refusal → Result (List A) Refusal
+item_in_front (Ok item) (Ok items) = Ok (item ∷ items)
+item_in_front (Ok item) (Err refusal) = Err refusal
+item_in_front (Err refusal) items = Err refusal
+
+-- the items of lines that are numbered from here, or the refusal of the first line that is none
+abbrev pub items_from : {A : Type 0} → (ℕ → List ℕ → Result A Refusal) → ℕ → List (List ℕ) → Result (List A) Refusal
+items_from item number [] = Ok []
+items_from item number (line ∷ lines) = item_in_front (item number line) (items_from item (number + 1) lines)
+
+-- the edits of a batch's lines
 abbrev pub edits_of : List (List ℕ) → Result (List Edit) Refusal
-edits_of [] = Ok []
-edits_of (line ∷ lines) = edit_in_front (edit_in_batch line) (edits_of lines)
+edits_of lines = items_from (λ number line. edit_in_batch line) 1 lines
+
+-- the cards of a put's lines
+abbrev pub cards_of : List (List ℕ) → Result (List Card) Refusal
+cards_of lines = items_from card_in_put 1 lines
 
 -- a call of the desk that shows no publication
 abbrev pub asks : Call → Task
@@ -47,25 +62,36 @@ abbrev pub batch_named : Result (List ℕ) Refusal → ℕ → Result (List Edit
 batch_named (Ok name) version edits = batch_of name version edits
 batch_named (Err refusal) version edits = Refuse refusal
 
--- what a command asks for, with the edits of the lines behind it
-abbrev pub task_of_command : Command → Result (List Edit) Refusal → Task
-task_of_command (command.Add name) edits = asks (AddDeck (record { name = name; cards = [] }))
-task_of_command (command.Load name) edits = LoadDeck name
-task_of_command (command.Drop name version) edits = asks (DropDeck name version)
-task_of_command (command.Edit name version edit) edits = asks (EditDeck name version edit)
-task_of_command (command.Cards name) edits = asks (Cards name)
-task_of_command (command.Save name over) edits = SaveDeck name over
-task_of_command command.Image edits = Ask Show Image
-task_of_command command.List edits = Ask Show Listing
-task_of_command command.Status edits = asks Status
-task_of_command (command.Batch head) edits = batch_named head.name head.version edits
-task_of_command command.Bye edits = Leave
+-- a deck of these cards, where its lines are cards
+abbrev pub put_of : List ℕ → ℕ → Result (List Card) Refusal → Task
+put_of name version (Ok cards) = asks (PutDeck (record { name = name; cards = cards }) version)
+put_of name version (Err refusal) = Refuse refusal
 
--- what a first line asks for; one that is no command is refused
-abbrev pub task_by : Result Command Refusal → Result (List Edit) Refusal → Task
-task_by (Ok command) edits = task_of_command command edits
-task_by (Err refusal) edits = Refuse refusal
+-- a put, where its name is one; the name counts before the lines
+abbrev pub put_named : Result (List ℕ) Refusal → ℕ → Result (List Card) Refusal → Task
+put_named (Ok name) version cards = put_of name version cards
+put_named (Err refusal) version cards = Refuse refusal
+
+-- what a command asks for, with the lines behind it
+abbrev pub task_of_command : Command → List (List ℕ) → Task
+task_of_command (command.Add name) lines = asks (AddDeck (record { name = name; cards = [] }))
+task_of_command (command.Load name) lines = LoadDeck name
+task_of_command (command.Drop name version) lines = asks (DropDeck name version)
+task_of_command (command.Edit name version edit) lines = asks (EditDeck name version edit)
+task_of_command (command.Cards name) lines = asks (Cards name)
+task_of_command (command.Save name over) lines = SaveDeck name over
+task_of_command command.Image lines = Ask Show Image
+task_of_command command.List lines = Ask Show Listing
+task_of_command command.Status lines = asks Status
+task_of_command (command.Batch head) lines = batch_named head.name head.version (edits_of lines)
+task_of_command (command.Put head) lines = put_named head.name head.version (cards_of lines)
+task_of_command command.Bye lines = Leave
+
+-- what a first line asks for, with the lines behind it; one that is no command is refused
+abbrev pub task_by : Result Command Refusal → List (List ℕ) → Task
+task_by (Ok command) lines = task_of_command command lines
+task_by (Err refusal) lines = Refuse refusal
 
 -- the task of a command's lines
 abbrev pub task_of : List ℕ → List (List ℕ) → Task
-task_of first others = task_by (command_of first) (edits_of others)
+task_of first others = task_by (command_of first) others

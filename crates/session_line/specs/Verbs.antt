@@ -26,6 +26,7 @@ other_verb_of word =
     else if same_text word (codes "LIST") then Some verb.List
     else if same_text word (codes "STATUS") then Some verb.Status
     else if same_text word (codes "BATCH") then Some verb.Batch
+    else if same_text word (codes "PUT") then Some verb.Put
     else if same_text word (codes "BYE") then Some verb.Bye
     else None
 

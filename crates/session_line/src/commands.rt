@@ -1,6 +1,7 @@
 //! The commands of a session.
 ghost use Rattle.std.specs.Prelude.{◌≡◌};
-ghost use Rattle.session_line.specs.Commands.{name_in, alone, only_name, save_over_in, save_in, drop_in, edit_in, batch_in, command_by, command_of, is_batch_size};
+ghost use Rattle.session_line.specs.declared.commands.Command.TheVariants as command;
+ghost use Rattle.session_line.specs.Commands.{name_in, alone, only_name, save_over_in, save_in, drop_in, edit_in, head_in, sized, command_by, command_of, is_batch_size, is_put_size};
 
 use crate::edits::{edit_at, fits_edit};
 use crate::refusals::Refusal;
@@ -12,6 +13,9 @@ use definitions::is_same_text;
 
 /// How many edits a batch has at most.
 const MOST_EDITS: u64 = 100;
+
+/// How many cards a put has at most.
+const MOST_PUT_CARDS: u64 = 20_000;
 
 /// What a line of a session asks for. Who changes a deck tells the version of it that was seen.
 #[derive(Drop)]
@@ -51,15 +55,19 @@ pub enum Command {
     /// The versions and states of all decks.
     Status,
     /// Edits of one deck, all or none, each on a line of its own behind this one.
-    Batch(BatchHead),
+    Batch(LinesHead),
+    /// A deck in the place of the one of its name, its cards on lines of their own behind this one; or a
+    /// new deck, where the version is 0.
+    Put(LinesHead),
     /// The end of the session.
     Bye,
 }
 
-/// The first line of a batch: the deck, or why the word is no name, the version of it that was seen,
-/// and how many lines of edits follow, 1 to 100.
+/// The first line of a command that has further lines: the deck, or why the word is no name, the version
+/// of it that was seen, and how many lines follow: 1 to 100 edits of a batch, or at most 20,000 cards of
+/// a put.
 #[derive(Drop)]
-pub struct BatchHead {
+pub struct LinesHead {
     pub name: Result<DeckName, Refusal>,
     pub version: u64,
     pub count: u64,
@@ -180,9 +188,15 @@ fn is_batch_size(count: u64) -> bool
     1 <= count && count <= MOST_EDITS
 }
 
+fn is_put_size(count: u64) -> bool
+    ensures { result ≡ is_put_size count }
+{
+    count <= MOST_PUT_CARDS
+}
+
 /// `name version n`
-fn batch_in(rest: &[u8]) -> Result<Command, Refusal>
-    ensures { result ≡ batch_in rest.now }
+fn head_in(rest: &[u8]) -> Result<LinesHead, Refusal>
+    ensures { result ≡ head_in rest.now }
 {
     let Some(name) = first_word(rest) else {
         return Err(Refusal::BadCommand);
@@ -195,22 +209,44 @@ fn batch_in(rest: &[u8]) -> Result<Command, Refusal>
     let Some(count) = first_number(rest) else {
         return Err(Refusal::BadCommand);
     };
-    if !behind_word(rest).is_empty() || !is_batch_size(count) {
+    if !behind_word(rest).is_empty() {
         return Err(Refusal::BadCommand);
     }
     let name = name_in(name);
-    Ok(Command::Batch(BatchHead {
+    Ok(LinesHead {
         name,
         version,
         count,
-    }))
+    })
+}
+
+/// `name version n`, with 1 to 100 lines.
+fn batch_in(rest: &[u8]) -> Result<Command, Refusal>
+    ensures { result ≡ sized is_batch_size command.Batch (head_in rest.now) }
+{
+    let head = head_in(rest)?;
+    if !is_batch_size(head.count) {
+        return Err(Refusal::BadCommand);
+    }
+    Ok(Command::Batch(head))
+}
+
+/// `name version n`, with at most 20,000 lines.
+fn put_in(rest: &[u8]) -> Result<Command, Refusal>
+    ensures { result ≡ sized is_put_size command.Put (head_in rest.now) }
+{
+    let head = head_in(rest)?;
+    if !is_put_size(head.count) {
+        return Err(Refusal::BadCommand);
+    }
+    Ok(Command::Put(head))
 }
 
 /// Reads a line as a command. Words are separated by one blank each; a number has 1 to 19 decimal
 /// digits and is at most 2^62; the text of a card is all that stands behind one blank, and a line
 /// that ends behind its place has the empty card. Any other line is `BadCommand`; then comes
-/// `BadName`, and then the fault of the card. The name of a batch is looked at later, so its fault
-/// stands in the head.
+/// `BadName`, and then the fault of the card. The name of a batch or a put is looked at later, so its
+/// fault stands in the head.
 pub fn read_command(line: &[u8]) -> Result<Command, Refusal>
     ensures command { result ≡ command_of line.now }
 {
@@ -241,6 +277,7 @@ fn command_by(verb: Verb, rest: &[u8]) -> Result<Command, Refusal>
         Verb::List => alone(Command::List, rest),
         Verb::Status => alone(Command::Status, rest),
         Verb::Batch => batch_in(rest),
+        Verb::Put => put_in(rest),
         Verb::Bye => alone(Command::Bye, rest),
     }
 }

@@ -1,6 +1,6 @@
-//! Edits of a deck's cards as lines show them, and the lines of a batch.
+//! Edits of a deck's cards as lines show them, the lines of a batch, and those of a deck that is put.
 ghost use Rattle.std.specs.Prelude.{◌≡◌};
-ghost use Rattle.session_line.specs.Edits.{card_behind, fits_edit, edit_at, edit_in_batch};
+ghost use Rattle.session_line.specs.Edits.{card_behind, card_in_put, fits_edit, edit_at, edit_in_batch};
 
 use crate::refusals::Refusal;
 use crate::verbs::{EditKind, edit_kind_of};
@@ -61,4 +61,18 @@ pub fn read_batch_line(line: &[u8]) -> Result<Edit, Refusal>
         return Err(Refusal::BadCommand);
     }
     edit_at(kind, at, behind_word(rest))
+}
+
+/// Reads the line of this number behind a `PUT`, which is a card, all of it. The refusal of any other
+/// line tells its number.
+pub(crate) fn read_put_line(number: u64, line: &[u8]) -> Result<Card, Refusal>
+    ensures { result ≡ card_in_put number line.now }
+{
+    match Card::read(line) {
+        Ok(card) => Ok(card),
+        Err(fault) => Err(Refusal::BadLine {
+            line: number as usize,
+            fault,
+        }),
+    }
 }

@@ -2,7 +2,7 @@
 //! refused; at most one call of the desk and one of the shelf; and the text of the reply. Nothing here
 //! knows what a desk does with a call, where a shelf keeps its files, or what a port is.
 //!
-//! All lines of a batch are read before the first is looked at, so a fault or an end among them
+//! All lines of a batch or a put are read before the first is looked at, so a fault or an end among them
 //! makes no call. A `Task` is what a command asks for: one call of the desk, a load, a save, the
 //! end, or nothing, for a reason. LOAD reads the shelf first, so that a file that is no deck adds
 //! none; SAVE asks the desk first. A reply borrows its cards and texts, and takes no memory. What
@@ -32,7 +32,7 @@ mod calls;
 mod seat_calls;
 
 // What is asked.
-mod batches;
+mod line_items;
 mod reading;
 mod tasks;
 
@@ -48,7 +48,7 @@ mod laws;
 
 pub use calls::Calls;
 pub use cards::{Edit, EditFault};
-pub use commands::{BatchHead, Command, only_name, read_command};
+pub use commands::{Command, LinesHead, only_name, read_command};
 pub use desk_core::{Row, State};
 pub use desk_laws::a_desk_answers_sessions;
 pub use edits::read_batch_line;

@@ -3,11 +3,11 @@ ghost use Rattle.std.specs.Prelude.{◌≡◌, IfErr, IfOk, OnOk};
 ghost use Rattle.text_ports.specs.Lines.{ReadsLine};
 ghost use Rattle.text_ports.specs.declared.lines.LineIs.TheVariants.{Line};
 ghost use Rattle.session_line.specs.Taking.{BreaksOff, Stops, TakesTask, count_after_reading};
-ghost use Rattle.session_line.specs.Batches.{StopsWithin, TakesEdits};
+ghost use Rattle.session_line.specs.LineItems.{StopsWithin, TakesItems};
 
-use crate::batches::EditsRead;
+use crate::line_items::{ItemsRead, LineItem};
 use crate::read_command;
-use crate::tasks::{Task, lines_due, task_by};
+use crate::tasks::{Task, is_put, lines_due, put_by, task_by};
 use std::alloc::Global;
 use std::io::Read;
 use text_ports::{Counted, LineBuf, LineIs, next_line};
@@ -34,19 +34,23 @@ fn take_line<R: Read>(input: &mut Counted<R>, line: &mut LineBuf) -> Result<(), 
     }
 }
 
-/// Takes so many lines, and reads each as an edit.
-fn read_edits<R: Read>(alloc: Global, input: &mut Counted<R>, count: u64) -> Result<EditsRead, Stop>
-    ensures edits { IfOk result (λ edits. TakesEdits (R.remaining input.old.0) (R.remaining input.new.0) count edits) }
+/// Takes so many lines, and reads each as an item.
+fn read_items<R: Read, T: LineItem>(
+    alloc: Global,
+    input: &mut Counted<R>,
+    count: u64,
+) -> Result<ItemsRead<T>, Stop>
+    ensures items { IfOk result (λ items. TakesItems T.item_of (R.remaining input.old.0) (R.remaining input.new.0) count items) }
     ensures stop { IfErr result (λ stop. StopsWithin (R.remaining input.old.0) (R.remaining input.new.0) count stop) }
     ensures count { input.new.1 ≡ count_after_reading result input.old.1 }
 {
-    let mut edits = EditsRead::Whole(Vec::new(alloc));
+    let mut items = ItemsRead::Whole(Vec::new(alloc));
     let mut line = LineBuf::new();
-    for _number in 0..count {
+    for number in 0..count {
         take_line(input, &mut line)?;
-        edits = edits.with_line(line.as_slice());
+        items = items.with_line(number + 1, line.as_slice());
     }
-    Ok(edits)
+    Ok(items)
 }
 
 /// Reads one command whole. No line is looked at before all are read.
@@ -59,6 +63,10 @@ pub(crate) fn read_task<R: Read>(alloc: Global, input: &mut Counted<R>) -> Resul
     take_line(input, &mut line)?;
     let command = read_command(line.as_slice());
     let count = lines_due(&command);
-    let edits = read_edits(alloc, input, count)?;
+    if is_put(&command) {
+        let cards = read_items(alloc, input, count)?;
+        return Ok(put_by(command, cards));
+    }
+    let edits = read_items(alloc, input, count)?;
     Ok(task_by(alloc, command, edits))
 }

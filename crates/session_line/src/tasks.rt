@@ -1,14 +1,15 @@
 //! What a command asks for.
-ghost use Rattle.std.specs.Prelude.{◌≡◌, false, List, Result};
+ghost use Rattle.std.specs.Prelude.{◌≡◌, ℕ, true, false, List, Result, Ok};
+ghost use Rattle.definitions.specs.Cards.{Card as Columns};
 ghost use Rattle.cards.specs.declared.edits.Edit.{Edit as CardEdit};
 ghost use Rattle.session_line.specs.declared.refusals.Refusal.{Refusal as Reason};
-ghost use Rattle.session_line.specs.Tasks.{asks, batch_named, lines_behind, lines_due, task_by, task_of_command};
+ghost use Rattle.session_line.specs.Tasks.{asks, batch_named, cards_of, edits_of, is_put, lines_behind, lines_due, put_named, task_by, task_of_command};
 ghost use Rattle.session_line.specs.Taking.{IsTaskFor};
-ghost use Rattle.session_line.specs.Batches.{IsRead, is_lacking};
+ghost use Rattle.session_line.specs.LineItems.{IsRead, is_lacking};
 
-use crate::batches::EditsRead;
-use crate::{BatchHead, Command, Refusal};
-use cards::DeckName;
+use crate::line_items::ItemsRead;
+use crate::{Command, LinesHead, Refusal};
+use cards::{Card, DeckName, Edit};
 use deck_files::SaveOver;
 use desk_core::{Call, Listed, NewDeck};
 use std::alloc::Global;
@@ -40,7 +41,7 @@ fn lines_behind(command: &Command) -> u64
     ensures { result ≡ lines_behind command.now }
 {
     match command {
-        Command::Batch(head) => head.count,
+        Command::Batch(head) | Command::Put(head) => head.count,
         Command::Add { .. } | Command::Load { .. } | Command::Drop { .. } => 0,
         Command::Edit { .. } | Command::Cards { .. } | Command::Save { .. } => 0,
         Command::Image | Command::List | Command::Status | Command::Bye => 0,
@@ -57,6 +58,13 @@ pub(crate) fn lines_due(command: &Result<Command, Refusal>) -> u64
     }
 }
 
+/// Whether a first line begins a put, whose lines are cards.
+pub(crate) fn is_put(command: &Result<Command, Refusal>) -> bool
+    ensures { result ≡ is_put command.now }
+{
+    matches!(command, Ok(Command::Put(_)))
+}
+
 /// A call of the desk that shows no publication.
 fn asks(call: Call) -> Task
     ensures { result ≡ asks call }
@@ -68,7 +76,7 @@ fn asks(call: Call) -> Task
 }
 
 /// A batch, with the edits of its lines; `OutOfMemory` only where there was no memory for them.
-fn batch_named(head: BatchHead, edits: EditsRead) -> Task
+fn batch_named(head: LinesHead, edits: ItemsRead<Edit>) -> Task
     ensures task { (read : Result (List CardEdit) Reason) → IsRead read edits → IsTaskFor (batch_named head.name head.version read) result }
     ensures whole { is_lacking edits ≡ false → (read : Result (List CardEdit) Reason) → IsRead read edits → result ≡ batch_named head.name head.version read }
 {
@@ -78,20 +86,53 @@ fn batch_named(head: BatchHead, edits: EditsRead) -> Task
         Err(refusal) => return Task::Refuse(refusal),
     };
     match edits {
-        EditsRead::Whole(edits) => asks(Call::Batch {
+        ItemsRead::Whole(edits) => asks(Call::Batch {
             name,
             seen,
             edits: Listed::new(edits),
         }),
-        EditsRead::Lacking => Task::Refuse(Refusal::OutOfMemory),
-        EditsRead::Faulty(refusal) => Task::Refuse(refusal),
+        ItemsRead::Lacking => Task::Refuse(Refusal::OutOfMemory),
+        ItemsRead::Faulty(refusal) => Task::Refuse(refusal),
     }
 }
 
-/// What a command asks for, with the edits of the lines behind it.
-fn task_of_command(alloc: Global, command: Command, edits: EditsRead) -> Task
-    ensures task { (read : Result (List CardEdit) Reason) → IsRead read edits → IsTaskFor (task_of_command command read) result }
-    ensures whole { is_lacking edits ≡ false → (read : Result (List CardEdit) Reason) → IsRead read edits → result ≡ task_of_command command read }
+/// A put, with the cards of its lines; `OutOfMemory` only where there was no memory for them.
+fn put_named(head: LinesHead, cards: ItemsRead<Card>) -> Task
+    ensures task { (read : Result (List Columns) Reason) → IsRead read cards → IsTaskFor (put_named head.name head.version read) result }
+    ensures whole { is_lacking cards ≡ false → (read : Result (List Columns) Reason) → IsRead read cards → result ≡ put_named head.name head.version read }
+{
+    let seen = head.version;
+    let name = match head.name {
+        Ok(name) => name,
+        Err(refusal) => return Task::Refuse(refusal),
+    };
+    match cards {
+        ItemsRead::Whole(cards) => asks(Call::PutDeck {
+            deck: NewDeck::new(name, cards),
+            seen,
+        }),
+        ItemsRead::Lacking => Task::Refuse(Refusal::OutOfMemory),
+        ItemsRead::Faulty(refusal) => Task::Refuse(refusal),
+    }
+}
+
+/// What a put asks for, with the cards of the lines behind it.
+pub(crate) fn put_by(command: Result<Command, Refusal>, cards: ItemsRead<Card>) -> Task
+    requires { is_put command ≡ true }
+    ensures task { (lines : List (List ℕ)) → IsRead (cards_of lines) cards → IsTaskFor (task_by command lines) result }
+    ensures whole { is_lacking cards ≡ false → (lines : List (List ℕ)) → IsRead (cards_of lines) cards → result ≡ task_by command lines }
+{
+    match command {
+        Ok(Command::Put(head)) => put_named(head, cards),
+        _ => unreachable!(),
+    }
+}
+
+/// What a command that is no put asks for, with the edits of the lines behind it.
+fn task_of_command(alloc: Global, command: Command, edits: ItemsRead<Edit>) -> Task
+    requires { is_put (Ok command) ≡ false }
+    ensures task { (lines : List (List ℕ)) → IsRead (edits_of lines) edits → IsTaskFor (task_of_command command lines) result }
+    ensures whole { is_lacking edits ≡ false → (lines : List (List ℕ)) → IsRead (edits_of lines) edits → result ≡ task_of_command command lines }
 {
     match command {
         Command::Add { name } => asks(Call::AddDeck(NewDeck::new(name, Vec::new(alloc)))),
@@ -118,14 +159,20 @@ fn task_of_command(alloc: Global, command: Command, edits: EditsRead) -> Task
         Command::List => asks(Call::Show),
         Command::Status => asks(Call::Status),
         Command::Batch(head) => batch_named(head, edits),
+        Command::Put(_) => unreachable!(),
         Command::Bye => Task::Leave,
     }
 }
 
-/// What a first line asks for, with the edits of the lines behind it.
-pub(crate) fn task_by(alloc: Global, command: Result<Command, Refusal>, edits: EditsRead) -> Task
-    ensures task { (read : Result (List CardEdit) Reason) → IsRead read edits → IsTaskFor (task_by command read) result }
-    ensures whole { is_lacking edits ≡ false → (read : Result (List CardEdit) Reason) → IsRead read edits → result ≡ task_by command read }
+/// What a first line asks for that begins no put, with the edits of the lines behind it.
+pub(crate) fn task_by(
+    alloc: Global,
+    command: Result<Command, Refusal>,
+    edits: ItemsRead<Edit>,
+) -> Task
+    requires { is_put command ≡ false }
+    ensures task { (lines : List (List ℕ)) → IsRead (edits_of lines) edits → IsTaskFor (task_by command lines) result }
+    ensures whole { is_lacking edits ≡ false → (lines : List (List ℕ)) → IsRead (edits_of lines) edits → result ≡ task_by command lines }
 {
     match command {
         Ok(command) => task_of_command(alloc, command, edits),

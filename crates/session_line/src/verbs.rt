@@ -26,6 +26,7 @@ pub(crate) enum Verb {
     List,
     Status,
     Batch,
+    Put,
     Bye,
 }
 
@@ -65,6 +66,8 @@ fn other_verb_of(word: &[u8]) -> Option<Verb>
         Some(Verb::Status)
     } else if is_same_text(word, b"BATCH") {
         Some(Verb::Batch)
+    } else if is_same_text(word, b"PUT") {
+        Some(Verb::Put)
     } else if is_same_text(word, b"BYE") {
         Some(Verb::Bye)
     } else {
