@@ -6,12 +6,12 @@ use Rattle.definitions.specs.DeckInput.{is_deck_name}
 use Rattle.cards.specs.declared.edits.Edit.{Edit}
 use Rattle.cards.specs.declared.edits.Edit.TheVariants.{Insert, Replace, Remove}
 use Rattle.session_line.specs.Words.{greatest_number}
-use Rattle.session_line.specs.Commands.{is_batch_size}
+use Rattle.session_line.specs.Commands.{is_batch_size, is_put_size}
 use Rattle.session_line.specs.Lines.{behind_a_blank, name_and_number, line_of_edit, line_in_batch, IsLawfulEdit}
 use Rattle.std.proofs.lemmas.Bool.{and_parts, leb-true}
 use Rattle.std.specs.Prelude.{nat_le}
 use Rattle.journal.specs.declared.changes.Change.{Change}
-use Rattle.journal.specs.declared.changes.Change.TheVariants.{Added, Dropped, Edited, Batch}
+use Rattle.journal.specs.declared.changes.Change.TheVariants.{Added, Put, Dropped, Edited, Batch}
 use Rattle.journal.specs.declared.records.Entry.{Entry}
 use Rattle.journal.specs.declared.records.Entry.TheVariants.{Begun, Made}
 use Rattle.journal.specs.declared.records.Record.{Record}
@@ -99,8 +99,16 @@ edit_of-fits name seen (Remove at) is within lawful =
 size-told : (count : ℕ) → is_batch_size count ≡ true → count ≤ greatest_number
 size-told count size = let few : count ≤ 100 = leb-true count 100 (and_parts (nat_le 1 count) (nat_le count 100) size).1 in omega (arith, few)
 
+-- a count of a put
+cards-told : (count : ℕ) → is_put_size count ≡ true → count ≤ greatest_number
+cards-told count size = let few : count ≤ 20000 = leb-true count 20000 size in omega (arith, few)
+
 change-fits : (change : Change) → IsLawfulChange change → Fits 135 (line_of_change change)
 change-fits (Added deck) lawful = fits-more 14 135 (line_of_change (Added deck)) (omega arith) (fits-word 8 (codes "ADD") (behind_a_blank (deck.name ++ [])) (record { plain = refl; short = omega arith }) (fits-only_name deck.name lawful.0))
+change-fits (Put deck seen) lawful =
+    let rest = behind_a_blank (decimal (length deck.cards) ++ []) in
+    fits-more 54 135 (line_of_change (Put deck seen)) (omega arith)
+    (fits-word 48 (codes "PUT") (name_and_number deck.name seen rest) (record { plain = refl; short = omega arith }) (fits-target 20 deck.name seen rest lawful.0.0 lawful.1 (fits-last (length deck.cards) (cards-told (length deck.cards) lawful.2))))
 change-fits (Dropped name seen) lawful = fits-more 34 135 (line_of_change (Dropped name seen)) (omega arith) (fits-word 28 (codes "DROP") (name_and_number name seen []) (record { plain = refl; short = omega arith }) (fits-target 0 name seen [] lawful.0 lawful.1 fits-nothing))
 change-fits (Edited name seen edit) lawful = edit_of-fits name seen edit lawful.0 lawful.1 lawful.2
 change-fits (Batch name seen edits) lawful =

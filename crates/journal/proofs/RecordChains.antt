@@ -20,7 +20,7 @@ use Rattle.session_line.specs.Lines.{behind_a_blank, line_of_edit, line_in_batch
 use Rattle.session_line.proofs.ReadBack.{word-decimal, first-word, behind-word, first-number}
 use Rattle.session_line.proofs.LineLaws.{line-back, batch_line-back}
 use Rattle.journal.specs.declared.changes.Change.{Change}
-use Rattle.journal.specs.declared.changes.Change.TheVariants.{Added, Dropped, Edited, Batch}
+use Rattle.journal.specs.declared.changes.Change.TheVariants.{Added, Put, Dropped, Edited, Batch}
 use Rattle.journal.specs.declared.records.Entry.{Entry}
 use Rattle.journal.specs.declared.records.Entry.TheVariants as entry
 use Rattle.journal.specs.declared.records.Record.{Record}
@@ -31,7 +31,7 @@ use Rattle.journal.specs.declared.steps.Step.TheVariants.{Goes, Ends, Wrong}
 use Rattle.journal.specs.CheckSums.{first_sum, sum_after, sum_over, check_sum}
 use Rattle.journal.specs.Moments.{is_moment, moment_of}
 use Rattle.journal.specs.Records.{ended, text_of_lines, line_of_entry, lines_behind, first_line, lines_of_record, sum_line}
-use Rattle.journal.specs.Begun.{given, unbatched, begun_by, begun_of, open_with, opened_by, opened}
+use Rattle.journal.specs.Begun.{given, alone, begun_by, begun_of, open_with, opened_by, opened}
 use Rattle.journal.specs.Steps.{deck_with_card, deck_with, edits_with, entry_with, inner_step, has_all, sum_in, end_step, first_step, line_step}
 use Rattle.journal.specs.Lawful.{IsLawfulDeck, IsLawfulChange, IsLawfulEntry, IsLawful}
 use Rattle.journal.proofs.LineChains.{IsLine, IsChain}
@@ -40,11 +40,12 @@ use Rattle.journal.proofs.PlainTexts.{moment-word}
 
 -- what the first line of a record tells
 abbrev pub bare : Entry → Begun
-bare entry.Begun = record { entry = entry.Begun; edits = 0 }
-bare (entry.Made (Added deck)) = record { entry = entry.Made (Added (record { name = deck.name; cards = [] })); edits = 0 }
-bare (entry.Made (Dropped name seen)) = record { entry = entry.Made (Dropped name seen); edits = 0 }
-bare (entry.Made (Edited name seen edit)) = record { entry = entry.Made (Edited name seen edit); edits = 0 }
-bare (entry.Made (Batch name seen edits)) = record { entry = entry.Made (Batch name seen []); edits = length edits }
+bare entry.Begun = record { entry = entry.Begun; lines = 0 }
+bare (entry.Made (Added deck)) = record { entry = entry.Made (Added (record { name = deck.name; cards = [] })); lines = 0 }
+bare (entry.Made (Put deck seen)) = record { entry = entry.Made (Put (record { name = deck.name; cards = [] }) seen); lines = length deck.cards }
+bare (entry.Made (Dropped name seen)) = record { entry = entry.Made (Dropped name seen); lines = 0 }
+bare (entry.Made (Edited name seen edit)) = record { entry = entry.Made (Edited name seen edit); lines = 0 }
+bare (entry.Made (Batch name seen edits)) = record { entry = entry.Made (Batch name seen []); lines = length edits }
 
 bare-edit : (name : List ℕ) (seen : ℕ) (edit : Edit) → is_deck_name name ≡ true → seen ≤ greatest_number → IsLawfulEdit edit →
     begun_of (line_of_edit name seen edit) ≡ Some (bare (entry.Made (Edited name seen edit)))
@@ -56,6 +57,8 @@ bare-edit name seen (Remove at) is within lawful = ap begun_by (line-back (comma
 bare-back : (entry : Entry) → IsLawfulEntry entry → begun_of (line_of_entry entry) ≡ Some (bare entry)
 bare-back entry.Begun lawful = refl
 bare-back (entry.Made (Added deck)) lawful = ap begun_by (line-back (command.Add deck.name) lawful.0)
+bare-back (entry.Made (Put deck seen)) lawful =
+    ap begun_by (line-back (command.Put (record { name = Ok deck.name; version = seen; count = length deck.cards })) (lawful.0.0, lawful.1, lawful.2))
 bare-back (entry.Made (Dropped name seen)) lawful = ap begun_by (line-back (command.Drop name seen) lawful)
 bare-back (entry.Made (Edited name seen edit)) lawful = bare-edit name seen edit lawful.0 lawful.1 lawful.2
 bare-back (entry.Made (Batch name seen edits)) lawful =
@@ -94,7 +97,7 @@ opened-back r lawful =
 
 -- an open record of which so much was read
 abbrev pub open_at : Record → ℕ → Entry → ℕ → Open
-open_at r edits told sum = record { so_far = record r { entry = told }; edits = edits; sum = sum }
+open_at r lines told sum = record { so_far = record r { entry = told }; lines = lines; sum = sum }
 
 -- lines that each take one thing more into what the record tells
 inner-chain : {X : Type 0} (lawful : X → Type 0) (line : X → List ℕ) (form : List X → Entry) →
@@ -125,28 +128,36 @@ inner-chain {X} lawful line form takes fits r edits done (x ∷ left) sum all =
 
 -- cards of a deck
 cards-chain : (form : Deck → Entry) → ((deck : Deck) (text : List ℕ) → entry_with (form deck) text ≡ option_map form (deck_with deck text)) →
-    (r : Record) (deck : Deck) (sum : ℕ) → All (λ (card : Card). card_of card ≡ IsCard card) deck.cards →
-    IsChain (Some (open_at r 0 (form (record { name = deck.name; cards = [] })) sum)) (map behind_a_blank deck.cards)
-    (open_at r 0 (form deck) (sum_over sum (text_of_lines (map behind_a_blank deck.cards))))
-cards-chain form with r deck sum all =
-    let P : List (List ℕ) → Type 0 = λ (ls : List (List ℕ)). IsChain (Some (open_at r 0 (form (record { name = deck.name; cards = [] })) sum)) (map behind_a_blank ls)
-    (open_at r 0 (form deck) (sum_over sum (text_of_lines (map behind_a_blank ls)))) in
+    (r : Record) (count : ℕ) (deck : Deck) (sum : ℕ) → All (λ (card : Card). card_of card ≡ IsCard card) deck.cards →
+    IsChain (Some (open_at r count (form (record { name = deck.name; cards = [] })) sum)) (map behind_a_blank deck.cards)
+    (open_at r count (form deck) (sum_over sum (text_of_lines (map behind_a_blank deck.cards))))
+cards-chain form with r count deck sum all =
+    let P : List (List ℕ) → Type 0 = λ (ls : List (List ℕ)). IsChain (Some (open_at r count (form (record { name = deck.name; cards = [] })) sum)) (map behind_a_blank ls)
+    (open_at r count (form deck) (sum_over sum (text_of_lines (map behind_a_blank ls)))) in
     subst P (map-id deck.cards)
     (inner-chain (λ (card : Card). card_of card ≡ IsCard card) (λ (card : Card). card) (λ (cards : List Card). form (record { name = deck.name; cards = cards }))
     (λ done card is. with (record { name = deck.name; cards = done }) card ∙ ap (λ (read : CardRead). option_map form (deck_with_card (record { name = deck.name; cards = done }) read)) is)
-    card-line r 0 [] deck.cards sum all)
+    card-line r count [] deck.cards sum all)
 
 -- the lines behind the first
 behind-chain : (r : Record) (told : Entry) (sum : ℕ) → IsLawfulEntry told →
-    IsChain (Some (open_at r (bare told).edits (bare told).entry sum)) (map behind_a_blank (lines_behind told))
-    (open_at r (bare told).edits told (sum_over sum (text_of_lines (map behind_a_blank (lines_behind told)))))
+    IsChain (Some (open_at r (bare told).lines (bare told).entry sum)) (map behind_a_blank (lines_behind told))
+    (open_at r (bare told).lines told (sum_over sum (text_of_lines (map behind_a_blank (lines_behind told)))))
 behind-chain r entry.Begun sum lawful = refl
-behind-chain r (entry.Made (Added deck)) sum lawful = cards-chain (λ (d : Deck). entry.Made (Added d)) added-with r deck sum lawful.1
+behind-chain r (entry.Made (Added deck)) sum lawful = cards-chain (λ (d : Deck). entry.Made (Added d)) added-with r 0 deck sum lawful.1
   where
     added-with : (deck : Deck) (text : List ℕ) → entry_with (entry.Made (Added deck)) text ≡ option_map (λ (d : Deck). entry.Made (Added d)) (deck_with deck text)
     added-with deck text = by (deck_with deck text)
       where
         by : (o : Option Deck) → option_map entry.Made (option_map Added o) ≡ option_map (λ (d : Deck). entry.Made (Added d)) o
+        by None = refl
+        by (Some d) = refl
+behind-chain r (entry.Made (Put deck seen)) sum lawful = cards-chain (λ (d : Deck). entry.Made (Put d seen)) put-with r (length deck.cards) deck sum lawful.0.1
+  where
+    put-with : (deck : Deck) (text : List ℕ) → entry_with (entry.Made (Put deck seen)) text ≡ option_map (λ (d : Deck). entry.Made (Put d seen)) (deck_with deck text)
+    put-with deck text = by (deck_with deck text)
+      where
+        by : (o : Option Deck) → option_map entry.Made (option_map (λ (with : Deck). Put with seen) o) ≡ option_map (λ (d : Deck). entry.Made (Put d seen)) o
         by None = refl
         by (Some d) = refl
 behind-chain r (entry.Made (Dropped name seen)) sum lawful = refl
@@ -158,7 +169,7 @@ behind-chain r (entry.Made (Batch name seen edits)) sum lawful =
 
 -- the open record behind its last line before the check sum
 abbrev pub open_whole : Record → Open
-open_whole r = open_at r (bare r.entry).edits r.entry (check_sum (text_of_lines (lines_of_record r)))
+open_whole r = open_at r (bare r.entry).lines r.entry (check_sum (text_of_lines (lines_of_record r)))
 
 -- the lines of a record up to its check sum
 pub record-chain : (r : Record) → IsLawful r → IsChain None (lines_of_record r) (open_whole r)
@@ -167,7 +178,7 @@ record-chain r lawful =
     let behind = text_of_lines (map behind_a_blank (lines_behind r.entry)) in
     let next = open_with line r.version r.moment r.session (bare r.entry) in
     let sums : sum_over (sum_over first_sum (ended line)) behind ≡ check_sum (ended line ++ behind) = sym (fold-append sum_after first_sum (ended line) behind) in
-    let P : ℕ → Type 0 = λ n. IsChain (Some next) (map behind_a_blank (lines_behind r.entry)) (open_at r (bare r.entry).edits r.entry n) in (
+    let P : ℕ → Type 0 = λ n. IsChain (Some next) (map behind_a_blank (lines_behind r.entry)) (open_at r (bare r.entry).lines r.entry n) in (
       first-line r lawful,
       (next, (ap first_step (opened-back r lawful), subst P sums (behind-chain r r.entry (sum_over first_sum (ended line)) lawful.entry))),
     )
@@ -190,9 +201,10 @@ sum-back n within =
     ap (λ (l : List ℕ). if is_end l then first_number rest else None) (behind-word (decimal n) [] (word-decimal n within) refl)
     ∙ first-number n [] within refl
 
-all-there : (told : Entry) → has_all told (bare told).edits ≡ true
+all-there : (told : Entry) → has_all told (bare told).lines ≡ true
 all-there entry.Begun = refl
 all-there (entry.Made (Added deck)) = refl
+all-there (entry.Made (Put deck seen)) = eq-eqb (length deck.cards) (length deck.cards) refl
 all-there (entry.Made (Dropped name seen)) = refl
 all-there (entry.Made (Edited name seen edit)) = refl
 all-there (entry.Made (Batch name seen edits)) = eq-eqb (length edits) (length edits) refl
@@ -202,4 +214,4 @@ pub record-ends : (r : Record) → line_step (Some (open_whole r)) (sum_line (op
 record-ends r =
     let sum = (open_whole r).sum in
     ap (end_step (open_whole r)) (sum-back sum (sum-told (text_of_lines (lines_of_record r))))
-    ∙ ap (λ (t : Bool). if t then Ends r else Wrong) (and_from (sum == sum) (has_all r.entry (bare r.entry).edits) (eq-eqb sum sum refl) (all-there r.entry))
+    ∙ ap (λ (t : Bool). if t then Ends r else Wrong) (and_from (sum == sum) (has_all r.entry (bare r.entry).lines) (eq-eqb sum sum refl) (all-there r.entry))

@@ -58,6 +58,7 @@ leads-more desk mid last (first ∷ history) call reply leads step = (leads.0, l
 -- the change that its call asks for
 asked-is : (asked : Change) → change_asked (call_of asked) ≡ Some (change_of asked)
 asked-is (change.Added deck) = refl
+asked-is (change.Put deck seen) = refl
 asked-is (change.Dropped name seen) = refl
 asked-is (change.Edited name seen edit) = refl
 asked-is (change.Batch name seen edits) = refl

@@ -8,7 +8,7 @@ use Rattle.session_line.specs.declared.refusals.Refusal.{Refusal}
 use Rattle.session_line.specs.Words.{from_blank, first_word, first_number, behind_word}
 use Rattle.session_line.specs.Commands.{command_of}
 use Rattle.journal.specs.declared.changes.Change.{Change}
-use Rattle.journal.specs.declared.changes.Change.TheVariants.{Added, Dropped, Edited, Batch}
+use Rattle.journal.specs.declared.changes.Change.TheVariants.{Added, Put, Dropped, Edited, Batch}
 use Rattle.journal.specs.declared.records.Entry.{Entry}
 use Rattle.journal.specs.declared.records.Entry.TheVariants as entry
 use Rattle.journal.specs.declared.records.Entry.TheVariants.{Made}
@@ -23,31 +23,37 @@ abbrev pub given : {A B : Type 0} → Option A → (A → Option B) → Option B
 given None made = None
 given (Some part) made = made part
 
--- an entry that is no batch
-abbrev pub unbatched : Entry → Option Begun
-unbatched entry = Some (record { entry = entry; edits = 0 })
+-- an entry that tells of no lines
+abbrev pub alone : Entry → Option Begun
+alone entry = Some (record { entry = entry; lines = 0 })
 
 -- a batch, without its edits
 abbrev pub batch_named : Result (List ℕ) Refusal → ℕ → ℕ → Option Begun
-batch_named (Ok name) seen count = Some (record { entry = Made (Batch name seen []); edits = count })
+batch_named (Ok name) seen count = Some (record { entry = Made (Batch name seen []); lines = count })
 batch_named (Err refusal) seen count = None
+
+-- a put, without its cards
+abbrev pub put_named : Result (List ℕ) Refusal → ℕ → ℕ → Option Begun
+put_named (Ok name) seen count = Some (record { entry = Made (Put (record { name = name; cards = [] }) seen); lines = count })
+put_named (Err refusal) seen count = None
 
 -- the change that a command asks for, without what stands on further lines
 abbrev pub begun_by : Result Command Refusal → Option Begun
-begun_by (Ok (command.Add name)) = unbatched (Made (Added (record { name = name; cards = [] })))
-begun_by (Ok (command.Drop name seen)) = unbatched (Made (Dropped name seen))
-begun_by (Ok (command.Edit name seen edit)) = unbatched (Made (Edited name seen edit))
+begun_by (Ok (command.Add name)) = alone (Made (Added (record { name = name; cards = [] })))
+begun_by (Ok (command.Drop name seen)) = alone (Made (Dropped name seen))
+begun_by (Ok (command.Edit name seen edit)) = alone (Made (Edited name seen edit))
 begun_by (Ok (command.Batch head)) = batch_named head.name head.version head.count
+begun_by (Ok (command.Put head)) = put_named head.name head.version head.count
 begun_by _ = None
 
 -- what a record tells, by its text
 abbrev pub begun_of : List ℕ → Option Begun
-begun_of text = if same_text text (codes "BEGIN") then unbatched entry.Begun else begun_by (command_of text)
+begun_of text = if same_text text (codes "BEGIN") then alone entry.Begun else begun_by (command_of text)
 
 -- an open record, whose first line is this one
 abbrev pub open_with : List ℕ → ℕ → List ℕ → ℕ → Begun → Open
 open_with line version moment session begun =
-    record { so_far = record { version = version; moment = moment; session = session; entry = begun.entry }; edits = begun.edits; sum = sum_over first_sum (ended line) }
+    record { so_far = record { version = version; moment = moment; session = session; entry = begun.entry }; lines = begun.lines; sum = sum_over first_sum (ended line) }
 
 -- the parts of a first line
 abbrev pub opened_by : List ℕ → List ℕ → Option Open

@@ -1,12 +1,12 @@
--- Records whose text reads back (ours): a name, numbers that can be told, cards, and where it is a batch as many edits as it may have.
+-- Records whose text reads back (ours): a name, numbers that can be told, cards, and where it is a batch or a put as many edits or cards as it may have.
 use Rattle.std.specs.Prelude.{ℕ, ◌≡◌, ◌≤◌, ⊤, List, IsTrue, length, All}
 use Rattle.definitions.specs.Cards.{Card, IsCard, card_of}
 use Rattle.definitions.specs.DeckInput.{Deck, is_deck_name}
 use Rattle.session_line.specs.Words.{greatest_number}
-use Rattle.session_line.specs.Commands.{is_batch_size}
+use Rattle.session_line.specs.Commands.{is_batch_size, is_put_size}
 use Rattle.session_line.specs.Lines.{IsLawfulEdit}
 use Rattle.journal.specs.declared.changes.Change.{Change}
-use Rattle.journal.specs.declared.changes.Change.TheVariants.{Added, Dropped, Edited, Batch}
+use Rattle.journal.specs.declared.changes.Change.TheVariants.{Added, Put, Dropped, Edited, Batch}
 use Rattle.journal.specs.declared.records.Entry.{Entry}
 use Rattle.journal.specs.declared.records.Entry.TheVariants as entry
 use Rattle.journal.specs.declared.records.Record.{Record}
@@ -19,6 +19,7 @@ IsLawfulDeck deck = IsTrue (is_deck_name deck.name) × All (λ (card : Card). ca
 -- a change of a lawful name, with a version that can be told, and lawful edits
 abbrev pub IsLawfulChange : Change → Type 0
 IsLawfulChange (Added deck) = IsLawfulDeck deck
+IsLawfulChange (Put deck seen) = IsLawfulDeck deck × (seen ≤ greatest_number) × IsTrue (is_put_size (length deck.cards))
 IsLawfulChange (Dropped name seen) = IsTrue (is_deck_name name) × (seen ≤ greatest_number)
 IsLawfulChange (Edited name seen edit) = IsTrue (is_deck_name name) × (seen ≤ greatest_number) × IsLawfulEdit edit
 IsLawfulChange (Batch name seen edits) = IsTrue (is_deck_name name) × (seen ≤ greatest_number) × IsTrue (is_batch_size (length edits)) × All IsLawfulEdit edits

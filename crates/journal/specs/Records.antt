@@ -3,7 +3,7 @@ use Rattle.std.specs.Prelude.{ℕ, List, [], ◌∷◌, ◌++◌, length, map, f
 use Rattle.definitions.specs.Characters.{line_feed}
 use Rattle.session_line.specs.Lines.{behind_a_blank, name_and_number, line_of_edit, line_in_batch}
 use Rattle.journal.specs.declared.changes.Change.{Change}
-use Rattle.journal.specs.declared.changes.Change.TheVariants.{Added, Dropped, Edited, Batch}
+use Rattle.journal.specs.declared.changes.Change.TheVariants.{Added, Put, Dropped, Edited, Batch}
 use Rattle.journal.specs.declared.records.Entry.{Entry}
 use Rattle.journal.specs.declared.records.Entry.TheVariants.{Begun, Made}
 use Rattle.journal.specs.declared.records.Record.{Record}
@@ -20,6 +20,7 @@ text_of_lines lines = flat_map ended lines
 -- a change as the line that asked for it
 abbrev pub line_of_change : Change → List ℕ
 line_of_change (Added deck) = codes "ADD" ++ behind_a_blank (deck.name ++ [])
+line_of_change (Put deck seen) = codes "PUT" ++ name_and_number deck.name seen (behind_a_blank (decimal (length deck.cards) ++ []))
 line_of_change (Dropped name seen) = codes "DROP" ++ name_and_number name seen []
 line_of_change (Edited name seen edit) = line_of_edit name seen edit
 line_of_change (Batch name seen edits) = codes "BATCH" ++ name_and_number name seen (behind_a_blank (decimal (length edits) ++ []))
@@ -32,6 +33,7 @@ line_of_entry (Made change) = line_of_change change
 -- the cards, or the edits, that belong to a change
 abbrev pub lines_behind_change : Change → List (List ℕ)
 lines_behind_change (Added deck) = deck.cards
+lines_behind_change (Put deck seen) = deck.cards
 lines_behind_change (Batch name seen edits) = map line_in_batch edits
 lines_behind_change _ = []
 

@@ -3,7 +3,7 @@ use Rattle.std.specs.Prelude.{ℕ, ◌≡◌, ◌+◌, Bool, true, List, [], ◌
 use Rattle.std.specs.Io.KnownBytes.{Consumes, IsAtEnd}
 use Rattle.desk_core.specs.Changes as changes
 use Rattle.desk_core.specs.declared.calls.Call.{Call}
-use Rattle.desk_core.specs.declared.calls.Call.TheVariants.{AddDeck, DropDeck, EditDeck, Batch}
+use Rattle.desk_core.specs.declared.calls.Call.TheVariants.{AddDeck, PutDeck, DropDeck, EditDeck, Batch}
 use Rattle.desk_core.specs.declared.replies.Reply.TheVariants.{Changed}
 use Rattle.desk_core.specs.Desks.{Desk, new_desk_at, decks_of}
 use Rattle.desk_core.specs.Runs.{History, Runs, changes_in}
@@ -25,6 +25,7 @@ use Rattle.journal.specs.Journals.{Journal, journal_of}
 -- the call that asks for a change
 abbrev pub call_of : Change → Call
 call_of (change.Added deck) = AddDeck deck
+call_of (change.Put deck seen) = PutDeck deck seen
 call_of (change.Dropped name seen) = DropDeck name seen
 call_of (change.Edited name seen edit) = EditDeck name seen edit
 call_of (change.Batch name seen edits) = Batch name seen edits
@@ -37,6 +38,7 @@ replay_fault fault.OutOfMemory = replay.OutOfMemory
 -- the change that a call made, without the version that was seen
 abbrev pub change_of : Change → changes.Change
 change_of (change.Added deck) = changes.Added deck
+change_of (change.Put deck seen) = changes.Put deck
 change_of (change.Dropped name seen) = changes.Dropped name
 change_of (change.Edited name seen edit) = changes.Edited name (edit ∷ [])
 change_of (change.Batch name seen edits) = changes.Edited name edits

@@ -9,7 +9,7 @@ use Rattle.session_line.specs.declared.refusals.Refusal.{Refusal}
 use Rattle.session_line.specs.Words.{from_blank, first_number, behind_word}
 use Rattle.session_line.specs.Edits.{is_end, edit_in_batch}
 use Rattle.journal.specs.declared.changes.Change.{Change}
-use Rattle.journal.specs.declared.changes.Change.TheVariants.{Added, Dropped, Edited, Batch}
+use Rattle.journal.specs.declared.changes.Change.TheVariants.{Added, Put, Dropped, Edited, Batch}
 use Rattle.journal.specs.declared.records.Entry.{Entry}
 use Rattle.journal.specs.declared.records.Entry.TheVariants as entry
 use Rattle.journal.specs.declared.beginning.Open.{Open}
@@ -37,6 +37,7 @@ edits_with edits (Err refusal) = None
 -- a change with the card or the edit of a text
 abbrev pub change_with : Change → List ℕ → Option Change
 change_with (Added deck) text = option_map Added (deck_with deck text)
+change_with (Put deck seen) text = option_map (λ (with : Deck). Put with seen) (deck_with deck text)
 change_with (Batch name seen edits) text = option_map (Batch name seen) (edits_with edits (edit_in_batch text))
 change_with (Dropped name seen) text = None
 change_with (Edited name seen edit) text = None
@@ -50,7 +51,7 @@ entry_with (entry.Made change) text = option_map entry.Made (change_with change 
 abbrev pub open_behind : Open → List ℕ → Entry → Open
 open_behind current line told = record {
   so_far = record current.so_far { entry = told };
-  edits = current.edits;
+  lines = current.lines;
   sum = sum_over current.sum (ended line);
 }
 
@@ -59,9 +60,10 @@ abbrev pub inner_step : Open → List ℕ → Option Entry → Step
 inner_step current line None = Bad
 inner_step current line (Some told) = Goes (open_behind current line told)
 
--- whether a batch has as many edits as it told
+-- whether a batch or a put has as many edits or cards as it told
 abbrev pub has_all : Entry → ℕ → Bool
 has_all (entry.Made (Batch name seen edits)) count = length edits == count
+has_all (entry.Made (Put deck seen)) count = length deck.cards == count
 has_all _ count = true
 
 -- the number on the line of a check sum
@@ -73,7 +75,7 @@ sum_in line =
 -- the line of a check sum
 abbrev pub end_step : Open → Option ℕ → Step
 end_step current None = Bad
-end_step current (Some sum) = if sum == current.sum && has_all current.so_far.entry current.edits then Ends current.so_far else Wrong
+end_step current (Some sum) = if sum == current.sum && has_all current.so_far.entry current.lines then Ends current.so_far else Wrong
 
 -- a line where no record is open
 abbrev pub first_step : Option Open → Step

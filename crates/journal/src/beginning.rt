@@ -3,7 +3,7 @@ ghost use Rattle.std.specs.Prelude.{◌≡◌, List, Result, option_map, option_
 ghost use Rattle.session_line.specs.Words.{first_word};
 ghost use Rattle.session_line.specs.declared.refusals.Refusal.{Refusal as Reason};
 ghost use Rattle.journal.specs.Moments.{moment_of};
-ghost use Rattle.journal.specs.Begun.{unbatched, begun_by, begun_of, batch_named, opened, opened_by};
+ghost use Rattle.journal.specs.Begun.{alone, begun_by, begun_of, batch_named, put_named, opened, opened_by};
 
 use crate::changes::Change;
 use crate::check_sums::{FIRST_SUM, sum_over_line};
@@ -18,26 +18,26 @@ use session_line::{
 };
 use std::alloc::Global;
 
-/// What a record tells by its first line alone, and how many edits it announces.
+/// What a record tells by its first line alone, and how many lines of edits or cards it announces.
 #[derive(Drop)]
 pub(crate) struct Begun {
     pub(crate) entry: Entry,
-    pub(crate) edits: u64,
+    pub(crate) lines: u64,
 }
 
-/// A record that is read up to some line: how many edits it announces, and the sum of its lines.
+/// A record that is read up to some line: how many lines it announces, and the sum of those so far.
 #[derive(Drop)]
 pub(crate) struct Open {
     pub(crate) so_far: Record,
-    pub(crate) edits: u64,
+    pub(crate) lines: u64,
     pub(crate) sum: u32,
 }
 
-/// What is no batch.
-fn unbatched(entry: Entry) -> Option<Begun>
-    ensures { result ≡ unbatched entry }
+/// What announces no lines.
+fn alone(entry: Entry) -> Option<Begun>
+    ensures { result ≡ alone entry }
 {
-    Some(Begun { entry, edits: 0 })
+    Some(Begun { entry, lines: 0 })
 }
 
 /// A batch, without its edits.
@@ -56,7 +56,23 @@ fn batch_named(
                 seen,
                 edits: Listed::new(Vec::new(alloc)),
             }),
-            edits: count,
+            lines: count,
+        }),
+        Err(_) => None,
+    }
+}
+
+/// A put, without its cards.
+fn put_named(alloc: Global, name: Result<DeckName, Refusal>, seen: u64, count: u64) -> Option<Begun>
+    ensures { result ≡ put_named name seen count }
+{
+    match name {
+        Ok(name) => Some(Begun {
+            entry: Entry::Made(Change::Put {
+                deck: NewDeck::new(name, Vec::new(alloc)),
+                seen,
+            }),
+            lines: count,
         }),
         Err(_) => None,
     }
@@ -67,11 +83,11 @@ fn begun_by(alloc: Global, command: Result<Command, Refusal>) -> Option<Begun>
     ensures { result ≡ begun_by command }
 {
     match command {
-        Ok(Command::Add { name }) => unbatched(Entry::Made(Change::Added(NewDeck::new(
+        Ok(Command::Add { name }) => alone(Entry::Made(Change::Added(NewDeck::new(
             name,
             Vec::new(alloc),
         )))),
-        Ok(Command::Drop { name, version }) => unbatched(Entry::Made(Change::Dropped {
+        Ok(Command::Drop { name, version }) => alone(Entry::Made(Change::Dropped {
             name,
             seen: version,
         })),
@@ -81,12 +97,13 @@ fn begun_by(alloc: Global, command: Result<Command, Refusal>) -> Option<Begun>
                 version,
                 edit,
             },
-        ) => unbatched(Entry::Made(Change::Edited {
+        ) => alone(Entry::Made(Change::Edited {
             name,
             seen: version,
             edit,
         })),
         Ok(Command::Batch(head)) => batch_named(alloc, head.name, head.version, head.count),
+        Ok(Command::Put(head)) => put_named(alloc, head.name, head.version, head.count),
         Ok(_) => None,
         Err(_) => None,
     }
@@ -97,7 +114,7 @@ fn begun_of(alloc: Global, text: &[u8]) -> Option<Begun>
     ensures { result ≡ begun_of text.now }
 {
     if is_same_text(text, b"BEGIN") {
-        unbatched(Entry::Begun)
+        alone(Entry::Begun)
     } else {
         begun_by(alloc, read_command(text))
     }
@@ -130,7 +147,7 @@ fn opened_by(alloc: Global, line: &[u8], rest: &[u8]) -> Option<Open>
             session,
             entry: begun.entry,
         },
-        edits: begun.edits,
+        lines: begun.lines,
         sum: sum_over_line(FIRST_SUM, line),
     })
 }

@@ -10,6 +10,11 @@ use desk_core::{Call, Listed, NewDeck};
 pub enum Change {
     /// A new deck, with the cards of a file where it was loaded.
     Added(NewDeck),
+    /// A deck in the place of the one of its name, or a new one.
+    Put {
+        deck: NewDeck,
+        seen: u64,
+    },
     /// The deck goes.
     Dropped {
         name: DeckName,
@@ -44,6 +49,7 @@ pub fn asked_of(call: Call) -> Asked
 {
     match call {
         Call::AddDeck(deck) => Asked::Change(Change::Added(deck)),
+        Call::PutDeck { deck, seen } => Asked::Change(Change::Put { deck, seen }),
         Call::DropDeck { name, seen } => Asked::Change(Change::Dropped { name, seen }),
         Call::EditDeck { name, seen, edit } => {
             Asked::Change(Change::Edited { name, seen, edit })

@@ -53,6 +53,7 @@ impl Change {
     {
         match self {
             Change::Added(deck) => Call::AddDeck(deck),
+            Change::Put { deck, seen } => Call::PutDeck { deck, seen },
             Change::Dropped { name, seen } => Call::DropDeck { name, seen },
             Change::Edited { name, seen, edit } => Call::EditDeck { name, seen, edit },
             Change::Batch { name, seen, edits } => Call::Batch { name, seen, edits },

@@ -24,7 +24,7 @@ pub(crate) enum Step {
     Goes(Open),
     /// The record is whole.
     Ends(Record),
-    /// The record ends, but its check sum is wrong, or edits are missing.
+    /// The record ends, but its check sum is wrong, or edits or cards are missing.
     Wrong,
     /// The line belongs to no record.
     Bad,
@@ -63,6 +63,10 @@ fn change_with(change: Change, text: &[u8]) -> Result<Option<Change>, AllocError
             Some(deck) => Ok(Some(Change::Added(deck))),
             None => Ok(None),
         },
+        Change::Put { deck, seen } => match deck_with(deck, text)? {
+            Some(deck) => Ok(Some(Change::Put { deck, seen })),
+            None => Ok(None),
+        },
         Change::Batch { name, seen, edits } => match edits_with(edits, text)? {
             Some(edits) => Ok(Some(Change::Batch { name, seen, edits })),
             None => Ok(None),
@@ -89,7 +93,7 @@ fn entry_with(entry: Entry, text: &[u8]) -> Result<Option<Entry>, AllocError>
 fn inner_step(current: Open, line: &[u8]) -> Result<Step, AllocError>
     ensures { IfOk result (λ step. step ≡ inner_step current line.now (entry_with current.so_far.entry (drop 1 line.now))) }
 {
-    let Open { so_far, edits, sum } = current;
+    let Open { so_far, lines, sum } = current;
     let Record {
         version,
         moment,
@@ -106,15 +110,16 @@ fn inner_step(current: Open, line: &[u8]) -> Result<Step, AllocError>
         entry,
     };
     let sum = sum_over_line(sum, line);
-    Ok(Step::Goes(Open { so_far, edits, sum }))
+    Ok(Step::Goes(Open { so_far, lines, sum }))
 }
 
-/// Whether a batch has as many edits as it announced.
+/// Whether a batch or a put has as many edits or cards as it announced.
 fn has_all(entry: &Entry, count: u64) -> bool
     ensures { result ≡ has_all entry.now count }
 {
     match entry {
         Entry::Made(Change::Batch { edits, .. }) => edits.as_slice().len() as u64 == count,
+        Entry::Made(Change::Put { deck, .. }) => deck.cards.len() as u64 == count,
         _ => true,
     }
 }
@@ -138,7 +143,7 @@ fn end_step(current: Open, sum: Option<u64>) -> Step
     let Some(sum) = sum else {
         return Step::Bad;
     };
-    if sum == u64::from(current.sum) && has_all(&current.so_far.entry, current.edits) {
+    if sum == u64::from(current.sum) && has_all(&current.so_far.entry, current.lines) {
         Step::Ends(current.so_far)
     } else {
         Step::Wrong

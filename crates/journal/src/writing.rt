@@ -120,6 +120,9 @@ fn push_change(text: &mut Text, change: &Change) -> Result<(), AllocError>
 {
     match change {
         Change::Added(deck) => push_verb_and_name(text, b"ADD", &deck.name),
+        Change::Put { deck, seen } => {
+            push_target_and_number(text, b"PUT", &deck.name, *seen, deck.cards.len() as u64)
+        }
         Change::Dropped { name, seen } => push_target(text, b"DROP", name, *seen),
         Change::Edited { name, seen, edit } => push_edit(text, name, *seen, edit),
         Change::Batch { name, seen, edits } => {
@@ -198,6 +201,7 @@ fn push_lines_behind_change(text: &mut Text, change: &Change) -> Result<(), Allo
 {
     match change {
         Change::Added(deck) => push_cards(text, deck.cards.as_slice()),
+        Change::Put { deck, .. } => push_cards(text, deck.cards.as_slice()),
         Change::Batch { edits, .. } => push_edits(text, edits.as_slice()),
         Change::Dropped { .. } => Ok(()),
         Change::Edited { .. } => Ok(()),

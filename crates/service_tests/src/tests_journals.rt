@@ -19,6 +19,10 @@ RECORD 3 2026-11-24T10:45:13Z 3 BATCH M 2 2
 SUM 3248616115
 RECORD 4 2026-11-24T10:45:14Z 4 DROP M 3
 SUM 204223190
+RECORD 5 2026-11-24T10:45:14Z 4 PUT M 0 2
+ *P
+ DROP M 3
+SUM 978138077
 ";
 
 /// Reads a journal to its end, and appends the text of each record: how many there were, and the end.
@@ -43,7 +47,7 @@ fn rewritten(
 fn a_journal_is_written_again(rt: HostRuntime) {
     let mut text = Text::new(rt.alloc());
     let end = rewritten(rt.alloc(), JOURNAL, 0, &mut text);
-    assert_eq!(rt; end, Ok((5, Ending::Whole)));
+    assert_eq!(rt; end, Ok((6, Ending::Whole)));
     assert!(rt; text.as_slice() == JOURNAL);
 }
 
@@ -71,6 +75,12 @@ fn journals_end(rt: HostRuntime) {
     ends(
         &rt,
         b"RECORD 4 2026-11-24T10:45:14Z 4 DROP M 3\nSUM 204223191\n",
+        0,
+        cut,
+    );
+    ends(
+        &rt,
+        b"RECORD 1 2026-11-24T10:45:14Z 4 PUT M 0 2\n *P\nSUM 1896914646\n",
         0,
         cut,
     );

@@ -19,6 +19,16 @@ RECORD 3 2026-11-24T10:45:13Z 3 BATCH M 2 2
 SUM 3248616115
 ";
 
+/// A deck is put where there was none, and then in its place.
+const PUT: &[u8] = b"RECORD 1 2026-11-24T10:45:12Z 3 PUT M 0 1
+ *A
+SUM 3966813209
+RECORD 2 2026-11-24T10:45:13Z 3 PUT M 1 2
+ *Z
+ 
+SUM 1861739096
+";
+
 /// A journal that goes on behind version 9.
 const BEGUN: &[u8] = b"RECORD 9 2026-11-24T10:45:14Z 0 BEGIN
 SUM 2776012549
@@ -45,17 +55,23 @@ fn replayed(alloc: Global, bytes: &[u8], last: u64) -> Result<Replayed, ReplayFa
     )
 }
 
-#[test]
-fn a_desk_goes_on(rt: HostRuntime) {
-    let Replayed { mut desk, ending } = replayed(rt.alloc(), ADDED, 9).expect(&rt, "a desk");
+/// Asserts that a journal leaves the deck M with two cards at a version.
+fn goes_on(rt: &(impl Abort + AllocGlobal), bytes: &[u8], wanted: u64) {
+    let Replayed { mut desk, ending } = replayed(rt.alloc(), bytes, 9).expect(rt, "a desk");
     assert_eq!(rt; ending, Some(Ending::Whole));
-    let name = DeckName::read(b"M").expect(&rt, "a name");
+    let name = DeckName::read(b"M").expect(rt, "a name");
     let Reply::CardsAre(version, cards) = desk.step(Call::Cards(name)) else {
         panic!(rt; "no cards");
     };
-    assert_eq!(rt; version, 3);
+    assert_eq!(rt; version, wanted);
     assert_eq!(rt; cards.as_slice().len(), 2);
     assert_eq!(rt; cards.as_slice()[0].as_slice(), b"*Z".as_slice());
+}
+
+#[test]
+fn a_desk_goes_on(rt: HostRuntime) {
+    goes_on(&rt, ADDED, 3);
+    goes_on(&rt, PUT, 2);
 }
 
 #[test]
