@@ -142,6 +142,29 @@ fn batches(rt: HostRuntime) {
     );
 }
 
+#[test]
+fn puts(rt: HostRuntime) {
+    goes(
+        &rt,
+        &[
+            ("PUT M 1 1\n*A", "NO NoDeck|"),
+            ("PUT M 0 2\n*A\n*B", "OK 1|"),
+            ("ADD N", "OK 2|"),
+            ("PUT M 0 1\n*C", "NO OldVersion 1|"),
+            ("PUT M 2 1\n*C", "NO OldVersion 1|"),
+            ("PUT M 1 3\n  X   \nDROP M 1\n", "OK 3|"),
+            ("CARDS M", "OK 3 3|  X|DROP M 1||"),
+            ("PUT M 3 2\n*\n*a", "NO BadLine 2 BadCharacter 2|"),
+            ("PUT M 3 20001", "NO BadCommand|"),
+            ("PUT M+ 3 2\na\nBYE", "NO BadName|"),
+            ("cut PUT M 3 2\n*A\n", " Ended"),
+            ("PUT M 3 0", "OK 4|"),
+            ("INS M 4 1 *D", "OK 5|"),
+            ("STATUS", "OK 5 3|PUBLISHED NONE|M 5 1 BEHIND|N 2 0 BEHIND|"),
+        ],
+    );
+}
+
 /// How many commands a session has at most.
 const MOST_COMMANDS: usize = 20;
 
