@@ -34,8 +34,17 @@ fn batch(seen: u64, lines: &'static str) -> Asked {
     }
 }
 
+/// The cards of the first deck in the place of those that a deck has.
+fn put(name: &'static str, seen: u64) -> Asked {
+    Asked::Put {
+        name,
+        seen,
+        deck: DECKS[0],
+    }
+}
+
 /// Calls behind the addition of the three decks, which has the versions 1 to 3.
-fn changes() -> [Step; 12] {
+fn changes() -> [Step; 15] {
     [
         accepted(edit(1, "INS 5 *A")),
         refused(edit(1, "INS 5 *B"), Refusal::OldVersion(4)),
@@ -47,6 +56,9 @@ fn changes() -> [Step; 12] {
         refused(Asked::Cards { name: "NONE" }, Refusal::NoDeck),
         accepted(Asked::Status),
         refused(Asked::Show, Refusal::NoPublication),
+        refused(put("MAIN", 1), Refusal::OldVersion(4)),
+        accepted(put("MAIN", 4)),
+        refused(put("NONE", 4), Refusal::NoDeck),
         refused(
             Asked::Drop {
                 name: "CONST",

@@ -28,7 +28,7 @@ const TURNS: u32 = 8;
 const MOST: u64 = 5000;
 
 /// Commands with their lines, and their replies.
-const COMMANDS: [(&str, &str); 13] = [
+const COMMANDS: [(&str, &str); 15] = [
     ("ADD M\n", "OK 1\n"),
     ("INS M 1 1           IDENT  M\n", "OK 2\n"),
     (
@@ -42,11 +42,16 @@ const COMMANDS: [(&str, &str); 13] = [
     ),
     ("SAVE M\n", "OK 3\n"),
     ("LOAD N\n", "OK 4\n"),
+    ("PUT N 4 2\n*\n*a\n", "NO BadLine 2 BadCharacter 2\n"),
+    (
+        "PUT N 4 4\n          IDENT  N\n          ENTRY  GO\nGO        SA1    =8\n          END\n",
+        "OK 5\n",
+    ),
     ("LOAD Q\n", "NO CannotOpen\n"),
     ("DEL M 1 1\n", "NO OldVersion 3\n"),
     (
         "STATUS\n",
-        "OK 4 3\nPUBLISHED NONE\nM 3 3 BEHIND\nN 4 4 BEHIND\n",
+        "OK 5 3\nPUBLISHED NONE\nM 3 3 BEHIND\nN 5 4 BEHIND\n",
     ),
     ("IMAGE\n", "NO NoPublication\n"),
     ("ADD M+\n", "NO BadName\n"),

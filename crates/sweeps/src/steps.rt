@@ -18,6 +18,12 @@ pub enum Asked {
     AddNumbered {
         number: u8,
     },
+    /// The cards of one deck in the place of those of another, or of none.
+    Put {
+        name: &'static str,
+        seen: u64,
+        deck: DeckText,
+    },
     Drop {
         name: &'static str,
         seen: u64,
@@ -73,6 +79,7 @@ pub fn bad_edit(number: usize) -> Refusal {
 fn name_of_call(asked: &Asked) -> Called {
     match asked {
         Asked::Add { .. } | Asked::AddNumbered { .. } => Called::AddDeck,
+        Asked::Put { .. } => Called::PutDeck,
         Asked::Drop { .. } => Called::DropDeck,
         Asked::Edit { .. } => Called::EditDeck,
         Asked::Batch { .. } => Called::Batch,
@@ -144,6 +151,10 @@ fn call_of(alloc: Global, asked: &Asked) -> Result<Call, AllocError> {
             name_of(deck.name)?,
             cards_of(alloc, deck.lines)?,
         )),
+        Asked::Put { name, seen, deck } => Call::PutDeck {
+            deck: NewDeck::new(name_of(name)?, cards_of(alloc, deck.lines)?),
+            seen,
+        },
         Asked::Drop { name, seen } => Call::DropDeck {
             name: name_of(name)?,
             seen,
