@@ -4,6 +4,7 @@ use Rattle.std.specs.Io.KnownBytes.{prepend_known, Consumes, IsAtEnd, Keeps}
 use Rattle.text_ports.specs.Lines.{line_feed}
 use Rattle.asm_main.specs.declared.chained.Part.{Part}
 use Rattle.asm_main.specs.declared.chained.Chained.{Chained}
+use Rattle.asm_main.specs.declared.chained.LinePlace.{LinePlace}
 use Rattle.asm_main.specs.declared.chained.Turn.{Turn}
 use Rattle.asm_main.specs.declared.chained.Turn.TheVariants.{Read, Ended}
 
@@ -49,3 +50,13 @@ abbrev pub TurnReads : {E : Type 0} → Option (List ℕ) → Option (List ℕ) 
 TurnReads old new (Ok (Read count)) buf = Consumes old new (take count buf) × (0 < length buf → 0 < count) × (count ≤ length buf)
 TurnReads old new (Ok Ended) buf = Consumes old new []
 TurnReads old new (Err e) buf = Keeps old new
+
+-- how many lines these parts gave, counted on from a number that stays at its greatest value
+abbrev pub lines_given : {R : Type 0} → ℕ → List (Part R) → ℕ
+lines_given count [] = count
+lines_given count (part ∷ parts) = lines_given (min (count + part.lines) (2 ^ 64 - 1)) parts
+
+-- where a line stands: in the first of these parts that has so many, or behind them; parts are counted on from a number
+abbrev pub place_in : {R : Type 0} → List (Part R) → ℕ → ℕ → LinePlace
+place_in [] number line = record { part = number; line = line }
+place_in (part ∷ parts) number line = if nat_le line part.lines then record { part = number; line = line } else place_in parts (number + 1) (line - part.lines)

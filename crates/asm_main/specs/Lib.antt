@@ -5,3 +5,4 @@ pub mod Runs
 pub mod Builds
 pub mod Chains
 pub mod Outputs
+pub mod FaultWords

@@ -1,8 +1,8 @@
 //! Readers one after the other as one reader, which knows where its lines stand.
-ghost use Rattle.std.specs.Prelude.{◌≡◌, ◌<◌, [], vec_len, IfOk, false, None, Some};
+ghost use Rattle.std.specs.Prelude.{◌≡◌, ◌<◌, ◌-◌, take, [], vec_len, IfOk, false, None, Some};
 ghost use Rattle.std.specs.Io.{ReadsAtMost};
 ghost use Rattle.std.specs.Io.KnownBytes.{Consumes, IsAtEnd, ReadConsumes};
-ghost use Rattle.asm_main.specs.Chains.{TurnReads, ends_behind, given_in, is_open_behind, left_of, next_after};
+ghost use Rattle.asm_main.specs.Chains.{TurnReads, ends_behind, given_in, is_open_behind, left_of, lines_given, next_after, place_in};
 
 use std::io;
 use std::io::Read;
@@ -14,6 +14,13 @@ pub struct Part<R> {
     reader: R,
     lines: u64,
     is_open: bool,
+}
+
+/// Where a line stands: the number of its part, from 0, and its own number there, from 1.
+#[derive(Clone, Copy, Debug, PartialEq, Eq)]
+pub struct LinePlace {
+    pub part: usize,
+    pub line: u64,
 }
 
 /// Readers one after the other as one. One that ends within a line is the last that is read, so that
@@ -60,6 +67,37 @@ fn lines_behind(count: u64, bytes: &[u8]) -> u64
         }
     }
     lines
+}
+
+/// How many lines these parts gave. The count stays at its greatest value.
+fn lines_given<R>(parts: &[Part<R>]) -> u64
+    ensures { result ≡ lines_given 0 parts.now }
+{
+    let mut lines = 0u64;
+    for part in parts {
+        lines = lines.saturating_add(part.lines);
+    }
+    lines
+}
+
+/// Where the line with this number stands, in one of these parts or in the part behind them.
+fn place_in<R>(parts: &[Part<R>], line: u64) -> LinePlace
+    ensures { result ≡ place_in parts.now 0 line }
+{
+    let mut left = line;
+    for (number, part) in parts.iter().enumerate() {
+        if left <= part.lines {
+            return LinePlace {
+                part: number,
+                line: left,
+            };
+        }
+        left -= part.lines;
+    }
+    LinePlace {
+        part: parts.len(),
+        line: left,
+    }
 }
 
 impl<R> Part<R> {
@@ -116,6 +154,22 @@ impl<R> Chained<R> {
         ensures { result ≡ self.now.fault }
     {
         self.fault
+    }
+
+    /// How many lines a reader took whole that still holds these bytes of them.
+    pub fn lines_taken(&self, held: &[u8]) -> u64
+        ensures { result ≡ lines_given 0 self.now.parts.items - ends_behind 0 held.now }
+    {
+        lines_given(self.parts.as_slice()).saturating_sub(lines_behind(0, held))
+    }
+
+    /// Where the line with this number stands, counted from 1: in the part that was asked last, or in
+    /// one before it.
+    pub fn place_of(&self, line: u64) -> LinePlace
+        ensures { result ≡ place_in (take self.now.asked self.now.parts.items) 0 line }
+    {
+        let asked = self.asked.min(self.parts.len());
+        place_in(self.parts.as_slice().split_at(asked).0, line)
     }
 
     /// Goes on behind the part that ended: to the next, or to the end where a line is open.

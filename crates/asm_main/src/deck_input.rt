@@ -17,8 +17,12 @@ use text_ports::{Counted, LineBuf, LineIs, next_held_line};
 const MOST_LINES: u64 = 1_280_001;
 
 /// Reads all lines as decks, in order and with their cards in order. The first fault ends it: what
-/// follows is not looked at.
-pub fn read_decks<R: BufRead>(alloc: Global, input: &mut Counted<R>) -> Result<Vec<Deck>, AsmFault>
+/// follows is not looked at. The line that was read last is left in `line`.
+pub fn read_decks<R: BufRead>(
+    alloc: Global,
+    input: &mut Counted<R>,
+    line: &mut LineBuf,
+) -> Result<Vec<Deck>, AsmFault>
     // What was read are lines that show no fault, and then one line at most.
     ensures read { ReadsToFault (R.remaining input.old.0) (R.remaining input.new.0) }
     ensures all_read { OnOk result (IsAtEnd (R.remaining input.new.0)) }
@@ -40,10 +44,9 @@ pub fn read_decks<R: BufRead>(alloc: Global, input: &mut Counted<R>) -> Result<V
     ensures before_writing { IfErr result IsBeforeWriting }
 {
     let mut decks = Vec::new(alloc);
-    let mut line = LineBuf::new();
     for before in 0..MOST_LINES {
         let number = before + 1;
-        match next_held_line(input, &mut line) {
+        match next_held_line(input, line) {
             LineIs::Line => add_line(alloc, &mut decks, number, line.as_slice())?,
             LineIs::End => return Ok(decks),
             LineIs::Cut => return Err(AsmFault::LastLineCut),

@@ -19,16 +19,20 @@ mod publishing;
 mod texts;
 mod writing;
 
-// Several readers as one.
+// Several readers as one, and a writer that remembers its faults.
 mod chained;
+mod remembering;
 
 // A run.
 mod asm_fault;
+mod fault_words;
 mod running;
 
 pub use asm_fault::AsmFault;
-pub use chained::{Chained, Part};
+pub use chained::{Chained, LinePlace, Part};
 pub use deck::Deck;
+pub use fault_words::{column_of, line_of, words_of};
 pub use publishing::publish;
-pub use running::{Tally, asm_publish, asm_run, asm_status, tally_of};
+pub use remembering::Remembering;
+pub use running::{Tally, asm_publish, asm_publish_with, asm_run, asm_status, tally_of};
 pub use texts::{Chosen, write_chosen};

@@ -1,19 +1,20 @@
 //! `compass asm`: its words, its run and its faults.
 
 use crate::input_files::{InputFault, input_of};
-use crate::journal_files::{DecksFault, JOURNAL_STATUS, JournalError, decks_at, tell_journal};
+use crate::journal_files::{DecksFault, decks_at};
+use crate::run_faults::{RunFault, placed, tell_run};
 use asm_main::{
-    AsmFault, Chained, Chosen, Deck, Tally, asm_publish, asm_run, asm_status, publish, tally_of,
-    write_chosen,
+    AsmFault, Chained, Chosen, Deck, Remembering, Tally, asm_publish, asm_publish_with, asm_run,
+    publish, tally_of, write_chosen,
 };
 use clap::{Arg, ArgAction, ArgMatches, Command};
 use deck_files::write_whole;
 use deck_linker::Publication;
 use std::alloc::{AllocError, Global};
-use std::io::{self, BufRead, BufReader, Read};
+use std::io::{self, BufReader, Read};
 use std::process::ExitCode;
 use std::rt::Files;
-use text_ports::Counted;
+use text_ports::{Counted, LineBuf};
 
 /// How many decks are linked at most.
 const MOST_DECKS: usize = 64;
@@ -34,25 +35,6 @@ struct Named<'w, 'a> {
     listing: Option<&'a str>,
     map: Option<&'a str>,
     image: Option<&'a str>,
-}
-
-/// Why a run wrote no whole output.
-#[derive(Clone, Copy)]
-enum RunFault<'a> {
-    /// The input, the memory or standard output.
-    Asm(AsmFault),
-    /// A file of the input can't be read.
-    Input(InputFault<'a>),
-    /// The journal has not what is asked for.
-    Journal { name: &'a str, error: JournalError },
-    /// A file of the output can't be written.
-    Output { name: &'a str, error: io::Error },
-}
-
-impl<'a> From<AsmFault> for RunFault<'a> {
-    fn from(fault: AsmFault) -> RunFault<'a> {
-        RunFault::Asm(fault)
-    }
 }
 
 /// The words of `compass asm`.
@@ -140,10 +122,16 @@ fn from_input<'a, R>(rt: &R, named: &Named<'_, 'a>) -> Result<Tally, RunFault<'a
 where
     R: AllocGlobal + Input + Print + Files,
 {
-    match BufReader::new(rt.alloc(), rt.reader()) {
-        Ok(reader) => run(rt, &mut Counted::new(reader), named),
-        Err(_) => Err(RunFault::Asm(AsmFault::OutOfMemory)),
+    let Ok(reader) = BufReader::new(rt.alloc(), rt.reader()) else {
+        return Err(RunFault::Asm(AsmFault::OutOfMemory));
+    };
+    let mut input = Counted::new(reader);
+    if !named.has_outputs() {
+        let mut output = Counted::new(io::writer(rt));
+        return Ok(asm_run(rt.alloc(), &mut input, &mut output)?);
     }
+    let publication = asm_publish(rt.alloc(), &mut input)?;
+    write_parts(rt, named, &publication)
 }
 
 /// A run from the decks of a journal.
@@ -184,7 +172,7 @@ where
     }
 }
 
-/// A run from open files. A read fault has the name of the file.
+/// A run from open files. A fault of the input has the file and the line that it is about.
 fn from_chain<'a, R, I>(
     rt: &R,
     chain: Chained<I>,
@@ -198,32 +186,19 @@ where
         return Err(RunFault::Asm(AsmFault::OutOfMemory));
     };
     let mut input = Counted::new(reader);
-    let outcome = run(rt, &mut input, named);
-    let chain = input.into_inner().into_inner();
-    match (&outcome, chain.fault(), named.inputs.get(chain.asked())) {
-        (Err(RunFault::Asm(AsmFault::ReadFault)), Some(error), Some(name)) => {
-            Err(RunFault::Input(InputFault { name: *name, error }))
-        }
-        _ => outcome,
+    let mut line = LineBuf::new();
+    let outcome = asm_publish_with(rt.alloc(), &mut input, &mut line);
+    let reader = input.into_inner();
+    match outcome {
+        Ok(publication) => write_parts(rt, named, &publication),
+        Err(fault) => Err(placed(
+            fault,
+            reader.get_ref(),
+            reader.buffer(),
+            &line,
+            named.inputs,
+        )),
     }
-}
-
-/// A run from a reader to the files that are named and to standard output.
-fn run<'a, R, B>(
-    rt: &R,
-    input: &mut Counted<B>,
-    named: &Named<'_, 'a>,
-) -> Result<Tally, RunFault<'a>>
-where
-    R: AllocGlobal + Print + Files,
-    B: BufRead,
-{
-    if !named.has_outputs() {
-        let mut output = Counted::new(io::writer(rt));
-        return Ok(asm_run(rt.alloc(), input, &mut output)?);
-    }
-    let publication = asm_publish(rt.alloc(), input)?;
-    write_parts(rt, named, &publication)
 }
 
 /// Writes the parts of a publication to the files that are named, and the others to standard output.
@@ -235,13 +210,19 @@ fn write_parts<'a, R>(
 where
     R: AllocGlobal + Print + Files,
 {
-    let mut output = Counted::new(io::writer(rt));
     write_file(rt, named.listing, publication.listings())?;
     write_file(rt, named.map, publication.map())?;
     write_file(rt, named.image, publication.image())?;
+    let mut output = Counted::new(Remembering::new(io::writer(rt)));
     match write_chosen(&mut output, publication, named.others()) {
         Ok(()) => Ok(tally_of(publication)),
-        Err(broken) => Err(RunFault::Asm(AsmFault::WriteFault { sent: broken.sent })),
+        Err(broken) => {
+            let fault = AsmFault::WriteFault { sent: broken.sent };
+            Err(match output.into_inner().fault() {
+                Some(error) if !named.inputs.is_empty() => RunFault::Standard { fault, error },
+                _ => RunFault::Asm(fault),
+            })
+        }
     }
 }
 
@@ -254,37 +235,4 @@ where
         return Ok(());
     };
     write_whole(rt, rt.alloc(), name, bytes).map_err(|error| RunFault::Output { name, error })
-}
-
-/// The line of a fault on standard error, if there is one, and the status of a run.
-fn tell_run<R: Eprint>(rt: &R, outcome: &Result<Tally, RunFault<'_>>) -> ExitCode {
-    match outcome {
-        Ok(tally) => tell(rt, &Ok(*tally)),
-        Err(RunFault::Asm(fault)) => tell(rt, &Err(*fault)),
-        Err(RunFault::Input(InputFault { name, error })) => {
-            tell_file(rt, name, error);
-            ExitCode::from(asm_status(&Err(AsmFault::ReadFault)))
-        }
-        Err(RunFault::Journal { name, error }) => {
-            tell_journal(rt, name, *error);
-            ExitCode::from(JOURNAL_STATUS)
-        }
-        Err(RunFault::Output { name, error }) => {
-            tell_file(rt, name, error);
-            ExitCode::from(asm_status(&Err(AsmFault::WriteFault { sent: 0 })))
-        }
-    }
-}
-
-/// The line of a file that can't be read or written.
-fn tell_file<R: Eprint>(rt: &R, name: &str, error: &io::Error) {
-    let _ = eprintln!(rt; "compass: {name}: {error}");
-}
-
-/// The line of a fault on standard error, if there is one, and the status of a run.
-pub(crate) fn tell<R: Eprint>(rt: &R, outcome: &Result<Tally, AsmFault>) -> ExitCode {
-    if let Err(fault) = outcome {
-        let _ = eprintln!(rt; "compass: {fault}");
-    }
-    ExitCode::from(asm_status(outcome))
 }

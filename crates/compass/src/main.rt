@@ -5,15 +5,17 @@
 mod assembling;
 mod input_files;
 mod journal_files;
+mod run_faults;
 mod serving;
 mod stopping;
 
 ghost use Rattle.std.specs.Prelude.{◌≡◌, ◌≢◌, ℕ, ◌<◌, pos};
 
 use asm_main::AsmFault;
-use assembling::{asm_words, assemble, tell};
+use assembling::{asm_words, assemble};
 use clap::{ArgMatches, Command, Error};
 use journal_files::{log, log_words};
+use run_faults::tell;
 use serving::{run_service, serve_words, settings_of};
 use std::alloc::Global;
 use std::env;
