@@ -6,3 +6,4 @@ pub mod Builds
 pub mod Chains
 pub mod Outputs
 pub mod FaultWords
+pub mod Flags

@@ -26,12 +26,14 @@ mod remembering;
 // A run.
 mod asm_fault;
 mod fault_words;
+mod flags;
 mod running;
 
 pub use asm_fault::AsmFault;
 pub use chained::{Chained, LinePlace, Part};
 pub use deck::Deck;
 pub use fault_words::{column_of, line_of, words_of};
+pub use flags::{Flag, Flags, letter_words, link_words};
 pub use publishing::publish;
 pub use remembering::Remembering;
 pub use running::{Tally, asm_publish, asm_publish_with, asm_run, asm_status, tally_of};

@@ -1,5 +1,6 @@
 //! `compass asm`: its words, its run and its faults.
 
+use crate::flagged::tell_flagged;
 use crate::input_files::{InputFault, input_of};
 use crate::journal_files::{DecksFault, decks_at};
 use crate::run_faults::{RunFault, placed, tell_run};
@@ -35,6 +36,7 @@ struct Named<'w, 'a> {
     listing: Option<&'a str>,
     map: Option<&'a str>,
     image: Option<&'a str>,
+    quiet: bool,
 }
 
 /// The words of `compass asm`.
@@ -60,6 +62,10 @@ pub(crate) fn asm_words<'a>(alloc: Global) -> Result<Command<'a>, AllocError> {
     let listing = output_word(alloc, "listing", "Where the listings go");
     let map = output_word(alloc, "map", "Where the link map goes");
     let image = output_word(alloc, "image", "Where the octal image goes").short('o');
+    let quiet = Arg::new(alloc, "quiet")
+        .long("quiet")
+        .help("Tells no flagged statements and no LINK lines of files on standard error")
+        .action(ArgAction::SetTrue);
     Command::new(alloc, "asm")
         .about("Assembles decks of cards: listing, link map and octal image")
         .after_help(EXAMPLE)
@@ -68,7 +74,8 @@ pub(crate) fn asm_words<'a>(alloc: Global) -> Result<Command<'a>, AllocError> {
         .arg(version)?
         .arg(listing)?
         .arg(map)?
-        .arg(image)
+        .arg(image)?
+        .arg(quiet)
 }
 
 /// The word of a file that a part of the output goes to.
@@ -108,6 +115,7 @@ where
         listing: words.get_str("listing"),
         map: words.get_str("map"),
         image: words.get_str("image"),
+        quiet: words.get_flag("quiet"),
     };
     let outcome = match named.journal {
         Some(journal) => from_journal(rt, &named, journal),
@@ -164,7 +172,7 @@ where
 /// A run from files.
 fn from_files<'a, R>(rt: &R, named: &Named<'_, 'a>) -> Result<Tally, RunFault<'a>>
 where
-    R: AllocGlobal + Input + Print + Files,
+    R: AllocGlobal + Input + Print + Eprint + Files,
 {
     match input_of(rt, rt.alloc(), named.inputs) {
         Ok(chain) => from_chain(rt, chain, named),
@@ -179,7 +187,7 @@ fn from_chain<'a, R, I>(
     named: &Named<'_, 'a>,
 ) -> Result<Tally, RunFault<'a>>
 where
-    R: AllocGlobal + Print + Files,
+    R: AllocGlobal + Print + Eprint + Files,
     I: Read + Drop,
 {
     let Ok(reader) = BufReader::new(rt.alloc(), chain) else {
@@ -190,7 +198,13 @@ where
     let outcome = asm_publish_with(rt.alloc(), &mut input, &mut line);
     let reader = input.into_inner();
     match outcome {
-        Ok(publication) => write_parts(rt, named, &publication),
+        Ok(publication) => {
+            let tally = write_parts(rt, named, &publication)?;
+            if !named.quiet {
+                tell_flagged(rt, &publication, reader.get_ref(), named.inputs);
+            }
+            Ok(tally)
+        }
         Err(fault) => Err(placed(
             fault,
             reader.get_ref(),

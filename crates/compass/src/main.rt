@@ -3,6 +3,7 @@
 #![tactic(auto)]
 
 mod assembling;
+mod flagged;
 mod input_files;
 mod journal_files;
 mod run_faults;
