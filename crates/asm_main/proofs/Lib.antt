@@ -5,3 +5,4 @@ pub mod FaultLaws
 pub mod ReadSteps
 pub mod AnswerLaws
 pub mod ChainLaws
+pub mod FilterSteps

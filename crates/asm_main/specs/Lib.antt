@@ -7,3 +7,4 @@ pub mod Chains
 pub mod Outputs
 pub mod FaultWords
 pub mod Flags
+pub mod Filters

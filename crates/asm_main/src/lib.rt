@@ -23,6 +23,10 @@ mod writing;
 mod chained;
 mod remembering;
 
+// A filter in front of them.
+mod filter_laws;
+mod filtered;
+
 // A run.
 mod asm_fault;
 mod fault_words;
@@ -33,6 +37,8 @@ pub use asm_fault::AsmFault;
 pub use chained::{Chained, LinePlace, Part};
 pub use deck::Deck;
 pub use fault_words::{column_of, line_of, words_of};
+pub use filter_laws::plain_stays;
+pub use filtered::{Filter, Filtered};
 pub use flags::{Flag, Flags, letter_words, link_words};
 pub use publishing::publish;
 pub use remembering::Remembering;

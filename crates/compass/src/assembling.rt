@@ -1,12 +1,12 @@
 //! `compass asm`: its words, its run and its faults.
 
 use crate::flagged::tell_flagged;
-use crate::input_files::{InputFault, input_of};
+use crate::input_files::{InputFault, input_of, standard_input};
 use crate::journal_files::{DecksFault, decks_at};
 use crate::run_faults::{RunFault, placed, tell_run};
 use asm_main::{
-    AsmFault, Chained, Chosen, Deck, Remembering, Tally, asm_publish, asm_publish_with, asm_run,
-    publish, tally_of, write_chosen,
+    AsmFault, Chained, Chosen, Deck, Filter, Remembering, Tally, asm_publish, asm_publish_with,
+    asm_run, publish, tally_of, write_chosen,
 };
 use clap::{Arg, ArgAction, ArgMatches, Command};
 use deck_files::write_whole;
@@ -31,6 +31,7 @@ Example:
 #[derive(Drop)]
 struct Named<'w, 'a> {
     inputs: &'w [&'a str],
+    filter: Option<Filter>,
     journal: Option<&'a str>,
     version: Option<u64>,
     listing: Option<&'a str>,
@@ -39,13 +40,34 @@ struct Named<'w, 'a> {
     quiet: bool,
 }
 
-/// The words of `compass asm`.
-pub(crate) fn asm_words<'a>(alloc: Global) -> Result<Command<'a>, AllocError> {
+/// The command with the words of the files that are read, and of the filter in front of them.
+fn with_files<'a>(alloc: Global, command: Command<'a>) -> Result<Command<'a>, AllocError> {
     let files = Arg::new(alloc, "FILE")
         .value_name("FILE")
         .help("Files of cards, one after the other as one input; - or none is standard input")
         .num_args(0..)
         .action(ArgAction::Append);
+    command
+        .arg(files)?
+        .arg(filter_word(
+            alloc,
+            "fold-case",
+            "Takes small letters of files as capitals",
+        )?)?
+        .arg(filter_word(
+            alloc,
+            "tabs",
+            "Takes a tab as blanks up to column 11, 18, 30, and then the next eighth",
+        )?)?
+        .arg(filter_word(
+            alloc,
+            "last-line",
+            "Takes a last line that no line feed ends",
+        )?)
+}
+
+/// The command with the words of a journal in place of files.
+fn with_journal<'a>(alloc: Global, command: Command<'a>) -> Result<Command<'a>, AllocError> {
     let journal = Arg::new(alloc, "journal")
         .long("journal")
         .value_name("FILE")
@@ -59,23 +81,49 @@ pub(crate) fn asm_words<'a>(alloc: Global) -> Result<Command<'a>, AllocError> {
         .action(ArgAction::Set)
         .value_parser(clap::value_parser!(u64))
         .requires_arg("journal")?;
-    let listing = output_word(alloc, "listing", "Where the listings go");
-    let map = output_word(alloc, "map", "Where the link map goes");
-    let image = output_word(alloc, "image", "Where the octal image goes").short('o');
+    command.arg(journal)?.arg(version)
+}
+
+/// The command with the words of where the output goes.
+fn with_outputs<'a>(alloc: Global, command: Command<'a>) -> Result<Command<'a>, AllocError> {
     let quiet = Arg::new(alloc, "quiet")
         .long("quiet")
         .help("Tells no flagged statements and no LINK lines of files on standard error")
         .action(ArgAction::SetTrue);
-    Command::new(alloc, "asm")
-        .about("Assembles decks of cards: listing, link map and octal image")
-        .after_help(EXAMPLE)
-        .arg(files)?
-        .arg(journal)?
-        .arg(version)?
-        .arg(listing)?
-        .arg(map)?
-        .arg(image)?
+    command
+        .arg(output_word(alloc, "listing", "Where the listings go"))?
+        .arg(output_word(alloc, "map", "Where the link map goes"))?
+        .arg(output_word(alloc, "image", "Where the octal image goes").short('o'))?
         .arg(quiet)
+}
+
+/// The words of `compass asm`.
+pub(crate) fn asm_words<'a>(alloc: Global) -> Result<Command<'a>, AllocError> {
+    let command = Command::new(alloc, "asm")
+        .about("Assembles decks of cards: listing, link map and octal image")
+        .after_help(EXAMPLE);
+    let command = with_files(alloc, command)?;
+    let command = with_journal(alloc, command)?;
+    with_outputs(alloc, command)
+}
+
+/// The word of a part of the filter in front of files; a journal has none.
+fn filter_word<'a>(alloc: Global, name: &'a str, help: &'a str) -> Result<Arg<'a>, AllocError> {
+    Arg::new(alloc, name)
+        .long(name)
+        .help(help)
+        .action(ArgAction::SetTrue)
+        .conflicts_with("journal")
+}
+
+/// The filter that the words ask for, if they do.
+fn filter_of(words: &ArgMatches<'_>) -> Option<Filter> {
+    let filter = Filter {
+        fold_case: words.get_flag("fold-case"),
+        tabs: words.get_flag("tabs"),
+        last_line: words.get_flag("last-line"),
+    };
+    (filter.fold_case || filter.tabs || filter.last_line).then_some(filter)
 }
 
 /// The word of a file that a part of the output goes to.
@@ -110,6 +158,7 @@ where
 {
     let named = Named {
         inputs: words.get_strs("FILE").unwrap_or(&[]),
+        filter: filter_of(words),
         journal: words.get_str("journal"),
         version: words.get_one("version"),
         listing: words.get_str("listing"),
@@ -130,7 +179,10 @@ fn from_input<'a, R>(rt: &R, named: &Named<'_, 'a>) -> Result<Tally, RunFault<'a
 where
     R: AllocGlobal + Input + Print + Files,
 {
-    let Ok(reader) = BufReader::new(rt.alloc(), rt.reader()) else {
+    let Ok(input) = standard_input(rt, rt.alloc(), named.filter) else {
+        return Err(RunFault::Asm(AsmFault::OutOfMemory));
+    };
+    let Ok(reader) = BufReader::new(rt.alloc(), input) else {
         return Err(RunFault::Asm(AsmFault::OutOfMemory));
     };
     let mut input = Counted::new(reader);
@@ -174,7 +226,7 @@ fn from_files<'a, R>(rt: &R, named: &Named<'_, 'a>) -> Result<Tally, RunFault<'a
 where
     R: AllocGlobal + Input + Print + Eprint + Files,
 {
-    match input_of(rt, rt.alloc(), named.inputs) {
+    match input_of(rt, rt.alloc(), named.inputs, named.filter) {
         Ok(chain) => from_chain(rt, chain, named),
         Err(fault) => Err(RunFault::Input(fault)),
     }

@@ -1,9 +1,9 @@
 //! The files that the command line names, as one reader.
 ghost use Rattle.std.specs.Io.{ReadsAtMost};
 
-use asm_main::{Chained, Part};
+use asm_main::{Chained, Filter, Filtered, Part};
 use std::alloc::Global;
-use std::io::Read;
+use std::io::{BufReader, Read};
 use std::rt::Files;
 use std::{fs, io};
 
@@ -17,6 +17,13 @@ pub(crate) enum InputFile<F, S> {
     File(F),
     /// The standard input of the process.
     Standard(S),
+}
+
+/// An input file, as it is or behind a filter.
+#[derive(Drop)]
+pub(crate) enum Given<F, S> {
+    Plain(InputFile<F, S>),
+    Filtered(Filtered<BufReader<InputFile<F, S>>>),
 }
 
 /// Why a file of the command line can't be read.
@@ -35,26 +42,65 @@ impl<F: Read, S: Read> Read for InputFile<F, S> {
     }
 }
 
-/// Opens what a name stands for.
-fn open<R: Files + Input>(rt: &R, name: &str) -> io::Result<InputFile<R::File, R::Reader>> {
-    if name == STANDARD_INPUT {
-        Ok(InputFile::Standard(rt.reader()))
-    } else {
-        Ok(InputFile::File(fs::open(rt, name)?))
+impl<F: Read, S: Read> Read for Given<F, S> {
+    fn read(&mut self, buf: &mut [u8]) -> io::Result<usize> {
+        match self {
+            Given::Plain(file) => file.read(buf),
+            Given::Filtered(reader) => reader.read(buf),
+        }
     }
 }
 
-/// The files of these names, all open, one after the other. Want of memory is a fault of the file that
-/// had no room.
+/// A file, behind a filter where one is asked for.
+fn behind_filter<F: Read + Drop, S: Read + Drop>(
+    alloc: Global,
+    file: InputFile<F, S>,
+    filter: Option<Filter>,
+) -> io::Result<Given<F, S>> {
+    match filter {
+        Some(filter) => {
+            let reader = BufReader::new(alloc, file)?;
+            Ok(Given::Filtered(Filtered::new(reader, filter)))
+        }
+        None => Ok(Given::Plain(file)),
+    }
+}
+
+/// Standard input, behind a filter where one is asked for.
+pub(crate) fn standard_input<R: Files + Input>(
+    rt: &R,
+    alloc: Global,
+    filter: Option<Filter>,
+) -> io::Result<Given<R::File, R::Reader>> {
+    behind_filter(alloc, InputFile::Standard(rt.reader()), filter)
+}
+
+/// Opens what a name stands for.
+fn open<R: Files + Input>(
+    rt: &R,
+    alloc: Global,
+    name: &str,
+    filter: Option<Filter>,
+) -> io::Result<Given<R::File, R::Reader>> {
+    if name == STANDARD_INPUT {
+        standard_input(rt, alloc, filter)
+    } else {
+        behind_filter(alloc, InputFile::File(fs::open(rt, name)?), filter)
+    }
+}
+
+/// The files of these names, all open, one after the other, each behind a filter where one is asked for.
+/// Want of memory is a fault of the file that had no room.
 pub(crate) fn input_of<'a, R: Files + Input>(
     rt: &R,
     alloc: Global,
     names: &[&'a str],
-) -> Result<Chained<InputFile<R::File, R::Reader>>, InputFault<'a>> {
+    filter: Option<Filter>,
+) -> Result<Chained<Given<R::File, R::Reader>>, InputFault<'a>> {
     let mut parts = Vec::new(alloc);
     for name in names {
         let name = *name;
-        match open(rt, name) {
+        match open(rt, alloc, name, filter) {
             Ok(file) => match parts.push(Part::new(file)) {
                 Ok(()) => {}
                 Err(_) => {
