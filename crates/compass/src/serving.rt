@@ -46,8 +46,7 @@ pub(crate) fn serve_words<'a>(alloc: Global) -> Result<Command<'a>, AllocError> 
     let port = Arg::new(alloc, "port")
         .long("port")
         .value_name("P")
-        .help("The port on 127.0.0.1, 1 to 65535; 0 takes one that is free")
-        .required(true)
+        .help("The port on 127.0.0.1, 1 to 65535; one that is free unless said, or at 0")
         .action(ArgAction::Set)
         .value_parser(clap::value_parser!(u16));
     let workers = Arg::new(alloc, "workers")
@@ -124,7 +123,7 @@ pub(crate) fn settings_of<'a>(rt: &impl Threads, words: &ArgMatches<'a>) -> Opti
     ensures { IfSome result AreInRange }
 {
     let root = words.get_str("root")?;
-    let port = words.get_one("port")?;
+    let port = words.get_one("port").unwrap_or(0);
     let workers = number_or(words, "workers", processors(rt).min(MOST_THREADS));
     let sessions = number_or(words, "sessions", MOST_THREADS);
     let idle = words.get_one("idle").unwrap_or(IDLE_SECONDS);
