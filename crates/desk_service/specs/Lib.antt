@@ -4,3 +4,4 @@ pub mod FaultTexts
 pub mod Sessions
 pub mod Services
 pub mod Versions
+pub mod Connections

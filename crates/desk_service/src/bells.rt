@@ -6,7 +6,7 @@ use crossbeam_channel::Sender;
 use deck_workers::Bell;
 use desk_core::{Call, Reply};
 use session_line::Calls;
-use std::marker::Model;
+use std::marker::{Model, PhantomData};
 use std::sync::Wait;
 
 /// A bell. The member says what ringing makes of it.
@@ -62,27 +62,64 @@ fn ring_after<B: Ring>(bell: &mut B, reply: &Reply)
     }
 }
 
-/// The bell of the workers, and the runtime by which its channel is waited for. Contracts see nothing
-/// of a channel.
+/// Who sends bells to those who sleep on them. The member says what one bell makes of it.
+pub(crate) trait SendBell {
+    ghost use Rattle.deck_workers.specs.declared.bells.Bell.{Bell};
+
+    ghost sends: { Self → Bell → Self → Type 0 };
+
+    /// Sends one bell.
+    fn send(&mut self, bell: Bell)
+        ensures { sends self.old bell self.new };
+}
+
+/// An end of the channel of bells, and the runtime by which it is waited for. Contracts see nothing of a
+/// channel.
 #[derive(Drop)]
-pub(crate) struct WorkBell<'a, R> {
+pub(crate) struct BellEnd<'a, R> {
     rt: &'a R,
     bells: Sender<Bell>,
 }
 
-impl<'a, R> WorkBell<'a, R> {
-    pub(crate) fn new(rt: &'a R, bells: Sender<Bell>) -> WorkBell<'a, R> {
-        WorkBell { rt, bells }
+impl<R: Wait> SendBell for BellEnd<'_, R> {
+    ghost use Rattle.std.specs.Prelude.{◌≡◌};
+
+    ghost sends = { λ old bell new. new ≡ old };
+
+    /// A bell that finds no memory is not sent.
+    fn send(&mut self, bell: Bell) {
+        let _ = self.bells.send(self.rt, bell);
     }
 }
 
-impl<R: Wait> Ring for WorkBell<'_, R> {
-    ghost use Rattle.std.specs.Prelude.{◌≡◌};
+/// The bell of the workers: each ring sends word of work. Contracts see who sends it.
+#[derive(Drop)]
+pub(crate) struct WorkBell<'a, R, E = BellEnd<'a, R>> {
+    runtime: PhantomData<&'a R>,
+    end: E,
+}
 
-    ghost rings = { λ old new. new ≡ old };
+impl<'a, R, E> Model for WorkBell<'a, R, E> {
+    ghost Value = { E };
 
-    /// A bell that finds no memory is not rung.
+    ghost view = { λ b. b.end };
+}
+
+impl<'a, R> WorkBell<'a, R> {
+    pub(crate) fn new(rt: &'a R, bells: Sender<Bell>) -> WorkBell<'a, R> {
+        WorkBell {
+            runtime: PhantomData,
+            end: BellEnd { rt, bells },
+        }
+    }
+}
+
+impl<R, E: SendBell> Ring for WorkBell<'_, R, E> {
+    ghost use Rattle.deck_workers.specs.declared.bells.Bell.TheVariants.{Work};
+
+    ghost rings = { λ old new. E.sends old Work new };
+
     fn ring(&mut self) {
-        let _ = self.bells.send(self.rt, Bell::Work);
+        self.end.send(Bell::Work);
     }
 }

@@ -1,4 +1,6 @@
 //! Connections: a session over each, one after the other.
+ghost use Rattle.std.specs.Prelude.{ℕ};
+ghost use Rattle.desk_service.specs.Connections.{EndsAfter, ServesConnection, ServesConnections};
 
 use crate::patience::PatientReader;
 use crate::service_end::ServiceEnd;
@@ -13,6 +15,17 @@ use std::sync::Wait;
 use std::time::{Clock, Duration};
 use text_ports::Counted;
 
+/// Why a thread serves no further connection.
+#[derive(Clone, Copy, Debug, PartialEq, Eq)]
+pub(crate) enum Closed {
+    /// None can come any more.
+    NoMore,
+    /// It was to serve one, which came.
+    Once,
+    /// The end of the service is asked for.
+    Asked,
+}
+
 /// Serves a connection to its end, whose client may be idle so long, or take so long to read on. Where
 /// there is no memory for its buffers it is closed at once.
 fn serve_connection<R: Clock, C: Calls, S: Shelf>(
@@ -22,7 +35,9 @@ fn serve_connection<R: Clock, C: Calls, S: Shelf>(
     idle: Duration,
     desk: &mut C,
     shelf: &mut S,
-) {
+)
+    ensures { ServesConnection C.makes S.loads S.refuses_to_load S.saves S.refuses_to_save desk.old shelf.old desk.new shelf.new }
+{
     let _ = stream.set_nodelay(true);
     let _ = stream.set_write_timeout(Some(idle));
     let Ok(reader) = BufReader::new(alloc, PatientReader::new(rt, stream, idle)) else {
@@ -47,8 +62,29 @@ pub(crate) struct Serving<'a> {
     pub(crate) end: &'a ServiceEnd,
 }
 
+/// Serves a connection that came; where the end of the service is asked for it is closed at once.
+fn serve_arrival<R: Wait + Clock, C: Calls, S: Shelf>(
+    rt: &R,
+    alloc: Global,
+    stream: &TcpStream,
+    serving: Serving<'_>,
+    desk: &mut C,
+    shelf: &mut S,
+)
+    ensures { ServesConnection C.makes S.loads S.refuses_to_load S.saves S.refuses_to_save desk.old shelf.old desk.new shelf.new }
+{
+    let Serving {
+        session, idle, end, ..
+    } = serving;
+    if end.enter(rt, session, stream) {
+        serve_connection(rt, alloc, stream, idle, desk, shelf);
+        end.leave(rt, session);
+    }
+}
+
 /// Serves the connections that come, each to its end, until none can come any more or the end of the
-/// service is asked for; with `once` it ends after one.
+/// service is asked for; with `once` it ends after one. Desk and shelf are called by these sessions and
+/// by nothing else.
 pub(crate) fn serve_connections<R: Wait + Clock, C: Calls, S: Shelf>(
     rt: &R,
     alloc: Global,
@@ -56,23 +92,20 @@ pub(crate) fn serve_connections<R: Wait + Clock, C: Calls, S: Shelf>(
     serving: Serving<'_>,
     desk: &mut C,
     shelf: &mut S,
-) {
-    let Serving {
-        session,
-        idle,
-        once,
-        end,
-    } = serving;
+) -> Closed
+    ensures { (count : ℕ) × ServesConnections C.makes S.loads S.refuses_to_load S.saves S.refuses_to_save desk.old shelf.old desk.new shelf.new count × EndsAfter result serving.once count }
+{
     for _ in rt.forever() {
         let Ok(stream) = arrivals.recv(rt) else {
-            return;
+            return Closed::NoMore;
         };
-        if end.enter(rt, session, &stream) {
-            serve_connection(rt, alloc, &stream, idle, desk, shelf);
-            end.leave(rt, session);
+        serve_arrival(rt, alloc, &stream, serving, desk, shelf);
+        if serving.once {
+            return Closed::Once;
         }
-        if once || end.is_asked(rt) {
-            return;
+        if serving.end.is_asked(rt) {
+            return Closed::Asked;
         }
     }
+    unreachable!()
 }

@@ -1,0 +1,32 @@
+-- The connections that a session thread serves (ours).
+use Rattle.std.specs.Prelude.{ℕ, ◌≡◌, ◌+◌, ◌≤◌, Bool, true, false, List}
+use Rattle.definitions.specs.Cards.{Card}
+use Rattle.deck_files.specs.declared.deck_shelf.ShelfLoadFault.{ShelfLoadFault}
+use Rattle.deck_files.specs.declared.deck_shelf.ShelfSaveFault.{ShelfSaveFault}
+use Rattle.deck_files.specs.Savings.{Saving}
+use Rattle.desk_core.specs.declared.calls.Call.{Call}
+use Rattle.desk_core.specs.declared.replies.Reply.{Reply}
+use Rattle.desk_service.specs.declared.sessions.Ending.{Ending}
+use Rattle.desk_service.specs.declared.connections.Closed.{Closed}
+use Rattle.desk_service.specs.declared.connections.Closed.TheVariants.{NoMore, Once, Asked}
+use Rattle.desk_service.specs.Sessions.{Standing, ServesSession}
+
+-- after how many connections a thread ends: where no more can come, with `once` before the first; with `once` after that; or, where the end of the service is asked for, after one at least
+abbrev pub EndsAfter : Closed → Bool → ℕ → Type 0
+EndsAfter NoMore once count = once ≡ true → count ≡ 0
+EndsAfter Once once count = (once ≡ true) × (count ≡ 1)
+EndsAfter Asked once count = (once ≡ false) × (1 ≤ count)
+
+module _ {C S : Type 0} (makes : C → Call → Reply → C → Type 0) (loads : S → List ℕ → List Card → S → Type 0) (refuses_to_load : S → List ℕ → ShelfLoadFault → S → Type 0)
+    (saves : S → Saving → S → Type 0) (refuses_to_save : S → Saving → ShelfSaveFault → S → Type 0) where
+  -- one connection: a session from the desk and the shelf before to those after; or it is closed at once, and both are as they were
+  pub data ServesConnection (desk : C) (shelf : S) (next : C) (after : S) : Type 0 where
+    closed : next ≡ desk → after ≡ shelf → ServesConnection desk shelf next after
+    served : (first last : Standing C S) (ending : Ending) → ServesSession makes loads refuses_to_load saves refuses_to_save first last ending →
+        first.sides.desk ≡ desk → first.sides.shelf ≡ shelf → last.sides.desk ≡ next → last.sides.shelf ≡ after → ServesConnection desk shelf next after
+
+  -- so many connections, one after the other
+  pub data ServesConnections (desk : C) (shelf : S) : C → S → ℕ → Type 0 where
+    no_connection : ServesConnections desk shelf desk shelf 0
+    next_connection : (middle next : C) (between after : S) (count : ℕ) → ServesConnections desk shelf middle between count → ServesConnection middle between next after →
+        ServesConnections desk shelf next after (count + 1)
