@@ -1,1 +1,2 @@
+pub mod ConnectionSteps
 pub mod SessionSteps

@@ -74,7 +74,10 @@ fn serve_arrival<R: Wait + Clock, C: Calls, S: Shelf>(
     ensures { ServesConnection C.makes S.loads S.refuses_to_load S.saves S.refuses_to_save desk.old shelf.old desk.new shelf.new }
 {
     let Serving {
-        session, idle, end, ..
+        session,
+        idle,
+        end,
+        ..
     } = serving;
     if end.enter(rt, session, stream) {
         serve_connection(rt, alloc, stream, idle, desk, shelf);
@@ -93,7 +96,7 @@ pub(crate) fn serve_connections<R: Wait + Clock, C: Calls, S: Shelf>(
     desk: &mut C,
     shelf: &mut S,
 ) -> Closed
-    ensures { (count : ℕ) × ServesConnections C.makes S.loads S.refuses_to_load S.saves S.refuses_to_save desk.old shelf.old desk.new shelf.new count × EndsAfter result serving.once count }
+    ensures { (count : ℕ) × ServesConnections C.makes S.loads S.refuses_to_load S.saves S.refuses_to_save desk.old shelf.old desk.new shelf.new count × EndsAfter result serving.entry.once count }
 {
     for _ in rt.forever() {
         let Ok(stream) = arrivals.recv(rt) else {

@@ -14,8 +14,7 @@ use crossbeam_channel::{Sender, bounded, unbounded};
 use deck_files::{KnownFiles, clear_folder};
 use desk_core::Desk;
 use std::alloc::{AllocError, AllocGlobal, Global};
-use std::fs::{File, OpenFile};
-use std::io::Write;
+use std::fs::File;
 use std::net::{IpAddr, Ipv4Addr, Net, SocketAddr, TcpListener, TcpStream};
 use std::os::unix::net::UnixStream;
 use std::rt::Files;
@@ -83,24 +82,6 @@ impl<R: Wait + Clock + Eprint> Serve for Receiving<'_, R> {
     }
 }
 
-/// What a thread of a service works with.
-#[derive(Drop)]
-enum Place<'a, R, F> {
-    Worker(WorkerPlace<'a, R>),
-    Session(SessionPlace<'a, R, F>),
-    Receiving(Receiving<'a, R>),
-}
-
-impl<R: Wait + Clock + Files + Eprint, F: Write + OpenFile + Drop> Serve for Place<'_, R, F> {
-    fn serve(self) {
-        match self {
-            Place::Worker(place) => place.serve(),
-            Place::Session(place) => place.serve(),
-            Place::Receiving(place) => place.serve(),
-        }
-    }
-}
-
 /// What hears of the end of a service.
 trait Hear {
     /// Waits until somebody asks for the end, or the service ends by itself. What it gives stays open until
@@ -140,11 +121,29 @@ impl<R: Wait + Clock + Files + Net> Hear for Hearing<'_, R> {
     }
 }
 
+/// What a thread of a service works with.
+#[derive(Drop)]
+enum Place<W, S, C> {
+    Worker(W),
+    Session(S),
+    Receiving(C),
+}
+
+impl<W: Serve, S: Serve, C: Serve> Serve for Place<W, S, C> {
+    fn serve(self) {
+        match self {
+            Place::Worker(place) => place.serve(),
+            Place::Session(place) => place.serve(),
+            Place::Receiving(place) => place.serve(),
+        }
+    }
+}
+
 /// Runs each place in a thread of its own, and returns when all have ended. Where a thread can't be made,
 /// those that were made end at once.
 ///
-/// It is over any places, since what a thread is sent has to be shown to be `Send` with no more than it
-/// needs: with all that is known of a service's runtime the search for that does not end.
+/// It is over any places: that each is `Send` is shown by the functions below, one place each, with no
+/// more known of the runtime than it needs. With all that is known of it the search for that does not end.
 fn run<R, P, H>(rt: &R, alloc: Global, places: Vec<P>, hearing: H) -> Result<(), AllocError>
 where
     R: Threads + Wait + Sync,
@@ -168,6 +167,105 @@ where
             Ok(())
         },
     )
+}
+
+/// `run` with the places of workers and sessions, and what receives the clients.
+fn run_places<R, W, S, C, H>(
+    rt: &R,
+    alloc: Global,
+    workers: Vec<W>,
+    sessions: Vec<S>,
+    receiving: C,
+    hearing: H,
+) -> Result<(), AllocError>
+where
+    R: Threads + Wait + Sync,
+    W: Serve + Send + Drop,
+    S: Serve + Send + Drop,
+    C: Serve + Send + Drop,
+    H: Hear + Send + Copy,
+{
+    let mut places: Vec<Place<W, S, C>> = Vec::new(alloc);
+    for place in workers {
+        places.push(Place::Worker(place))?;
+    }
+    for place in sessions {
+        places.push(Place::Session(place))?;
+    }
+    places.push(Place::Receiving(receiving))?;
+    run(rt, alloc, places, hearing)
+}
+
+/// `run_places` with the places of workers.
+fn run_workers<R, S, C, H>(
+    rt: &R,
+    alloc: Global,
+    workers: Vec<WorkerPlace<'_, R>>,
+    sessions: Vec<S>,
+    receiving: C,
+    hearing: H,
+) -> Result<(), AllocError>
+where
+    R: Threads + Wait + Sync + Clock,
+    S: Serve + Send + Drop,
+    C: Serve + Send + Drop,
+    H: Hear + Send + Copy,
+{
+    run_places(rt, alloc, workers, sessions, receiving, hearing)
+}
+
+/// `run_workers` with what receives the clients.
+fn run_receiving<R, S, H>(
+    rt: &R,
+    alloc: Global,
+    workers: Vec<WorkerPlace<'_, R>>,
+    sessions: Vec<S>,
+    receiving: Receiving<'_, R>,
+    hearing: H,
+) -> Result<(), AllocError>
+where
+    R: Threads + Wait + Sync + Clock + Eprint,
+    S: Serve + Send + Drop,
+    H: Hear + Send + Copy,
+{
+    run_workers(rt, alloc, workers, sessions, receiving, hearing)
+}
+
+/// `run_receiving` with the places of sessions.
+fn run_sessions<R, H>(
+    rt: &R,
+    alloc: Global,
+    workers: Vec<WorkerPlace<'_, R>>,
+    sessions: Vec<SessionPlace<'_, R, R::File>>,
+    receiving: Receiving<'_, R>,
+    hearing: H,
+) -> Result<(), AllocError>
+where
+    R: Threads + Wait + Sync + Clock + Eprint + Files,
+    R::File: Send,
+    R::Dir: Send,
+    H: Hear + Send + Copy,
+{
+    run_receiving(rt, alloc, workers, sessions, receiving, hearing)
+}
+
+/// `run_sessions` with what hears of the end.
+fn run_hearing<R>(
+    rt: &R,
+    alloc: Global,
+    workers: Vec<WorkerPlace<'_, R>>,
+    sessions: Vec<SessionPlace<'_, R, R::File>>,
+    receiving: Receiving<'_, R>,
+    hearing: Hearing<'_, R>,
+) -> Result<(), AllocError>
+where
+    R: Threads + Wait + Sync + Clock + Eprint + Files + Net,
+    R::File: Send,
+    R::Dir: Send,
+    R::Listener: Send,
+    R::Stream: Send,
+{
+    run_sessions(rt, alloc, workers, sessions, receiving, hearing)
 }
 
 /// Serves what was opened at a listener: each worker and each session has a seat of its own at its desk.
@@ -199,15 +297,10 @@ where
     let known = Mutex::new(KnownFiles::new(alloc));
     let end = &ServiceEnd::new(alloc, sessions)?;
     let journal = journal.as_ref();
-    let mut places = Vec::new(alloc);
-    for place in worker_places(rt, alloc, &office, &mut seats, workers, &heard)? {
-        places.push(Place::Worker(place))?;
-    }
-    for place in session_places(
+    let workers = worker_places(rt, alloc, &office, &mut seats, workers, &heard)?;
+    let sessions = session_places(
         rt, alloc, &office, &mut seats, settings, &bells, &received, &known, end, journal,
-    )? {
-        places.push(Place::Session(place))?;
-    }
+    )?;
     drop((bells, heard, received));
     let port = port_of(listener, settings);
     let hearing = Hearing {
@@ -216,15 +309,15 @@ where
         port,
         end,
     };
-    places.push(Place::Receiving(Receiving {
+    let receiving = Receiving {
         rt,
         listener,
         settings,
         port,
         arrivals,
         end,
-    }))?;
-    Ok(run(rt, alloc, places, hearing)?)
+    };
+    Ok(run_hearing(rt, alloc, workers, sessions, receiving, hearing)?)
 }
 
 /// Serves at a listener: the desk is new, or as its journal leaves it; each worker and each session has a

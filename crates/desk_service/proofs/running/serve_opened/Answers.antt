@@ -1,6 +1,6 @@
 use Rattle.std.proofs.Common.{◌≡◌, ◌+◌, ap, ◌∙◌, length, arith}
 use Rattle.std.proofs.lemmas.List.FromFn.{length-map-range_with_len}
-use Rattle.desk_service.proofs.running.serve_on.Goals as goal
+use Rattle.desk_service.proofs.running.serve_opened.Goals as goal
 
 pub worker_places-requires-clause-enough : goal.worker_places-requires-clause-enough
 worker_places-requires-clause-enough g c =
