@@ -143,7 +143,7 @@ impl<W: Serve, S: Serve, C: Serve> Serve for Place<W, S, C> {
 /// those that were made end at once.
 ///
 /// It is over any places: that each is `Send` is shown by the functions below, one place each, with no
-/// more known of the runtime than it needs. With all that is known of it the search for that does not end.
+/// more known of the runtime than it needs. With all that is known of it the search takes minutes.
 fn run<R, P, H>(rt: &R, alloc: Global, places: Vec<P>, hearing: H) -> Result<(), AllocError>
 where
     R: Threads + Wait + Sync,
