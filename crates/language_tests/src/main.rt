@@ -1,6 +1,7 @@
-//! Goes through tables of cases of the language: each row is a text and what a layer makes of it,
-//! worked by hand. A line tells each row that differs, and the last line how many rows there are; the
-//! status is 1 where one differs, and 2 where a table can't be read.
+//! Goes through tables of the language, where each row is a text and what a layer makes of it, worked
+//! by hand; and through cases, where each is an input and the whole answer of `asm_run`. A line tells
+//! each row or case that differs, and a line at the end of each kind how many are as wanted; the status
+//! is 1 where one differs, and 2 where a table or the list of the cases can't be read.
 //!
 //! A table is a file of `data/` with the name of its topic. The lines of a row's text stand in front
 //! of an arrow, and what is wanted behind it; a line that begins with `# ` says something of the rows
@@ -9,7 +10,11 @@
 
 mod block_topics;
 mod card_topics;
+mod case_answer;
+mod case_files;
+mod cases;
 mod coding_topics;
+mod comparing;
 mod deck_topics;
 mod edit_topics;
 mod expression_topics;
@@ -22,15 +27,18 @@ mod link_topics;
 mod operation_topics;
 mod outputs;
 mod port_topics;
+mod score;
 mod statement_topics;
 mod tables;
 
+use cases::run_cases;
 use outputs::Answer;
+use score::Score;
 use std::alloc::{AllocError, AllocGlobal, Global};
 use std::io;
 use std::process::ExitCode;
 use std::rt::Files;
-use tables::{Row, Score, rows_of};
+use tables::{Row, rows_of};
 
 /// The topics, lowest first.
 const TOPICS: [&str; 79] = [
@@ -115,7 +123,7 @@ const TOPICS: [&str; 79] = [
     "layouts",
 ];
 
-/// The status where a table can't be read.
+/// The status where a table or the list of the cases can't be read.
 const NO_TABLE_STATUS: u8 = 2;
 
 /// Answers what ports, cards, edits and operations make of a text, where the topic is one of theirs.
@@ -184,19 +192,26 @@ fn run_topic<R: AllocGlobal + Files + Print>(
     Ok(score)
 }
 
-/// Goes through all tables, and tells how many rows there are and how many are as wanted.
-fn run<R: AllocGlobal + Files + Print>(rt: &R) -> io::Result<Score> {
+/// Goes through all tables, and tells how many rows are as wanted.
+fn run_rows<R: AllocGlobal + Files + Print>(rt: &R) -> io::Result<Score> {
     let mut score = Score::none();
     for topic in &TOPICS {
         score = run_topic(rt, topic, score)?;
     }
-    println!(rt; "{score}")?;
+    println!(rt; "rows: {score}")?;
     Ok(score)
+}
+
+/// Goes through all tables and all cases: 0 where all are as wanted, else 1.
+fn run<R: AllocGlobal + Files + Print>(rt: &R) -> io::Result<u8> {
+    let of_rows = run_rows(rt)?.status();
+    let of_cases = run_cases(rt)?.status();
+    Ok(of_rows.max(of_cases))
 }
 
 fn main(rt: HostRuntime) -> ExitCode {
     match run(&rt) {
-        Ok(score) => ExitCode::from(score.status()),
+        Ok(status) => ExitCode::from(status),
         Err(error) => {
             let _ = eprintln!(&rt; "language_tests: {error}");
             ExitCode::from(NO_TABLE_STATUS)

@@ -2,48 +2,13 @@
 
 use std::alloc::{AllocError, AllocGlobal, Global};
 use std::rt::Files;
-use std::{fmt, fs, io};
+use std::{fs, io};
 
 /// A row: its text, and what is wanted of it.
 #[derive(Drop)]
 pub struct Row {
     pub text: String,
     pub wanted: String,
-}
-
-/// How many rows there are, and how many are as wanted.
-#[derive(Clone, Copy)]
-pub struct Score {
-    rows: u64,
-    as_wanted: u64,
-}
-
-impl Score {
-    pub fn none() -> Score {
-        Score {
-            rows: 0,
-            as_wanted: 0,
-        }
-    }
-
-    /// With one row more.
-    pub fn with(self, is_met: bool) -> Score {
-        Score {
-            rows: self.rows.saturating_add(1),
-            as_wanted: self.as_wanted.saturating_add(u64::from(is_met)),
-        }
-    }
-
-    /// 0 where all rows are as wanted, else 1.
-    pub fn status(self) -> u8 {
-        u8::from(self.rows != self.as_wanted)
-    }
-}
-
-impl fmt::Display for Score {
-    fn fmt<W: fmt::Write>(&self, f: &mut fmt::Formatter<W>) -> fmt::Result {
-        write!(f, "rows {} as wanted {}", self.rows, self.as_wanted)
-    }
 }
 
 /// The last line of a row's text, and what is wanted, where a line has an arrow.

@@ -1,10 +1,10 @@
-//! How many cases are as wanted.
+//! How many rows or cases are as wanted.
 ghost use Rattle.std.specs.Prelude.{◌≡◌, ◌+◌, ◌<◌, ◌^◌, if◌then◌else◌};
-ghost use Rattle.asm_cases.specs.Scores.{score_text, score_status, with_case};
+ghost use Rattle.language_tests.specs.Scores.{no_score, score_status, with_one};
 
 use std::fmt;
 
-/// How many cases ran, and how many of them were as wanted.
+/// How many rows or cases ran, and how many of them were as wanted.
 #[derive(Clone, Copy)]
 pub struct Score {
     pub ran: u64,
@@ -12,9 +12,19 @@ pub struct Score {
 }
 
 impl Score {
-    /// The score with a case more. A count stays at its greatest value.
+    /// The score of none.
+    pub fn none() -> Score
+        ensures { result ≡ no_score }
+    {
+        Score {
+            ran: 0,
+            as_wanted: 0,
+        }
+    }
+
+    /// The score with one more. A count stays at its greatest value.
     pub fn with(self, is_as_wanted: bool) -> Score
-        ensures { result ≡ with_case self is_as_wanted }
+        ensures { result ≡ with_one self is_as_wanted }
     {
         Score {
             ran: self.ran.saturating_add(1),
@@ -22,7 +32,7 @@ impl Score {
         }
     }
 
-    /// The status of the program: 0 where all cases are as wanted, else 1.
+    /// The status of the program: 0 where all are as wanted, else 1.
     pub fn status(self) -> u8
         ensures { result ≡ score_status self }
     {
@@ -32,16 +42,16 @@ impl Score {
 
 impl fmt::Display for Score {
     ghost use Rattle.std.specs.Prelude.{Some};
-    ghost use Rattle.asm_cases.specs.Scores.{score_text};
+    ghost use Rattle.language_tests.specs.Scores.{score_text};
 
     ghost output = { λ score. Some (score_text score) };
 
     fn fmt<W: fmt::Write>(&self, f: &mut fmt::Formatter<W>) -> fmt::Result {
         let Score { ran, as_wanted } = self;
         if ran == as_wanted {
-            write!(f, "{ran} cases are as wanted")
+            write!(f, "{ran} are as wanted")
         } else {
-            write!(f, "{as_wanted} of {ran} cases are as wanted")
+            write!(f, "{as_wanted} of {ran} are as wanted")
         }
     }
 }

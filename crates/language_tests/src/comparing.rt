@@ -1,8 +1,8 @@
 //! Where an answer differs from the one that is wanted.
 ghost use Rattle.std.specs.Prelude.{◌≡◌, ◌+◌, ◌<◌, ◌^◌, None};
-ghost use Rattle.asm_cases.specs.Differences.{line_behind, first_differing_line, first_difference, AreSame};
+ghost use Rattle.language_tests.specs.Differences.{line_behind, first_differing_line, first_difference, AreSame};
 
-use crate::answer::Answer;
+use crate::case_answer::CaseAnswer;
 use std::fmt;
 
 /// What differs first, of output, message and status. Lines count from 1.
@@ -15,7 +15,7 @@ pub enum Difference {
 
 impl fmt::Display for Difference {
     ghost use Rattle.std.specs.Prelude.{Some};
-    ghost use Rattle.asm_cases.specs.Differences.{difference_text};
+    ghost use Rattle.language_tests.specs.Differences.{difference_text};
 
     ghost output = { λ difference. Some (difference_text difference) };
 
@@ -61,7 +61,7 @@ pub fn first_differing_line(wanted: &[u8], given: &[u8]) -> Option<usize>
 }
 
 /// What differs first between two answers; nothing only where they are the same.
-pub fn difference_between(wanted: &Answer, given: &Answer) -> Option<Difference>
+pub fn difference_between(wanted: &CaseAnswer, given: &CaseAnswer) -> Option<Difference>
     ensures first { result ≡ first_difference wanted.now given.now }
     ensures same { result ≡ None → AreSame wanted.now given.now }
 {

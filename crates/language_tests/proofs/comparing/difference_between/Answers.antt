@@ -1,6 +1,6 @@
 use Rattle.std.proofs.Common.{rules}
-use Rattle.asm_cases.proofs.DifferenceLaws.{same_answers}
-use Rattle.asm_cases.proofs.comparing.difference_between.Goals as goal
+use Rattle.language_tests.proofs.DifferenceLaws.{same_answers}
+use Rattle.language_tests.proofs.comparing.difference_between.Goals as goal
 
 -- what was found is the definition's difference
 pub returns-clause-first : goal.returns-clause-first

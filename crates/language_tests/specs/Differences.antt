@@ -1,8 +1,8 @@
 -- Where an answer differs from the one that is wanted (ours).
 use Rattle.std.specs.Prelude.{ℕ, ◌≡◌, ◌+◌, ◌==◌, List, [], ◌∷◌, ◌++◌, Option, Some, None, codes, decimal, if◌then◌else◌}
-use Rattle.asm_cases.specs.declared.answer.Answer.{Answer}
-use Rattle.asm_cases.specs.declared.comparing.Difference.{Difference}
-use Rattle.asm_cases.specs.declared.comparing.Difference.TheVariants.{Output, Message, Status}
+use Rattle.language_tests.specs.declared.case_answer.CaseAnswer.{CaseAnswer}
+use Rattle.language_tests.specs.declared.comparing.Difference.{Difference}
+use Rattle.language_tests.specs.declared.comparing.Difference.TheVariants.{Output, Message, Status}
 
 -- what ends a line
 abbrev pub line_feed : ℕ
@@ -25,22 +25,22 @@ abbrev pub status_difference : ℕ → ℕ → Option Difference
 status_difference wanted given = if wanted == given then None else Some (Status wanted given)
 
 -- a line of the message that differs, or else the status
-abbrev pub message_difference : Answer → Answer → Option ℕ → Option Difference
+abbrev pub message_difference : CaseAnswer → CaseAnswer → Option ℕ → Option Difference
 message_difference wanted given (Some line) = Some (Message line)
 message_difference wanted given None = status_difference wanted.status given.status
 
 -- a line of the output that differs, or else one of the message, or else the status
-abbrev pub output_difference : Answer → Answer → Option ℕ → Option Difference
+abbrev pub output_difference : CaseAnswer → CaseAnswer → Option ℕ → Option Difference
 output_difference wanted given (Some line) = Some (Output line)
 output_difference wanted given None =
     message_difference wanted given (first_differing_line 1 wanted.message.items given.message.items)
 
 -- what differs first, of output, message and status
-abbrev pub first_difference : Answer → Answer → Option Difference
+abbrev pub first_difference : CaseAnswer → CaseAnswer → Option Difference
 first_difference wanted given = output_difference wanted given (first_differing_line 1 wanted.output.items given.output.items)
 
 -- answers of the same bytes and the same status
-pub record AreSame (wanted given : Answer) : Type 0 where
+pub record AreSame (wanted given : CaseAnswer) : Type 0 where
   pub output : wanted.output.items ≡ given.output.items
   pub message : wanted.message.items ≡ given.message.items
   pub status : wanted.status ≡ given.status

@@ -1,6 +1,6 @@
 use Rattle.std.proofs.Common.{◌≡◌, ◌+◌, ◌<◌, ◌^◌, length}
-use Rattle.asm_cases.specs.Differences.{first_differing_line}
-use Rattle.asm_cases.proofs.comparing.first_differing_line.Given as goal
+use Rattle.language_tests.specs.Differences.{first_differing_line}
+use Rattle.language_tests.proofs.comparing.first_differing_line.Given as goal
 
 -- what is left differs first where the whole does
 abbrev pub invariant-loop-byte : goal.invariant-loop-byte
