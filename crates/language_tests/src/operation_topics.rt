@@ -2,7 +2,7 @@
 
 use crate::inputs::{bytes_of, cut};
 use crate::outputs::Answer;
-use cpu_opcodes::{Code, RegistersFound, central_rows, ignoring_rows, is_central, sum_rows};
+use opcodes::central::{Code, RegistersFound, central_rows, ignoring_rows, is_central, sum_rows};
 use definitions::{Letter, NumberBase};
 use expr_forms::{Field, Operand, Shape, operand};
 use operations::{KindSearch, Letters, Operation, is_end, number_base_set, pseudo_instruction};
@@ -20,8 +20,8 @@ pub fn answer(answer: &mut Answer, topic: &str, text: &str) -> Result<bool, Allo
         "central_tables" => central_table(answer, text),
         "central_digits" => central_digits(answer, text)?,
         "central" | "peripheral" | "peripheral_codes" => instruction(answer, topic, text),
-        "central_ignoring" => shown(answer, cpu_opcodes::ignoring(text.as_bytes())),
-        "peripheral_ignoring" => shown(answer, ppu_opcodes::ignoring(text.as_bytes())),
+        "central_ignoring" => shown(answer, opcodes::central::ignoring(text.as_bytes())),
+        "peripheral_ignoring" => shown(answer, opcodes::peripheral::ignoring(text.as_bytes())),
         _ => return Ok(false),
     }
     Ok(true)
@@ -172,9 +172,9 @@ fn shown(answer: &mut Answer, found: Option<Shape<'_>>) {
 
 fn search<'a>(topic: &str, name: &str, read: &Operand<'a>) -> Result<Shape<'a>, Letter> {
     if topic == "central" {
-        cpu_opcodes::find(name.as_bytes(), read)
+        opcodes::central::find(name.as_bytes(), read)
     } else {
-        ppu_opcodes::find(name.as_bytes(), read)
+        opcodes::peripheral::find(name.as_bytes(), read)
     }
 }
 

@@ -1,2 +1,0 @@
-pub mod PeripheralLaws
-pub mod ShapeLaws

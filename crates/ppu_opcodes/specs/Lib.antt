@@ -1,3 +1,0 @@
-pub mod PeripheralCodes
-pub mod PeripheralTables
-pub mod PeripheralShapes
