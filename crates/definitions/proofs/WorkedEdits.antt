@@ -8,7 +8,7 @@ use Rattle.definitions.specs.Settled.{Settled}
 use Rattle.definitions.specs.Settling.{settled_all}
 use Rattle.definitions.specs.States.{UsedBlock, BlockState}
 use Rattle.definitions.specs.Edits.{Edited, IsUntouched, Split, DoAgree, IsWithinDue}
-use Rattle.definitions.specs.Rebound.{rebound_front, rebound_tail}
+use Rattle.definitions.specs.Rebound.{rebound_front, rebound_tail, IsWithinDueCode}
 use Rattle.definitions.specs.declared.deck_kind.DeckKind.TheVariants.{Rel}
 
 -- the statements of these cards up to END
@@ -44,6 +44,10 @@ replaced-agrees = record {
 -- so one statement alone is due
 pub replaced-due : (count : ℕ) → IsWithinDue replaced 0 count → count ≤ 1
 replaced-due count h = let most = h.to_agreement (drop 2 replaced.old) (split_at 1 replaced) replaced-untouched replaced-agrees in omega (arith, most)
+
+-- and one alone is coded: nothing that stays is bound otherwise
+pub replaced-code : (count : ℕ) → IsWithinDueCode replaced 0 count → count ≤ 1
+replaced-code count h = let most = h.to_agreement (drop 2 replaced.old) (split_at 1 replaced) replaced-untouched replaced-agrees in omega (arith, most)
 
 -- an EQU in front is removed
 abbrev unequated : Edited
@@ -83,6 +87,13 @@ relabelled = record {
 pub relabelled-jump : rebound_front relabelled (drop 2 relabelled.new) ≡ 1
 relabelled-jump = refl
 
+-- so at most three statements are coded: the jump, the new one and the one behind it, where the label stands
+relabelled-untouched : IsUntouched relabelled (drop 2 relabelled.new)
+relabelled-untouched = record { of_old = (take 1 relabelled.old, refl); of_new = (take 2 relabelled.new, refl); unchanged = omega arith }
+
+pub relabelled-code : (count : ℕ) → IsWithinDueCode relabelled 0 count → count ≤ 3
+relabelled-code count h = let most = h.to_end (drop 2 relabelled.new) relabelled-untouched in let jump = relabelled-jump in omega (arith, most, jump)
+
 -- the first of two literals becomes the second
 abbrev reused : Edited
 reused = record {
@@ -104,6 +115,13 @@ reused-agrees = record {
 -- the literal of the second statement stands first now, and that statement alone is coded again
 pub reused-literal : rebound_tail reused (drop 2 reused.new) (take 2 reused.new) ≡ 1
 reused-literal = refl
+
+-- with the edited one that makes two
+reused-untouched : IsUntouched reused []
+reused-untouched = record { of_old = (reused.old, refl); of_new = (reused.new, refl); unchanged = omega arith }
+
+pub reused-code : (count : ℕ) → IsWithinDueCode reused 0 count → count ≤ 2
+reused-code count h = let most = h.to_agreement [] (split_at 2 reused) reused-untouched reused-agrees in let literal = reused-literal in omega (arith, most, literal)
 
 -- a word is put into the first block of an absolute deck
 abbrev moved : Edited
