@@ -2,9 +2,9 @@
 
 use crate::inputs::{bytes_of, cut};
 use crate::outputs::Answer;
-use opcodes::central::{Code, RegistersFound, central_rows, ignoring_rows, is_central, sum_rows};
 use definitions::{Letter, NumberBase};
 use expr_forms::{Field, Operand, Shape, operand};
+use opcodes::central::{Code, RegistersFound, central_rows, ignoring_rows, is_central, sum_rows};
 use operations::{KindSearch, Letters, Operation, is_end, number_base_set, pseudo_instruction};
 use std::alloc::AllocError;
 
