@@ -17,6 +17,7 @@ mod coding_topics;
 mod comparing;
 mod deck_topics;
 mod edit_topics;
+mod edited_decks;
 mod expression_topics;
 mod field_topics;
 mod inputs;
@@ -41,7 +42,7 @@ use std::rt::Files;
 use tables::{Row, rows_of};
 
 /// The topics, lowest first.
-const TOPICS: [&str; 79] = [
+const TOPICS: [&str; 80] = [
     "displays",
     "octals",
     "lines",
@@ -117,6 +118,7 @@ const TOPICS: [&str; 79] = [
     "parts_of_decks",
     "records",
     "record_edits",
+    "edited_decks",
     "listings",
     "ends_of_listings",
     "images",
@@ -152,6 +154,7 @@ fn upper_answer(answer: &mut Answer, topic: &str, text: &str) -> Result<bool, Al
             || statement_topics::answer(answer, topic, text)?
             || link_topics::answer(answer, topic, text)?
             || deck_topics::answer(answer, topic, text)?
+            || edited_decks::answer(answer, topic, text)?
             || expression_topics::answer(answer, topic, text),
     )
 }

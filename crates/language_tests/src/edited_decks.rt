@@ -1,0 +1,92 @@
+//! Decks that are edited: behind each edit a record gives the listing and the image of a new deck of the
+//! same cards.
+
+use crate::deck_topics::repeated_cards;
+use crate::inputs::{cut, decimal};
+use crate::outputs::Answer;
+use cards::{Card, DeckName, Edit, edited_copy};
+use deck_assembler::SharedObject;
+use deck_linker::{Publication, link};
+use edit_core::{Kept, RecordFault, assemble};
+use statement_coder::Meter;
+use std::alloc::{AllocError, Global};
+
+/// Whether this is the topic here; what is found of the text is then in the answer.
+pub fn answer(answer: &mut Answer, topic: &str, text: &str) -> Result<bool, AllocError> {
+    if topic != "edited_decks" {
+        return Ok(false);
+    }
+    let (deck, edits) = text.split_once("EDITS\n").unwrap_or((text, ""));
+    let cards = repeated_cards(answer.alloc, deck)?;
+    match DeckName::read(b"M") {
+        Ok(name) if cards.len() <= 20_000 => {
+            let mut done = Meter { sized: 0, coded: 0 };
+            let kept = Kept::new(answer.alloc, name, cards, &mut done)?;
+            edited(answer, kept, edits)?;
+        }
+        _ => answer.word("no deck"),
+    }
+    Ok(true)
+}
+
+/// Makes the edits of these lines, one after the other, and looks after each.
+fn edited(answer: &mut Answer, mut kept: Kept, edits: &str) -> Result<(), AllocError> {
+    let mut are_same = true;
+    for line in edits.lines() {
+        match edit_of(line) {
+            Some(edit) => are_same = is_edited(answer.alloc, &mut kept, &edit)?,
+            None => are_same = false,
+        }
+        if !are_same {
+            answer.word(line);
+            break;
+        }
+    }
+    answer.either(are_same, "same", "differs");
+    Ok(())
+}
+
+/// The edit of a line: `INS 3 CARD`, `REP 3 CARD` or `DEL 3`.
+fn edit_of(line: &str) -> Option<Edit> {
+    let (word, rest) = cut(line);
+    let (place, text) = cut(rest);
+    let at = decimal(place);
+    match (word, Card::read(text.as_bytes())) {
+        ("INS", Ok(card)) => Some(Edit::Insert { at, card }),
+        ("REP", Ok(card)) => Some(Edit::Replace { at, card }),
+        ("DEL", _) => Some(Edit::Remove { at }),
+        _ => None,
+    }
+}
+
+/// Makes an edit, which may be refused: whether the record is as a new one of its cards.
+fn is_edited(alloc: Global, kept: &mut Kept, edit: &Edit) -> Result<bool, AllocError> {
+    let mut done = Meter { sized: 0, coded: 0 };
+    match kept.edit(alloc, edit, &mut done) {
+        Ok(()) => is_as_new(alloc, kept),
+        Err(RecordFault::OutOfMemory) => Err(AllocError),
+        Err(_) => Ok(true),
+    }
+}
+
+/// Whether listing and image of a record's object are those of a new object of its cards.
+fn is_as_new(alloc: Global, kept: &Kept) -> Result<bool, AllocError> {
+    let mut done = Meter { sized: 0, coded: 0 };
+    let cards = edited_copy(alloc, kept.cards(), &[])?;
+    let new = published(
+        alloc,
+        assemble(alloc, kept.name().copied(), cards, &mut done)?,
+    )?;
+    let Ok(object) = kept.finish() else {
+        return Ok(false);
+    };
+    let found = published(alloc, object)?;
+    Ok(found.listing() == new.listing() && found.image() == new.image())
+}
+
+/// The link of one deck.
+fn published(alloc: Global, object: SharedObject) -> Result<Publication, AllocError> {
+    let mut objects = Vec::new(alloc);
+    objects.push(object)?;
+    link(alloc, objects, 1)
+}
