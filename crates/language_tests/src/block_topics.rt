@@ -1,6 +1,6 @@
 //! Lists of literals.
 
-use crate::inputs::octal;
+use crate::inputs::{cut, decimal, octal};
 use crate::outputs::Answer;
 use std::alloc::AllocError;
 use use_blocks::{Literals, blocks_are_bounded, blocks_are_few};
@@ -9,9 +9,23 @@ use use_blocks::{Literals, blocks_are_bounded, blocks_are_few};
 pub fn answer(answer: &mut Answer, topic: &str, text: &str) -> Result<bool, AllocError> {
     match topic {
         "literal_lists" => literals(answer, text)?,
+        "literal_limits" => many_literals(answer, text)?,
         _ => return Ok(false),
     }
     Ok(true)
+}
+
+/// A list to which the words 1, 2 and so on up to the first number were added: how many it has, and the
+/// offset of the second number.
+fn many_literals(answer: &mut Answer, text: &str) -> Result<(), AllocError> {
+    let (last, word) = cut(text);
+    let mut literals = Literals::new(answer.alloc);
+    for word in 1..=decimal(last) {
+        literals.add(word)?;
+    }
+    answer.decimal(literals.len() as u64);
+    answer.decimal(literals.offset(decimal(word)) as u64);
+    Ok(())
 }
 
 /// The words of a list of literals, each once, and the offsets of 7, 0 and 9.

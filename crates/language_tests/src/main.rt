@@ -42,7 +42,7 @@ use std::rt::Files;
 use tables::{Row, rows_of};
 
 /// The topics, lowest first.
-const TOPICS: [&str; 80] = [
+const TOPICS: [&str; 81] = [
     "displays",
     "octals",
     "lines",
@@ -106,6 +106,7 @@ const TOPICS: [&str; 80] = [
     "widths",
     "instruction_fields",
     "literal_lists",
+    "literal_limits",
     "sizes",
     "codes",
     "effects",
