@@ -8,8 +8,8 @@ use crate::opening::{Opened, open};
 use crate::places::{Serve, SessionPlace, WorkerPlace, session_places, worker_places};
 use crate::root::take_folder;
 use crate::service_end::ServiceEnd;
-use crate::settings::Settings;
-use crate::versions::Seen;
+use crate::settings::{JOURNAL, Settings};
+use crate::versions::{Seen, VERSIONS};
 use crossbeam_channel::{Sender, bounded, unbounded};
 use deck_files::{KnownFiles, clear_folder};
 use desk_core::Desk;
@@ -379,7 +379,7 @@ where
     requires { AreInRange settings.now }
 {
     let _taken = take_folder(rt, alloc, settings.root)?;
-    clear_folder(rt, settings.root);
+    clear_folder(rt, settings.root, &[VERSIONS, JOURNAL]);
     let Ok(listener) = TcpListener::bind(rt, local_address(settings.port)) else {
         return Err(ServeFault::SocketFault);
     };

@@ -11,12 +11,15 @@ pub enum Journaling<'a> {
     At(&'a str),
 }
 
+/// The journal of a folder, unless another file is told.
+pub(crate) const JOURNAL: &str = "beskloun.journal";
+
 impl<'a> Journaling<'a> {
     /// By which name a folder tells of the journal.
     pub(crate) fn name(self) -> &'a str {
         match self {
             Journaling::Off => "none",
-            Journaling::InRoot => "beskloun.journal",
+            Journaling::InRoot => JOURNAL,
             Journaling::At(path) => path,
         }
     }

@@ -19,6 +19,9 @@ use std::rt::Files;
 /// How many versions a service may tell before it has to be started again: 10^12.
 const BLOCK: u64 = 1_000_000_000_000;
 
+/// The file of a folder's versions.
+pub(crate) const VERSIONS: &str = ".beskloun.versions";
+
 /// What a folder has seen.
 #[derive(Drop)]
 pub(crate) struct Seen {
@@ -45,7 +48,7 @@ fn next_bound(begun: u64) -> u64
 
 /// The path of the file of a folder's versions.
 fn versions_path(alloc: Global, folder: &str) -> Result<String, AllocError> {
-    path_in(alloc, folder, ".beskloun.versions")
+    path_in(alloc, folder, VERSIONS)
 }
 
 /// A text of the system, in memory.

@@ -280,10 +280,14 @@ fn what_saves_left_is_cleared(rt: HostRuntime) -> Result<(), Fail> {
     fs::create_dir(&rt, LEFT)?;
     fs::write(&rt, "leftovers_test/M.NEW3.0", "*A")?;
     fs::write(&rt, "leftovers_test/M.NEWS", "*A")?;
+    fs::write(&rt, "leftovers_test/a.journal.NEW0", "RECORD")?;
+    fs::write(&rt, "leftovers_test/b.journal.NEW0", "RECORD")?;
     fs::write(&rt, "leftovers_test/M.DECK", "*A\n")?;
-    clear_folder(&rt, LEFT);
+    clear_folder(&rt, LEFT, &["a.journal"]);
     assert_eq!(rt; fs::exists(&rt, "leftovers_test/M.NEW3.0")?, false);
     assert_eq!(rt; fs::exists(&rt, "leftovers_test/M.NEWS")?, true);
+    assert_eq!(rt; fs::exists(&rt, "leftovers_test/a.journal.NEW0")?, false);
+    assert_eq!(rt; fs::exists(&rt, "leftovers_test/b.journal.NEW0")?, true);
     assert_eq!(rt; fs::exists(&rt, "leftovers_test/M.DECK")?, true);
     fs::remove_dir_all(&rt, LEFT)?;
     Ok(())
