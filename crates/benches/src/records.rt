@@ -52,8 +52,9 @@ fn replacements(alloc: Global, first: u64, count: u64) -> Result<Vec<Edit>, Allo
 
 /// A new record of these cards, at most 20,000.
 fn record_of(alloc: Global, cards: &[Card], meter: &mut Meter) -> io::Result<Kept> {
-    match (DeckName::read(b"M"), edited_copy(alloc, cards, &[])) {
-        (Ok(name), Ok(cards)) if cards.len() <= 20_000 => Ok(Kept::new(alloc, name, cards, meter)?),
+    let cards = edited_copy(alloc, cards, &[])?;
+    match DeckName::read(b"M") {
+        Ok(name) if cards.len() <= 20_000 => Ok(Kept::new(alloc, name, cards, meter)?),
         _ => Err(io::Error::other("no such deck")),
     }
 }

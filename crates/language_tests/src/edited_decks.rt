@@ -51,10 +51,13 @@ fn edit_of(line: &str) -> Option<Edit> {
     let (word, rest) = cut(line);
     let (place, text) = cut(rest);
     let at = decimal(place);
-    match (word, Card::read(text.as_bytes())) {
-        ("INS", Ok(card)) => Some(Edit::Insert { at, card }),
-        ("REP", Ok(card)) => Some(Edit::Replace { at, card }),
-        ("DEL", _) => Some(Edit::Remove { at }),
+    if word == "DEL" {
+        return Some(Edit::Remove { at });
+    }
+    let card = Card::read(text.as_bytes()).ok()?;
+    match word {
+        "INS" => Some(Edit::Insert { at, card }),
+        "REP" => Some(Edit::Replace { at, card }),
         _ => None,
     }
 }
