@@ -110,9 +110,8 @@ fn a_compacted_journal(rt: HostRuntime) {
     let text = compacted_text(rt.alloc(), &moment, 3, &desk).expect(&rt, "a text");
     let again = replayed(rt.alloc(), text.as_slice(), 20).expect(&rt, "the desk again");
     assert_eq!(rt; again.desk.version(), 4);
-    let moved = again.desk.decks()[0]
-        .copied(rt.alloc())
-        .expect(&rt, "a deck");
+    let deck = again.desk.decks().first().expect(&rt, "a deck");
+    let moved = deck.copied(rt.alloc()).expect(&rt, "memory");
     assert_eq!(rt; moved.cards.as_slice().len(), 2);
     assert_eq!(rt; moved.cards.as_slice()[0].as_slice(), b"*Z".as_slice());
 }
