@@ -3,6 +3,7 @@ use Rattle.std.proofs.Common.{◌≡◌, ℕ, ◌+◌, ◌≤◌, List, [], ◌�
 use Rattle.cards.specs.Spans.{statement_at}
 use Rattle.definitions.specs.Cards.{Card}
 use Rattle.definitions.specs.Operands.{Operand, NamesOperand}
+use Rattle.definitions.specs.Operations.{Operation}
 use Rattle.definitions.specs.Letters.{in_order}
 use Rattle.definitions.specs.Settled.{Settled, Definition, defined}
 use Rattle.definitions.specs.Settling.{View, settle, settled_all, is_known, external, externals}
@@ -11,7 +12,7 @@ use Rattle.definitions.specs.States.{BlockState, Agree, early_symbols, lawful_na
 use Rattle.definitions.specs.declared.deck_kind.DeckKind.{DeckKind}
 use Rattle.definitions.proofs.StateSteps.{settled_all-in_use}
 use Rattle.definitions.proofs.TailLaws.{views-agree, tails-agree}
-use Rattle.statement_coder.specs.Definitions.{defined_by}
+use Rattle.statement_coder.specs.Definitions.{defined_by, IsOfExt}
 use Rattle.statement_coder.specs.Sizings.{IsSizing}
 use Rattle.statement_coder.specs.declared.definitions_made.Defines as code
 use Rattle.statement_coder.specs.declared.definitions_made.Defines.TheVariants as defines
@@ -73,6 +74,7 @@ sizing-alike v w first second sizing e h is = record {
   definitions = sym (ap (λ (s : Settled). defined_by w s.read.fields.location s.read.operand sizing.defines) e)
       ∙ sym (defined_by-alike v w first.read.fields.location first.read.operand sizing.defines h)
       ∙ is.definitions ∙ ap (λ (s : Settled). s.definitions) e;
+  externals = subst (λ (operation : Operation). IsOfExt operation sizing.defines) (ap (λ (s : Settled). s.read.operation) e) is.externals;
   letters = is.letters ∙ ap (λ (s : Settled). in_order s.letters) e;
 }
 

@@ -1,6 +1,8 @@
 -- What a statement defines, in the words of the definitions.
-use Rattle.std.specs.Prelude.{ℕ, List, [], ◌∷◌, Bool, true, false}
+use Rattle.std.specs.Prelude.{ℕ, ◌≡◌, ⊤, List, [], ◌∷◌, Bool, true, false}
 use Rattle.definitions.specs.Operands.{Operand, NamesOperand}
+use Rattle.definitions.specs.Operations as op
+use Rattle.definitions.specs.Operations.{Operation}
 use Rattle.definitions.specs.Settled.{Definition}
 use Rattle.definitions.specs.Settling.{View, externals}
 use Rattle.statement_coder.specs.declared.definitions_made.Defines as code
@@ -21,3 +23,8 @@ abbrev pub defined_by : View → List ℕ → Operand → code.Defines → List 
 defined_by view location operand defines.Nothing = []
 defined_by view location operand (defines.Symbol form) = record { name = location; form = form } ∷ []
 defined_by view location operand defines.Externals = externals_of view operand
+
+-- names are defined by an EXT alone
+abbrev pub IsOfExt : Operation → code.Defines → Type 0
+IsOfExt operation defines.Externals = operation ≡ op.Ext
+IsOfExt operation what = ⊤

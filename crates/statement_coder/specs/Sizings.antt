@@ -10,7 +10,7 @@ use Rattle.definitions.specs.Settling.{View, Seen, place_of, settled_with}
 use Rattle.definitions.specs.declared.deck_kind.DeckKind.{DeckKind}
 use Rattle.operations.specs.OperationsAs.{operation_as}
 use Rattle.use_blocks.specs.EffectsAs.{change_as, setting_as}
-use Rattle.statement_coder.specs.Definitions.{defined_by}
+use Rattle.statement_coder.specs.Definitions.{defined_by, IsOfExt}
 use Rattle.statement_coder.specs.declared.statement.Statement as statements
 use Rattle.statement_coder.specs.declared.sizing.Sizing.{Sizing}
 
@@ -43,6 +43,7 @@ pub record IsSizing (view : View) (settled : Settled) (sizing : Sizing) : Type 0
   pub location : sizing.location ≡ settled.location
   pub origin : sizing.origin ≡ settled.origin
   pub definitions : defined_by view settled.read.fields.location settled.read.operand sizing.defines ≡ settled.definitions
+  pub externals : IsOfExt settled.read.operation sizing.defines
   pub letters : sizing.letters ≡ in_order settled.letters
 
 -- a settled statement with the operation of a statement, and the operand that it has under the base that its sizing keeps

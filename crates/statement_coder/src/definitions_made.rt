@@ -6,7 +6,7 @@ ghost use Rattle.definitions.specs.Operands as operands;
 ghost use Rattle.definitions.specs.Settling.{View, first_definition, definitions_of};
 ghost use Rattle.operations.specs.OperationsAs.{operation_as};
 ghost use Rattle.statement_coder.specs.Readings.{IsReading};
-ghost use Rattle.statement_coder.specs.Definitions.{has_names, defined_by};
+ghost use Rattle.statement_coder.specs.Definitions.{has_names, defined_by, IsOfExt};
 
 use crate::readings::Reading;
 use definitions::DeckKind;
@@ -26,8 +26,9 @@ pub enum Defines {
 /// The symbol of a location field, where it is one that is not defined before.
 #[inline(never)]
 fn first_definition(location: &[u8], form: Form, is_defined: bool) -> Defines
-    ensures { (view : View) (operand : operands.Operand) → is_some (view location.now) ≡ is_defined →
+    ensures definitions { (view : View) (operand : operands.Operand) → is_some (view location.now) ≡ is_defined →
         defined_by view location.now operand result ≡ first_definition location.now form (view location.now) }
+    ensures externals { (operation : op.Operation) → IsOfExt operation result }
 {
     if is_symbol(location) && !is_defined {
         Defines::Symbol(form)
@@ -57,8 +58,9 @@ fn has_names(reading: &Reading<'_>) -> bool
 /// What an EXT defines.
 #[inline(never)]
 fn externals(kind: DeckKind, reading: &Reading<'_>) -> Defines
-    ensures { (location : List ℕ) (value counter : forms.Form) (view : View) (operand : operands.Operand) → IsReading reading.now operand →
+    ensures definitions { (location : List ℕ) (value counter : forms.Form) (view : View) (operand : operands.Operand) → IsReading reading.now operand →
         defined_by view location operand result ≡ definitions_of kind op.Ext operand location value counter view }
+    ensures externals { IsOfExt op.Ext result }
 {
     match kind {
         DeckKind::Rel => {
@@ -84,8 +86,9 @@ pub(crate) fn definition_made(
     value: Form,
     counter: Form,
 ) -> Defines
-    ensures { (view : View) (operand : operands.Operand) → IsReading reading.now operand → is_some (view location.now) ≡ is_defined →
+    ensures definitions { (view : View) (operand : operands.Operand) → IsReading reading.now operand → is_some (view location.now) ≡ is_defined →
         defined_by view location.now operand result ≡ definitions_of kind (operation_as operation) operand location.now value counter view }
+    ensures externals { IsOfExt (operation_as operation) result }
 {
     match operation {
         Operation::Equ => first_definition(location, value, is_defined),
