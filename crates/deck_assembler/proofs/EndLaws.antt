@@ -88,7 +88,7 @@ or-last true y h = absurd (true≢false h)
 or-last false y h = h
 
 -- no END
-end-none : (statements : List Statement) → has_end statements ≡ false → (up_to_end statements ≡ statements) × (behind_end statements ≡ [])
+pub end-none : (statements : List Statement) → has_end statements ≡ false → (up_to_end statements ≡ statements) × (behind_end statements ≡ [])
 end-none [] h = (refl, refl)
 end-none (last ∷ earlier) h =
     let e = or-last (is_end (fields_of last.cards)) (has_end earlier) h in

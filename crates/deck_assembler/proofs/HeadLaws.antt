@@ -1,5 +1,5 @@
 -- The statements in front of an edited card are sized behind the same statements in both decks.
-use Rattle.std.proofs.Common.{◌≡◌, ℕ, ◌+◌, ◌-◌, ◌≤◌, List, [], ◌∷◌, ◌++◌, take, drop, length, sym, ap, ◌∙◌, subst, arith, length-take-le}
+use Rattle.std.proofs.Common.{◌≡◌, ℕ, ◌+◌, ◌-◌, ◌≤◌, List, [], ◌∷◌, ◌++◌, take, drop, length, refl, sym, ap, ◌∙◌, subst, arith, length-take-le}
 use Rattle.std.specs.Prelude.{reverse}
 use Rattle.std.proofs.lemmas.List.{take-take, drop-take, length-take, length-drop, reverse-reverse}
 use Rattle.cards.specs.Spans.{statement_at}
@@ -99,6 +99,8 @@ front-left old cards earlier sized deck new sizer is front kind ahead state symb
   others = front.others;
   stood = stood earlier;
   within = front.within;
+  place = refl;
+  all = front.all;
   ahead = ahead ∙ front.ahead;
   rest = subst (λ (k : DeckKind). AreSizedFrom k earlier (stood earlier) (drop (stood earlier) old) sized front.later front.behind front.others) (sym kind) front.rest;
   state = state ∙ is.state ∙ ap (λ (k : DeckKind). state_after (settled_all k earlier)) (sym kind);

@@ -56,3 +56,10 @@ pub mod RebindingLaws
 pub mod CopiedLaws
 -- The lines of the object before an edit.
 pub mod FormerLaws
+-- Where two views agree on what is left.
+pub mod AlikeLaws
+-- Where an old deck and an edited one are found to agree.
+pub mod CutLaws
+pub mod PieceMeetings
+pub mod DueLaws
+pub mod AgreementLaws

@@ -12,11 +12,13 @@ use Rattle.definitions.specs.declared.deck_kind.DeckKind.{DeckKind}
 use Rattle.definitions.proofs.StateSteps.{state_after-step, settled_all-in_use}
 use Rattle.deck_assembler.specs.Agreements.{HasFront, HaveSameEnd, IsOfSameDeck, IsSameFront}
 use Rattle.deck_assembler.specs.FirstSymbols.{symbol_in, with_defined, IsLawfulOperand}
+use Rattle.deck_assembler.specs.Formers.{known_in}
 use Rattle.deck_assembler.specs.SizedDecks.{IsSizedStatement, AreSizedFrom}
 use Rattle.deck_assembler.specs.declared.old_deck.OldDeck.{OldDeck}
 use Rattle.deck_assembler.specs.declared.old_deck.Stage.{Stage}
 use Rattle.deck_assembler.specs.declared.sized_statement.SizedStatement.{SizedStatement}
 use Rattle.deck_assembler.proofs.DefinitionLaws.{defined-step}
+use Rattle.deck_assembler.proofs.ForwardLaws.{stood-more}
 use Rattle.deck_assembler.proofs.OntoLaws.{drop-more}
 
 -- a statement that was sized, and those behind it
@@ -44,6 +46,12 @@ pub next-of : (cards : List Card) (sized : SizedStatement) (later : List SizedSt
     HasNext deck.kind has.front has.stood (drop has.stood cards) sized later has.behind has.others
 next-of cards sized later deck has = has-next deck.kind has.front has.stood (drop has.stood cards) sized later has.later has.behind has.others has.rest
 
+-- the next statement, and those behind it, of all of the deck
+pub next-of-all : (cards : List Card) (sized : SizedStatement) (later : List SizedStatement) (deck : OldDeck) (has : HasFront cards (sized ∷ later) deck) → let next = next-of cards sized later deck has in
+    reverse next.statements ++ next.statement ∷ has.front ≡ known_in cards
+unfolding next-of
+next-of-all cards sized later deck has = all-next deck.kind has.front has.stood (drop has.stood cards) sized later has.later has.behind has.others has.rest ∙ has.all
+
 -- behind a statement its front has it too
 pub front-step : (cards : List Card) (sized : SizedStatement) (later : List SizedStatement) (old new : OldDeck) (has : HasFront cards (sized ∷ later) old) (effect : Effect) →
     let next = next-of cards sized later old has in
@@ -65,6 +73,8 @@ front-step cards sized later old new has effect kind ahead made state lawful sym
       others = has.others;
       stood = has.stood + sized.cards;
       within = let within = has.within in omega (arith, left, few, within);
+      place = ap (λ n. n + sized.cards) has.place ∙ stood-more has.front next.statement (drop has.stood cards) sized.cards next.is.cards next.is.within;
+      all = next-of-all cards sized later old has;
       ahead = ahead ∙ ap (drop sized.cards) has.ahead ∙ more;
       rest = subst (λ (k : DeckKind). AreSizedFrom k (next.statement ∷ has.front) (has.stood + sized.cards) (drop (has.stood + sized.cards) cards) later next.statements has.behind has.others) (sym kind)
           (subst (λ (l : List Card). AreSizedFrom old.kind (next.statement ∷ has.front) (has.stood + sized.cards) l later next.statements has.behind has.others) more next.are);
@@ -109,6 +119,8 @@ front-same cards sized other old new e same has = record {
   others = has.others;
   stood = has.stood;
   within = has.within;
+  place = has.place;
+  all = has.all;
   ahead = same.ahead ∙ has.ahead;
   rest = subst (λ (k : DeckKind). AreSizedFrom k has.front has.stood (drop has.stood cards) other has.later has.behind has.others) (sym same.deck.kind)
       (subst (λ (l : List SizedStatement). AreSizedFrom old.kind has.front has.stood (drop has.stood cards) l has.later has.behind has.others) e has.rest);

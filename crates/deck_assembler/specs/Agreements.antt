@@ -1,17 +1,18 @@
 -- Where an edited deck agrees again with the one before it, so that all that is left stays as it was sized.
-use Rattle.std.specs.Prelude.{ℕ, ◌≡◌, ◌≤◌, ◌-◌, ⊤, ◌++◌, Bool, true, false, List, [], ◌∷◌, Option, drop, length}
+use Rattle.std.specs.Prelude.{ℕ, ◌≡◌, ◌≤◌, ◌-◌, ⊤, ◌++◌, Bool, true, false, List, [], ◌∷◌, Option, drop, length, reverse}
 use Rattle.definitions.specs.Cards.{Card}
 use Rattle.definitions.specs.Forms.{Form}
 use Rattle.definitions.specs.Operands.{Operand, NamesOperand}
 use Rattle.definitions.specs.Settled.{ReadStatement, defined}
 use Rattle.definitions.specs.Settling.{View, settle, settled_all}
-use Rattle.definitions.specs.Statements.{Statement}
+use Rattle.definitions.specs.Statements.{Statement, cards_in}
 use Rattle.definitions.specs.States.{Agree, early_symbols, lawful_names, state_after}
 use Rattle.definitions.specs.declared.deck_kind.DeckKind.{DeckKind}
 use Rattle.statement_coder.specs.declared.definitions_made.Defines as code
 use Rattle.statement_coder.specs.declared.definitions_made.Defines.TheVariants as defines
 use Rattle.deck_assembler.specs.DeckParts.{sized_in}
 use Rattle.deck_assembler.specs.FirstSymbols.{symbol_in}
+use Rattle.deck_assembler.specs.Formers.{known_in}
 use Rattle.deck_assembler.specs.SizedDecks.{IsSizedStatement, AreSizedFrom}
 use Rattle.deck_assembler.specs.declared.early_trial.Trial.{Trial}
 use Rattle.deck_assembler.specs.declared.old_deck.OldDeck.{OldDeck}
@@ -44,6 +45,20 @@ AreAlikeFrom kind v w earlier (sized ∷ later) [] = ⊤
 AreAlikeFrom kind v w earlier (sized ∷ later) (statement ∷ statements) =
     IsAlike v w (settle kind (settled_all kind earlier) statement).read sized.sizing.defines × AreAlikeFrom kind v w (statement ∷ earlier) later statements
 
+-- statements in order were sized behind some others, and two views agree on all of them
+pub record StandAlike (kind : DeckKind) (ahead : List Card) (v w : View) (sized : List SizedStatement) : Type 0 where
+  pub earlier : List Statement
+  pub stood : ℕ
+  pub statements : List Statement
+  pub behind : List ℕ
+  pub others : List Statement
+  pub are : AreSizedFrom kind earlier stood ahead sized statements behind others
+  pub alike : AreAlikeFrom kind v w earlier sized statements
+
+-- the two tables of a trial agree on all of these statements, which are the next ones
+abbrev pub AreAlike : Trial → List SizedStatement → Type 0
+AreAlike trial sized = StandAlike trial.kind trial.ahead.now (symbol_in trial.first.now) (symbol_in trial.second.now) sized
+
 -- the two tables of a trial agree on a statement that is the next one
 abbrev pub IsNextAlike : Trial → SizedStatement → Type 0
 IsNextAlike trial sized =
@@ -71,6 +86,8 @@ pub record HasFront (cards : List Card) (sized : List SizedStatement) (deck : Ol
   pub others : List Statement
   pub stood : ℕ
   pub within : stood ≤ length cards
+  pub place : stood ≡ length (cards_in front)
+  pub all : reverse later ++ front ≡ known_in cards
   pub ahead : deck.ahead.now ≡ drop stood cards
   pub rest : AreSizedFrom deck.kind front stood (drop stood cards) sized later behind others
   pub state : deck.state ≡ state_after (settled_all deck.kind front)
@@ -93,6 +110,10 @@ pub record IsSameFront (old new : OldDeck) : Type 0 where
   pub state : new.state ≡ old.state
   pub symbols : new.symbols ≡ old.symbols
   pub stage : new.stage ≡ old.stage
+
+-- all that is left stands behind some statements, and agrees with these symbols
+abbrev pub DoesAgree : OldDeck → List (ℕ × Form) → Type 0
+DoesAgree deck symbols = StandAlike deck.kind deck.ahead.now (symbol_in deck.symbols) (symbol_in symbols) (left deck)
 
 -- all that is left defines and reads early what it did, under these symbols
 abbrev pub IsAgreeing : OldDeck → List (ℕ × Form) → Type 0

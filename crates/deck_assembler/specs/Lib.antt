@@ -15,6 +15,8 @@ pub mod PieceSteps
 pub mod Sizers
 pub mod Agreements
 pub mod OldDecks
+-- Where an old deck and an edited one are found to agree.
+pub mod Meetings
 pub mod FirstStatements
 -- The fields of a statement, as a line keeps them.
 pub mod KeptFields

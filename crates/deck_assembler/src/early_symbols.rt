@@ -75,7 +75,7 @@ fn is_alike(first: &SymbolTable, second: &SymbolTable, name: &[u8]) -> bool
 
 /// Whether the symbols of an expression are alike in both tables.
 fn are_symbols_alike(first: &SymbolTable, second: &SymbolTable, expression: &Expr<'_>) -> bool
-    ensures { result ≡ true → Agree (symbol_in first.now) (symbol_in second.now) (symbols_in expression.now) }
+    ensures { Decides result (Agree (symbol_in first.now) (symbol_in second.now) (symbols_in expression.now)) }
 {
     let mut rest = expression.symbols();
     'symbols: loop {
@@ -92,7 +92,7 @@ fn are_symbols_alike(first: &SymbolTable, second: &SymbolTable, expression: &Exp
 
 /// Whether the lawful names of an EXT are alike in both tables.
 fn are_names_alike(first: &SymbolTable, second: &SymbolTable, names: LinkedNames<'_>) -> bool
-    ensures { result ≡ true → Agree (symbol_in first.now) (symbol_in second.now) (lawful_names names.entry) }
+    ensures { Decides result (Agree (symbol_in first.now) (symbol_in second.now) (lawful_names names.entry)) }
 {
     let mut rest = names;
     'names: loop {
@@ -122,7 +122,7 @@ pub(crate) fn is_own_alike(
     operation: Operation,
     location: &[u8],
 ) -> bool
-    ensures { result ≡ true → Agree (symbol_in first.now) (symbol_in second.now) (own_symbols (operation_as operation) location.now) }
+    ensures { Decides result (Agree (symbol_in first.now) (symbol_in second.now) (own_symbols (operation_as operation) location.now)) }
 {
     if defines_location(operation) && is_symbol(location) {
         return is_alike(first, second, location);
@@ -147,6 +147,8 @@ pub(crate) fn is_operand_alike(
 ) -> bool
     ensures early { result ≡ true → (operand : operands.Operand) → IsReading reading.now operand → Agree (symbol_in first.now) (symbol_in second.now) (operand_symbols operand (operation_as operation)) }
     ensures externals { result ≡ true → (operand : operands.Operand) → IsReading reading.now operand → AreExternalsAlike (symbol_in first.now) (symbol_in second.now) operand defines }
+    ensures all { (operand : operands.Operand) → IsReading reading.now operand → Agree (symbol_in first.now) (symbol_in second.now) (operand_symbols operand (operation_as operation)) →
+        AreExternalsAlike (symbol_in first.now) (symbol_in second.now) operand defines → result ≡ true }
 {
     match reading {
         Reading::Value(expression) => are_symbols_alike(first, second, expression),

@@ -1,7 +1,7 @@
 //! A trial of the statements that are left of a deck: whether what they define or read early has one
 //! value in front of them in two decks (ours).
 ghost use Rattle.std.specs.Prelude.{◌≡◌, ◌∷◌, ◌++◌, true, None, List};
-ghost use Rattle.deck_assembler.specs.Agreements.{IsNextAlike, AreTried};
+ghost use Rattle.deck_assembler.specs.Agreements.{AreAlike, IsNextAlike, AreTried};
 ghost use Rattle.deck_assembler.specs.DeckParts.{sized_in};
 ghost use Rattle.deck_assembler.specs.declared.sized_statement.SizedStatement as code;
 
@@ -22,17 +22,17 @@ pub(crate) struct Trial<'a> {
     pub(crate) second: &'a SymbolTable,
 }
 
-/// A piece that was found to differ: so many pieces with so many cards are left from it on.
+/// A piece that was found to differ: so many pieces are left from it on.
 #[derive(Clone, Copy, Debug, PartialEq, Eq)]
 pub(crate) struct Missed {
     pub(crate) pieces: usize,
-    pub(crate) cards: usize,
 }
 
 impl<'a> Trial<'a> {
     /// Whether what the next statement defines or reads early is alike; its cards are read once more.
     fn is_alike_again(&self, sized: &SizedStatement, room: &mut StatementRoom) -> bool
-        ensures { result ≡ true → IsNextAlike self.now sized.now }
+        ensures alike { result ≡ true → IsNextAlike self.now sized.now }
+        ensures all { (later : List code.SizedStatement) → AreAlike self.now (sized.now ∷ later) → result ≡ true }
     {
         let cards = next_cards(self.ahead, 0, sized.cards);
         let statement = Statement::read(self.kind, cards, room);
@@ -47,7 +47,8 @@ impl<'a> Trial<'a> {
 
     /// Whether what the next statement defines or reads early is alike.
     fn is_alike(&self, sized: &SizedStatement, room: &mut StatementRoom) -> bool
-        ensures { result ≡ true → IsNextAlike self.now sized.now }
+        ensures alike { result ≡ true → IsNextAlike self.now sized.now }
+        ensures all { (later : List code.SizedStatement) → AreAlike self.now (sized.now ∷ later) → result ≡ true }
     {
         let Some(label) = &sized.label else {
             return self.is_alike_again(sized, room);
@@ -64,7 +65,8 @@ impl<'a> Trial<'a> {
 
     /// Whether what the next statement defines or reads early is alike; the trial goes on behind it.
     fn passes(&mut self, sized: &SizedStatement, room: &mut StatementRoom) -> bool
-        ensures { result ≡ true → (later : List code.SizedStatement) → AreTried self.old self.new (sized.now ∷ later) later }
+        ensures tried { result ≡ true → (later : List code.SizedStatement) → AreTried self.old self.new (sized.now ∷ later) later }
+        ensures all { (later : List code.SizedStatement) → AreAlike self.old (sized.now ∷ later) → (result ≡ true) × AreAlike self.new later }
     {
         if !self.is_alike(sized, room) {
             return false;
@@ -79,7 +81,8 @@ impl<'a> Trial<'a> {
         statements: &[SizedStatement],
         room: &mut StatementRoom,
     ) -> bool
-        ensures { result ≡ true → (later : List code.SizedStatement) → AreTried self.old self.new (statements.now ++ later) later }
+        ensures tried { result ≡ true → (later : List code.SizedStatement) → AreTried self.old self.new (statements.now ++ later) later }
+        ensures all { (later : List code.SizedStatement) → AreAlike self.old (statements.now ++ later) → (result ≡ true) × AreAlike self.new later }
     {
         for sized in statements {
             if !self.passes(sized, room) {
@@ -87,6 +90,24 @@ impl<'a> Trial<'a> {
             }
         }
         true
+    }
+
+    /// Goes behind some statements without a look at them.
+    fn pass_over(&mut self, statements: &[SizedStatement])
+        ensures { (later : List code.SizedStatement) → AreAlike self.old (statements.now ++ later) → AreAlike self.new later }
+    {
+        for sized in statements {
+            self.ahead = later_cards(self.ahead, sized.cards);
+        }
+    }
+
+    /// Goes behind the statements of some pieces without a look at them.
+    pub(crate) fn pass_over_all(&mut self, pieces: &[Piece])
+        ensures { (later : List code.SizedStatement) → AreAlike self.old (sized_in pieces.now ++ later) → AreAlike self.new later }
+    {
+        for piece in pieces {
+            self.pass_over(piece.statements());
+        }
     }
 
     /// Goes over the statements of some pieces, behind which so many others are left: where the trial
@@ -97,16 +118,13 @@ impl<'a> Trial<'a> {
         others: usize,
         room: &mut StatementRoom,
     ) -> Option<Missed>
-        ensures { result ≡ None → (later : List code.SizedStatement) → AreTried self.old self.new (sized_in pieces.now ++ later) later }
+        ensures tried { result ≡ None → (later : List code.SizedStatement) → AreTried self.old self.new (sized_in pieces.now ++ later) later }
+        ensures all { (later : List code.SizedStatement) → AreAlike self.old (sized_in pieces.now ++ later) → (result ≡ None) × AreAlike self.new later }
     {
         let mut left = pieces.len().saturating_add(others);
         for piece in pieces {
-            let cards = self.ahead.len();
             if !self.passes_all(piece.statements(), room) {
-                return Some(Missed {
-                    pieces: left,
-                    cards,
-                });
+                return Some(Missed { pieces: left });
             }
             left = left.saturating_sub(1);
         }

@@ -1,13 +1,14 @@
 //! The deck that an edited one is made of: what is left of it, one statement after the other, and which
 //! of that stays as it was sized.
-ghost use Rattle.std.specs.Prelude.{◌≡◌, ◌≤◌, ◌+◌, ◌∷◌, ◌++◌, true, [], List, Ok, None, IfOk, IfSome, OnOk, length};
+ghost use Rattle.std.specs.Prelude.{ℕ, ◌≡◌, ◌≤◌, ◌+◌, ◌⊎◌, ◌∷◌, ◌++◌, true, false, [], List, Ok, None, IfOk, IfSome, OnOk, drop, length};
 ghost use Rattle.std.specs.Option.{option_to_list};
 ghost use Rattle.cards.specs.Spans.{IsSpan};
 ghost use Rattle.definitions.specs.Cards as deck_cards;
 ghost use Rattle.definitions.specs.Statements as statements;
 ghost use Rattle.definitions.specs.declared.deck_kind.DeckKind as kinds;
-ghost use Rattle.deck_assembler.specs.Agreements.{left, HasFront, IsAgreeing, IsOfSameDeck, IsSameFront};
+ghost use Rattle.deck_assembler.specs.Agreements.{left, DoesAgree, HasFront, IsAgreeing, IsOfSameDeck, IsSameFront};
 ghost use Rattle.deck_assembler.specs.DeckParts.{sized_in};
+ghost use Rattle.deck_assembler.specs.Meetings.{HasPiece, IsNextOf, KeepsDue};
 ghost use Rattle.deck_assembler.specs.OldDecks.{IsInFront, IsOnSpan, IsThatOf, KeepsFront, KeepsOn};
 ghost use Rattle.deck_assembler.specs.Sizers.{IsSizer};
 ghost use Rattle.deck_assembler.specs.declared.old_deck.Stage.TheVariants as stages;
@@ -78,6 +79,8 @@ impl<'a> OldDeck<'a> {
         ensures kind { IfOk result (λ deck. deck.kind ≡ kind) }
         ensures ahead { IfOk result (λ deck. deck.ahead.now ≡ old.entry.cards.now) }
         ensures left { IfOk result (λ deck. left deck ≡ sized_in pieces.items) }
+        ensures begun { IfOk result (λ deck. deck.statements.items ≡ []) }
+        ensures pieces { IfOk result (λ deck. deck.pieces.items ≡ pieces.items) }
         ensures before { IfOk result (λ deck. deck.before ≡ old.entry.before) }
         ensures behind { IfOk result (λ deck. deck.behind ≡ old.entry.behind) }
         ensures stage { IfOk result (λ deck. deck.stage ≡ stage) }
@@ -100,6 +103,8 @@ impl<'a> OldDeck<'a> {
     fn next(&mut self) -> Option<SizedStatement>
         ensures next { left self.old ≡ option_to_list result ++ left self.new }
         ensures last { result ≡ None → left self.new ≡ [] }
+        ensures some { IfSome result (IsNextOf self.old self.new) }
+        ensures none { result ≡ None → (self.new.statements.items ≡ self.old.statements.items) × (self.new.pieces.items ≡ self.old.pieces.items) }
         ensures same { IsSameFront self.old self.new }
     {
         if let Some(sized) = self.statements.pop_front() {
@@ -115,6 +120,9 @@ impl<'a> OldDeck<'a> {
         requires front { (cards : List deck_cards.Card) × (later : List code.SizedStatement) × HasFront cards (sized.now ∷ later) self.old }
         ensures front { OnOk result ((cards : List deck_cards.Card) (later : List code.SizedStatement) → HasFront cards (sized.now ∷ later) self.old → HasFront cards later self.new) }
         ensures rest { left self.new ≡ left self.old }
+        ensures begun { self.new.statements ≡ self.old.statements }
+        ensures pieces { self.new.pieces ≡ self.old.pieces }
+        ensures ahead { OnOk result (sized.now.cards ≤ length self.old.ahead.now → self.new.ahead.now ≡ drop sized.now.cards self.old.ahead.now) }
         ensures deck { IsOfSameDeck self.old self.new }
         ensures stage { self.new.stage ≡ self.old.stage }
     {
@@ -136,6 +144,8 @@ impl<'a> OldDeck<'a> {
     fn pass_to(&mut self, count: usize, room: &mut StatementRoom) -> Result<(), AllocError>
         requires front { (cards : List deck_cards.Card) × HasFront cards (left self.old) self.old }
         ensures front { OnOk result ((cards : List deck_cards.Card) → HasFront cards (left self.old) self.old → HasFront cards (left self.new) self.new) }
+        ensures piece { OnOk result ((tail : List code.SizedStatement) (rest : ℕ) → rest ≤ count → HasPiece self.old tail rest → HasPiece self.new tail rest) }
+        ensures reached { OnOk result ((length self.new.ahead.now ≤ count) ⊎ (left self.new ≡ [])) }
         ensures deck { IsOfSameDeck self.old self.new }
         ensures stage { self.new.stage ≡ self.old.stage }
     {
@@ -166,18 +176,22 @@ impl<'a> OldDeck<'a> {
     }
 
     /// Whether the piece where the decks were found to differ is left, and they still do: so no other
-    /// piece need be tried.
-    fn differs_still<'t>(&'t self, symbols: &'t SymbolTable, room: &mut StatementRoom) -> bool {
+    /// piece need be tried. Asked where a piece begins.
+    fn differs_still<'t>(&'t self, symbols: &'t SymbolTable, room: &mut StatementRoom) -> bool
+        requires { self.now.statements.items ≡ [] }
+        ensures { DoesAgree self.now symbols.now → result ≡ false }
+    {
         let Some(missed) = self.missed else {
             return false;
         };
-        let passed = self.pieces.len().saturating_sub(missed.pieces);
-        let Some(piece) = self.pieces.get(passed) else {
+        let pieces = self.pieces.as_slices().0;
+        let passed = pieces.len().saturating_sub(missed.pieces);
+        let (before, from) = pieces.split_at(passed);
+        let Some(piece) = from.first() else {
             return false;
         };
         let mut trial = self.trial(symbols);
-        let stood = self.ahead.len().saturating_sub(missed.cards);
-        trial.ahead = self.ahead.split_at(stood).1;
+        trial.pass_over_all(before);
         !trial.passes_all(piece.statements(), room)
     }
 
@@ -188,7 +202,8 @@ impl<'a> OldDeck<'a> {
         room: &mut StatementRoom,
     ) -> Option<Missed>
         requires { self.now.statements.items ≡ [] }
-        ensures { result ≡ None → IsAgreeing self.now symbols.now }
+        ensures alike { result ≡ None → IsAgreeing self.now symbols.now }
+        ensures all { DoesAgree self.now symbols.now → result ≡ None }
     {
         let mut trial = self.trial(symbols);
         let pieces = self.pieces.as_slices();
@@ -205,8 +220,11 @@ impl<'a> OldDeck<'a> {
         ensures behind { result ≡ true → count ≤ self.old.behind }
         ensures state { result ≡ true → self.old.state ≡ sizer.now.state }
         ensures alike { result ≡ true → IsAgreeing self.old sizer.now.symbols }
+        ensures all { length self.old.ahead.now ≡ count → count ≤ self.old.behind → self.old.statements.items ≡ [] → self.old.state ≡ sizer.now.state → DoesAgree self.old sizer.now.symbols → result ≡ true }
         ensures same { IsSameFront self.old self.new }
         ensures rest { left self.new ≡ left self.old }
+        ensures begun { self.new.statements ≡ self.old.statements }
+        ensures pieces { self.new.pieces ≡ self.old.pieces }
     {
         if self.ahead.len() != count || count > self.behind {
             return false;
@@ -235,6 +253,9 @@ impl<'a> OldDeck<'a> {
         ensures front { OnOk result ((old cards : List deck_cards.Card) (earlier : List statements.Statement) (later : List code.SizedStatement) →
             IsSizer self.old.kind cards earlier sizer.now → IsInFront old cards earlier (sized.now ∷ later) self.old → HasFront old later self.new) }
         ensures rest { left self.new ≡ left self.old }
+        ensures begun { self.new.statements ≡ self.old.statements }
+        ensures pieces { self.new.pieces ≡ self.old.pieces }
+        ensures ahead { OnOk result (sized.now.cards ≤ length self.old.ahead.now → self.new.ahead.now ≡ drop sized.now.cards self.old.ahead.now) }
         ensures deck { IsOfSameDeck self.old self.new }
         ensures stage { OnOk result (self.new.stage ≡ stages.Between) }
     {
@@ -259,6 +280,7 @@ impl<'a> OldDeck<'a> {
         ensures kept { OnOk result ((cards : List deck_cards.Card) → KeepsOn cards span sizer.now self.old self.new) }
         ensures sized { IfOk result (λ found. IfSome found (λ sized. (cards : List deck_cards.Card) → IsThatOf cards span sizer.now self.old sized)) }
         ensures front { IfOk result (λ found. (cards : List deck_cards.Card) → KeepsFront cards span sizer.now self.old self.new found) }
+        ensures due { IfOk result (λ found. (cards : List deck_cards.Card) → KeepsDue cards span sizer.now self.old self.new found) }
     {
         let Some(sized) = self.next() else {
             self.stage = Stage::Over;
@@ -277,6 +299,7 @@ impl<'a> OldDeck<'a> {
         requires { self.old.stage ≡ stages.Tail }
         ensures kept { (cards : List deck_cards.Card) (sizer : sizers.Sizer) → KeepsOn cards span sizer self.old self.new }
         ensures sized { IfSome result (λ sized. (cards : List deck_cards.Card) (sizer : sizers.Sizer) → IsThatOf cards span sizer self.old sized) }
+        ensures due { (cards : List deck_cards.Card) (sizer : sizers.Sizer) → KeepsDue cards span sizer self.old self.new result }
     {
         let sized = self.next()?;
         if sized.cards as usize == span.count {
@@ -300,6 +323,7 @@ impl<'a> OldDeck<'a> {
         requires ready { (kind : kinds.DeckKind) × (old : List deck_cards.Card) × (earlier : List statements.Statement) × IsOnSpan kind old cards.now earlier span sizer.now self.old }
         ensures kept { OnOk result (KeepsOn cards.now span sizer.now self.old self.new) }
         ensures sized { IfOk result (λ found. IfSome found (IsThatOf cards.now span sizer.now self.old)) }
+        ensures due { IfOk result (KeepsDue cards.now span sizer.now self.old self.new) }
     {
         let count = cards.len() - span.start;
         self.pass_to(count, room)?;
@@ -325,6 +349,7 @@ impl<'a> OldDeck<'a> {
         ensures kept { OnOk result (KeepsOn cards.now span sizer.now self.old self.new) }
         ensures sized { IfOk result (λ found. IfSome found (IsThatOf cards.now span sizer.now self.old)) }
         ensures front { IfOk result (KeepsFront cards.now span sizer.now self.old self.new) }
+        ensures due { IfOk result (KeepsDue cards.now span sizer.now self.old self.new) }
         ensures none { self.old.stage ≡ stages.Over → result ≡ Ok None }
         ensures over { self.old.stage ≡ stages.Over → self.new.stage ≡ stages.Over }
     {

@@ -1,14 +1,16 @@
 //! All of a deck: its statements up to END, sized one behind the other.
-ghost use Rattle.std.specs.Prelude.{◌≡◌, ◌≤◌, ◌+◌, ◌⊎◌, List, [], All, length, take, reverse, IfOk, OnOk};
+ghost use Rattle.std.specs.Prelude.{ℕ, ◌≡◌, ◌<◌, ◌≤◌, ◌+◌, ◌⊎◌, List, [], All, length, take, reverse, IfOk, OnOk};
+ghost use Rattle.std.specs.List.{AllByRecursion};
 ghost use Rattle.cards.specs.Spans.{IsSpan, statements_at};
 ghost use Rattle.definitions.specs.Cards as deck_cards;
 ghost use Rattle.definitions.specs.DeckKinds.{up_to_end, kind_of_statements};
-ghost use Rattle.definitions.specs.Edits.{Edited, IsUntouched};
+ghost use Rattle.definitions.specs.Edits.{DoAgree, Edited, IsUntouched, Split};
 ghost use Rattle.definitions.specs.Statements as deck_statements;
 ghost use Rattle.definitions.specs.Statements.{statements_of};
 ghost use Rattle.statement_coder.specs.Meters.{RisesBy};
 ghost use Rattle.deck_assembler.specs.Agreements.{HaveSameEnd};
 ghost use Rattle.deck_assembler.specs.Formers.{IsFormerOf, known_in};
+ghost use Rattle.deck_assembler.specs.Meetings.{IsShort, StandApart, WillAgree};
 ghost use Rattle.deck_assembler.specs.OldDecks.{IsKeptOn, StandsInFront};
 ghost use Rattle.deck_assembler.specs.SizedDecks.{IsSizedDeck};
 ghost use Rattle.deck_assembler.specs.declared.old_deck.Stage.TheVariants as stages;
@@ -87,6 +89,8 @@ impl SizedDeck {
         ensures sized { meter.new.sized ≤ meter.old.sized + length (up_to_end (statements_of (reverse cards.now))) }
         ensures front { (decks : Edited) (front : List deck_statements.Statement) → decks.old ≡ known_in old.entry.cards.now → decks.new ≡ known_in cards.now → decks.before ≤ old.entry.before →
             kind_of_statements decks.old ≡ kind_of_statements decks.new → IsUntouched decks front → length front + meter.new.sized ≤ length decks.new + meter.old.sized }
+        ensures due { (decks : Edited) (front : List deck_statements.Statement) (split : Split) → StandApart old.entry.cards.now cards.now old.entry.before old.entry.behind decks → decks.before ≤ old.entry.before →
+            IsUntouched decks front → DoAgree decks split → length front + meter.new.sized ≤ (length split.new_front + 128) + meter.old.sized }
         ensures rises { meter.old.sized ≤ meter.new.sized }
         ensures coded { meter.new.coded ≡ meter.old.coded }
     {
@@ -113,6 +117,9 @@ impl SizedDeck {
         ensures former { IfOk result (λ parted. IsFormerOf old.entry.cards.now parted.former) }
         ensures before { IfOk result (λ parted. parted.former.before ≡ old.entry.before) }
         ensures front { IfOk result (λ parted. kind_of_statements (known_in old.entry.cards.now) ≡ kind → (parted.old_deck.stage ≡ stages.Front) × (parted.old_deck.before ≡ old.entry.before)) }
+        ensures begun { IfOk result (λ parted. parted.old_deck.statements.items ≡ []) }
+        ensures short { IfOk result (λ parted. AllByRecursion IsShort parted.old_deck.pieces.items) }
+        ensures behind { IfOk result (λ parted. parted.old_deck.behind ≡ old.entry.behind) }
     {
         let stage = first_stage(self.kind, kind);
         let old_deck = OldDeck::of(alloc, old, self.pieces, kind, stage)?;
@@ -202,6 +209,8 @@ fn made(
     ensures sized { meter.new.sized ≤ meter.old.sized + length (up_to_end (statements_of (reverse cards.now))) }
     ensures front { (of : List deck_cards.Card) (front : List deck_statements.Statement) → IsKeptOn kind of cards.now [] old_deck.entry → StandsInFront of (known_in cards.now) front old_deck.entry →
         length front + meter.new.sized ≤ length (known_in cards.now) + meter.old.sized }
+    ensures due { (of : List deck_cards.Card) (front : List deck_statements.Statement) (limit : ℕ) → IsKeptOn kind of cards.now [] old_deck.entry → StandsInFront of (known_in cards.now) front old_deck.entry →
+        length front ≤ limit → limit < length (known_in cards.now) → WillAgree kind of cards.now limit [] old_deck.entry → length front + meter.new.sized ≤ limit + meter.old.sized }
     ensures rises { meter.old.sized ≤ meter.new.sized }
     ensures all { OnOk result (old_deck.entry.stage ≡ stages.Over → RisesBy (length (up_to_end (statements_of (reverse cards.now)))) meter.old.sized meter.new.sized) }
     ensures coded { meter.new.coded ≡ meter.old.coded }

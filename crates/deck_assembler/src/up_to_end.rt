@@ -1,5 +1,5 @@
 //! The statements of a deck up to END, one after the other (COMPASS 60492600, END, ABS, PERIPH).
-ghost use Rattle.std.specs.Prelude.{ℕ, ◌≡◌, ◌≤◌, ◌+◌, ◌-◌, ◌^◌, ◌∷◌, [], List, All, IfOk, OnOk, length, map, min};
+ghost use Rattle.std.specs.Prelude.{ℕ, ◌≡◌, ◌≤◌, ◌<◌, ◌⊎◌, ◌+◌, ◌-◌, ◌^◌, ◌∷◌, [], List, All, IfOk, OnOk, length, map, min};
 ghost use Rattle.cards.specs.Spans.{IsSpan, statement_at};
 ghost use Rattle.cards.specs.declared.statement_list.Span.{Span};
 ghost use Rattle.definitions.specs.Cards as deck_cards;
@@ -14,6 +14,7 @@ ghost use Rattle.use_blocks.specs.BlockLengths.{block_names};
 ghost use Rattle.use_blocks.specs.Changes.{IsAccepted};
 ghost use Rattle.use_blocks.specs.EffectsAs.{change_as};
 ghost use Rattle.deck_assembler.specs.FirstStatements.{all_statements, first_statements, IsEnding};
+ghost use Rattle.deck_assembler.specs.Meetings.{IsBounded, IsNextKnown, WillAgree};
 ghost use Rattle.deck_assembler.specs.OldDecks.{GoesOn, IsKeptOn, IsOnSpan, StandsInFront};
 ghost use Rattle.deck_assembler.specs.SizedDecks.{IsSizedStatement};
 ghost use Rattle.deck_assembler.specs.Sizers.{stood, ahead, IsNext, IsSizer};
@@ -126,6 +127,10 @@ impl Sizer {
             (old_deck.new.stage ≡ stages.Front) × (old_deck.new.before ≡ old_deck.old.before)) }
         ensures kept { (of : List deck_cards.Card) (earlier : List statements.Statement) → IsOnSpan kind of cards.now earlier span self.old old_deck.old → GoesOn of cards.now earlier span old_deck.old →
             meter.new.sized ≡ meter.old.sized }
+        ensures due { OnOk result ((of : List deck_cards.Card) (earlier : List statements.Statement) (limit : ℕ) → IsOnSpan kind of cards.now earlier span self.old old_deck.old → IsNextKnown cards.now earlier span limit →
+            WillAgree kind of cards.now limit earlier old_deck.old → WillAgree kind of cards.now limit (statement_at cards.now span ∷ earlier) old_deck.new) }
+        ensures in_time { (of : List deck_cards.Card) (earlier : List statements.Statement) (limit : ℕ) → IsOnSpan kind of cards.now earlier span self.old old_deck.old → IsNextKnown cards.now earlier span limit →
+            WillAgree kind of cards.now limit earlier old_deck.old → (meter.new.sized ≡ meter.old.sized) ⊎ (length earlier < limit) }
         ensures sized { meter.new.sized ≤ meter.old.sized + 1 }
         ensures rises { meter.old.sized ≤ meter.new.sized }
         ensures all { OnOk result (old_deck.old.stage ≡ stages.Over → meter.new.sized ≡ min (meter.old.sized + 1) (2 ^ 64 - 1)) }
@@ -158,6 +163,8 @@ impl Sizer {
         ensures sized { meter.new.sized ≤ meter.old.sized + length (up_to_end (all_statements cards.now spans.now)) }
         ensures front { (of : List deck_cards.Card) (front : List statements.Statement) → IsKeptOn kind of cards.now [] old_deck.entry → StandsInFront of (up_to_end (all_statements cards.now spans.now)) front old_deck.entry →
             length front + meter.new.sized ≤ length (up_to_end (all_statements cards.now spans.now)) + meter.old.sized }
+        ensures due { (of : List deck_cards.Card) (front : List statements.Statement) (limit : ℕ) → IsKeptOn kind of cards.now [] old_deck.entry → StandsInFront of (up_to_end (all_statements cards.now spans.now)) front old_deck.entry →
+            IsBounded cards.now spans.now front limit → WillAgree kind of cards.now limit [] old_deck.entry → length front + meter.new.sized ≤ limit + meter.old.sized }
         ensures rises { meter.old.sized ≤ meter.new.sized }
         ensures all { OnOk result (old_deck.entry.stage ≡ stages.Over → RisesBy (length (up_to_end (all_statements cards.now spans.now))) meter.old.sized meter.new.sized) }
         ensures coded { meter.new.coded ≡ meter.old.coded }

@@ -1,8 +1,9 @@
 -- What is kept of a deck is what its cards make.
-use Rattle.std.proofs.Common.{◌∙◌, All, List, length, sym, ap, subst}
+use Rattle.std.proofs.Common.{◌∙◌, All, List, length, sym, ap, arith, subst}
 use Rattle.cards.specs.Spans.{IsSpan}
 use Rattle.definitions.specs.DeckKinds.{up_to_end, kind_of_statements}
 use Rattle.definitions.specs.Statements.{Statement}
+use Rattle.deck_assembler.specs.OldDecks.{StandsInFront}
 use Rattle.deck_assembler.proofs.DeckLaws.{all-statements, all-numbered, all-behind, deck-made, counts_of}
 use Rattle.deck_assembler.proofs.FrontLaws.{front-in, stands-still}
 use Rattle.deck_assembler.proofs.sized_deck.made.Goals as goal
@@ -45,3 +46,21 @@ returns-clause-front c = λ of front kept stands.
     let cards = c.args.cards.now in
     let spans = c.args.spans.now in
     front-in of cards spans front c.args.old_deck _ _ (all-statements cards spans c.requires.statements) (c.take_up_to_end.ensures.front of front kept) stands
+
+pub returns-in_err-sizer-clause-due : goal.returns-in_err-sizer-clause-due
+returns-in_err-sizer-clause-due c = λ of front limit kept stands few more will. omega (arith, few)
+
+pub returns-in_err-count-clause-due : goal.returns-in_err-count-clause-due
+returns-in_err-count-clause-due c = λ of front limit kept stands few more will.
+    let all = all-statements c.args.cards.now c.args.spans.now c.requires.statements in
+    c.take_up_to_end.ensures.due of front limit kept (subst (λ (l : List Statement). StandsInFront of (up_to_end l) front c.args.old_deck) (sym all) stands) (record { all = all; few = few; more = more }) will
+
+pub returns-in_err-behind-clause-due : goal.returns-in_err-behind-clause-due
+returns-in_err-behind-clause-due c = λ of front limit kept stands few more will.
+    let all = all-statements c.args.cards.now c.args.spans.now c.requires.statements in
+    c.take_up_to_end.ensures.due of front limit kept (subst (λ (l : List Statement). StandsInFront of (up_to_end l) front c.args.old_deck) (sym all) stands) (record { all = all; few = few; more = more }) will
+
+pub returns-clause-due : goal.returns-clause-due
+returns-clause-due c = λ of front limit kept stands few more will.
+    let all = all-statements c.args.cards.now c.args.spans.now c.requires.statements in
+    c.take_up_to_end.ensures.due of front limit kept (subst (λ (l : List Statement). StandsInFront of (up_to_end l) front c.args.old_deck) (sym all) stands) (record { all = all; few = few; more = more }) will

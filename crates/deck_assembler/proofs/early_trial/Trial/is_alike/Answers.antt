@@ -1,16 +1,17 @@
 -- What was kept of the next statement is what it is.
-use Rattle.std.proofs.Common.{◌≡◌, ◌∙◌, List, ℕ, Option, sym, subst}
+use Rattle.std.proofs.Common.{◌≡◌, ◌∙◌, List, ℕ, Option, true≢false, sym, subst}
 use Rattle.std.specs.Prelude.{IfSome, MatchOption, ⊤}
 use Rattle.definitions.specs.Settling.{settle, settled_all}
 use Rattle.operations.specs.OperationsAs.{operation_as}
 use Rattle.statement_coder.specs.Readings.{IsReading}
 use Rattle.statement_coder.specs.declared.readings.Reading.{Reading}
 use Rattle.deck_assembler.specs.FirstSymbols.{symbol_in}
+use Rattle.deck_assembler.proofs.AlikeLaws.{alike-parts, operand-of, own-of}
 use Rattle.deck_assembler.proofs.TrialLaws.{both-alike}
 use Rattle.deck_assembler.proofs.early_trial.Trial.is_alike.Goals as goal
 
-pub returns : goal.returns
-returns c = λ e earlier stood given is.
+pub returns-clause-alike : goal.returns-clause-alike
+returns-clause-alike c = λ e earlier stood given is.
     let kind = c.args.self.now.kind in
     let v = symbol_in c.args.self.now.first.now in
     let w = symbol_in c.args.self.now.second.now in
@@ -20,5 +21,29 @@ returns c = λ e earlier stood given is.
     let operand : IsReading c.in-Some-reading.reading settled.read.operand =
     subst (λ (r : Option Reading). MatchOption r ⊤ (λ reading. IsReading reading settled.read.operand)) (sym c.reading.ensures ∙ c.in-Some-reading.is) is.kept in
     both-alike v w settled.read sized.sizing.defines (operation_as sized.operation) c.as_slice.result.now (sym is.operation) (c.as_slice.ensures.name ∙ label)
-    (c.is_own_alike.ensures c.if-not-is_own_alike.false)
+    (c.is_own_alike.ensures.0 c.if-not-is_own_alike.false)
     (c.is_operand_alike.ensures.early e settled.read.operand operand) (c.is_operand_alike.ensures.externals e settled.read.operand operand)
+
+pub returns-then-not-is_own_alike-clause-all : goal.returns-then-not-is_own_alike-clause-all
+returns-then-not-is_own_alike-clause-all c = λ later s.
+    let trial = c.args.self.now in
+    let v = symbol_in trial.first.now in
+    let w = symbol_in trial.second.now in
+    let sized = c.args.sized.now in
+    let here = (alike-parts trial.kind trial.ahead.now v w sized later s).0 in
+    let settled = settle trial.kind (settled_all trial.kind here.earlier) here.given in
+    let label = subst (λ (l : Option (List ℕ)). IfSome l (λ label. label ≡ settled.read.fields.location)) c.in-Some.is here.is.label in
+    let own = own-of v w settled.read sized.sizing.defines (operation_as sized.operation) c.as_slice.result.now (sym here.is.operation) (c.as_slice.ensures.name ∙ label) here.alike in
+    absurd (true≢false (sym (c.is_own_alike.ensures.1 own) ∙ c.if-not-is_own_alike.true))
+
+pub returns-clause-all : goal.returns-clause-all
+returns-clause-all c = λ later s.
+    let trial = c.args.self.now in
+    let v = symbol_in trial.first.now in
+    let w = symbol_in trial.second.now in
+    let sized = c.args.sized.now in
+    let here = (alike-parts trial.kind trial.ahead.now v w sized later s).0 in
+    let settled = settle trial.kind (settled_all trial.kind here.earlier) here.given in
+    let operand : IsReading c.in-Some-reading.reading settled.read.operand =
+    subst (λ (r : Option Reading). MatchOption r ⊤ (λ reading. IsReading reading settled.read.operand)) (sym c.reading.ensures ∙ c.in-Some-reading.is) here.is.kept in
+    c.is_operand_alike.ensures.all settled.read.operand operand (operand-of v w settled.read sized.sizing.defines (operation_as sized.operation) (sym here.is.operation) here.alike) here.alike.externals

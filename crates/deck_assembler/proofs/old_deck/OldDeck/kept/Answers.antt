@@ -1,6 +1,7 @@
 -- What is kept at each stage.
 use Rattle.std.proofs.lemmas.Result.{on_ok_weaker, IfOk-weaker}
 use Rattle.std.proofs.Common.{refl, sym, subst}
+use Rattle.deck_assembler.specs.Meetings.{WillAgreeAt}
 use Rattle.deck_assembler.specs.OldDecks.{IsAtStage}
 use Rattle.deck_assembler.proofs.MeetLaws.{found-weaker, some-weaker, goes-on}
 use Rattle.deck_assembler.proofs.old_deck.OldDeck.kept.Goals as goal
@@ -24,3 +25,12 @@ returns-in-Over-clause-kept c = λ kind old earlier on.
 
 pub returns-in-Front-clause-front : goal.returns-in-Front-clause-front
 returns-in-Front-clause-front c = IfOk-weaker c.kept_in_front.result _ _ (λ found step. step c.args.cards.now) c.kept_in_front.ensures.front
+
+pub returns-in-Front-clause-due : goal.returns-in-Front-clause-due
+returns-in-Front-clause-due c = IfOk-weaker c.kept_in_front.result _ _ (λ found step. step c.args.cards.now) c.kept_in_front.ensures.due
+
+pub returns-in-Tail-clause-due : goal.returns-in-Tail-clause-due
+returns-in-Tail-clause-due c = c.kept_in_tail.ensures.due c.args.cards.now c.args.sizer.now
+
+pub returns-in-Over-clause-due : goal.returns-in-Over-clause-due
+returns-in-Over-clause-due c = λ kind old earlier limit on next will. absurd (subst (WillAgreeAt kind old c.args.cards.now limit earlier c.args.self.now) c.in-Over.is will)

@@ -1,12 +1,20 @@
 -- Where the decks meet all that is left stays; elsewhere none of it does.
-use Rattle.std.proofs.Common.{◌∙◌, ◌∷◌, List, refl, sym, subst}
+use Rattle.std.proofs.Common.{◌≡◌, ◌∙◌, ◌-◌, ◌<◌, ◌≤◌, inl, inr, ◌⊎◌, ◌∷◌, [], List, length, true≢false, refl, sym, ap, arith, subst}
+use Rattle.std.specs.Prelude.{map}
+use Rattle.std.proofs.lemmas.Bool.{cases_lt}
+use Rattle.std.proofs.lemmas.List.{length-drop}
 use Rattle.cards.specs.Spans.{statement_at}
 use Rattle.definitions.specs.Statements.{Statement}
-use Rattle.deck_assembler.specs.Agreements.{left}
+use Rattle.deck_assembler.specs.Agreements.{left, HaveSameEnd}
+use Rattle.deck_assembler.specs.Meetings.{IsCutAlike, WillAgreeAt}
 use Rattle.deck_assembler.specs.OldDecks.{IsAtStage}
+use Rattle.deck_assembler.specs.Sizers.{stood}
 use Rattle.deck_assembler.specs.declared.old_deck.Stage.TheVariants as stages
+use Rattle.deck_assembler.specs.declared.sized_statement.SizedStatement.{SizedStatement}
+use Rattle.deck_assembler.proofs.DueLaws.{meet-cut, meet-still, meeting-ahead, meeting-left, met-here}
 use Rattle.deck_assembler.proofs.MeetLaws.{some-weaker, goes-on, on-tail}
-use Rattle.deck_assembler.proofs.OldLaws.{at_stage, front-same, same-again, same-at}
+use Rattle.deck_assembler.proofs.OldLaws.{at_stage, front-same, same-again, same-ahead, same-at}
+use Rattle.deck_assembler.proofs.PieceMeetings.{piece-same}
 use Rattle.deck_assembler.proofs.old_deck.OldDeck.kept_between.Goals as goal
 
 pub pass_to-requires : goal.pass_to-requires
@@ -47,3 +55,56 @@ returns-clause-sized c = some-weaker c.kept_in_tail.result (λ sized step kind o
     step cards c.args.sizer.now kind old earlier
     (on-tail kind old cards earlier c.args.span c.args.sizer.now c.args.self.now passed (at_stage stages.Tail c.is_met.new.self) on c.requires.span.within has c.pass_to.ensures.deck (same-at stages.Tail passed c.is_met.new.self c.is_met.ensures.same.deck) c.is_met.ensures.rest
     (c.is_met.ensures.place e) (c.is_met.ensures.behind e) (c.is_met.ensures.state e) (c.is_met.ensures.alike e) refl)) c.kept_in_tail.ensures.sized
+
+pub returns-then-not-is_met-clause-due : goal.returns-then-not-is_met-clause-due
+returns-then-not-is_met-clause-due c = λ kind old earlier limit on next will.
+    let cards = c.args.cards.now in
+    let span = c.args.span in
+    let deck = c.args.self.now in
+    let passed = c.pass_to.new.self in
+    let new = c.is_met.new.self in
+    let later = subst (WillAgreeAt kind old cards limit earlier deck) c.requires.stage will in
+    let has = c.in_ok-pass_to.ensures.front old (subst (IsAtStage kind old cards earlier deck) c.requires.stage on.kept_on.standing) in
+    let start = on.next.before in
+    let ahead_of = meeting-ahead kind old cards limit earlier span deck later next in
+    let piece = c.in_ok-pass_to.ensures.piece later.tail later.count (omega (arith, start, ahead_of)) later.piece in
+    let reached = subst (λ n. (length passed.ahead.now ≤ length cards - n) ⊎ (left passed ≡ [])) start c.in_ok-pass_to.ensures.reached in
+    let less : length earlier < length later.has.front = elim (cases_lt (length earlier) (length later.has.front)) [
+      | inl less ↦ less
+      | inr enough ↦
+          let few = later.reached in
+          let met = met-here kind old cards limit earlier span c.args.sizer.now deck passed later next on.sizer_is (c.pass_to.ensures.deck.kind ∙ on.kept_on.kinds) c.pass_to.ensures.deck.behind has piece (omega (arith, few, enough)) reached in
+          let count : length cards - span.start ≡ length cards - stood earlier = ap (λ n. length cards - n) start in
+          absurd (true≢false (sym (c.is_met.ensures.all (met.place ∙ sym count) (subst (λ n. n ≤ passed.behind) (sym count) met.behind) met.begun met.state met.agree) ∙ c.if-not-is_met.true))
+    ] in
+    record {
+      sized = λ none. let due = later.due in omega (arith, less, due);
+      will = subst (WillAgreeAt kind old cards limit (statement_at cards span ∷ earlier) new) (sym (c.is_met.ensures.same.stage ∙ c.pass_to.ensures.stage ∙ c.requires.stage))
+          (meet-still kind old cards limit earlier span deck new later (c.is_met.ensures.same.deck.behind ∙ c.pass_to.ensures.deck.behind)
+          (piece-same passed new later.tail later.count (ap (λ v. v.items) c.is_met.ensures.begun) (ap (λ v. v.items) c.is_met.ensures.pieces) c.is_met.ensures.same.ahead piece) less);
+    }
+
+pub returns-clause-due : goal.returns-clause-due
+returns-clause-due c = λ kind old earlier limit on next will.
+    let cards = c.args.cards.now in
+    let span = c.args.span in
+    let deck = c.args.self.now in
+    let passed = c.pass_to.new.self in
+    let tail = at_stage stages.Tail c.is_met.new.self in
+    let later = subst (WillAgreeAt kind old cards limit earlier deck) c.requires.stage will in
+    let has = c.in_ok-pass_to.ensures.front old (subst (IsAtStage kind old cards earlier deck) c.requires.stage on.kept_on.standing) in
+    let e = c.if-not-is_met.false in
+    let start = on.next.before in
+    let within = c.requires.span.within in
+    let ahead_of = meeting-ahead kind old cards limit earlier span deck later next in
+    let piece = c.in_ok-pass_to.ensures.piece later.tail later.count (omega (arith, start, ahead_of)) later.piece in
+    let some = meeting-left kind old cards limit earlier span deck later next passed piece in
+    let count : length cards - span.start ≡ length cards - stood earlier = ap (λ n. length cards - n) start in
+    let same_end = subst (λ n. HaveSameEnd n old cards) (sym c.pass_to.ensures.deck.behind) on.kept_on.same in
+    let there = same-ahead passed.behind has.stood (stood earlier) old cards same_end has.within (omega (arith, start, within))
+    (sym (length-drop has.stood old) ∙ ap length (sym has.ahead) ∙ c.is_met.ensures.place e ∙ count) (subst (λ n. n ≤ passed.behind) count (c.is_met.ensures.behind e)) in
+    let cut = meet-cut old cards earlier span limit passed next has some (has.ahead ∙ there) in
+    let here : IsCutAlike cards earlier tail = record { later = cut.later; all = cut.all; counts = ap (map (λ (sized : SizedStatement). sized.cards)) c.is_met.ensures.rest ∙ cut.counts } in
+    c.kept_in_tail.ensures.due cards c.args.sizer.now kind old earlier limit
+    (on-tail kind old cards earlier span c.args.sizer.now deck passed tail on within has c.pass_to.ensures.deck (same-at stages.Tail passed c.is_met.new.self c.is_met.ensures.same.deck) c.is_met.ensures.rest
+    (c.is_met.ensures.place e) (c.is_met.ensures.behind e) (c.is_met.ensures.state e) (c.is_met.ensures.alike e) refl) next here

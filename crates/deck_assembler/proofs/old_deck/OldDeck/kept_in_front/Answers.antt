@@ -1,11 +1,15 @@
 -- A statement that ends before the edited card stays; with another the front is left.
-use Rattle.std.proofs.Common.{◌∷◌, ◌∙◌, ◌+◌, ◌≤◌, List, true≢false, refl, sym, subst}
+use Rattle.std.proofs.Common.{◌∷◌, ◌∙◌, ◌+◌, ◌≤◌, List, true≢false, refl, sym, ap, arith, subst}
 use Rattle.cards.specs.Spans.{statement_at}
 use Rattle.definitions.specs.Statements.{Statement}
 use Rattle.deck_assembler.specs.Agreements.{left, HasFront}
-use Rattle.deck_assembler.specs.OldDecks.{IsAtStage}
+use Rattle.deck_assembler.specs.Meetings.{WillAgreeAt}
+use Rattle.deck_assembler.specs.OldDecks.{IsAtStage, IsInFront}
+use Rattle.deck_assembler.specs.Sizers.{ahead}
 use Rattle.deck_assembler.specs.declared.old_deck.OldDeck.{OldDeck}
 use Rattle.deck_assembler.specs.declared.old_deck.Stage.TheVariants as stages
+use Rattle.deck_assembler.proofs.DueLaws.{front-due, front-left-over, meet-later, short-behind, short-same, time-in-front}
+use Rattle.deck_assembler.proofs.ForwardLaws.{stood-more}
 use Rattle.deck_assembler.proofs.FrontLaws.{goes-no-more, goes-within}
 use Rattle.deck_assembler.proofs.HeadLaws.{front-next, next-in-front}
 use Rattle.deck_assembler.proofs.MeetLaws.{goes-on}
@@ -72,3 +76,48 @@ returns-clause-front c = λ cards kind old earlier on goes.
     let both = goes-within kind old cards earlier c.args.span c.args.sizer.now c.args.self.now c.in-Some.sized (left c.next.new.self) on goes c.in-Some.ensures.next in
     let same = c.next.ensures.same.deck.before in
     absurd (true≢false (sym (c.is_within.ensures.all both.0 (subst (λ n. c.args.span.start + c.args.span.count ≤ n) (sym same) both.1)) ∙ c.if-is_within.false))
+
+pub returns-in_default-clause-due : goal.returns-in_default-clause-due
+returns-in_default-clause-due c = λ cards kind old earlier limit on next will.
+    let deck = c.args.self.now in
+    let later = subst (WillAgreeAt kind old cards limit earlier deck) c.requires.stage will in
+    let front = subst (λ l. IsInFront old cards earlier l deck) (c.in_default.ensures.next ∙ c.in_default.ensures.last refl) (subst (IsAtStage kind old cards earlier deck) c.requires.stage on.kept_on.standing) in
+    absurd (front-left-over kind old cards limit earlier c.args.span deck later next front)
+
+pub returns-then-is_within-clause-due : goal.returns-then-is_within-clause-due
+returns-then-is_within-clause-due c = λ cards kind old earlier limit on next will.
+    let deck = c.args.self.now in
+    let popped = c.next.new.self in
+    let span = c.args.span in
+    let given : Statement = statement_at cards span in
+    let same = c.next.ensures.same in
+    let new : OldDeck = record { kind = popped.kind; ahead = c.later_cards-self.result; statements = popped.statements; pieces = popped.pieces; before = popped.before; behind = popped.behind; stage = popped.stage; state = popped.state; symbols = popped.symbols; missed = popped.missed } in
+    let later = subst (WillAgreeAt kind old cards limit earlier deck) c.requires.stage will in
+    let within = c.is_within.ensures.within c.if-is_within.true in
+    let more = stood-more earlier given (ahead cards earlier) span.count on.next.cards on.next.within in
+    let start = on.next.before in
+    let before = same.deck.before in
+    record {
+      sized = λ none. absurd cc;
+      will = subst (WillAgreeAt kind old cards limit (given ∷ earlier) new) (sym (same.stage ∙ c.requires.stage))
+          (front-due kind old cards limit earlier span deck popped new c.in-Some.sized later c.in-Some.ensures.some refl refl same.deck.before same.deck.behind (omega (arith, within, more, start, before)));
+    }
+
+pub returns-clause-due : goal.returns-clause-due
+returns-clause-due c = λ cards kind old earlier limit on next will.
+    let deck = c.args.self.now in
+    let popped = c.next.new.self in
+    let new = c.leave_front.new.self in
+    let span = c.args.span in
+    let same = c.next.ensures.same in
+    let rest = c.leave_front.ensures.rest in
+    let later = subst (WillAgreeAt kind old cards limit earlier deck) c.requires.stage will in
+    let both = front-next kind old cards earlier span c.args.sizer.now deck popped c.in-Some.sized on c.requires.stage same c.in-Some.ensures.next in
+    let has = subst (λ l. HasFront old l new) (sym rest) (c.in_ok-leave_front.ensures.front old cards earlier (left popped) both.0 both.1) in
+    let front = subst (λ l. IsInFront old cards earlier l deck) (c.in-Some.ensures.next ∙ ap (λ l. c.in-Some.sized ∷ l) (sym rest)) (subst (IsAtStage kind old cards earlier deck) c.requires.stage on.kept_on.standing) in
+    let short = short-same popped new (ap (λ v. v.items) c.leave_front.ensures.begun) (ap (λ v. v.items) c.leave_front.ensures.pieces) (short-behind kind old cards limit earlier deck popped c.in-Some.sized later c.in-Some.ensures.some) in
+    record {
+      sized = λ none. time-in-front kind old cards limit earlier span deck later next;
+      will = subst (WillAgreeAt kind old cards limit (statement_at cards span ∷ earlier) new) (sym c.in_ok-leave_front.ensures.stage)
+          (meet-later kind old cards limit earlier span deck new later next short c.in-Some.sized front (c.leave_front.ensures.deck.behind ∙ same.deck.behind) has);
+    }

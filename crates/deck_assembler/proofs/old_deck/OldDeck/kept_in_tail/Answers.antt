@@ -1,11 +1,13 @@
 -- Where all that is left stays, so does the next statement, and all behind it.
-use Rattle.std.proofs.Common.{◌∷◌, ◌∙◌, List, refl, sym, subst}
+use Rattle.std.proofs.Common.{◌∷◌, ◌∙◌, List, length, length-take-le, refl, sym, ap, subst}
 use Rattle.cards.specs.Spans.{statement_at}
 use Rattle.definitions.specs.Statements.{Statement}
 use Rattle.deck_assembler.specs.Agreements.{left}
+use Rattle.deck_assembler.specs.Meetings.{WillAgreeAt}
 use Rattle.deck_assembler.specs.OldDecks.{AreKeptFrom, IsAtStage}
-use Rattle.deck_assembler.specs.Sizers.{stood}
+use Rattle.deck_assembler.specs.Sizers.{ahead, stood}
 use Rattle.deck_assembler.specs.declared.old_deck.Stage.TheVariants as stages
+use Rattle.deck_assembler.proofs.DueLaws.{IsNextAlike, next-cut, next-same, next-some}
 use Rattle.deck_assembler.proofs.MeetLaws.{goes-on, next-in-tail}
 use Rattle.deck_assembler.proofs.OldLaws.{at_stage, same-at}
 use Rattle.deck_assembler.proofs.old_deck.OldDeck.kept_in_tail.Goals as goal
@@ -38,3 +40,32 @@ pub returns-clause-kept : goal.returns-clause-kept
 returns-clause-kept c = λ cards sizer kind old earlier on.
     let next = c.next.new.self in
     goes-on kind old cards earlier (statement_at cards c.args.span ∷ earlier) c.args.span sizer c.args.self.now (at_stage stages.Over next) on (same-at stages.Over c.args.self.now next c.next.ensures.same.deck) tt
+
+pub returns-in_err-sized-clause-due : goal.returns-in_err-sized-clause-due
+returns-in_err-sized-clause-due c = λ cards sizer kind old earlier limit on next will.
+    let deck = c.args.self.now in
+    let cut = subst (WillAgreeAt kind old cards limit earlier deck) c.requires will in
+    absurd (next-some cards earlier c.args.span (subst (IsNextAlike cards earlier c.args.span) (c.in_err-sized.ensures.next ∙ c.in_err-sized.ensures.last refl) (next-cut cards earlier c.args.span limit deck next cut)))
+
+pub returns-then-sized-span-clause-due : goal.returns-then-sized-span-clause-due
+returns-then-sized-span-clause-due c = λ cards sizer kind old earlier limit on next will.
+    let deck = c.args.self.now in
+    let new = c.next.new.self in
+    let span = c.args.span in
+    let cut = subst (WillAgreeAt kind old cards limit earlier deck) c.requires will in
+    let alike = subst (IsNextAlike cards earlier span) c.in_ok-sized.ensures.next (next-cut cards earlier span limit deck next cut) in
+    record {
+      sized = λ none. absurd cc;
+      will = subst (WillAgreeAt kind old cards limit (statement_at cards span ∷ earlier) new) (sym (c.next.ensures.same.stage ∙ c.requires)) (next-same cards earlier span c.in_ok-sized.sized new alike).1;
+    }
+
+pub returns-clause-due : goal.returns-clause-due
+returns-clause-due c = λ cards sizer kind old earlier limit on next will.
+    let deck = c.args.self.now in
+    let new = c.next.new.self in
+    let span = c.args.span in
+    let cut = subst (WillAgreeAt kind old cards limit earlier deck) c.requires will in
+    let alike = subst (IsNextAlike cards earlier span) c.in_ok-sized.ensures.next (next-cut cards earlier span limit deck next cut) in
+    let count = (next-same cards earlier span c.in_ok-sized.sized new alike).0 in
+    let own = ap length (sym on.next.cards) ∙ length-take-le span.count (ahead cards earlier) on.next.within in
+    absurd (c.if-sized-span.false (count ∙ own))

@@ -1,9 +1,10 @@
 -- Its front goes on with each statement that is passed.
-use Rattle.std.proofs.Common.{◌∙◌, ◌∷◌, List, sym, subst}
+use Rattle.std.proofs.Common.{◌∙◌, ◌∷◌, List, arith, refl, sym, ap, subst}
 use Rattle.definitions.specs.Cards.{Card}
 use Rattle.deck_assembler.specs.Agreements.{left, HasFront}
 use Rattle.deck_assembler.specs.declared.sized_statement.SizedStatement.{SizedStatement}
 use Rattle.deck_assembler.proofs.OldLaws.{front-same, same-again}
+use Rattle.deck_assembler.proofs.PieceMeetings.{piece-more, piece-same}
 use Rattle.deck_assembler.proofs.old_deck.OldDeck.pass_to.Goals as goal
 
 pub returns-in-None-clause-front : goal.returns-in-None-clause-front
@@ -28,6 +29,15 @@ statements-preserved c =
     record {
       some = (some.0, after some.0 some.1);
       front = λ cards has. after cards (so_far.front cards has);
+      piece = λ tail rest few piece.
+          let more = c.if-self-count.false in
+          piece-more c.statements.self c.next.new.self c.pass.new.self c.in-Some.sized tail rest c.in-Some.ensures.some here.ahead (ap (λ v. v.items) c.pass.ensures.begun) (ap (λ v. v.items) c.pass.ensures.pieces)
+          c.in_ok-pass-in-Some.ensures.ahead (omega (arith, few, more)) (so_far.piece tail rest few piece);
       deck = same-again (same-again so_far.deck here.deck) c.pass.ensures.deck;
       stage = c.pass.ensures.stage ∙ here.stage ∙ so_far.stage;
     }
+
+pub returns-in-None-clause-piece : goal.returns-in-None-clause-piece
+returns-in-None-clause-piece c = λ tail rest few piece.
+    let none = c.in-None.ensures.none refl in
+    piece-same c.statements.self c.next.new.self tail rest none.0 none.1 c.next.ensures.same.ahead (c.statements.invariant.piece tail rest few piece)

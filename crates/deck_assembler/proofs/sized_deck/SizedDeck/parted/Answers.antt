@@ -1,8 +1,11 @@
 -- The statements of a deck stay in one of its kind.
 use Rattle.std.proofs.Common.{◌≡◌, take, [], inl, inr, sym, subst, ◌∙◌}
+use Rattle.std.specs.List.{AllByRecursion}
 use Rattle.deck_assembler.specs.Agreements.{HaveSameEnd}
 use Rattle.deck_assembler.specs.OldDecks.{IsAtStage}
 use Rattle.deck_assembler.specs.SizedDecks.{IsSizedDeck}
+use Rattle.deck_assembler.specs.Meetings.{IsShort}
+use Rattle.deck_assembler.proofs.DueLaws.{filled-short}
 use Rattle.deck_assembler.proofs.HeadLaws.{deck-in-front}
 use Rattle.deck_assembler.proofs.sized_deck.SizedDeck.parted.Goals as goal
 
@@ -32,3 +35,8 @@ returns-clause-front c = λ kinds.
     let is = subst (IsSizedDeck c.args.old.cards.now) (sym c.self.view_is) c.requires in
     let made = c.in_ok-old_deck.ensures in
     (made.stage ∙ c.first_stage-stage.ensures.same (is.kind ∙ kinds), made.before)
+
+pub returns-clause-short : goal.returns-clause-short
+returns-clause-short c =
+    let is = subst (IsSizedDeck c.args.old.cards.now) (sym c.self.view_is) c.requires in
+    subst (AllByRecursion IsShort) (sym c.in_ok-old_deck.ensures.pieces) (filled-short _ is.filled)

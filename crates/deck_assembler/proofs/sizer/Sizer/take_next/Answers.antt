@@ -1,5 +1,5 @@
 -- The next statement is one more, kept or sized, and the old deck goes on behind it.
-use Rattle.std.proofs.Common.{ℕ, true≢false, ap, sym, subst, ◌∙◌}
+use Rattle.std.proofs.Common.{ℕ, inr, true≢false, ap, sym, subst, ◌∙◌}
 use Rattle.std.specs.Prelude.{Option, IfSome, is_some}
 use Rattle.deck_assembler.proofs.ResultLaws.{on_ok_any, on_ok_one}
 use Rattle.cards.specs.Spans.{statement_at}
@@ -52,3 +52,12 @@ pub returns-in-None-clause-kept : goal.returns-in-None-clause-kept
 returns-in-None-clause-kept c = λ old earlier on goes.
     let front = c.in_ok-kept.ensures.front c.args.kind old earlier on goes in
     absurd (true≢false (sym front.some ∙ ap is_some c.in-None.is))
+
+pub returns-in-Some-clause-due : goal.returns-in-Some-clause-due
+returns-in-Some-clause-due c = on_ok_any c.keep_span.result (λ old earlier limit on next will. (c.in_ok-kept.ensures.due c.args.kind old earlier limit on next will).will)
+
+pub returns-in-None-clause-due : goal.returns-in-None-clause-due
+returns-in-None-clause-due c = on_ok_any c.take_span.result (λ old earlier limit on next will. (c.in_ok-kept.ensures.due c.args.kind old earlier limit on next will).will)
+
+pub returns-in-None-clause-in_time : goal.returns-in-None-clause-in_time
+returns-in-None-clause-in_time c = λ old earlier limit on next will. inr ((c.in_ok-kept.ensures.due c.args.kind old earlier limit on next will).sized c.in-None.is)

@@ -1,12 +1,14 @@
 -- The statements are sized one behind the other, up to the first END.
-use Rattle.std.proofs.Common.{◌≡◌, ◌+◌, suc, List, length, sym, ap, ◌∙◌, subst, arith}
+use Rattle.std.proofs.Common.{◌≡◌, ◌+◌, suc, List, get_or, length, sym, ap, ◌∙◌, subst, arith}
 use Rattle.cards.specs.declared.statement_list.Span.{Span}
 use Rattle.definitions.specs.DeckKinds.{has_end}
 use Rattle.definitions.specs.Statements.{Statement}
 use Rattle.deck_assembler.specs.FirstStatements.{first_statements, IsEnding}
-use Rattle.deck_assembler.specs.OldDecks.{IsKeptOn}
+use Rattle.deck_assembler.specs.OldDecks.{IsKeptOn, IsOnSpan}
 use Rattle.deck_assembler.specs.Sizers.{IsSizer}
-use Rattle.deck_assembler.proofs.EndLaws.{first-step, next-at, few-sized, ending-here, open-step, ending-none, ending-length, few-all}
+use Rattle.deck_assembler.specs.Meetings.{WillAgree}
+use Rattle.deck_assembler.proofs.DueLaws.{due-bound, next-known}
+use Rattle.deck_assembler.proofs.EndLaws.{length-first, first-step, next-at, few-sized, ending-here, open-step, ending-none, ending-length, few-all}
 use Rattle.deck_assembler.proofs.FrontLaws.{front-bound, front-end, front-more, goes-at, stands-few}
 use Rattle.deck_assembler.proofs.sizer.Sizer.take_up_to_end.Goals as goal
 
@@ -112,6 +114,16 @@ loop-k-preserved c =
           let goes = goes-at of cards spans c.loop-k.k other front c.args.old_deck c.loop-k.kept _ _ c.loop-k-test.true c.loop-k.invariant.open' stands taken less in
           let both = c.in_ok-take_next.ensures.front of first (record { sizer_is = c.loop-k.invariant.taken; next = next; kept_on = c.loop-k.invariant.kept of kept }) goes in
           (both.0, (both.1, c.in_ok-take_next.ensures.kept of first (record { sizer_is = c.loop-k.invariant.taken; next = next; kept_on = c.loop-k.invariant.kept of kept }) goes)));
+      due = λ of front limit kept stands bounded will.
+          let taken = c.loop-k.invariant.front of front kept stands in
+          let due = c.loop-k.invariant.due of front limit kept stands bounded will in
+          let on : IsOnSpan c.args.kind of cards first (get_or spans c.loop-k.k other) c.loop-k.self c.loop-k.kept = record { sizer_is = c.loop-k.invariant.taken; next = next; kept_on = c.loop-k.invariant.kept of kept } in
+          let known = next-known cards spans c.loop-k.k other limit front c.loop-k-test.true c.loop-k.invariant.open' bounded in (
+            subst (λ (statements : List Statement). WillAgree c.args.kind of cards limit statements c.take_next.new.old_deck) step (c.in_ok-take_next.ensures.due of first limit on known due.0),
+            due-bound c.loop-k.k limit (length first) front c.args.old_deck c.loop-k.kept _ _ _ (length-first cards spans c.loop-k.k (omega (arith, c.loop-k-test.true))) taken due.1 more
+                (λ less. c.in_ok-take_next.ensures.kept of first on (goes-at of cards spans c.loop-k.k other front c.args.old_deck c.loop-k.kept _ _ c.loop-k-test.true c.loop-k.invariant.open' stands taken less))
+                (c.in_ok-take_next.ensures.in_time of first limit on known due.0),
+          );
       over = λ none. c.take_next.ensures.over (c.loop-k.invariant.over none);
       all = λ none room.
           let all = c.loop-k.invariant.all none (omega (arith, room)) in
@@ -146,3 +158,38 @@ returns-clause-all c =
     let n : c.loop-k.k ≡ length spans = omega (arith, c.loop-k.auto.k-end, c.loop-k-test.false) in
     let counted = ending-length c.args.cards.now spans (length spans) (returns-clause-ended c) in
     λ none room. let all = c.loop-k.invariant.all none (omega (arith, room, counted, n)) in omega (arith, counted, all, n)
+
+pub returns-in_err-take_next-clause-due : goal.returns-in_err-take_next-clause-due
+returns-in_err-take_next-clause-due c = λ of front limit kept stands bounded will.
+    let cards = c.args.cards.now in
+    let spans = c.args.spans.now in
+    let k = c.loop-k.k in
+    let so_far = c.loop-k.invariant in
+    let first = first_statements cards spans k in
+    let taken = so_far.front of front kept stands in
+    let due = so_far.due of front limit kept stands bounded will in
+    let next = next-at cards spans k other c.loop-k-test.true c.requires.spans c.requires.numbered in
+    let on : IsOnSpan c.args.kind of cards first (get_or spans k other) c.loop-k.self c.loop-k.kept = record { sizer_is = so_far.taken; next = next; kept_on = so_far.kept of kept } in
+    let known = next-known cards spans k other limit front c.loop-k-test.true so_far.open' bounded in
+    due-bound k limit (length first) front c.args.old_deck c.loop-k.kept _ _ _ (length-first cards spans k (omega (arith, c.loop-k-test.true))) taken due.1 c.take_next.ensures.sized
+    (λ less. c.take_next.ensures.kept of first on (goes-at of cards spans k other front c.args.old_deck c.loop-k.kept _ _ c.loop-k-test.true so_far.open' stands taken less))
+    (c.take_next.ensures.in_time of first limit on known due.0)
+
+pub returns-then-branch-clause-due : goal.returns-then-branch-clause-due
+returns-then-branch-clause-due c = λ of front limit kept stands bounded will.
+    let cards = c.args.cards.now in
+    let spans = c.args.spans.now in
+    let k = c.loop-k.k in
+    let so_far = c.loop-k.invariant in
+    let first = first_statements cards spans k in
+    let taken = so_far.front of front kept stands in
+    let due = so_far.due of front limit kept stands bounded will in
+    let next = next-at cards spans k other c.loop-k-test.true c.requires.spans c.requires.numbered in
+    let on : IsOnSpan c.args.kind of cards first (get_or spans k other) c.loop-k.self c.loop-k.kept = record { sizer_is = so_far.taken; next = next; kept_on = so_far.kept of kept } in
+    let known = next-known cards spans k other limit front c.loop-k-test.true so_far.open' bounded in
+    due-bound k limit (length first) front c.args.old_deck c.loop-k.kept _ _ _ (length-first cards spans k (omega (arith, c.loop-k-test.true))) taken due.1 c.take_next.ensures.sized
+    (λ less. c.take_next.ensures.kept of first on (goes-at of cards spans k other front c.args.old_deck c.loop-k.kept _ _ c.loop-k-test.true so_far.open' stands taken less))
+    (c.take_next.ensures.in_time of first limit on known due.0)
+
+pub returns-clause-due : goal.returns-clause-due
+returns-clause-due c = λ of front limit kept stands bounded will. (c.loop-k.invariant.due of front limit kept stands bounded will).1

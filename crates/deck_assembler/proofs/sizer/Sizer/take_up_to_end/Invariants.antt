@@ -1,9 +1,10 @@
-use Rattle.std.proofs.Common.{◌≡◌, ◌+◌, ◌≤◌, List, [], false}
+use Rattle.std.proofs.Common.{ℕ, ◌≡◌, length, ◌+◌, ◌≤◌, List, [], false}
 use Rattle.definitions.specs.Cards.{Card}
 use Rattle.definitions.specs.DeckKinds.{has_end, up_to_end}
 use Rattle.definitions.specs.Statements.{Statement}
 use Rattle.statement_coder.specs.Meters.{RisesBy}
 use Rattle.deck_assembler.specs.FirstStatements.{first_statements, all_statements}
+use Rattle.deck_assembler.specs.Meetings.{IsBounded, WillAgree}
 use Rattle.deck_assembler.specs.OldDecks.{IsKeptOn, StandsInFront}
 use Rattle.deck_assembler.specs.Sizers.{IsSizer}
 use Rattle.deck_assembler.specs.declared.old_deck.Stage.TheVariants as stages
@@ -20,6 +21,9 @@ invariant-loop-k l = record {
   rises : l.initial.meter.sized ≤ l.meter.sized;
   front : (of : List Card) (front : List Statement) → IsKeptOn l.kind of l.cards [] l.fn.old_deck → StandsInFront of (up_to_end (all_statements l.cards l.spans)) front l.fn.old_deck →
       IsFrontTaken l.k front l.fn.old_deck l.kept l.initial.meter.sized l.meter.sized;
+  due : (of : List Card) (front : List Statement) (limit : ℕ) → IsKeptOn l.kind of l.cards [] l.fn.old_deck → StandsInFront of (up_to_end (all_statements l.cards l.spans)) front l.fn.old_deck → IsBounded l.cards l.spans front limit →
+      WillAgree l.kind of l.cards limit [] l.fn.old_deck →
+      WillAgree l.kind of l.cards limit (first_statements l.cards l.spans l.k) l.kept × (length front + l.meter.sized ≤ limit + l.initial.meter.sized);
   over : l.fn.old_deck.stage ≡ stages.Over → l.kept.stage ≡ stages.Over;
   all : l.fn.old_deck.stage ≡ stages.Over → RisesBy l.k l.initial.meter.sized l.meter.sized;
   coded : l.meter.coded ≡ l.initial.meter.coded;

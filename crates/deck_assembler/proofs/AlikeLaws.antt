@@ -1,0 +1,93 @@
+-- Where two views agree on the statements that are left of a deck, each trial of these passes.
+use Rattle.std.proofs.Common.{◌≡◌, ℕ, ◌+◌, ◌≤◌, List, [], ◌∷◌, ◌++◌, drop, length, refl, sym, ap, ◌∙◌, subst, append_assoc, append-nil}
+use Rattle.definitions.specs.Cards.{Card}
+use Rattle.definitions.specs.Forms.{Form}
+use Rattle.definitions.specs.Operations.{Operation}
+use Rattle.definitions.specs.Settled.{ReadStatement}
+use Rattle.definitions.specs.Settling.{View, settle, settled_all}
+use Rattle.definitions.specs.Statements.{Statement}
+use Rattle.definitions.specs.States.{Agree, own_symbols, operand_symbols}
+use Rattle.definitions.specs.declared.deck_kind.DeckKind.{DeckKind}
+use Rattle.definitions.proofs.NamesLaws.{all-front, all-behind}
+use Rattle.statement_coder.specs.declared.definitions_made.Defines as code
+use Rattle.deck_assembler.specs.Agreements.{left, DoesAgree, IsAlike, AreAlikeFrom, AreAlike, StandAlike}
+use Rattle.deck_assembler.specs.DeckParts.{DeckPiece, sized_in}
+use Rattle.deck_assembler.specs.FirstSymbols.{symbol_in}
+use Rattle.deck_assembler.specs.SizedDecks.{IsSizedStatement, AreSizedFrom}
+use Rattle.deck_assembler.specs.declared.early_trial.Trial.{Trial}
+use Rattle.deck_assembler.specs.declared.old_deck.OldDeck.{OldDeck}
+use Rattle.deck_assembler.specs.declared.sized_statement.SizedStatement.{SizedStatement}
+
+-- the next statement was sized behind some others, and two views agree on it
+pub record IsNextAgreed (kind : DeckKind) (ahead : List Card) (v w : View) (sized : SizedStatement) : Type 0 where
+  pub earlier : List Statement
+  pub stood : ℕ
+  pub given : Statement
+  pub is : IsSizedStatement kind earlier stood ahead sized given
+  pub alike : IsAlike v w (settle kind (settled_all kind earlier) given).read sized.sizing.defines
+
+-- the next statement, and those behind it
+pub alike-parts : (kind : DeckKind) (ahead : List Card) (v w : View) (sized : SizedStatement) (later : List SizedStatement) → StandAlike kind ahead v w (sized ∷ later) →
+    IsNextAgreed kind ahead v w sized × StandAlike kind (drop sized.cards ahead) v w later
+alike-parts kind ahead v w sized later s = by s.earlier s.stood s.statements s.behind s.others s.are s.alike
+  where
+    by : (earlier : List Statement) (stood : ℕ) (statements : List Statement) (behind : List ℕ) (others : List Statement) → AreSizedFrom kind earlier stood ahead (sized ∷ later) statements behind others →
+        AreAlikeFrom kind v w earlier (sized ∷ later) statements → IsNextAgreed kind ahead v w sized × StandAlike kind (drop sized.cards ahead) v w later
+    by earlier stood [] behind others are alike = absurd are
+    by earlier stood (statement ∷ statements) behind others are alike = (
+      record { earlier = earlier; stood = stood; given = statement; is = are.0; alike = alike.0 },
+      record { earlier = statement ∷ earlier; stood = stood + sized.cards; statements = statements; behind = behind; others = others; are = are.1; alike = alike.1 },
+    )
+
+-- a trial that has gone behind the next statement
+pub alike-step : (old new : Trial) (sized : SizedStatement) (later : List SizedStatement) → new.kind ≡ old.kind → new.first.now ≡ old.first.now → new.second.now ≡ old.second.now →
+    (sized.cards ≤ length old.ahead.now → new.ahead.now ≡ drop sized.cards old.ahead.now) → AreAlike old (sized ∷ later) → AreAlike new later
+alike-step old new sized later kind first second ahead s =
+    let parts = alike-parts old.kind old.ahead.now (symbol_in old.first.now) (symbol_in old.second.now) sized later s in
+    subst (λ (all : (DeckKind × List Card) × (List (ℕ × Form) × List (ℕ × Form))). StandAlike all.0.0 all.0.1 (symbol_in all.1.0) (symbol_in all.1.1) later)
+    (λ i. ((sym kind i, sym (ahead parts.0.is.within) i), (sym first i, sym second i))) parts.1
+
+-- what a statement defines by its location field
+pub own-of : (v w : View) (read : ReadStatement) (what : code.Defines) (operation : Operation) (location : List ℕ) → operation ≡ read.operation → location ≡ read.fields.location →
+    IsAlike v w read what → Agree v w (own_symbols operation location)
+own-of v w read what operation location o l is =
+    subst (λ (both : Operation × List ℕ). Agree v w (own_symbols both.0 both.1)) (λ i. (sym o i, sym l i))
+    (all-front (λ name. v name ≡ w name) (own_symbols read.operation read.fields.location) (operand_symbols read.operand read.operation) is.early)
+
+-- and what its operand defines or reads
+pub operand-of : (v w : View) (read : ReadStatement) (what : code.Defines) (operation : Operation) → operation ≡ read.operation → IsAlike v w read what → Agree v w (operand_symbols read.operand operation)
+operand-of v w read what operation o is =
+    subst (λ (operation : Operation). Agree v w (operand_symbols read.operand operation)) (sym o)
+    (all-behind (λ name. v name ≡ w name) (own_symbols read.operation read.fields.location) (operand_symbols read.operand read.operation) is.early)
+
+-- some pieces: the statements of one, and those behind it
+pub pieces-next : (pieces : List DeckPiece) (place : ℕ) (piece : DeckPiece) (later : List SizedStatement) → drop place pieces ≡ piece ∷ drop (place + 1) pieces →
+    sized_in (drop place pieces) ++ later ≡ piece.statements ++ (sized_in (drop (place + 1) pieces) ++ later)
+pieces-next pieces place piece later e = ap (λ (l : List DeckPiece). sized_in l ++ later) e ∙ append_assoc piece.statements (sized_in (drop (place + 1) pieces)) later
+
+pub sized_in-append : (a b : List DeckPiece) → sized_in (a ++ b) ≡ sized_in a ++ sized_in b
+sized_in-append [] b = refl
+sized_in-append (piece ∷ a) b = ap (λ (l : List SizedStatement). piece.statements ++ l) (sized_in-append a b) ∙ sym (append_assoc piece.statements (sized_in a) (sized_in b))
+
+-- where a piece begins, what is left are the statements of the pieces
+pub pieces-left : (deck : OldDeck) (p q : List DeckPiece) → deck.statements.items ≡ [] → p ++ q ≡ deck.pieces.items → left deck ≡ sized_in p ++ (sized_in q ++ [])
+pieces-left deck p q none e =
+    sym (
+    ap (λ (l : List SizedStatement). sized_in p ++ l) (append-nil (sized_in q)) ∙ sym (sized_in-append p q) ∙ ap sized_in e
+    ∙ ap (λ (l : List SizedStatement). l ++ sized_in deck.pieces.items) (sym none)
+    )
+
+-- the trial of a deck that agrees
+pub trial-agrees : (deck : OldDeck) (symbols : List (ℕ × Form)) (trial : Trial) (sized : List SizedStatement) → trial.kind ≡ deck.kind → trial.ahead.now ≡ deck.ahead.now → trial.first.now ≡ deck.symbols →
+    trial.second.now ≡ symbols → left deck ≡ sized → DoesAgree deck symbols → AreAlike trial sized
+trial-agrees deck symbols trial sized kind ahead first second e agree =
+    subst (λ (all : ((DeckKind × List Card) × (List (ℕ × Form) × List (ℕ × Form))) × List SizedStatement). StandAlike all.0.0.0 all.0.0.1 (symbol_in all.0.1.0) (symbol_in all.0.1.1) all.1)
+    (λ i. (((sym kind i, sym ahead i), (sym first i, sym second i)), e i)) agree
+
+-- what is left, where a piece begins: pieces that are passed over, the next one, and all behind it
+pub pieces-split : (deck : OldDeck) (p q before rest : List DeckPiece) (piece : DeckPiece) → deck.statements.items ≡ [] → p ++ q ≡ deck.pieces.items → p ≡ before ++ (piece ∷ rest) →
+    left deck ≡ sized_in before ++ (piece.statements ++ (sized_in rest ++ (sized_in q ++ [])))
+pieces-split deck p q before rest piece none e cut =
+    let behind : List SizedStatement = sized_in q ++ [] in
+    pieces-left deck p q none e ∙ ap (λ (l : List DeckPiece). sized_in l ++ behind) cut ∙ ap (λ (l : List SizedStatement). l ++ behind) (sized_in-append before (piece ∷ rest))
+    ∙ append_assoc (sized_in before) (piece.statements ++ sized_in rest) behind ∙ ap (λ (l : List SizedStatement). sized_in before ++ l) (append_assoc piece.statements (sized_in rest) behind)
