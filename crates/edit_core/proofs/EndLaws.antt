@@ -2,7 +2,7 @@
 use Rattle.std.specs.Prelude.{remove, slice_set, insert}
 use Rattle.std.proofs.Common.{ℕ, zero, suc, ◌≡◌, ◌+◌, ◌-◌, ◌≤◌, ◌<◌, inl, inr, List, [], ◌∷◌, length, drop, get_or, None, refl, sym, ap, ◌∙◌, subst, arith}
 use Rattle.std.proofs.lemmas.Bool.{cases_lt}
-use Rattle.std.proofs.lemmas.List.{length-drop, drop_all, drop-set-lt}
+use Rattle.std.proofs.lemmas.List.{length-drop, drop_all, drop-set-lt, drop_more}
 use Rattle.definitions.specs.Cards.{Card}
 use Rattle.cards.specs.Counts.{count_after}
 use Rattle.cards.specs.Edits.{fault_of, edited, edited_by, first_fault}
@@ -11,7 +11,7 @@ use Rattle.cards.specs.declared.edits.Edit.TheVariants.{Insert, Replace, Remove}
 use Rattle.cards.proofs.FaultLaws.{applies-in, edited-few, edited-length, made-in}
 use Rattle.deck_assembler.specs.Agreements.{HaveSameEnd}
 use Rattle.deck_assembler.proofs.OntoLaws.{drop-more}
-use Rattle.edit_core.specs.Edited.{count_behind}
+use Rattle.edit_core.specs.Edited.{count_behind, StandBehind}
 
 drop-inserted : (n : ℕ) (card : Card) (cards : List Card) → n ≤ length cards → drop (suc n) (insert cards n card) ≡ drop n cards
 drop-inserted zero card cards h = refl
@@ -78,22 +78,33 @@ pub record IsLeft (edits : List Edit) (place left behind : ℕ) (cards : List Ca
   pub none : first_fault (drop place edits) current ≡ None
   pub made : edited_by edits cards ≡ edited_by (drop place edits) current
   pub same : HaveSameEnd behind cards current
+  pub most : (n : ℕ) → n ≤ length cards → StandBehind n edits (length cards) → (n ≤ behind) × StandBehind n (drop place edits) left
+
+-- no fewer of the last cards stay behind one edit more
+most-more : (edits : List Edit) (place left behind now fewer n : ℕ) (edit : Edit) → place < length edits → edit ≡ get_or edits place edit →
+    now ≡ count_after edit left → (n ≤ behind → n ≤ count_behind edit left → n ≤ fewer) → (n ≤ behind) × StandBehind n (drop place edits) left →
+    (n ≤ fewer) × StandBehind n (drop (place + 1) edits) now
+most-more edits place left behind now fewer n edit within is after least so_far =
+    let split = drop_more edits place edit within ∙ ap (λ (one : Edit). one ∷ drop (place + 1) edits) (sym is) in
+    let both = subst (λ (es : List Edit). StandBehind n es left) split so_far.1 in
+    (least so_far.0 both.0, subst (StandBehind n (drop (place + 1) edits)) (sym after) both.1)
 
 -- one edit more
 pub left-more : (edits : List Edit) (place left behind now fewer : ℕ) (edit : Edit) (cards : List Card) → place < length edits → edit ≡ get_or edits place edit → IsLeft edits place left behind cards →
-    now ≡ count_after edit left → fewer ≤ behind → fewer ≤ count_behind edit left → IsLeft edits (place + 1) now fewer cards
-left-more edits place left behind now fewer edit cards within is so_far after few here =
+    now ≡ count_after edit left → fewer ≤ behind → fewer ≤ count_behind edit left → ((n : ℕ) → n ≤ behind → n ≤ count_behind edit left → n ≤ fewer) → IsLeft edits (place + 1) now fewer cards
+left-more edits place left behind now fewer edit cards within is so_far after few here least =
     let current = so_far.current in
     let both = applies-in edits place edit current within is so_far.none in
     let length_now = edited-length edit current both.0 in
     let count = so_far.count in
-    let least = edited-few edit current both.0 (omega (arith, count, so_far.few)) in
+    let room = edited-few edit current both.0 (omega (arith, count, so_far.few)) in
     record {
       current = edited current edit;
       count = after ∙ ap (count_after edit) count ∙ sym length_now;
-      few = let same = after ∙ ap (count_after edit) count ∙ sym length_now in omega (arith, same, least);
+      few = let same = after ∙ ap (count_after edit) count ∙ sym length_now in omega (arith, same, room);
       none = both.1;
       made = so_far.made ∙ made-in edits place edit current within is;
       same = end-fewer fewer behind cards current few so_far.same
           ∙ end-fewer fewer (count_behind edit (length current)) current (edited current edit) (subst (λ n. fewer ≤ count_behind edit n) count here) (end-one edit current both.0);
+      most = λ n within_cards stand. most-more edits place left behind now fewer n edit within is after (least n) (so_far.most n within_cards stand);
     }

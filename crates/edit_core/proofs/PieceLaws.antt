@@ -1,6 +1,9 @@
 -- The pieces of a record have all its statements.
-use Rattle.std.proofs.Common.{ℕ, ◌≡◌, ◌+◌, ◌-◌, List, [], ◌∷◌, length, drop, suc, refl, sym, ap, ◌∙◌, arith, length-append, reverse}
+use Rattle.std.specs.List.{sum}
+use Rattle.std.proofs.Common.{ℕ, ◌≡◌, ◌+◌, ◌-◌, ◌<◌, ◌≤◌, All, List, [], ◌∷◌, length, drop, suc, refl, sym, ap, ◌∙◌, arith, length-append, reverse}
 use Rattle.std.proofs.lemmas.List.{length-reverse}
+use Rattle.std.proofs.lemmas.List.Elements.{All-nil, All-cons}
+use Rattle.std.proofs.lemmas.List.Sums.{sum_by-cons}
 use Rattle.definitions.specs.Cards.{Card}
 use Rattle.definitions.specs.DeckKinds.{up_to_end}
 use Rattle.definitions.specs.Statements.{Statement, statements_of}
@@ -36,3 +39,22 @@ pub deck-pieces : (cards : List Card) (deck : DeckParts) → IsSizedDeck cards d
 deck-pieces cards deck is =
     let statements = up_to_end (statements_of (reverse cards)) in
     pieces-are deck.pieces (length statements) is.filled (sized-length _ _ _ _ (sized_in deck.pieces) (reverse statements) _ _ is.sized ∙ length-reverse statements)
+
+-- each of the pieces has 1 to 128 statements
+pub pieces-each : (count : ℕ) (pieces : List ℕ) → ArePieces count pieces → All (λ piece. (0 < piece) × (piece ≤ 128)) pieces
+pieces-each count [] are = All-nil (λ piece. (0 < piece) × (piece ≤ 128))
+pieces-each count (piece ∷ []) are = All-cons (λ piece. (0 < piece) × (piece ≤ 128)) piece [] are.1 (All-nil (λ piece. (0 < piece) × (piece ≤ 128)))
+pieces-each count (piece ∷ next ∷ pieces) are =
+    let whole = are.0 in
+    All-cons (λ piece. (0 < piece) × (piece ≤ 128)) piece (next ∷ pieces) (omega (arith, whole), omega (arith, whole)) (pieces-each (count - 128) (next ∷ pieces) are.1.1)
+
+-- and together they have all
+pub pieces-sum : (count : ℕ) (pieces : List ℕ) → ArePieces count pieces → sum pieces ≡ count
+pieces-sum count [] are = sym are
+pieces-sum count (piece ∷ []) are = let both = sum_by-cons (λ n. n) piece [] in let same = are.0 in omega (arith, both, same)
+pieces-sum count (piece ∷ next ∷ pieces) are =
+    let both = sum_by-cons (λ n. n) piece (next ∷ pieces) in
+    let whole = are.0 in
+    let least = are.1.0 in
+    let others = pieces-sum (count - 128) (next ∷ pieces) are.1.1 in
+    omega (arith, both, whole, least, others)

@@ -1,11 +1,12 @@
 -- What edits leave of a record (ours).
-use Rattle.std.specs.Prelude.{◌≡◌, ℕ, ◌+◌, ◌-◌, ◌≤◌, All, false, List, [], ◌∷◌, length, reverse}
+use Rattle.std.specs.Prelude.{◌≡◌, ℕ, ⊤, ◌+◌, ◌-◌, ◌≤◌, All, false, List, [], ◌∷◌, length, reverse}
 use Rattle.definitions.specs.Cards.{Card}
 use Rattle.definitions.specs.DeckKinds.{up_to_end, kind_of_statements}
 use Rattle.definitions.specs.Edits.{Edited, IsUntouched}
 use Rattle.definitions.specs.Statements.{Statement, statements_of}
 use Rattle.cards.specs.declared.edits.Edit.{Edit}
 use Rattle.cards.specs.declared.edits.Edit.TheVariants.{Insert, Replace, Remove}
+use Rattle.cards.specs.Counts.{count_after}
 use Rattle.cards.specs.Edits.{edited_by}
 use Rattle.edit_core.specs.Records.{Record, ArePieces}
 
@@ -29,6 +30,11 @@ abbrev pub count_behind : Edit → ℕ → ℕ
 count_behind (Insert place card) count = count - (place - 1)
 count_behind (Replace place card) count = count - (place - 1) - 1
 count_behind (Remove place) count = count - (place - 1) - 1
+
+-- so many cards stand behind the one that each of these edits is of; there are so many before the first edit
+abbrev pub StandBehind : ℕ → List Edit → ℕ → Type 0
+StandBehind behind [] count = ⊤
+StandBehind behind (edit ∷ edits) count = (behind ≤ count_behind edit count) × StandBehind behind edits (count_after edit count)
 
 -- a record of this name and these cards, with all that is kept of them
 pub record IsRecordOf (name : List ℕ) (cards : List Card) (made : Record) : Type 0 where

@@ -4,7 +4,7 @@ ghost use Rattle.definitions.specs.Cards as deck_cards;
 ghost use Rattle.cards.specs.Edits.{edited_by, first_fault};
 ghost use Rattle.deck_assembler.specs.Agreements.{HaveSameEnd};
 ghost use Rattle.cards.specs.Counts.{count_after};
-ghost use Rattle.edit_core.specs.Edited.{count_behind, front_of};
+ghost use Rattle.edit_core.specs.Edited.{count_behind, front_of, StandBehind};
 
 use cards::Edit;
 
@@ -54,10 +54,11 @@ fn cards_after(edit: &Edit, count: usize) -> usize
     }
 }
 
-/// So many of the last of so many cards that none of these edits is of one of them, or of a card that
-/// was put between them; each of the edits applies to what the ones before it leave.
+/// The most of the last of so many cards such that none of these edits is of one of them, or of a card
+/// that was put between them; each of the edits applies to what the ones before it leave.
 pub(crate) fn cards_behind_all(edits: &[Edit], count: usize) -> usize
-    ensures { (cards : List deck_cards.Card) → length cards ≡ count → count ≤ 20000 → first_fault edits.now cards ≡ None → HaveSameEnd result cards (edited_by edits.now cards) }
+    ensures all { (cards : List deck_cards.Card) → length cards ≡ count → count ≤ 20000 → first_fault edits.now cards ≡ None → HaveSameEnd result cards (edited_by edits.now cards) }
+    ensures most { (cards : List deck_cards.Card) (behind : ℕ) → length cards ≡ count → count ≤ 20000 → first_fault edits.now cards ≡ None → behind ≤ count → StandBehind behind edits.now count → behind ≤ result }
 {
     let mut behind = count;
     let mut left = count;

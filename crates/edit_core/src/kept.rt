@@ -1,5 +1,6 @@
 //! What is kept of a deck from one edit to the next.
-ghost use Rattle.std.specs.Prelude.{◌≡◌, ◌≤◌, ◌∷◌, [], ◌+◌, true, false, length, reverse, None, Err, IfOk, IfErr, OnOk, ◌↔◌};
+ghost use Rattle.std.specs.Prelude.{◌≡◌, ◌≤◌, ◌<◌, ◌∷◌, [], ◌+◌, true, false, All, length, reverse, None, Err, IfOk, IfErr, OnOk, ◌↔◌};
+ghost use Rattle.std.specs.List.{sum};
 ghost use Rattle.std.specs.Option.{ForSome};
 ghost use Rattle.definitions.specs.DeckKinds.{up_to_end};
 ghost use Rattle.definitions.specs.Statements.{statements_of};
@@ -264,9 +265,13 @@ impl Kept {
         }
     }
 
-    /// How many statements each piece has, in order: 1 to 128, and together all up to END.
+    /// How many statements each piece has, in order: 1 to 128, and together all up to END, unless the
+    /// record is spent.
     pub fn pieces(&self) -> &[u32]
-        ensures { result.now ≡ self.now.pieces }
+        ensures pieces { result.now ≡ self.now.pieces }
+        ensures each { self.now.is_spent ≡ false → All (λ count. (0 < count) × (count ≤ 128)) result.now }
+        ensures all { self.now.is_spent ≡ false → sum result.now ≡ statement_count self.now.cards }
+        ensures filled { self.now.is_spent ≡ false → ArePieces (statement_count self.now.cards) result.now }
     {
         self.pieces.as_slice()
     }

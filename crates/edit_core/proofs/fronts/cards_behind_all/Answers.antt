@@ -4,11 +4,12 @@ use Rattle.std.proofs.lemmas.List.{drop_all}
 use Rattle.cards.specs.declared.edits.Edit.{Edit}
 use Rattle.cards.specs.Edits.{edited_by}
 use Rattle.deck_assembler.specs.Agreements.{HaveSameEnd}
+use Rattle.edit_core.specs.Edited.{StandBehind}
 use Rattle.edit_core.proofs.EndLaws.{left-more}
 use Rattle.edit_core.proofs.fronts.cards_behind_all.Goals as goal
 
 pub loop-edit-init : goal.loop-edit-init
-loop-edit-init c = λ cards count few none. record { current = cards; count = sym count; few = few; none = none; made = refl; same = refl }
+loop-edit-init c = λ cards count few none. record { current = cards; count = sym count; few = few; none = none; made = refl; same = refl; most = λ n within stand. (omega (arith, within, count), subst (StandBehind n c.args.edits.now) count stand) }
 
 pub loop-edit-preserved : goal.loop-edit-preserved
 loop-edit-preserved c = λ cards count few none.
@@ -16,10 +17,14 @@ loop-edit-preserved c = λ cards count few none.
     let least = c.min-behind.ensures in
     let here = c.cards_behind.ensures in
     left-more c.args.edits.now c.loop-edit.edit-index c.loop-edit.left c.loop-edit.behind c.cards_after-left.result c.min-behind.result c.edit-item.result cards c.loop-edit-test.true c.edit-item.is so_far
-    (c.cards_after-left.ensures so_far.few) (omega (arith, least)) (omega (arith, least, here))
+    (c.cards_after-left.ensures so_far.few) (omega (arith, least)) (omega (arith, least, here)) (λ n first second. omega (arith, least, here, first, second))
 
-pub returns : goal.returns
-returns c = λ cards count few none.
+pub returns-clause-all : goal.returns-clause-all
+returns-clause-all c = λ cards count few none.
     let so_far = c.loop-edit.invariant cards count few none in
     let over = drop_all c.loop-edit.edit-index c.args.edits.now (omega (arith, c.loop-edit-test.false)) in
     subst (HaveSameEnd c.loop-edit.behind cards) (sym (so_far.made ∙ ap (λ (edits : List Edit). edited_by edits so_far.current) over)) so_far.same
+
+pub returns-clause-most : goal.returns-clause-most
+returns-clause-most c = λ cards behind count few none within stand.
+    ((c.loop-edit.invariant cards count few none).most behind (omega (arith, within, count)) (subst (StandBehind behind c.args.edits.now) (sym count) stand)).0

@@ -28,7 +28,7 @@ edited-requires-clause-behind c =
     let apply = subst (λ (cards : List Card). first_fault c.args.edits.now cards ≡ None) (sym c.cards-own.ensures.cards) c.requires.apply in
     let few = subst (λ (cards : List Card). length cards ≤ 20000) (sym c.cards-own.ensures.cards) c.cards-own.ensures.few in
     subst (HaveSameEnd c.cards_behind_all.result own) (sym now)
-    (c.cards_behind_all.ensures own refl few apply)
+    (c.cards_behind_all.ensures.all own refl few apply)
 
 pub edited_object-requires-clause-few : goal.edited_object-requires-clause-few
 edited_object-requires-clause-few c =
