@@ -1,17 +1,19 @@
 -- The cards behind the one that an edit is of stay.
-use Rattle.std.specs.Prelude.{remove, slice_set, insert}
-use Rattle.std.proofs.Common.{ℕ, zero, suc, ◌≡◌, ◌+◌, ◌-◌, ◌≤◌, ◌<◌, inl, inr, List, [], ◌∷◌, length, drop, get_or, None, refl, sym, ap, ◌∙◌, subst, arith}
-use Rattle.std.proofs.lemmas.Bool.{cases_lt}
+use Rattle.std.specs.Prelude.{remove, slice_set, insert, nat_le}
+use Rattle.std.proofs.Common.{ℕ, zero, suc, ◌≡◌, ◌+◌, ◌-◌, ◌≤◌, ◌<◌, inl, inr, List, [], ◌∷◌, length, drop, get_or, All, Bool, true, false, not, ◌==◌, Option, None, refl, sym, ap, ◌∙◌, subst, arith}
+use Rattle.std.proofs.lemmas.Bool.{and_parts, cases_lt, leb-true}
 use Rattle.std.proofs.lemmas.List.{length-drop, drop_all, drop-set-lt, drop_more}
+use Rattle.std.proofs.lemmas.List.Elements.{All-head, All-tail}
 use Rattle.definitions.specs.Cards.{Card}
 use Rattle.cards.specs.Counts.{count_after}
-use Rattle.cards.specs.Edits.{fault_of, edited, edited_by, first_fault}
+use Rattle.cards.specs.Causes.{when, first_cause}
+use Rattle.cards.specs.Edits.{is_place, fault_of, edited, edited_by, first_fault}
 use Rattle.cards.specs.declared.edits.Edit.{Edit}
 use Rattle.cards.specs.declared.edits.Edit.TheVariants.{Insert, Replace, Remove}
 use Rattle.cards.proofs.FaultLaws.{applies-in, edited-few, edited-length, made-in}
 use Rattle.deck_assembler.specs.Agreements.{HaveSameEnd}
 use Rattle.deck_assembler.proofs.OntoLaws.{drop-more}
-use Rattle.edit_core.specs.Edited.{count_behind, StandBehind}
+use Rattle.edit_core.specs.Edited.{count_behind, front_of, StandBehind}
 
 drop-inserted : (n : ℕ) (card : Card) (cards : List Card) → n ≤ length cards → drop (suc n) (insert cards n card) ≡ drop n cards
 drop-inserted zero card cards h = refl
@@ -108,3 +110,53 @@ left-more edits place left behind now fewer edit cards within is so_far after fe
           ∙ end-fewer fewer (count_behind edit (length current)) current (edited current edit) (subst (λ n. fewer ≤ count_behind edit n) count here) (end-one edit current both.0);
       most = λ n within_cards stand. most-more edits place left behind now fewer n edit within is after (least n) (so_far.most n within_cards stand);
     }
+
+absent : {A : Type 0} (b : Bool) (cause : A) → when (not b) cause ≡ None → b ≡ true
+absent true cause none = refl
+absent false cause none = cc
+
+first-absent : {A : Type 0} (b : Bool) (cause : A) (later : Option A) → first_cause (when (not b) cause ∷ later ∷ []) ≡ None → b ≡ true
+first-absent true cause later none = refl
+first-absent false cause later none = cc
+
+placed : (count place : ℕ) → is_place count place ≡ true → (1 ≤ place) × (place ≤ count)
+placed count place is = let both = and_parts (nat_le 1 place) (nat_le place count) is in (leb-true 1 place both.0, leb-true place count both.1)
+
+-- cards before the one that an edit is of and cards behind it are no more than all, before the edit and after it
+apart-one : (edit : Edit) (cards : List Card) (before behind : ℕ) → fault_of edit cards ≡ None → before ≤ front_of edit → behind ≤ count_behind edit (length cards) →
+    (before + behind ≤ length cards) × (before + behind ≤ length (edited cards edit))
+apart-one (Insert place card) cards before behind none few many =
+    let within = placed (length cards + 1) place (first-absent _ _ _ none) in
+    let after = edited-length (Insert place card) cards none in
+    let first = within.0 in
+    let last = within.1 in
+    (omega (arith, first, last, few, many), omega (arith, first, last, few, many, after))
+apart-one (Replace place card) cards before behind none few many =
+    let within = placed (length cards) place (absent _ _ none) in
+    let after = edited-length (Replace place card) cards none in
+    let first = within.0 in
+    let last = within.1 in
+    (omega (arith, first, last, few, many), omega (arith, first, last, few, many, after))
+apart-one (Remove place) cards before behind none few many =
+    let within = placed (length cards) place (absent _ _ none) in
+    let after = edited-length (Remove place) cards none in
+    let first = within.0 in
+    let last = within.1 in
+    (omega (arith, first, last, few, many), omega (arith, first, last, few, many, after))
+
+-- of some edits
+apart-more : (edits : List Edit) (cards : List Card) (before behind : ℕ) → first_fault edits cards ≡ None → All (λ edit. before ≤ front_of edit) edits → StandBehind behind edits (length cards) →
+    before + behind ≤ length cards → before + behind ≤ length (edited_by edits cards)
+apart-more [] cards before behind none few many within = within
+apart-more (edit ∷ edits) cards before behind none few many within =
+    let both = applies-in (edit ∷ edits) 0 edit cards (omega arith) refl none in
+    let one = apart-one edit cards before behind both.0 (All-head (λ e. before ≤ front_of e) edit edits few) many.0 in
+    apart-more edits (edited cards edit) before behind both.1 (All-tail (λ e. before ≤ front_of e) edit edits few) (subst (StandBehind behind edits) (sym (edited-length edit cards both.0)) many.1) one.1
+
+pub apart-all : (edits : List Edit) (cards : List Card) (before behind : ℕ) → (length edits == 0) ≡ false → first_fault edits cards ≡ None → All (λ edit. before ≤ front_of edit) edits → StandBehind behind edits (length cards) →
+    (before + behind ≤ length cards) × (before + behind ≤ length (edited_by edits cards))
+apart-all [] cards before behind some none few many = cc
+apart-all (edit ∷ edits) cards before behind some none few many =
+    let both = applies-in (edit ∷ edits) 0 edit cards (omega arith) refl none in
+    let within = (apart-one edit cards before behind both.0 (All-head (λ e. before ≤ front_of e) edit edits few) many.0).0 in
+    (within, apart-more (edit ∷ edits) cards before behind none few many within)

@@ -4,3 +4,5 @@ pub mod PieceLaws
 pub mod EditLaws
 -- And of the last of them.
 pub mod EndLaws
+-- And what is sized for them.
+pub mod DueLaws

@@ -2,7 +2,7 @@
 use Rattle.std.specs.Prelude.{◌≡◌, ℕ, ⊤, ◌+◌, ◌-◌, ◌≤◌, All, false, List, [], ◌∷◌, length, reverse}
 use Rattle.definitions.specs.Cards.{Card}
 use Rattle.definitions.specs.DeckKinds.{up_to_end, kind_of_statements}
-use Rattle.definitions.specs.Edits.{Edited, IsUntouched}
+use Rattle.definitions.specs.Edits.{Edited, IsUntouched, IsWithinDue}
 use Rattle.definitions.specs.Statements.{Statement, statements_of}
 use Rattle.cards.specs.declared.edits.Edit.{Edit}
 use Rattle.cards.specs.declared.edits.Edit.TheVariants.{Insert, Replace, Remove}
@@ -55,3 +55,20 @@ pub record AreDecksOf (edits : List Edit) (cards : List Card) (decks : Edited) :
 abbrev pub RisesBehindFront : List Edit → List Card → ℕ → ℕ → Type 0
 RisesBehindFront edits cards count now =
     (decks : Edited) (front : List Statement) → AreDecksOf edits cards decks → IsUntouched decks front → length front + now ≤ length decks.new + count
+
+-- so many cards stand unchanged behind each one that an edit is of, and end both decks
+pub record StandUnchanged (edits : List Edit) (cards : List Card) (decks : Edited) : Type 0 where
+  pub behind : ℕ
+  pub few : behind ≤ length cards
+  pub stand : StandBehind behind edits (length cards)
+  pub of_old : decks.old_behind + behind ≡ length cards
+  pub of_new : decks.new_behind + behind ≡ length (edited_by edits cards)
+
+-- a count rises by no more than is due for the edit of one deck into the other, and the 128 statements of a piece; where they are of one kind
+abbrev pub RisesToDue : List Edit → List Card → ℕ → ℕ → Type 0
+RisesToDue edits cards count now = (decks : Edited) → AreDecksOf edits cards decks → StandUnchanged edits cards decks → IsWithinDue decks 128 (now - count)
+
+-- and by none without an edit
+abbrev pub RisesWithinDue : List Edit → List Card → ℕ → ℕ → Type 0
+RisesWithinDue [] cards count now = now ≡ count
+RisesWithinDue (edit ∷ edits) cards count now = RisesToDue (edit ∷ edits) cards count now

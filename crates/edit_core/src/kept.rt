@@ -1,5 +1,5 @@
 //! What is kept of a deck from one edit to the next.
-ghost use Rattle.std.specs.Prelude.{◌≡◌, ◌≤◌, ◌<◌, ◌∷◌, [], ◌+◌, true, false, All, length, reverse, None, Err, IfOk, IfErr, OnOk, ◌↔◌};
+ghost use Rattle.std.specs.Prelude.{◌≡◌, ◌≤◌, ◌<◌, ◌==◌, ◌∷◌, [], ◌+◌, true, false, All, length, reverse, None, Err, IfOk, IfErr, OnOk, ◌↔◌};
 ghost use Rattle.std.specs.List.{sum};
 ghost use Rattle.std.specs.Option.{ForSome};
 ghost use Rattle.definitions.specs.DeckKinds.{up_to_end};
@@ -7,7 +7,7 @@ ghost use Rattle.definitions.specs.Statements.{statements_of};
 ghost use Rattle.cards.specs.Edits.{edited, edited_by, first_fault};
 ghost use Rattle.statement_coder.specs.Meters.{RisesBy};
 ghost use Rattle.deck_assembler.specs.SizedDecks.{IsSizedDeck};
-ghost use Rattle.edit_core.specs.Edited.{edits_bound, statement_count, IsRecordOf, RisesBehindFront};
+ghost use Rattle.edit_core.specs.Edited.{edits_bound, statement_count, IsRecordOf, RisesBehindFront, RisesToDue, RisesWithinDue};
 ghost use Rattle.edit_core.specs.Faults.{against, against_all};
 ghost use Rattle.edit_core.specs.Records.{ArePieces};
 
@@ -102,7 +102,8 @@ impl Kept {
     /// from the first piece on behind which all is sized as before, the others stay as they were sized,
     /// too. Where the kind of the deck changes, none does. The meter counts at most one statement sized, and
     /// one coded, for each up to END of the edited cards; and where the kind stays, none sized of those
-    /// that stand untouched in front of both decks.
+    /// that stand untouched in front of both decks, and behind the first place where both decks agree
+    /// again no more than the 128 of a piece.
     pub fn edit(&mut self, alloc: Global, edit: &Edit, meter: &mut Meter) -> Result<(), RecordFault>
         ensures refused { ForSome (against edit.now self.old.is_spent self.old.cards) (λ fault. (result ≡ Err fault) × (self.new ≡ self.old) × (meter.new ≡ meter.old)) }
         ensures accepted { against edit.now self.old.is_spent self.old.cards ≡ None → IfErr result (λ fault. fault ≡ RecordFault.OutOfMemory) }
@@ -110,6 +111,7 @@ impl Kept {
         ensures lost { result ≡ Err RecordFault.OutOfMemory → self.new.is_spent ≡ true }
         ensures sized { meter.new.sized ≤ meter.old.sized + statement_count (edited self.old.cards edit.now) }
         ensures sized_front { RisesBehindFront (edit.now ∷ []) self.old.cards meter.old.sized meter.new.sized }
+        ensures sized_due { against edit.now self.old.is_spent self.old.cards ≡ None → RisesWithinDue (edit.now ∷ []) self.old.cards meter.old.sized meter.new.sized }
         ensures sized_rises { meter.old.sized ≤ meter.new.sized }
         ensures coded { meter.new.coded ≤ meter.old.coded + statement_count (edited self.old.cards edit.now) }
         ensures coded_rises { meter.old.coded ≤ meter.new.coded }
@@ -124,7 +126,8 @@ impl Kept {
     /// it leave, it says so and changes nothing; where memory runs out it is spent. The meter counts at
     /// most one statement sized, and one coded, for each up to END of the cards that all of them leave,
     /// and none where there are no edits; and where the kind stays, none sized of those that stand
-    /// untouched in front of both decks.
+    /// untouched in front of both decks, and behind the first place where both decks agree again no
+    /// more than the 128 of a piece.
     pub fn edit_all(
         &mut self,
         alloc: Global,
@@ -137,6 +140,7 @@ impl Kept {
         ensures lost { result ≡ Err RecordFault.OutOfMemory → self.new.is_spent ≡ true }
         ensures sized { meter.new.sized ≤ meter.old.sized + edits_bound edits.now self.old.cards }
         ensures sized_front { RisesBehindFront edits.now self.old.cards meter.old.sized meter.new.sized }
+        ensures sized_due { against_all edits.now self.old.is_spent self.old.cards ≡ None → RisesWithinDue edits.now self.old.cards meter.old.sized meter.new.sized }
         ensures sized_rises { meter.old.sized ≤ meter.new.sized }
         ensures coded { meter.new.coded ≤ meter.old.coded + edits_bound edits.now self.old.cards }
         ensures coded_rises { meter.old.coded ≤ meter.new.coded }
@@ -160,6 +164,7 @@ impl Kept {
         ensures lost { result ≡ Err RecordFault.OutOfMemory → self.new.is_spent ≡ true }
         ensures sized { meter.new.sized ≤ meter.old.sized + edits_bound edits.now self.old.cards }
         ensures sized_front { RisesBehindFront edits.now self.old.cards meter.old.sized meter.new.sized }
+        ensures sized_due { RisesWithinDue edits.now self.old.cards meter.old.sized meter.new.sized }
         ensures sized_rises { meter.old.sized ≤ meter.new.sized }
         ensures coded { meter.new.coded ≤ meter.old.coded + edits_bound edits.now self.old.cards }
         ensures coded_rises { meter.old.coded ≤ meter.new.coded }
@@ -200,7 +205,7 @@ impl Kept {
         }
     }
 
-    /// The record of the edited cards; the statements of its own cards are these.
+    /// The record of the cards that some edits leave; the statements of its own cards are these.
     fn remade(
         &self,
         alloc: Global,
@@ -208,11 +213,13 @@ impl Kept {
         edits: &[Edit],
         meter: &mut Meter,
     ) -> Result<Kept, AllocError>
+        requires some { (length edits.now == 0) ≡ false }
         requires apply { first_fault edits.now self.now.cards ≡ None }
         requires deck { IsSizedDeck self.now.cards sized }
         ensures made { IfOk result (IsRecordOf self.now.name (edited_by edits.now self.now.cards)) }
         ensures sized { meter.new.sized ≤ meter.old.sized + statement_count (edited_by edits.now self.now.cards) }
         ensures sized_front { RisesBehindFront edits.now self.now.cards meter.old.sized meter.new.sized }
+        ensures sized_due { RisesToDue edits.now self.now.cards meter.old.sized meter.new.sized }
         ensures sized_rises { meter.old.sized ≤ meter.new.sized }
         ensures coded { meter.new.coded ≤ meter.old.coded + statement_count (edited_by edits.now self.now.cards) }
         ensures coded_rises { meter.old.coded ≤ meter.new.coded }

@@ -1,7 +1,8 @@
 use Rattle.std.proofs.Common.{◌∙◌, ap, arith, subst, sym}
 use Rattle.cards.specs.Edits.{edited_by}
-use Rattle.edit_core.specs.Edited.{statement_count, RisesBehindFront}
+use Rattle.edit_core.specs.Edited.{statement_count, RisesBehindFront, RisesToDue}
 use Rattle.edit_core.specs.Records.{Record}
+use Rattle.edit_core.proofs.DueLaws.{due-none, due-some}
 use Rattle.edit_core.proofs.EditLaws.{bound-some, front-still, none-made, not-spent}
 use Rattle.edit_core.proofs.kept.Kept.edit_soundly.Goals as goal
 
@@ -36,3 +37,19 @@ returns-in-Ok-clause-sized_front c = subst (λ (r : Record). RisesBehindFront c.
 
 pub returns-in-Err-clause-sized_front : goal.returns-in-Err-clause-sized_front
 returns-in-Err-clause-sized_front c = subst (λ (r : Record). RisesBehindFront c.args.edits.now r.cards c.args.meter.now.sized c.remade.new.meter.sized) c.self.view_is c.remade.ensures.sized_front
+
+pub remade-requires-clause-some : goal.remade-requires-clause-some
+remade-requires-clause-some c = sym c.is_empty.ensures ∙ c.if-is_empty.false
+
+pub returns-then-is_empty-clause-sized_due : goal.returns-then-is_empty-clause-sized_due
+returns-then-is_empty-clause-sized_due c = due-none c.args.edits.now c.args.self.now.cards c.args.meter.now.sized (sym c.is_empty.ensures ∙ c.if-is_empty.true)
+
+pub returns-in-Ok-clause-sized_due : goal.returns-in-Ok-clause-sized_due
+returns-in-Ok-clause-sized_due c =
+    due-some c.args.edits.now c.args.self.now.cards _ _ (sym c.is_empty.ensures ∙ c.if-is_empty.false)
+    (subst (λ (r : Record). RisesToDue c.args.edits.now r.cards c.args.meter.now.sized c.remade.new.meter.sized) c.self.view_is c.remade.ensures.sized_due)
+
+pub returns-in-Err-clause-sized_due : goal.returns-in-Err-clause-sized_due
+returns-in-Err-clause-sized_due c =
+    due-some c.args.edits.now c.args.self.now.cards _ _ (sym c.is_empty.ensures ∙ c.if-is_empty.false)
+    (subst (λ (r : Record). RisesToDue c.args.edits.now r.cards c.args.meter.now.sized c.remade.new.meter.sized) c.self.view_is c.remade.ensures.sized_due)

@@ -6,8 +6,9 @@ use Rattle.definitions.specs.DeckInput.{Deck}
 use Rattle.deck_assembler.specs.Agreements.{HaveSameEnd}
 use Rattle.deck_assembler.specs.Formers.{IsFormerOf}
 use Rattle.deck_assembler.specs.SizedDecks.{IsSizedDeck}
-use Rattle.edit_core.specs.Edited.{RisesBehindFront}
+use Rattle.edit_core.specs.Edited.{RisesBehindFront, RisesToDue, StandBehind}
 use Rattle.edit_core.specs.Records.{Record}
+use Rattle.edit_core.proofs.DueLaws.{AreTaken, due-edited, due-still}
 use Rattle.edit_core.proofs.EditLaws.{few-all, front-all, front-edited, front-still}
 use Rattle.edit_core.proofs.kept.Kept.remade.Goals as goal
 
@@ -75,3 +76,77 @@ pub returns-clause-sized_front : goal.returns-clause-sized_front
 returns-clause-sized_front c = subst (RisesBehindFront c.args.edits.now c.args.self.now.cards c.args.meter.now.sized) (sym c.edited_object.ensures.sized)
     (front-edited c.args.edits.now c.cards-own.result.now c.args.self.now.cards _ c.cards_before_all.result _ _ c.cards-own.ensures.cards (c.deref.ensures.value ∙ c.in_ok-cards.ensures)
     c.cards_before_all.ensures.most c.cards-own.ensures.few c.edited.ensures.front)
+
+pub returns-in_err-edited-clause-sized_due : goal.returns-in_err-edited-clause-sized_due
+returns-in_err-edited-clause-sized_due c =
+    let edits = c.args.edits.now in
+    let own = c.cards-own.result.now in
+    let cards = c.args.self.now.cards in
+    let same = c.cards-own.ensures.cards in
+    let few = c.cards-own.ensures.few in
+    let count = ap length same in
+    let taken : AreTaken edits cards c.cards_before_all.result c.cards_behind_all.result = record {
+      some = c.requires.some;
+      apply = c.requires.apply;
+      few = few;
+      all = c.cards_before_all.ensures.all;
+      most = c.cards_before_all.ensures.most;
+      most_behind = λ n within stand. c.cards_behind_all.ensures.most cards n (sym count) (omega (arith, few, count)) c.requires.apply (omega (arith, within, count)) (subst (StandBehind n edits) (sym count) stand);
+    } in
+    due-edited edits c.cards-own.result.now c.args.self.now.cards _ c.cards_before_all.result c.cards_behind_all.result _ _ c.cards-own.ensures.cards (c.deref.ensures.value ∙ c.in_ok-cards.ensures) taken c.edited.ensures.rises c.edited.ensures.front c.edited.ensures.due
+
+pub returns-in_err-object-clause-sized_due : goal.returns-in_err-object-clause-sized_due
+returns-in_err-object-clause-sized_due c =
+    let edits = c.args.edits.now in
+    let own = c.cards-own.result.now in
+    let cards = c.args.self.now.cards in
+    let same = c.cards-own.ensures.cards in
+    let few = c.cards-own.ensures.few in
+    let count = ap length same in
+    let taken : AreTaken edits cards c.cards_before_all.result c.cards_behind_all.result = record {
+      some = c.requires.some;
+      apply = c.requires.apply;
+      few = few;
+      all = c.cards_before_all.ensures.all;
+      most = c.cards_before_all.ensures.most;
+      most_behind = λ n within stand. c.cards_behind_all.ensures.most cards n (sym count) (omega (arith, few, count)) c.requires.apply (omega (arith, within, count)) (subst (StandBehind n edits) (sym count) stand);
+    } in
+    subst (RisesToDue edits c.args.self.now.cards c.args.meter.now.sized) (sym c.edited_object.ensures.sized)
+    (due-edited edits c.cards-own.result.now c.args.self.now.cards _ c.cards_before_all.result c.cards_behind_all.result _ _ c.cards-own.ensures.cards (c.deref.ensures.value ∙ c.in_ok-cards.ensures) taken c.edited.ensures.rises c.edited.ensures.front c.edited.ensures.due)
+
+pub returns-clause-sized_due : goal.returns-clause-sized_due
+returns-clause-sized_due c =
+    let edits = c.args.edits.now in
+    let own = c.cards-own.result.now in
+    let cards = c.args.self.now.cards in
+    let same = c.cards-own.ensures.cards in
+    let few = c.cards-own.ensures.few in
+    let count = ap length same in
+    let taken : AreTaken edits cards c.cards_before_all.result c.cards_behind_all.result = record {
+      some = c.requires.some;
+      apply = c.requires.apply;
+      few = few;
+      all = c.cards_before_all.ensures.all;
+      most = c.cards_before_all.ensures.most;
+      most_behind = λ n within stand. c.cards_behind_all.ensures.most cards n (sym count) (omega (arith, few, count)) c.requires.apply (omega (arith, within, count)) (subst (StandBehind n edits) (sym count) stand);
+    } in
+    subst (RisesToDue edits c.args.self.now.cards c.args.meter.now.sized) (sym c.edited_object.ensures.sized)
+    (due-edited edits c.cards-own.result.now c.args.self.now.cards _ c.cards_before_all.result c.cards_behind_all.result _ _ c.cards-own.ensures.cards (c.deref.ensures.value ∙ c.in_ok-cards.ensures) taken c.edited.ensures.rises c.edited.ensures.front c.edited.ensures.due)
+
+pub returns-in_err-cards-clause-sized_due : goal.returns-in_err-cards-clause-sized_due
+returns-in_err-cards-clause-sized_due c =
+    let edits = c.args.edits.now in
+    let own = c.cards-own.result.now in
+    let cards = c.args.self.now.cards in
+    let same = c.cards-own.ensures.cards in
+    let few = c.cards-own.ensures.few in
+    let count = ap length same in
+    let taken : AreTaken edits cards c.cards_before_all.result c.cards_behind_all.result = record {
+      some = c.requires.some;
+      apply = c.requires.apply;
+      few = few;
+      all = c.cards_before_all.ensures.all;
+      most = c.cards_before_all.ensures.most;
+      most_behind = λ n within stand. c.cards_behind_all.ensures.most cards n (sym count) (omega (arith, few, count)) c.requires.apply (omega (arith, within, count)) (subst (StandBehind n edits) (sym count) stand);
+    } in
+    due-still edits cards c.cards_before_all.result c.cards_behind_all.result c.args.meter.now.sized taken

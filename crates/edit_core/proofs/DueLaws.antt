@@ -1,0 +1,73 @@
+-- What is sized for edits is within what is due.
+use Rattle.std.proofs.Common.{◌≡◌, ℕ, ◌+◌, ◌-◌, ◌≤◌, ◌==◌, true, false, List, [], ◌∷◌, length, All, None, refl, sym, ap, ◌∙◌, subst, arith}
+use Rattle.std.proofs.lemmas.Bool.{eqb-true}
+use Rattle.definitions.specs.Cards.{Card}
+use Rattle.definitions.specs.DeckKinds.{kind_of_statements}
+use Rattle.definitions.specs.Edits.{DoAgree, Edited, IsUntouched, Split}
+use Rattle.definitions.specs.Statements.{Statement}
+use Rattle.cards.specs.declared.edits.Edit.{Edit}
+use Rattle.cards.specs.Edits.{edited_by, first_fault}
+use Rattle.deck_assembler.specs.Formers.{known_in}
+use Rattle.deck_assembler.specs.Meetings.{StandApart}
+use Rattle.deck_assembler.proofs.AgreementLaws.{untouched-before}
+use Rattle.deck_assembler.proofs.FrontLaws.{front-still as still}
+use Rattle.edit_core.specs.Edited.{front_of, AreDecksOf, RisesToDue, RisesWithinDue, StandBehind, StandUnchanged}
+use Rattle.edit_core.proofs.EditLaws.{decks-before}
+use Rattle.edit_core.proofs.EndLaws.{apart-all}
+
+-- the cards that the code takes for those before edits and behind them
+pub record AreTaken (edits : List Edit) (cards : List Card) (before behind : ℕ) : Type 0 where
+  pub some : (length edits == 0) ≡ false
+  pub apply : first_fault edits cards ≡ None
+  pub few : length cards ≤ 20000
+  pub all : All (λ edit. before ≤ front_of edit) edits
+  pub most : (count : ℕ) → count ≤ 20000 → All (λ edit. count ≤ front_of edit) edits → count ≤ before
+  pub most_behind : (count : ℕ) → count ≤ length cards → StandBehind count edits (length cards) → count ≤ behind
+
+-- the decks of an edit
+apart-of : (edits : List Edit) (own cards made : List Card) (before behind : ℕ) (decks : Edited) → own ≡ cards → made ≡ edited_by edits own → AreTaken edits cards before behind → AreDecksOf edits cards decks → StandUnchanged edits cards decks →
+    StandApart own made before behind decks
+apart-of edits own cards made before behind decks same after taken are ends =
+    let apart = apart-all edits cards before ends.behind taken.some taken.apply taken.all ends.stand in
+    let of_old = ends.of_old in
+    let of_new = ends.of_new in
+    record {
+      of_old = are.old ∙ ap known_in (sym same);
+      of_new = are.new ∙ ap (λ (l : List Card). known_in (edited_by edits l)) (sym same) ∙ ap known_in (sym after);
+      old_before = let all = apart.0 in omega (arith, all, of_old);
+      new_before = let all = apart.1 in omega (arith, all, of_new);
+      count = ends.behind;
+      old_count = of_old ∙ ap length (sym same);
+      new_count = of_new ∙ ap (λ (l : List Card). length (edited_by edits l)) (sym same) ∙ ap length (sym after);
+      few = taken.most_behind ends.behind ends.few ends.stand;
+    }
+
+-- what is counted from one time to another, where it is bounded behind each untouched front
+pub due-edited : (edits : List Edit) (own cards made : List Card) (before behind count now : ℕ) → own ≡ cards → made ≡ edited_by edits own → AreTaken edits cards before behind → count ≤ now →
+    ((decks : Edited) (front : List Statement) → decks.old ≡ known_in own → decks.new ≡ known_in made → decks.before ≤ before → kind_of_statements decks.old ≡ kind_of_statements decks.new → IsUntouched decks front →
+    length front + now ≤ length decks.new + count) →
+    ((decks : Edited) (front : List Statement) (split : Split) → StandApart own made before behind decks → decks.before ≤ before → IsUntouched decks front → DoAgree decks split → length front + now ≤ (length split.new_front + 128) + count) →
+    RisesToDue edits cards count now
+due-edited edits own cards made before behind count now same after taken rises front due = λ decks are ends.
+    let apart = apart-of edits own cards made before behind decks same after taken are ends in
+    let few = decks-before edits cards before decks taken.most are taken.few in
+    record {
+      to_end = λ untouched is. let bound = front decks untouched apart.of_old apart.of_new few are.kinds is in omega (arith, bound, rises);
+      to_agreement = λ untouched split is agree. let bound = due decks untouched split apart few is agree in omega (arith, bound, rises);
+    }
+
+-- where nothing is counted
+pub due-still : (edits : List Edit) (cards : List Card) (before behind count : ℕ) → AreTaken edits cards before behind → RisesToDue edits cards count count
+due-still edits cards before behind count taken =
+    due-edited edits cards cards (edited_by edits cards) before behind count count refl refl taken (omega arith) (λ decks front old new few kinds is. still decks front count is)
+    (λ decks front split apart few is agree. let before_split = untouched-before cards (edited_by edits cards) before behind decks front split apart few is agree in omega (arith, before_split))
+
+-- some edits
+pub due-some : (edits : List Edit) (cards : List Card) (count now : ℕ) → (length edits == 0) ≡ false → RisesToDue edits cards count now → RisesWithinDue edits cards count now
+due-some [] cards count now some due = cc
+due-some (edit ∷ edits) cards count now some due = due
+
+-- no edits
+pub due-none : (edits : List Edit) (cards : List Card) (count : ℕ) → (length edits == 0) ≡ true → RisesWithinDue edits cards count count
+due-none [] cards count none = refl
+due-none (edit ∷ edits) cards count none = let zero = eqb-true (length (edit ∷ edits)) 0 none in absurd (omega (arith, zero))
