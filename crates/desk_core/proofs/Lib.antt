@@ -25,9 +25,15 @@ pub mod WorkedForeign
 pub mod WorkedLinks
 pub mod WorkedChanges
 pub mod WorkedPuts
+pub mod WorkedRounds
 pub mod PlaceLaws
 pub mod AnswerLaws
 pub mod ChangeDone
 pub mod ClaimDone
 pub mod DeliverDone
 pub mod CardCounts
+pub mod OwnAlways
+pub mod RoundsLeft
+pub mod DeckRounds
+pub mod LinkRounds
+pub mod WorkEnds

@@ -113,7 +113,7 @@ named-removed (d ∷ decks) (suc place) deck own at_place =
     ap (λ (b : Bool). cond (not b) (d ∷ filter (λ d. not (is_named deck.name d)) decks) (filter (λ d. not (is_named deck.name d)) decks)) other ∙ ap (λ (kept : List DeskDeck). d ∷ kept) rest
 
 -- where nothing is found the first fails
-fails-head : (pass : Bool) (d : DeskDeck) (rest : Option DeskDeck) → cond pass (Some d) rest ≡ None → (pass ≡ false) × (rest ≡ None)
+pub fails-head : (pass : Bool) (d : DeskDeck) (rest : Option DeskDeck) → cond pass (Some d) rest ≡ None → (pass ≡ false) × (rest ≡ None)
 fails-head true d rest none = cc
 fails-head false d rest none = (refl, none)
 
@@ -205,7 +205,7 @@ is-found test (Some p) decks is =
     let there = element-at decks p both.1 in
     ap (λ (found : Option DeskDeck). is_some found) (sym (both.0 ∙ there.1))
 
-each : (decks : List DeskDeck) → AllByRecursion (λ d. Unit {0}) decks
+pub each : (decks : List DeskDeck) → AllByRecursion (λ d. Unit {0}) decks
 each [] = tt
 each (d ∷ ds) = (tt, each ds)
 

@@ -11,7 +11,7 @@ use Rattle.desk_core.specs.Progress.{is_given, has_leases, has_work, hands_a_dec
 use Rattle.desk_core.specs.Steps.{Steps}
 
 -- neither holds
-neither : (a b : Bool) → (a || b) ≡ false → (a ≡ false) × (b ≡ false)
+pub neither : (a b : Bool) → (a || b) ≡ false → (a ≡ false) × (b ≡ false)
 neither true b e = absurd (cc)
 neither false b e = (refl, e)
 
@@ -21,7 +21,7 @@ free-ungiven false None e = refl
 free-ungiven built (Some lease) e = absurd (cc)
 
 -- the first of decks that is behind is found, where none is given to anybody
-found : (decks : List DeskDeck) → list_any is_behind decks ≡ true → list_any is_given decks ≡ false → (deck : DeskDeck) × (find is_free decks ≡ Some deck)
+pub found : (decks : List DeskDeck) → list_any is_behind decks ≡ true → list_any is_given decks ≡ false → (deck : DeskDeck) × (find is_free decks ≡ Some deck)
 found [] behind none = absurd (cc)
 found (deck ∷ decks) behind none =
     let both = neither (is_given deck) (list_any is_given decks) none in
@@ -57,7 +57,7 @@ deck-claimed desk behind none =
     (λ _. subst (λ (d : Option DeskDeck). HandsDeck (claim_deck desk d)) (sym one.1) (deck-unless desk _ (hand_out one.0 desk) refl))
     (λ e. absurd (let other : true ≡ false = sym behind ∙ e in cc))
 
-not-leased : (version : ℕ) (link : Option Lease) → is_some link ≡ false → is_leased_at version link ≡ false
+pub not-leased : (version : ℕ) (link : Option Lease) → is_some link ≡ false → is_leased_at version link ≡ false
 not-leased version None e = refl
 not-leased version (Some lease) e = absurd (cc)
 

@@ -43,3 +43,15 @@ equal_lists (x ∷ xs) (y ∷ ys) h =
     let heads : x ≡ y = equal_decks x y parts.0 in
     let tails : xs ≡ ys = equal_lists xs ys parts.1 in
     cc
+
+-- cards, decks and lists of decks are the same as themselves
+same_cards-itself : (cards : List Card) → same_cards cards cards ≡ true
+same_cards-itself [] = refl
+same_cards-itself (card ∷ cards) = and_from (same_text card card) (same_cards cards cards) (same_text-itself card) (same_cards-itself cards)
+
+pub same_deck-itself : (deck : Deck) → same_deck deck deck ≡ true
+same_deck-itself deck = and_from (same_text deck.name deck.name) (same_cards deck.cards deck.cards) (same_text-itself deck.name) (same_cards-itself deck.cards)
+
+pub same_decks-itself : (decks : List Deck) → same_decks decks decks ≡ true
+same_decks-itself [] = refl
+same_decks-itself (deck ∷ decks) = and_from (same_deck deck deck) (same_decks decks decks) (same_deck-itself deck) (same_decks-itself decks)

@@ -11,6 +11,8 @@ pub mod Reading
 pub mod Claiming
 pub mod Delivering
 pub mod Steps
+pub mod Making
+pub mod Rounds
 pub mod Runs
 pub mod Jobs
 pub mod Progress

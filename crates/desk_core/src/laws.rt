@@ -1,11 +1,12 @@
 //! What holds in every run of a desk, each law as the contract of a function that does nothing.
-ghost use Rattle.std.specs.Prelude.{◌≡◌, ℕ, true, false, Some, reverse};
+ghost use Rattle.std.specs.Prelude.{◌≡◌, ℕ, ◌+◌, ◌≤◌, true, false, Some, reverse};
 ghost use Rattle.turn_office.specs.Histories.{Leads};
-ghost use Rattle.desk_core.specs.Desks.{Desk, Publication};
+ghost use Rattle.desk_core.specs.Desks.{Desk, Publication, greatest_number};
 ghost use Rattle.desk_core.specs.Calls.{Call, Refusal, Reply, Show, Shown, Claim, Idle, DeckJob, DeckWork, Refused};
-ghost use Rattle.desk_core.specs.Steps.{Steps};
+ghost use Rattle.desk_core.specs.Steps.{answer, Steps};
 ghost use Rattle.desk_core.specs.Runs.{History, Runs, IsBuildOf, IsUnchanged, IsOfItsChanges, IsPublishedAt, IsPublishedFrom};
 ghost use Rattle.desk_core.specs.Jobs.{IsDue, IsPartOf, accepted_edits, handed_edits};
+ghost use Rattle.desk_core.specs.Rounds.{after_rounds, most_rounds};
 ghost use Rattle.desk_core.specs.Progress.{has_leases, has_work, hands_a_deck, hands_a_link};
 
 /// After every list of calls and replies that a new desk allows one after the other: what is shown
@@ -45,4 +46,15 @@ pub fn work_is_handed_out()
         Steps desk Claim reply next → has_leases desk ≡ false → has_work desk ≡ true → hands_a_deck reply ≡ true }
     ensures link { (desk next : Desk) (reply : Reply) →
         Steps desk Claim reply next → has_leases desk ≡ false → has_work desk ≡ false → hands_a_link reply ≡ true }
+{}
+
+/// Work ends: from each desk that is reached and of which no lease is out, rounds of one who works
+/// alone, each a claim and the delivery of what its job makes, come to Idle with the desk's version:
+/// after at most two rounds for each deck (one of them may end a record of other cards) and one for
+/// the link. So at most twice as many claims as there are decks, and two, where memory is found and
+/// there are numbers for so many leases.
+pub fn work_ends()
+    ensures { (begun : ℕ) (history : History) (desk : Desk) →
+        Runs begun history desk → has_leases desk ≡ false → desk.leases + most_rounds desk ≤ greatest_number →
+        (answer Claim (after_rounds (most_rounds desk) desk)).reply ≡ Idle desk.version }
 {}

@@ -1,0 +1,22 @@
+-- A worked desk: its rounds, where a record that came back late is of other cards.
+use Rattle.std.proofs.Common.{◌≡◌, List, [], ◌∷◌, codes, refl}
+use Rattle.desk_core.specs.Language.{Card}
+use Rattle.desk_core.specs.Edits.{Replace}
+use Rattle.desk_core.specs.Desks.{Desk, new_desk}
+use Rattle.desk_core.specs.Calls.{AddDeck, Claim, FromRecord, FromCards, Reply, LinkJob, Idle}
+use Rattle.desk_core.specs.Steps.{answer}
+use Rattle.desk_core.specs.Rounds.{after_rounds, most_rounds}
+use Rattle.desk_core.proofs.Worked.{desk_after, deck_m, kept, result, job, A, B, C, replace}
+
+-- M was edited while its job was out, and the result that came then has a record of two cards
+abbrev late : Desk
+late = desk_after (AddDeck (deck_m A) ∷ Claim ∷ replace 1 (codes "*B") ∷ result 1 1 1 (codes "*C" ∷ C) ∷ []) new_desk
+
+-- what the claim of each round gives: the record is tried, then the cards, then the link
+pub three_rounds : (answer Claim late).reply ∷ (answer Claim (after_rounds 1 late)).reply ∷ (answer Claim (after_rounds 2 late)).reply ∷ (answer Claim (after_rounds 3 late)).reply ∷ []
+    ≡ job 2 1 2 (FromRecord (kept (codes "*C" ∷ C))) (Replace 1 (codes "*B") ∷ []) ∷ job 3 1 2 (FromCards B) []
+    ∷ LinkJob (record { lease = 4; version = 2; objects = deck_m B ∷ [] }) ∷ Idle 2 ∷ []
+three_rounds = refl
+
+pub so_many : most_rounds late ≡ 3
+so_many = refl

@@ -1,0 +1,27 @@
+-- What a deck job makes (ours).
+use Rattle.std.specs.Prelude.{ℕ, List, Some}
+use Rattle.desk_core.specs.Language.{Card, Deck}
+use Rattle.desk_core.specs.Edits.{edited_by}
+use Rattle.desk_core.specs.Calls.{Done, Start, FromRecord, FromCards, DeckWork}
+
+-- the deck of a job's start: that of the record, or the cards under the name that the job has
+abbrev pub start_deck : List ℕ → Start → Deck
+start_deck name (FromRecord kept) = kept.deck
+start_deck name (FromCards cards) = record { name = name; cards = cards }
+
+-- the cards of a job's start
+abbrev pub start_cards : Start → List Card
+start_cards (FromRecord kept) = kept.deck.cards
+start_cards (FromCards cards) = cards
+
+-- the deck that a job begins with
+abbrev pub begun_deck : DeckWork → Deck
+begun_deck work = start_deck work.name work.start
+
+-- the deck that a job is to assemble: its edits are made in order
+abbrev pub made_deck : DeckWork → Deck
+made_deck work = record { name = (begun_deck work).name; cards = edited_by work.edits (begun_deck work).cards }
+
+-- the result of a deck job: record and object are of the deck that it assembled
+abbrev pub done_of : DeckWork → Done
+done_of work = record { lease = work.lease; deck = work.deck; version = work.version; kept = Some (record { deck = made_deck work }); object = made_deck work }

@@ -1,0 +1,34 @@
+-- Rounds of work, each a claim and the call that ends the job that it gives, where memory is found (ours).
+use Rattle.std.specs.Prelude.{ℕ, zero, suc, ◌+◌, ◌*◌, length, is_none, if◌then◌else◌}
+use Rattle.desk_core.specs.Edits.{first_fault}
+use Rattle.desk_core.specs.Desks.{Desk}
+use Rattle.desk_core.specs.Calls.{Call, Claim, DeliverDeck, DeliverLink, GiveUp, DeckWork, LinkWork, Reply, DeckJob, LinkJob}
+use Rattle.desk_core.specs.Making.{start_cards, done_of}
+use Rattle.desk_core.specs.Steps.{answer}
+
+-- the call that ends a deck job: what it makes is delivered; or it is given up, where one of its edits does not apply
+abbrev pub end_of_deck : DeckWork → Call
+end_of_deck work = if is_none (first_fault work.edits (start_cards work.start)) then DeliverDeck (done_of work) else GiveUp work.lease
+
+-- the call that ends a link job: the objects are delivered under its version
+abbrev pub end_of_link : LinkWork → Call
+end_of_link work = DeliverLink work.lease (record { version = work.version; decks = work.objects })
+
+-- the desk after the call that ends the job of a reply; as it is where that gives none
+abbrev pub after_job : Reply → Desk → Desk
+after_job (DeckJob work) desk = (answer (end_of_deck work) desk).desk
+after_job (LinkJob work) desk = (answer (end_of_link work) desk).desk
+after_job _ desk = desk
+
+-- the desk after a round
+abbrev pub after_round : Desk → Desk
+after_round desk = after_job (answer Claim desk).reply (answer Claim desk).desk
+
+-- the desk after so many rounds
+abbrev pub after_rounds : ℕ → Desk → Desk
+after_rounds zero desk = desk
+after_rounds (suc rounds) desk = after_rounds rounds (after_round desk)
+
+-- how many rounds a desk needs at most: two for each deck, since a record that came back may be of other cards, and one for the link
+abbrev pub most_rounds : Desk → ℕ
+most_rounds desk = 2 * length desk.decks + 1
