@@ -2,33 +2,12 @@
 use Rattle.std.specs.Prelude.{◌≡◌, ◌⊎◌, ℕ, ◌+◌, ◌^◌, ◌<◌, ◌≤◌, Bool, true, false, List, [], ◌∷◌, Option, Some, None}
 use Rattle.statement_coder.specs.Meters.{CountsAtMost}
 use Rattle.statement_coder.specs.declared.meter.Meter.{Meter}
-use Rattle.deck_workers.specs.Language.{Card, Deck, edited_by, edits_bound, statement_count, edits_fault, RecordFault, OutOfMemory, Done, DeckWork, LinkWork, Start, FromRecord, FromCards}
+use Rattle.deck_workers.specs.Language.{edits_bound, statement_count, edits_fault, RecordFault, OutOfMemory, DeckWork, LinkWork, Start, FromRecord, FromCards}
+pub use Rattle.desk_core.specs.Making.{start_deck, start_cards, begun_deck, done_of}
 use Rattle.deck_workers.specs.declared.jobs.Job.{Job}
 use Rattle.deck_workers.specs.declared.jobs.Job.TheVariants as job
 use Rattle.deck_workers.specs.declared.made.Made.{Made}
 use Rattle.deck_workers.specs.declared.made.Made.TheVariants as made
-
--- the deck of a job's start: that of the record, or the cards under the name that the job has
-abbrev pub start_deck : List ℕ → Start → Deck
-start_deck name (FromRecord kept) = kept.deck
-start_deck name (FromCards cards) = record { name = name; cards = cards }
-
--- the cards of a job's start
-abbrev pub start_cards : Start → List Card
-start_cards (FromRecord kept) = kept.deck.cards
-start_cards (FromCards cards) = cards
-
--- the deck that a job begins with
-abbrev pub begun_deck : DeckWork → Deck
-begun_deck work = start_deck work.name work.start
-
--- the deck that a job is to assemble: its edits are made in order
-abbrev pub edited_deck : DeckWork → Deck
-edited_deck work = record { name = (begun_deck work).name; cards = edited_by work.edits (begun_deck work).cards }
-
--- the result of a deck job: record and object are of the deck that it assembled
-abbrev pub done_of : DeckWork → Done
-done_of work = record { lease = work.lease; deck = work.deck; version = work.version; kept = Some (record { deck = edited_deck work }); object = edited_deck work }
 
 -- what a deck job gives where nothing, or this, keeps its edits from being made
 abbrev pub done_unless : DeckWork → Option RecordFault → Made
