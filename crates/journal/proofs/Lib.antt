@@ -8,3 +8,4 @@ pub mod RecordChains
 pub mod RecordLaws
 pub mod ReplaySteps
 pub mod QueueSteps
+pub mod QueueOrder

@@ -1,5 +1,5 @@
 -- Records that are not written yet (ours): one place for each session, and the version of the record that is to be written next.
-use Rattle.std.specs.Prelude.{ℕ, ◌≡◌, ◌+◌, ◌==◌, List, [], ◌∷◌, ◌++◌, Option, Some, None, if◌then◌else◌}
+use Rattle.std.specs.Prelude.{ℕ, ◌≡◌, ⊤, ◌+◌, ◌==◌, List, [], ◌∷◌, ◌++◌, length, Contains, Option, Some, None, if◌then◌else◌}
 use Rattle.journal.specs.declared.queue.Unwritten.{Unwritten}
 use Rattle.journal.specs.Records.{text_with_version}
 
@@ -33,3 +33,25 @@ draft_queued version (place ∷ places) = or_else (draft_of version place) (draf
 pub data GoOut (places : List (Option Unwritten)) (first : ℕ) : List ℕ → ℕ → Type 0 where
   start : GoOut places first [] first
   more : (text : List ℕ) (version : ℕ) (draft : List ℕ) → GoOut places first text version → draft_queued version places ≡ Some draft → GoOut places first (text ++ text_with_version version draft) (version + 1)
+
+-- a record of a version waits at the place of some session
+abbrev pub Waits : List (Option Unwritten) → ℕ → List ℕ → Type 0
+Waits places version draft = Contains places (Some (unwritten version draft))
+
+-- each of these waits, one version after the other
+abbrev pub AllWait : List (Option Unwritten) → ℕ → List (List ℕ) → Type 0
+AllWait places version [] = ⊤
+AllWait places version (draft ∷ drafts) = Waits places version draft × AllWait places (version + 1) drafts
+
+-- the texts of records, one version after the other
+abbrev pub texts_from : ℕ → List (List ℕ) → List ℕ
+texts_from version [] = []
+texts_from version (draft ∷ drafts) = text_with_version version draft ++ texts_from (version + 1) drafts
+
+-- records go out in the order of their versions, without a gap, at whichever places they wait; and none waits for the version behind the last of them
+pub record InOrder (places : List (Option Unwritten)) (first : ℕ) (text : List ℕ) (next : ℕ) : Type 0 where
+  pub drafts : List (List ℕ)
+  pub text_is : text ≡ texts_from first drafts
+  pub all_wait : AllWait places first drafts
+  pub next_is : next ≡ first + length drafts
+  pub none_waits : (draft : List ℕ) → Waits places next draft → ⊥

@@ -1,6 +1,6 @@
 //! Records that are not written yet: they go out in the order of their versions, and none is left out.
 ghost use Rattle.std.specs.Prelude.{◌≡◌, ◌+◌, ◌<◌, ◌^◌, IfOk, Some, false, is_some, max, nat_lt, option_map, set};
-ghost use Rattle.journal.specs.Queues.{GoOut, draft_of, draft_queued, unwritten};
+ghost use Rattle.journal.specs.Queues.{GoOut, InOrder, draft_of, draft_queued, unwritten};
 
 use crate::drafts::Draft;
 use std::alloc::{AllocError, Global};
@@ -65,7 +65,8 @@ fn draft_queued(places: &[Option<Unwritten>], version: u64) -> Option<&Draft>
 
 /// What goes out from a version on.
 fn batch_from(alloc: Global, places: &[Option<Unwritten>], first: u64) -> Result<Batch, AllocError>
-    ensures { IfOk result (λ batch. GoOut places.now first batch.text batch.next) }
+    ensures out { IfOk result (λ batch. GoOut places.now first batch.text batch.next) }
+    ensures order { IfOk result (λ batch. InOrder places.now first batch.text batch.next) }
 {
     let mut text = Text::new(alloc);
     for version in first..u64::MAX {
@@ -139,10 +140,11 @@ impl Queue {
         self.next < self.told
     }
 
-    /// The records that may be written: from the next version on, each once, up to the first that is not
-    /// there.
+    /// The records that may be written: from the next version on, in the order of their versions and without
+    /// a gap, at whichever places they wait, up to the first that is not there.
     pub fn batch(&self, alloc: Global) -> Result<Batch, AllocError>
-        ensures { IfOk result (λ batch. GoOut self.now.places self.now.next batch.text batch.next) }
+        ensures out { IfOk result (λ batch. GoOut self.now.places self.now.next batch.text batch.next) }
+        ensures order { IfOk result (λ batch. InOrder self.now.places self.now.next batch.text batch.next) }
     {
         batch_from(alloc, self.places.as_slice(), self.next)
     }
