@@ -12,15 +12,15 @@ use Rattle.deck_files.specs.declared.deck_shelf.SaveOver.TheVariants.{Known}
 use Rattle.session_line.specs.declared.refusals.Refusal.TheVariants.{BadCommand, BadName, BadCard, BadLine}
 use Rattle.session_line.specs.Commands.{command_of}
 use Rattle.session_line.specs.declared.tasks.PublishedText.TheVariants.{Image, Listing}
-use Rattle.session_line.specs.declared.tasks.Task.TheVariants.{Ask, LoadDeck, SaveDeck, Leave, Refuse}
+use Rattle.session_line.specs.declared.tasks.Task.TheVariants.{Ask, ShowCards, ShowText, LoadDeck, SaveDeck, Leave, Refuse}
 use Rattle.session_line.specs.Tasks.{lines_due, task_of}
-use Rattle.session_line.specs.Answers.{reply_text, session_reply}
+use Rattle.session_line.specs.Answers.{told_of_call, told_of_cards, told_of_publication, told_text}
 
 -- which call of the desk a line is
-pub add : task_of (codes "ADD M") [] ≡ Ask (call.AddDeck (record { name = codes "M"; cards = [] })) Listing
+pub add : task_of (codes "ADD M") [] ≡ Ask (call.AddDeck (record { name = codes "M"; cards = [] }))
 add = refl
 
-pub insert : task_of (codes "INS M 2 1 *A") [] ≡ Ask (call.EditDeck (codes "M") 2 (Insert 1 (codes "*A"))) Listing
+pub insert : task_of (codes "INS M 2 1 *A") [] ≡ Ask (call.EditDeck (codes "M") 2 (Insert 1 (codes "*A")))
 insert = refl
 
 pub load : task_of (codes "LOAD M") [] ≡ LoadDeck (codes "M")
@@ -29,7 +29,10 @@ load = refl
 pub save : task_of (codes "SAVE M") [] ≡ SaveDeck (codes "M") Known
 save = refl
 
-pub image : task_of (codes "IMAGE") [] ≡ Ask call.Show Image
+pub cards_of_deck : task_of (codes "CARDS M") [] ≡ ShowCards (codes "M")
+cards_of_deck = refl
+
+pub image : task_of (codes "IMAGE") [] ≡ ShowText Image
 image = refl
 
 pub bye : task_of (codes "BYE") [] ≡ Leave
@@ -37,7 +40,7 @@ bye = refl
 
 -- a batch is one call, whose edits stand in the order of the lines
 pub batch : task_of (codes "BATCH M 3 3") (codes "INS 1 *X" ∷ codes "DEL 3" ∷ codes "REP 2 *Y" ∷ [])
-    ≡ Ask (call.Batch (codes "M") 3 (Insert 1 (codes "*X") ∷ Remove 3 ∷ Replace 2 (codes "*Y") ∷ [])) Listing
+    ≡ Ask (call.Batch (codes "M") 3 (Insert 1 (codes "*X") ∷ Remove 3 ∷ Replace 2 (codes "*Y") ∷ []))
 batch = refl
 
 -- a bad name takes the lines all the same, and counts before them
@@ -60,10 +63,10 @@ lines_of_bad_head = refl
 
 -- a put is one call, and each of its lines is a card, one that looks like a command too
 pub put : task_of (codes "PUT M 3 3") (codes "          IDENT  M " ∷ codes "DROP M 3" ∷ codes "" ∷ [])
-    ≡ Ask (call.PutDeck (record { name = codes "M"; cards = codes "          IDENT  M" ∷ codes "DROP M 3" ∷ codes "" ∷ [] }) 3) Listing
+    ≡ Ask (call.PutDeck (record { name = codes "M"; cards = codes "          IDENT  M" ∷ codes "DROP M 3" ∷ codes "" ∷ [] }) 3)
 put = refl
 
-pub put-new : task_of (codes "PUT M 0 0") [] ≡ Ask (call.PutDeck (record { name = codes "M"; cards = [] }) 0) Listing
+pub put-new : task_of (codes "PUT M 0 0") [] ≡ Ask (call.PutDeck (record { name = codes "M"; cards = [] }) 0)
 put-new = refl
 
 -- its lines are taken whatever its name is, and the name counts before them
@@ -82,27 +85,27 @@ pub lines_of_bad_put : lines_due (command_of (codes "PUT M 4 20001")) ≡ 0
 lines_of_bad_put = refl
 
 -- replies of the desk
-pub changed : reply_text Listing (reply.Changed 4) ≡ codes "OK 4\n"
+pub changed : told_text (told_of_call (reply.Changed 4)) ≡ codes "OK 4\n"
 changed = unfold digits in refl
 
-pub cards : reply_text Listing (reply.CardsAre 5 (codes "*B" ∷ codes "*A" ∷ [])) ≡ codes "OK 5 2\n*B\n*A\n"
+pub cards : told_text (told_of_cards (reply.CardsAre 5 (codes "*B" ∷ codes "*A" ∷ []))) ≡ codes "OK 5 2\n*B\n*A\n"
 cards = unfold digits in refl
 
-pub status : reply_text Listing (reply.StatusIs 1 None (record { name = codes "M"; version = 1; cards = 0; state = Behind } ∷ [])) ≡ codes "OK 1 2\nPUBLISHED NONE\nM 1 0 BEHIND\n"
+pub status : told_text (told_of_call (reply.StatusIs 1 None (record { name = codes "M"; version = 1; cards = 0; state = Behind } ∷ []))) ≡ codes "OK 1 2\nPUBLISHED NONE\nM 1 0 BEHIND\n"
 status = unfold digits in refl
 
-pub published : reply_text Image (reply.Shown (record { version = 0; decks = [] })) ≡ codes "OK 0 1\nEND\n"
+pub published : told_text (told_of_publication Image (reply.Shown (record { version = 0; decks = [] }))) ≡ codes "OK 0 1\nEND\n"
 published = unfold digits in refl
 
-pub listed : reply_text Listing (reply.Shown (record { version = 0; decks = [] })) ≡ codes "OK 0 2\nMAP\nEND\n"
+pub listed : told_text (told_of_publication Listing (reply.Shown (record { version = 0; decks = [] }))) ≡ codes "OK 0 2\nMAP\nEND\n"
 listed = unfold digits in refl
 
-pub old_version : reply_text Listing (reply.Refused (desk.OldVersion 4)) ≡ codes "NO OldVersion 4\n"
+pub old_version : told_text (told_of_call (reply.Refused (desk.OldVersion 4))) ≡ codes "NO OldVersion 4\n"
 old_version = unfold digits in refl
 
-pub bad_edit : reply_text Listing (reply.Refused (desk.BadEdit 2 fault.NoSuchCard)) ≡ codes "NO BadEdit 2 NoSuchCard\n"
+pub bad_edit : told_text (told_of_call (reply.Refused (desk.BadEdit 2 fault.NoSuchCard))) ≡ codes "NO BadEdit 2 NoSuchCard\n"
 bad_edit = unfold digits in refl
 
 -- what no desk answers to a session
-pub foreign : reply_text Listing (session_reply reply.AllOut) ≡ codes "NO Foreign\n"
+pub foreign : told_text (told_of_call reply.AllOut) ≡ codes "NO Foreign\n"
 foreign = unfold digits in refl

@@ -3,8 +3,7 @@ use Rattle.std.specs.Prelude.{ℕ, ◌+◌, ◌≤◌, ⊤, Bool, true, false, n
 use Rattle.desk_core.specs.Language.{listing_of, image_of}
 use Rattle.desk_core.specs.Desks.{Publication}
 use Rattle.desk_core.specs.declared.replies.Reply.{Reply}
-use Rattle.desk_core.specs.declared.replies.Reply.TheVariants.{Changed, CardsAre, Shown, StatusIs, DeckJob, LinkJob, Idle, AllOut, Stored, Cleared, Refused}
-use Rattle.desk_core.specs.declared.replies.Refusal.TheVariants.{Foreign}
+use Rattle.desk_core.specs.declared.replies.Reply.TheVariants.{Changed, CardsAre, Shown, StatusIs, Refused}
 use Rattle.deck_files.specs.DeckFiles.{file_of}
 use Rattle.session_line.specs.declared.refusals.Refusal.{Refusal}
 use Rattle.session_line.specs.declared.refusals.Refusal.TheVariants as refusal
@@ -25,23 +24,28 @@ most_cards = 20000
 abbrev pub most_decks : ℕ
 most_decks = 64
 
--- whether a desk gives this reply to a call of a session: no job and no end of one, no more cards than a deck may have, and no more decks than a desk may have
-abbrev pub is_for_session : Reply → Bool
-is_for_session (Changed version) = true
-is_for_session (CardsAre version cards) = nat_le (length cards) most_cards
-is_for_session (Shown publication) = true
-is_for_session (StatusIs version published rows) = nat_le (length rows) most_decks
-is_for_session (DeckJob job) = false
-is_for_session (LinkJob job) = false
-is_for_session (Idle version) = false
-is_for_session AllOut = false
-is_for_session Stored = false
-is_for_session Cleared = false
-is_for_session (Refused reason) = true
+-- what no desk replies to such a call is refused as foreign
+abbrev pub foreign : Told
+foreign = told.Refused refusal.Foreign
 
--- a reply as a session takes it: one that no desk gives to a session is refused as foreign
-abbrev pub session_reply : Reply → Reply
-session_reply reply = if is_for_session reply then reply else Refused Foreign
+-- what is told of the reply to a call that shows neither cards nor a publication; no more decks than a desk may have
+abbrev pub told_of_call : Reply → Told
+told_of_call (Changed version) = told.Done version
+told_of_call (StatusIs version published rows) = if nat_le (length rows) most_decks then told.Status version published rows else foreign
+told_of_call (Refused reason) = told.Refused (desk_reason reason)
+told_of_call _ = foreign
+
+-- what is told of the reply to a call for the cards of a deck; no more than a deck may have
+abbrev pub told_of_cards : Reply → Told
+told_of_cards (CardsAre version cards) = if nat_le (length cards) most_cards then told.Cards version cards else foreign
+told_of_cards (Refused reason) = told.Refused (desk_reason reason)
+told_of_cards _ = foreign
+
+-- what is told of the reply to a call for the publication, of which this text is shown
+abbrev pub told_of_publication : PublishedText → Reply → Told
+told_of_publication text (Shown publication) = told.Published publication text
+told_of_publication text (Refused reason) = told.Refused (desk_reason reason)
+told_of_publication text _ = foreign
 
 -- a first line, and what follows it
 abbrev pub with_body : List ℕ → List ℕ → List ℕ
@@ -56,38 +60,24 @@ abbrev pub shown_text : PublishedText → Publication → List ℕ
 shown_text Image publication = image_of publication.decks
 shown_text Listing publication = listing_of publication.decks
 
--- the text of a desk's reply
-abbrev pub reply_text : PublishedText → Reply → List ℕ
-reply_text text (Changed version) = with_body (ok_text version) []
-reply_text text (CardsAre version cards) = with_body (counted_text version (length cards)) (file_of cards)
-reply_text text (Shown publication) = with_body (counted_text publication.version (line_count (shown_text text publication))) (shown_text text publication)
-reply_text text (StatusIs version published rows) = with_body (counted_text version (length rows + 1)) (line_of (published_text published) ++ rows_text rows)
-reply_text text (Refused reason) = refused_text (desk_reason reason)
-reply_text text (DeckJob job) = refused_text refusal.Foreign
-reply_text text (LinkJob job) = refused_text refusal.Foreign
-reply_text text (Idle version) = refused_text refusal.Foreign
-reply_text text AllOut = refused_text refusal.Foreign
-reply_text text Stored = refused_text refusal.Foreign
-reply_text text Cleared = refused_text refusal.Foreign
-
 -- the text that a session is told
 abbrev pub told_text : Told → List ℕ
-told_text (told.Replied reply text) = reply_text text reply
-told_text (told.Saved version) = with_body (ok_text version) []
+told_text (told.Done version) = with_body (ok_text version) []
+told_text (told.Cards version cards) = with_body (counted_text version (length cards)) (file_of cards)
+told_text (told.Published publication text) = with_body (counted_text publication.version (line_count (shown_text text publication))) (shown_text text publication)
+told_text (told.Status version published rows) = with_body (counted_text version (length rows + 1)) (line_of (published_text published) ++ rows_text rows)
 told_text (told.Refused reason) = refused_text reason
 told_text told.Bye = with_body (codes "BYE") []
 
 -- whether it is the end of the session
 abbrev pub is_bye : Told → Bool
-is_bye (told.Replied reply text) = false
-is_bye (told.Saved version) = false
-is_bye (told.Refused reason) = false
 is_bye told.Bye = true
+is_bye _ = false
 
 -- what is told has no more cards and decks than may be
 abbrev pub IsTellable : Told → Type 0
-IsTellable (told.Replied (CardsAre version cards) text) = length cards ≤ most_cards
-IsTellable (told.Replied (StatusIs version published rows) text) = length rows ≤ most_decks
+IsTellable (told.Cards version cards) = length cards ≤ most_cards
+IsTellable (told.Status version published rows) = length rows ≤ most_decks
 IsTellable _ = ⊤
 
 -- what is told after a call of the desk

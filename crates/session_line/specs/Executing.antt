@@ -7,27 +7,25 @@ use Rattle.deck_files.specs.declared.deck_shelf.SaveOver.{SaveOver}
 use Rattle.deck_files.specs.Savings.{Saving, saving}
 use Rattle.desk_core.specs.declared.calls.Call.{Call}
 use Rattle.desk_core.specs.declared.replies.Reply.{Reply}
-use Rattle.desk_core.specs.declared.calls.Call.TheVariants.{AddDeck, Cards}
-use Rattle.desk_core.specs.declared.replies.Reply.TheVariants.{CardsAre}
-use Rattle.session_line.specs.declared.tasks.PublishedText.{PublishedText}
-use Rattle.session_line.specs.declared.tasks.PublishedText.TheVariants.{Listing}
+use Rattle.desk_core.specs.declared.calls.Call.TheVariants.{AddDeck, Cards, Show}
 use Rattle.session_line.specs.declared.tasks.Task.{Task}
-use Rattle.session_line.specs.declared.tasks.Task.TheVariants.{Ask, LoadDeck, SaveDeck, Leave, Refuse}
+use Rattle.session_line.specs.declared.tasks.Task.TheVariants.{Ask, ShowCards, ShowText, LoadDeck, SaveDeck, Leave, Refuse}
+use Rattle.session_line.specs.declared.answers.Told.{Told}
 use Rattle.session_line.specs.declared.answers.Told.TheVariants as told
 use Rattle.session_line.specs.declared.answers.Answer.{Answer}
 use Rattle.session_line.specs.Reasons.{load_reason, save_reason}
-use Rattle.session_line.specs.Answers.{session_reply, called, uncalled}
+use Rattle.session_line.specs.Answers.{told_of_call, told_of_cards, told_of_publication, called, uncalled}
 
 module _ {C : Type 0} (makes : C → Call → Reply → C → Type 0) where
-  -- one call of the desk, whose reply is told
-  pub record Asks (call : Call) (text : PublishedText) (desk next : C) (answer : Answer) : Type 0 where
+  -- one call of the desk, and what is told of its reply
+  pub record Asks (call : Call) (telling : Reply → Told) (desk next : C) (answer : Answer) : Type 0 where
     pub reply : Reply
     pub made : makes desk call reply next
-    pub answered : answer ≡ called (told.Replied (session_reply reply) text)
+    pub answered : answer ≡ called (telling reply)
 
   -- the deck that the shelf gave is added; or its fault is told, and the desk is not called
   abbrev pub AddsLoaded : List ℕ → Result (List Card) ShelfLoadFault → C → C → Answer → Type 0
-  AddsLoaded name (Ok cards) desk next answer = Asks (AddDeck (record { name = name; cards = cards })) Listing desk next answer
+  AddsLoaded name (Ok cards) desk next answer = Asks (AddDeck (record { name = name; cards = cards })) told_of_call desk next answer
   AddsLoaded name (Err fault) desk next answer = (next ≡ desk) × (answer ≡ uncalled (told.Refused (load_reason fault)))
 
 module _ {S : Type 0} (loads : S → List ℕ → List Card → S → Type 0) (refuses_to_load : S → List ℕ → ShelfLoadFault → S → Type 0) where
@@ -39,13 +37,13 @@ module _ {S : Type 0} (loads : S → List ℕ → List Card → S → Type 0) (r
 module _ {S : Type 0} (saves : S → Saving → S → Type 0) (refuses_to_save : S → Saving → ShelfSaveFault → S → Type 0) where
   -- one save on the shelf of the version that the desk replied with: it is told, or the fault
   pub data SavesCards (name : List ℕ) (over : SaveOver) (version : ℕ) (cards : List Card) (shelf after : S) (answer : Answer) : Type 0 where
-    saved : saves shelf (saving name over version cards) after → answer ≡ called (told.Saved version) → SavesCards name over version cards shelf after answer
+    saved : saves shelf (saving name over version cards) after → answer ≡ called (told.Done version) → SavesCards name over version cards shelf after answer
     refused : (fault : ShelfSaveFault) → refuses_to_save shelf (saving name over version cards) fault after → answer ≡ called (told.Refused (save_reason fault)) → SavesCards name over version cards shelf after answer
 
-  -- the cards that the desk replied with are saved; another reply is told, and the shelf is not called
-  abbrev pub SavesReply : List ℕ → SaveOver → Reply → S → S → Answer → Type 0
-  SavesReply name over (CardsAre version cards) shelf after answer = SavesCards name over version cards shelf after answer
-  SavesReply name over reply shelf after answer = (after ≡ shelf) × (answer ≡ called (told.Replied reply Listing))
+  -- the cards that would be told are saved; what else would be told is, and the shelf is not called
+  abbrev pub SavesTold : List ℕ → SaveOver → Told → S → S → Answer → Type 0
+  SavesTold name over (told.Cards version cards) shelf after answer = SavesCards name over version cards shelf after answer
+  SavesTold name over what shelf after answer = (after ≡ shelf) × (answer ≡ called what)
 
 module _ {C S : Type 0} (makes : C → Call → Reply → C → Type 0) (loads : S → List ℕ → List Card → S → Type 0) (refuses_to_load : S → List ℕ → ShelfLoadFault → S → Type 0) where
   -- LOAD: one load of the shelf, and then one addition to the desk
@@ -59,7 +57,7 @@ module _ {C S : Type 0} (makes : C → Call → Reply → C → Type 0) (saves :
   pub record SavesDeck (name : List ℕ) (over : SaveOver) (desk next : C) (shelf after : S) (answer : Answer) : Type 0 where
     pub reply : Reply
     pub made : makes desk (Cards name) reply next
-    pub kept : SavesReply saves refuses_to_save name over (session_reply reply) shelf after answer
+    pub kept : SavesTold saves refuses_to_save name over (told_of_cards reply) shelf after answer
 
 module _ {C S : Type 0} (makes : C → Call → Reply → C → Type 0) (loads : S → List ℕ → List Card → S → Type 0) (refuses_to_load : S → List ℕ → ShelfLoadFault → S → Type 0)
     (saves : S → Saving → S → Type 0) (refuses_to_save : S → Saving → ShelfSaveFault → S → Type 0) where
@@ -69,7 +67,9 @@ module _ {C S : Type 0} (makes : C → Call → Reply → C → Type 0) (loads :
 
   -- a task is executed once
   abbrev pub Executes : Task → C → C → S → S → Answer → Type 0
-  Executes (Ask call text) desk next shelf after answer = Asks makes call text desk next answer × (after ≡ shelf)
+  Executes (Ask call) desk next shelf after answer = Asks makes call told_of_call desk next answer × (after ≡ shelf)
+  Executes (ShowCards name) desk next shelf after answer = Asks makes (Cards name) told_of_cards desk next answer × (after ≡ shelf)
+  Executes (ShowText text) desk next shelf after answer = Asks makes Show (told_of_publication text) desk next answer × (after ≡ shelf)
   Executes (LoadDeck name) desk next shelf after answer = LoadsDeck makes loads refuses_to_load name desk next shelf after answer
   Executes (SaveDeck name over) desk next shelf after answer = SavesDeck makes saves refuses_to_save name over desk next shelf after answer
   Executes Leave desk next shelf after answer = OnlyTells (uncalled told.Bye) desk next shelf after answer

@@ -1,4 +1,4 @@
--- The calls that sessions make, and the kinds of replies that they take (ours).
+-- The calls that sessions make, and the kinds of replies that fit each (ours).
 use Rattle.std.specs.Prelude.{Bool, true, false}
 use Rattle.desk_core.specs.declared.calls.Call.{Call}
 use Rattle.desk_core.specs.declared.calls.Call.TheVariants as call
@@ -20,16 +20,41 @@ is_session_call (call.DeliverDeck done) = false
 is_session_call (call.DeliverLink lease publication) = false
 is_session_call (call.GiveUp lease) = false
 
--- whether a reply is no job and no end of one
-abbrev pub is_session_kind : Reply → Bool
-is_session_kind (reply.Changed version) = true
-is_session_kind (reply.CardsAre version cards) = true
-is_session_kind (reply.Shown publication) = true
-is_session_kind (reply.StatusIs version published rows) = true
-is_session_kind (reply.DeckJob job) = false
-is_session_kind (reply.LinkJob job) = false
-is_session_kind (reply.Idle version) = false
-is_session_kind reply.AllOut = false
-is_session_kind reply.Stored = false
-is_session_kind reply.Cleared = false
-is_session_kind (reply.Refused reason) = true
+-- whether a reply tells a change, or refuses
+abbrev pub is_change : Reply → Bool
+is_change (reply.Changed version) = true
+is_change (reply.Refused reason) = true
+is_change _ = false
+
+-- whether a reply has cards, or refuses
+abbrev pub is_cards : Reply → Bool
+is_cards (reply.CardsAre version cards) = true
+is_cards (reply.Refused reason) = true
+is_cards _ = false
+
+-- whether a reply has a publication, or refuses
+abbrev pub is_publication : Reply → Bool
+is_publication (reply.Shown publication) = true
+is_publication (reply.Refused reason) = true
+is_publication _ = false
+
+-- whether a reply has a status, or refuses
+abbrev pub is_status : Reply → Bool
+is_status (reply.StatusIs version published rows) = true
+is_status (reply.Refused reason) = true
+is_status _ = false
+
+-- whether a reply is of the kind that a call of a session asks for, or refuses
+abbrev pub fits_call : Call → Reply → Bool
+fits_call (call.AddDeck deck) reply = is_change reply
+fits_call (call.PutDeck deck seen) reply = is_change reply
+fits_call (call.DropDeck name seen) reply = is_change reply
+fits_call (call.EditDeck name seen edit) reply = is_change reply
+fits_call (call.Batch name seen edits) reply = is_change reply
+fits_call (call.Cards name) reply = is_cards reply
+fits_call call.Show reply = is_publication reply
+fits_call call.Status reply = is_status reply
+fits_call call.Claim reply = false
+fits_call (call.DeliverDeck done) reply = false
+fits_call (call.DeliverLink lease publication) reply = false
+fits_call (call.GiveUp lease) reply = false

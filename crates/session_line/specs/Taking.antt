@@ -51,8 +51,8 @@ pub record Stops (old new : Option (List ℕ)) (stop : Stop) : Type 0 where
 
 -- whether a task is a batch or a put, whose edits or cards are a list in memory
 abbrev pub has_list : Task → Bool
-has_list (Ask (Batch name version edits) text) = true
-has_list (Ask (PutDeck deck version) text) = true
+has_list (Ask (Batch name version edits)) = true
+has_list (Ask (PutDeck deck version)) = true
 has_list _ = false
 
 -- the task of some lines; of a batch or a put also that there is no memory for its list

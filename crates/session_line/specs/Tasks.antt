@@ -2,8 +2,7 @@
 use Rattle.std.specs.Prelude.{ℕ, ◌+◌, Bool, true, false, List, [], ◌∷◌, Result, Ok, Err}
 use Rattle.definitions.specs.Cards.{Card}
 use Rattle.cards.specs.declared.edits.Edit.{Edit}
-use Rattle.desk_core.specs.declared.calls.Call.{Call}
-use Rattle.desk_core.specs.declared.calls.Call.TheVariants.{AddDeck, PutDeck, DropDeck, EditDeck, Batch, Cards, Show, Status}
+use Rattle.desk_core.specs.declared.calls.Call.TheVariants.{AddDeck, PutDeck, DropDeck, EditDeck, Batch, Status}
 use Rattle.session_line.specs.declared.commands.Command.{Command}
 use Rattle.session_line.specs.declared.commands.Command.TheVariants as command
 use Rattle.session_line.specs.declared.refusals.Refusal.{Refusal}
@@ -11,7 +10,7 @@ use Rattle.session_line.specs.Edits.{edit_in_batch, card_in_put}
 use Rattle.session_line.specs.Commands.{command_of}
 use Rattle.session_line.specs.declared.tasks.PublishedText.TheVariants.{Image, Listing}
 use Rattle.session_line.specs.declared.tasks.Task.{Task}
-use Rattle.session_line.specs.declared.tasks.Task.TheVariants.{Ask, LoadDeck, SaveDeck, Leave, Refuse}
+use Rattle.session_line.specs.declared.tasks.Task.TheVariants.{Ask, ShowCards, ShowText, LoadDeck, SaveDeck, Leave, Refuse}
 
 -- how many lines belong to a command behind its first
 abbrev pub lines_behind : Command → ℕ
@@ -48,13 +47,9 @@ edits_of lines = items_from (λ number line. edit_in_batch line) 1 lines
 abbrev pub cards_of : List (List ℕ) → Result (List Card) Refusal
 cards_of lines = items_from card_in_put 1 lines
 
--- a call of the desk that shows no publication
-abbrev pub asks : Call → Task
-asks call = Ask call Listing
-
 -- a batch of edits, where its lines are edits
 abbrev pub batch_of : List ℕ → ℕ → Result (List Edit) Refusal → Task
-batch_of name version (Ok edits) = asks (Batch name version edits)
+batch_of name version (Ok edits) = Ask (Batch name version edits)
 batch_of name version (Err refusal) = Refuse refusal
 
 -- a batch, where its name is one; the name counts before the lines
@@ -64,7 +59,7 @@ batch_named (Err refusal) version edits = Refuse refusal
 
 -- a deck of these cards, where its lines are cards
 abbrev pub put_of : List ℕ → ℕ → Result (List Card) Refusal → Task
-put_of name version (Ok cards) = asks (PutDeck (record { name = name; cards = cards }) version)
+put_of name version (Ok cards) = Ask (PutDeck (record { name = name; cards = cards }) version)
 put_of name version (Err refusal) = Refuse refusal
 
 -- a put, where its name is one; the name counts before the lines
@@ -74,15 +69,15 @@ put_named (Err refusal) version cards = Refuse refusal
 
 -- what a command asks for, with the lines behind it
 abbrev pub task_of_command : Command → List (List ℕ) → Task
-task_of_command (command.Add name) lines = asks (AddDeck (record { name = name; cards = [] }))
+task_of_command (command.Add name) lines = Ask (AddDeck (record { name = name; cards = [] }))
 task_of_command (command.Load name) lines = LoadDeck name
-task_of_command (command.Drop name version) lines = asks (DropDeck name version)
-task_of_command (command.Edit name version edit) lines = asks (EditDeck name version edit)
-task_of_command (command.Cards name) lines = asks (Cards name)
+task_of_command (command.Drop name version) lines = Ask (DropDeck name version)
+task_of_command (command.Edit name version edit) lines = Ask (EditDeck name version edit)
+task_of_command (command.Cards name) lines = ShowCards name
 task_of_command (command.Save name over) lines = SaveDeck name over
-task_of_command command.Image lines = Ask Show Image
-task_of_command command.List lines = Ask Show Listing
-task_of_command command.Status lines = asks Status
+task_of_command command.Image lines = ShowText Image
+task_of_command command.List lines = ShowText Listing
+task_of_command command.Status lines = Ask Status
 task_of_command (command.Batch head) lines = batch_named head.name head.version (edits_of lines)
 task_of_command (command.Put head) lines = put_named head.name head.version (cards_of lines)
 task_of_command command.Bye lines = Leave

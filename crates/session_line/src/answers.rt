@@ -1,14 +1,14 @@
 //! What a command is answered, and how the session is told.
 ghost use Rattle.std.specs.Prelude.{◌≡◌};
 ghost use Rattle.session_line.specs.Replies.{text_of_reply, IsWithinLimits};
-ghost use Rattle.session_line.specs.Answers.{is_for_session, session_reply, shown_text, reply_text, told_text, is_bye, IsTellable};
+ghost use Rattle.session_line.specs.Answers.{foreign, told_of_call, told_of_cards, told_of_publication, shown_text, told_text, is_bye, IsTellable};
 
 use crate::Refusal;
 use crate::reasons::desk_reason;
 use crate::tasks::PublishedText;
-use cards::MOST_CARDS;
+use cards::{Card, MOST_CARDS};
 use deck_linker::Publication;
-use desk_core::Reply;
+use desk_core::{Listed, Reply, Row, SharedPublication};
 
 /// How many decks a desk has at most.
 const MOST_DECKS: usize = 64;
@@ -16,10 +16,14 @@ const MOST_DECKS: usize = 64;
 /// What a session is told.
 #[derive(Drop)]
 pub(crate) enum Told {
-    /// What the desk replied; of a publication, this text.
-    Replied { reply: Reply, text: PublishedText },
-    /// The deck is saved as it was at this version.
-    Saved(u64),
+    /// What was asked is done; the version is the deck's.
+    Done(u64),
+    /// A deck's version and cards.
+    Cards(u64, Listed<Card>),
+    /// Of the publication, this text.
+    Published(SharedPublication, PublishedText),
+    /// The desk's version, the published one, and a row for each deck.
+    Status(u64, Option<u64>, Listed<Row>),
     /// Why nothing was done.
     Refused(Refusal),
     /// The end of the session.
@@ -33,27 +37,59 @@ pub(crate) struct Answer {
     pub(crate) executed: bool,
 }
 
-/// Whether a desk gives this reply to a call of a session.
-fn is_for_session(reply: &Reply) -> bool
-    ensures { result ≡ is_for_session reply.now }
+/// The refusal of a reply that no desk gives to such a call.
+fn foreign() -> Told
+    ensures { result ≡ foreign }
+{
+    Told::Refused(Refusal::Foreign)
+}
+
+/// What is told of the reply to a call that shows neither cards nor a publication.
+pub(crate) fn told_of_call(reply: Reply) -> Told
+    ensures told { result ≡ told_of_call reply }
+    ensures fits { IsTellable result }
 {
     match reply {
-        Reply::Changed(_) | Reply::Shown(_) | Reply::Refused(_) => true,
-        Reply::CardsAre(_, cards) => cards.as_slice().len() <= MOST_CARDS,
-        Reply::StatusIs(_, _, rows) => rows.as_slice().len() <= MOST_DECKS,
-        Reply::DeckJob(_) | Reply::LinkJob(_) | Reply::Idle(_) => false,
-        Reply::AllOut | Reply::Stored | Reply::Cleared => false,
+        Reply::Changed(version) => Told::Done(version),
+        Reply::StatusIs(version, published, rows) => {
+            if rows.as_slice().len() <= MOST_DECKS {
+                Told::Status(version, published, rows)
+            } else {
+                foreign()
+            }
+        }
+        Reply::Refused(refusal) => Told::Refused(desk_reason(refusal)),
+        _ => foreign(),
     }
 }
 
-/// A reply as a session takes it. One that no desk gives to a session is refused as foreign.
-pub(crate) fn session_reply(reply: Reply) -> Reply
-    ensures { result ≡ session_reply reply }
+/// What is told of the reply to a call for the cards of a deck.
+pub(crate) fn told_of_cards(reply: Reply) -> Told
+    ensures told { result ≡ told_of_cards reply }
+    ensures fits { IsTellable result }
 {
-    if is_for_session(&reply) {
-        reply
-    } else {
-        Reply::Refused(desk_core::Refusal::Foreign)
+    match reply {
+        Reply::CardsAre(version, cards) => {
+            if cards.as_slice().len() <= MOST_CARDS {
+                Told::Cards(version, cards)
+            } else {
+                foreign()
+            }
+        }
+        Reply::Refused(refusal) => Told::Refused(desk_reason(refusal)),
+        _ => foreign(),
+    }
+}
+
+/// What is told of the reply to a call for the publication, of which this text is shown.
+pub(crate) fn told_of_publication(text: PublishedText, reply: Reply) -> Told
+    ensures told { result ≡ told_of_publication text reply }
+    ensures fits { IsTellable result }
+{
+    match reply {
+        Reply::Shown(publication) => Told::Published(publication, text),
+        Reply::Refused(refusal) => Told::Refused(desk_reason(refusal)),
+        _ => foreign(),
     }
 }
 
@@ -67,37 +103,6 @@ fn shown_text(publication: &Publication, text: PublishedText) -> &[u8]
     }
 }
 
-/// The reply of a session to what the desk replied.
-fn told_of_reply(reply: &Reply, text: PublishedText) -> crate::Reply<'_>
-    requires { IsTellable (Told.Replied reply.now text) }
-    ensures text { text_of_reply result ≡ reply_text text reply.now }
-    ensures limits { IsWithinLimits result }
-{
-    match reply {
-        Reply::Changed(version) => crate::Reply::Done { version: *version },
-        Reply::CardsAre(version, cards) => crate::Reply::Cards {
-            version: *version,
-            cards: cards.as_slice(),
-        },
-        Reply::Shown(shown) => crate::Reply::Text {
-            version: shown.publication().version(),
-            text: shown_text(shown.publication(), text),
-        },
-        Reply::StatusIs(version, published, rows) => crate::Reply::Status {
-            version: *version,
-            published: *published,
-            decks: rows.as_slice(),
-        },
-        Reply::Refused(refusal) => crate::Reply::Refused(desk_reason(*refusal)),
-        Reply::DeckJob(_) | Reply::LinkJob(_) | Reply::Idle(_) => {
-            crate::Reply::Refused(Refusal::Foreign)
-        }
-        Reply::AllOut | Reply::Stored | Reply::Cleared => {
-            crate::Reply::Refused(Refusal::Foreign)
-        }
-    }
-}
-
 impl Told {
     /// The reply of the session.
     pub(crate) fn as_reply(&self) -> crate::Reply<'_>
@@ -106,8 +111,20 @@ impl Told {
         ensures limits { IsWithinLimits result }
     {
         match self {
-            Told::Replied { reply, text } => told_of_reply(reply, *text),
-            Told::Saved(version) => crate::Reply::Done { version: *version },
+            Told::Done(version) => crate::Reply::Done { version: *version },
+            Told::Cards(version, cards) => crate::Reply::Cards {
+                version: *version,
+                cards: cards.as_slice(),
+            },
+            Told::Published(shared, text) => crate::Reply::Text {
+                version: shared.publication().version(),
+                text: shown_text(shared.publication(), *text),
+            },
+            Told::Status(version, published, rows) => crate::Reply::Status {
+                version: *version,
+                published: *published,
+                decks: rows.as_slice(),
+            },
             Told::Refused(refusal) => crate::Reply::Refused(*refusal),
             Told::Bye => crate::Reply::Bye,
         }
@@ -117,9 +134,6 @@ impl Told {
     pub(crate) fn is_bye(&self) -> bool
         ensures { result ≡ is_bye self.now }
     {
-        match self {
-            Told::Replied { .. } | Told::Saved(_) | Told::Refused(_) => false,
-            Told::Bye => true,
-        }
+        matches!(self, Told::Bye)
     }
 }

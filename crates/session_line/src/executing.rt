@@ -1,15 +1,16 @@
 //! Executes a task once.
 ghost use Rattle.std.specs.Prelude.{◌≡◌, ◌≤◌, length};
-ghost use Rattle.session_line.specs.Answers.{IsTellable, called, most_cards, uncalled};
+ghost use Rattle.session_line.specs.Answers.{IsTellable, called, most_cards, told_of_call, told_of_cards, told_of_publication, uncalled};
 ghost use Rattle.session_line.specs.Executing.{Asks, Executes, LoadsDeck, SavesCards, SavesDeck};
+ghost use Rattle.desk_core.specs.declared.calls.Call.TheVariants.{Cards, Show};
 
-use crate::answers::{Answer, Told, session_reply};
+use crate::answers::{Answer, Told, told_of_call, told_of_cards, told_of_publication};
 use crate::calls::Calls;
 use crate::reasons::{load_reason, save_reason};
 use crate::tasks::{PublishedText, Task};
 use cards::{Card, DeckName};
 use deck_files::{SaveOver, Shelf};
-use desk_core::{Call, NewDeck, Reply};
+use desk_core::{Call, NewDeck};
 
 /// The answer after a call of the desk.
 fn called(told: Told) -> Answer
@@ -31,13 +32,28 @@ fn uncalled(told: Told) -> Answer
     }
 }
 
-/// One call of the desk.
-fn ask<C: Calls>(desk: &mut C, call: Call, text: PublishedText) -> Answer
-    ensures asks { Asks C.makes call text desk.old desk.new result }
+/// One call of the desk that shows neither cards nor a publication.
+fn ask<C: Calls>(desk: &mut C, call: Call) -> Answer
+    ensures asks { Asks C.makes call told_of_call desk.old desk.new result }
     ensures fits { IsTellable result.told }
 {
-    let reply = session_reply(desk.call(call));
-    called(Told::Replied { reply, text })
+    called(told_of_call(desk.call(call)))
+}
+
+/// The desk is asked for the cards of the deck.
+fn show_cards<C: Calls>(desk: &mut C, name: DeckName) -> Answer
+    ensures asks { Asks C.makes (Cards name) told_of_cards desk.old desk.new result }
+    ensures fits { IsTellable result.told }
+{
+    called(told_of_cards(desk.call(Call::Cards(name))))
+}
+
+/// The desk is asked for the publication.
+fn show_text<C: Calls>(desk: &mut C, text: PublishedText) -> Answer
+    ensures asks { Asks C.makes Show (told_of_publication text) desk.old desk.new result }
+    ensures fits { IsTellable result.told }
+{
+    called(told_of_publication(text, desk.call(Call::Show)))
 }
 
 /// One load of the shelf, and then the addition of its cards to the desk.
@@ -46,11 +62,7 @@ fn load_deck<C: Calls, S: Shelf>(desk: &mut C, shelf: &mut S, name: DeckName) ->
     ensures fits { IsTellable result.told }
 {
     match shelf.load(&name) {
-        Ok(cards) => ask(
-            desk,
-            Call::AddDeck(NewDeck::new(name, cards)),
-            PublishedText::Listing,
-        ),
+        Ok(cards) => ask(desk, Call::AddDeck(NewDeck::new(name, cards))),
         Err(fault) => uncalled(Told::Refused(load_reason(fault))),
     }
 }
@@ -68,7 +80,7 @@ fn save_cards<S: Shelf>(
     ensures fits { IsTellable result.told }
 {
     match shelf.save(name, over, version, cards) {
-        Ok(()) => called(Told::Saved(version)),
+        Ok(()) => called(Told::Done(version)),
         Err(fault) => called(Told::Refused(save_reason(fault))),
     }
 }
@@ -83,14 +95,11 @@ fn save_deck<C: Calls, S: Shelf>(
     ensures saves { SavesDeck C.makes S.saves S.refuses_to_save name.now over desk.old desk.new shelf.old shelf.new result }
     ensures fits { IsTellable result.told }
 {
-    match session_reply(desk.call(Call::Cards(name.copied()))) {
-        Reply::CardsAre(version, cards) => {
+    match told_of_cards(desk.call(Call::Cards(name.copied()))) {
+        Told::Cards(version, cards) => {
             save_cards(shelf, name, over, version, cards.as_slice())
         }
-        reply => called(Told::Replied {
-            reply,
-            text: PublishedText::Listing,
-        }),
+        told => called(told),
     }
 }
 
@@ -100,7 +109,9 @@ pub(crate) fn execute<C: Calls, S: Shelf>(desk: &mut C, shelf: &mut S, task: Tas
     ensures fits { IsTellable result.told }
 {
     match task {
-        Task::Ask { call, text } => ask(desk, call, text),
+        Task::Ask(call) => ask(desk, call),
+        Task::ShowCards(name) => show_cards(desk, name),
+        Task::ShowText(text) => show_text(desk, text),
         Task::LoadDeck(name) => load_deck(desk, shelf, name),
         Task::SaveDeck(name, over) => save_deck(desk, shelf, &name, over),
         Task::Leave => uncalled(Told::Bye),

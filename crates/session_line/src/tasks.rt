@@ -3,7 +3,7 @@ ghost use Rattle.std.specs.Prelude.{◌≡◌, ℕ, true, false, List, Result, O
 ghost use Rattle.definitions.specs.Cards.{Card as Columns};
 ghost use Rattle.cards.specs.declared.edits.Edit.{Edit as CardEdit};
 ghost use Rattle.session_line.specs.declared.refusals.Refusal.{Refusal as Reason};
-ghost use Rattle.session_line.specs.Tasks.{asks, batch_named, cards_of, edits_of, is_put, lines_behind, lines_due, put_named, task_by, task_of_command};
+ghost use Rattle.session_line.specs.Tasks.{batch_named, cards_of, edits_of, is_put, lines_behind, lines_due, put_named, task_by, task_of_command};
 ghost use Rattle.session_line.specs.Taking.{IsTaskFor};
 ghost use Rattle.session_line.specs.LineItems.{IsRead, is_lacking};
 
@@ -24,8 +24,12 @@ pub(crate) enum PublishedText {
 /// What a command asks for that was read whole.
 #[derive(Drop)]
 pub(crate) enum Task {
-    /// One call of the desk; of a publication, this text is shown.
-    Ask { call: Call, text: PublishedText },
+    /// One call of the desk that shows neither cards nor a publication: a change, or the status.
+    Ask(Call),
+    /// The cards of the deck of this name are shown.
+    ShowCards(DeckName),
+    /// This text of the publication is shown.
+    ShowText(PublishedText),
     /// The shelf's deck of this name is added.
     LoadDeck(DeckName),
     /// The cards of the deck of this name go to the shelf, over what may be written over.
@@ -65,16 +69,6 @@ pub(crate) fn is_put(command: &Result<Command, Refusal>) -> bool
     matches!(command, Ok(Command::Put(_)))
 }
 
-/// A call of the desk that shows no publication.
-fn asks(call: Call) -> Task
-    ensures { result ≡ asks call }
-{
-    Task::Ask {
-        call,
-        text: PublishedText::Listing,
-    }
-}
-
 /// A batch, with the edits of its lines; `OutOfMemory` only where there was no memory for them.
 fn batch_named(head: LinesHead, edits: ItemsRead<Edit>) -> Task
     ensures task { (read : Result (List CardEdit) Reason) → IsRead read edits → IsTaskFor (batch_named head.name head.version read) result }
@@ -86,7 +80,7 @@ fn batch_named(head: LinesHead, edits: ItemsRead<Edit>) -> Task
         Err(refusal) => return Task::Refuse(refusal),
     };
     match edits {
-        ItemsRead::Whole(edits) => asks(Call::Batch {
+        ItemsRead::Whole(edits) => Task::Ask(Call::Batch {
             name,
             seen,
             edits: Listed::new(edits),
@@ -107,7 +101,7 @@ fn put_named(head: LinesHead, cards: ItemsRead<Card>) -> Task
         Err(refusal) => return Task::Refuse(refusal),
     };
     match cards {
-        ItemsRead::Whole(cards) => asks(Call::PutDeck {
+        ItemsRead::Whole(cards) => Task::Ask(Call::PutDeck {
             deck: NewDeck::new(name, cards),
             seen,
         }),
@@ -135,9 +129,9 @@ fn task_of_command(alloc: Global, command: Command, edits: ItemsRead<Edit>) -> T
     ensures whole { is_lacking edits ≡ false → (lines : List (List ℕ)) → IsRead (edits_of lines) edits → result ≡ task_of_command command lines }
 {
     match command {
-        Command::Add { name } => asks(Call::AddDeck(NewDeck::new(name, Vec::new(alloc)))),
+        Command::Add { name } => Task::Ask(Call::AddDeck(NewDeck::new(name, Vec::new(alloc)))),
         Command::Load { name } => Task::LoadDeck(name),
-        Command::Drop { name, version } => asks(Call::DropDeck {
+        Command::Drop { name, version } => Task::Ask(Call::DropDeck {
             name,
             seen: version,
         }),
@@ -145,19 +139,16 @@ fn task_of_command(alloc: Global, command: Command, edits: ItemsRead<Edit>) -> T
             name,
             version,
             edit,
-        } => asks(Call::EditDeck {
+        } => Task::Ask(Call::EditDeck {
             name,
             seen: version,
             edit,
         }),
-        Command::Cards { name } => asks(Call::Cards(name)),
+        Command::Cards { name } => Task::ShowCards(name),
         Command::Save { name, over } => Task::SaveDeck(name, over),
-        Command::Image => Task::Ask {
-            call: Call::Show,
-            text: PublishedText::Image,
-        },
-        Command::List => asks(Call::Show),
-        Command::Status => asks(Call::Status),
+        Command::Image => Task::ShowText(PublishedText::Image),
+        Command::List => Task::ShowText(PublishedText::Listing),
+        Command::Status => Task::Ask(Call::Status),
         Command::Batch(head) => batch_named(head, edits),
         Command::Put(_) => unreachable!(),
         Command::Bye => Task::Leave,

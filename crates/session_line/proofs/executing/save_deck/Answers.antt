@@ -1,17 +1,17 @@
-use Rattle.std.proofs.Common.{ℕ, List, subst}
+use Rattle.std.proofs.Common.{ℕ, List, sym, subst, ◌∙◌}
 use Rattle.definitions.specs.Cards.{Card}
 use Rattle.desk_core.specs.declared.calls.Call.TheVariants.{Cards}
-use Rattle.desk_core.specs.declared.replies.Reply.{Reply}
-use Rattle.session_line.specs.Executing.{SavesCards, SavesReply}
+use Rattle.session_line.specs.declared.answers.Told.{Told}
+use Rattle.session_line.specs.Executing.{SavesCards, SavesTold}
 use Rattle.session_line.proofs.executing.save_deck.Goals as goal
 
-pub returns-in-CardsAre-clause-saves : goal.returns-in-CardsAre-clause-saves
-returns-in-CardsAre-clause-saves g c =
+pub returns-in-Cards-clause-saves : goal.returns-in-Cards-clause-saves
+returns-in-Cards-clause-saves g c =
     let M : List ℕ → Type 0 = λ (name : List ℕ). g.C.Calls.makes c.args.desk.now (Cards name) c.call.result c.call.new.self in
-    let P : List Card → Type 0 = λ (cards : List Card). SavesCards g.S.Shelf.saves g.S.Shelf.refuses_to_save c.args.name.now c.args.over c.in-CardsAre.version cards c.args.shelf.now c.save_cards.new.shelf c.save_cards.result in
-    let Q : Reply → Type 0 = λ (reply : Reply). SavesReply g.S.Shelf.saves g.S.Shelf.refuses_to_save c.args.name.now c.args.over reply c.args.shelf.now c.save_cards.new.shelf c.save_cards.result in
+    let P : List Card → Type 0 = λ (cards : List Card). SavesCards g.S.Shelf.saves g.S.Shelf.refuses_to_save c.args.name.now c.args.over c.in-Cards.version cards c.args.shelf.now c.save_cards.new.shelf c.save_cards.result in
+    let Q : Told → Type 0 = λ (what : Told). SavesTold g.S.Shelf.saves g.S.Shelf.refuses_to_save c.args.name.now c.args.over what c.args.shelf.now c.save_cards.new.shelf c.save_cards.result in
     record {
       reply = c.call.result;
       made = subst M c.copied.ensures c.call.ensures;
-      kept = subst Q c.in-CardsAre.ensures (subst P c.as_slice.ensures c.save_cards.ensures.saves);
+      kept = subst Q (sym c.in-Cards.is ∙ c.told_of_cards.ensures.told) (subst P c.as_slice.ensures c.save_cards.ensures.saves);
     }
