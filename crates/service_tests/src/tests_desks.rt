@@ -72,6 +72,7 @@ fn new_desks(rt: HostRuntime) {
             ("deliver 1", "stored"),
             ("IMAGE", "OK 0 1|END|"),
             ("LIST", "OK 0 2|MAP|END|"),
+            ("MAP", "OK 0 2|MAP|END|"),
             ("claim", "idle 0"),
         ],
     );

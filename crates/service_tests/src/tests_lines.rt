@@ -57,6 +57,7 @@ fn command_text(rt: &impl Abort, alloc: Global, command: &Command) -> String {
         ),
         Command::Image => format!(in alloc; "image"),
         Command::List => format!(in alloc; "list"),
+        Command::Map => format!(in alloc; "map"),
         Command::Status => format!(in alloc; "status"),
         Command::Batch(head) => {
             let fault = head.name.as_ref().err();
@@ -111,6 +112,8 @@ fn lines(rt: HostRuntime) {
         ("SAVE M FORCE", "save M Any"),
         ("IMAGE", "image"),
         ("LIST", "list"),
+        ("MAP", "map"),
+        ("MAP M", "BadCommand"),
         ("STATUS", "status"),
         ("BYE", "bye"),
         ("BATCH M 3 3", "batch None 3 3"),

@@ -33,6 +33,7 @@ fn every_kind_of_line(rt: HostRuntime) {
             ("CARDS M", "OK 4 1||"),
             ("DROP N 1", "NO NoDeck|"),
             ("LIST", "NO NoPublication|"),
+            ("MAP", "NO NoPublication|"),
             ("file M", "|"),
             ("BYE", "BYE| Ended"),
         ],

@@ -137,6 +137,7 @@ line-back (command.Save name Known) is = save-back name [] Known is refl refl
 line-back (command.Save name Any) is = save-back name (codes " FORCE") Any is refl refl
 line-back command.Image _ = refl
 line-back command.List _ = refl
+line-back command.Map _ = refl
 line-back command.Status _ = refl
 line-back (command.Batch head) lawful = batch-back head.name head.version head.count lawful.0 lawful.1 lawful.2
 line-back (command.Put head) lawful = put-back head.name head.version head.count lawful.0 lawful.1 lawful.2

@@ -48,6 +48,13 @@ image = refl
 pub list : command_of (codes "LIST") ≡ Ok command.List
 list = refl
 
+pub map : command_of (codes "MAP") ≡ Ok command.Map
+map = refl
+
+-- a map is that of all decks
+pub map_of_one : command_of (codes "MAP M") ≡ Err BadCommand
+map_of_one = refl
+
 pub status : command_of (codes "STATUS") ≡ Ok command.Status
 status = refl
 

@@ -11,7 +11,7 @@ use Rattle.desk_core.specs.declared.replies.Refusal.TheVariants as desk
 use Rattle.deck_files.specs.declared.deck_shelf.SaveOver.TheVariants.{Known}
 use Rattle.session_line.specs.declared.refusals.Refusal.TheVariants.{BadCommand, BadName, BadCard, BadLine}
 use Rattle.session_line.specs.Commands.{command_of}
-use Rattle.session_line.specs.declared.tasks.PublishedText.TheVariants.{Image, Listing}
+use Rattle.session_line.specs.declared.tasks.PublishedText.TheVariants.{Image, Listing, Map}
 use Rattle.session_line.specs.declared.tasks.Task.TheVariants.{Ask, ShowCards, ShowText, LoadDeck, SaveDeck, Leave, Refuse}
 use Rattle.session_line.specs.Tasks.{lines_due, task_of}
 use Rattle.session_line.specs.Answers.{told_of_call, told_of_cards, told_of_publication, told_text}
@@ -34,6 +34,9 @@ cards_of_deck = refl
 
 pub image : task_of (codes "IMAGE") [] ≡ ShowText Image
 image = refl
+
+pub map : task_of (codes "MAP") [] ≡ ShowText Map
+map = refl
 
 pub bye : task_of (codes "BYE") [] ≡ Leave
 bye = refl
@@ -99,6 +102,9 @@ published = unfold digits in refl
 
 pub listed : told_text (told_of_publication Listing (reply.Shown (record { version = 0; decks = [] }))) ≡ codes "OK 0 2\nMAP\nEND\n"
 listed = unfold digits in refl
+
+pub mapped : told_text (told_of_publication Map (reply.Shown (record { version = 3; decks = [] }))) ≡ codes "OK 3 2\nMAP\nEND\n"
+mapped = unfold digits in refl
 
 pub old_version : told_text (told_of_call (reply.Refused (desk.OldVersion 4))) ≡ codes "NO OldVersion 4\n"
 old_version = unfold digits in refl

@@ -1,5 +1,6 @@
 -- What a command is answered, and the text of that (ours).
 use Rattle.std.specs.Prelude.{ℕ, ◌+◌, ◌≤◌, ⊤, Bool, true, false, nat_le, List, [], ◌++◌, length, codes, if◌then◌else◌}
+use Rattle.deck_linker.specs.Publishing.{map_of}
 use Rattle.desk_core.specs.Language.{listing_of, image_of}
 use Rattle.desk_core.specs.Desks.{Publication}
 use Rattle.desk_core.specs.declared.replies.Reply.{Reply}
@@ -11,7 +12,7 @@ use Rattle.session_line.specs.Refusals.{refusal_text}
 use Rattle.session_line.specs.Replies.{line_of, line_count, ok_text, counted_text, published_text, rows_text}
 use Rattle.session_line.specs.Reasons.{desk_reason}
 use Rattle.session_line.specs.declared.tasks.PublishedText.{PublishedText}
-use Rattle.session_line.specs.declared.tasks.PublishedText.TheVariants.{Image, Listing}
+use Rattle.session_line.specs.declared.tasks.PublishedText.TheVariants.{Image, Listing, Map}
 use Rattle.session_line.specs.declared.answers.Told.{Told}
 use Rattle.session_line.specs.declared.answers.Told.TheVariants as told
 use Rattle.session_line.specs.declared.answers.Answer.{Answer}
@@ -59,6 +60,7 @@ refused_text reason = with_body (codes "NO " ++ refusal_text reason) []
 abbrev pub shown_text : PublishedText → Publication → List ℕ
 shown_text Image publication = image_of publication.decks
 shown_text Listing publication = listing_of publication.decks
+shown_text Map publication = map_of publication.decks
 
 -- the text that a session is told
 abbrev pub told_text : Told → List ℕ

@@ -101,6 +101,7 @@ command_by verb.Cards rest = made_of command.Cards (only_name rest)
 command_by verb.Save rest = save_in rest
 command_by verb.Image rest = alone command.Image rest
 command_by verb.List rest = alone command.List rest
+command_by verb.Map rest = alone command.Map rest
 command_by verb.Status rest = alone command.Status rest
 command_by verb.Batch rest = sized is_batch_size command.Batch (head_in rest)
 command_by verb.Put rest = sized is_put_size command.Put (head_in rest)

@@ -8,7 +8,7 @@ use Rattle.session_line.specs.declared.commands.Command.TheVariants as command
 use Rattle.session_line.specs.declared.refusals.Refusal.{Refusal}
 use Rattle.session_line.specs.Edits.{edit_in_batch, card_in_put}
 use Rattle.session_line.specs.Commands.{command_of}
-use Rattle.session_line.specs.declared.tasks.PublishedText.TheVariants.{Image, Listing}
+use Rattle.session_line.specs.declared.tasks.PublishedText.TheVariants.{Image, Listing, Map}
 use Rattle.session_line.specs.declared.tasks.Task.{Task}
 use Rattle.session_line.specs.declared.tasks.Task.TheVariants.{Ask, ShowCards, ShowText, LoadDeck, SaveDeck, Leave, Refuse}
 
@@ -77,6 +77,7 @@ task_of_command (command.Cards name) lines = ShowCards name
 task_of_command (command.Save name over) lines = SaveDeck name over
 task_of_command command.Image lines = ShowText Image
 task_of_command command.List lines = ShowText Listing
+task_of_command command.Map lines = ShowText Map
 task_of_command command.Status lines = Ask Status
 task_of_command (command.Batch head) lines = batch_named head.name head.version (edits_of lines)
 task_of_command (command.Put head) lines = put_named head.name head.version (cards_of lines)

@@ -100,6 +100,7 @@ fn shown_text(publication: &Publication, text: PublishedText) -> &[u8]
     match text {
         PublishedText::Image => publication.image(),
         PublishedText::Listing => publication.listing(),
+        PublishedText::Map => publication.map(),
     }
 }
 

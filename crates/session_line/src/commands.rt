@@ -50,8 +50,10 @@ pub enum Command {
     },
     /// The published image.
     Image,
-    /// The published listing.
+    /// The published listing, with the map behind it.
     List,
+    /// The map of the published link alone.
+    Map,
     /// The versions and states of all decks.
     Status,
     /// Edits of one deck, all or none, each on a line of its own behind this one.
@@ -275,6 +277,7 @@ fn command_by(verb: Verb, rest: &[u8]) -> Result<Command, Refusal>
         Verb::Save => save_in(rest),
         Verb::Image => alone(Command::Image, rest),
         Verb::List => alone(Command::List, rest),
+        Verb::Map => alone(Command::Map, rest),
         Verb::Status => alone(Command::Status, rest),
         Verb::Batch => batch_in(rest),
         Verb::Put => put_in(rest),

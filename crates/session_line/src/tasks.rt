@@ -19,6 +19,7 @@ use std::alloc::Global;
 pub(crate) enum PublishedText {
     Image,
     Listing,
+    Map,
 }
 
 /// What a command asks for that was read whole.
@@ -48,7 +49,8 @@ fn lines_behind(command: &Command) -> u64
         Command::Batch(head) | Command::Put(head) => head.count,
         Command::Add { .. } | Command::Load { .. } | Command::Drop { .. } => 0,
         Command::Edit { .. } | Command::Cards { .. } | Command::Save { .. } => 0,
-        Command::Image | Command::List | Command::Status | Command::Bye => 0,
+        Command::Image | Command::List | Command::Map => 0,
+        Command::Status | Command::Bye => 0,
     }
 }
 
@@ -148,6 +150,7 @@ fn task_of_command(alloc: Global, command: Command, edits: ItemsRead<Edit>) -> T
         Command::Save { name, over } => Task::SaveDeck(name, over),
         Command::Image => Task::ShowText(PublishedText::Image),
         Command::List => Task::ShowText(PublishedText::Listing),
+        Command::Map => Task::ShowText(PublishedText::Map),
         Command::Status => Task::Ask(Call::Status),
         Command::Batch(head) => batch_named(head, edits),
         Command::Put(_) => unreachable!(),

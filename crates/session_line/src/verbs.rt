@@ -24,6 +24,7 @@ pub(crate) enum Verb {
     Save,
     Image,
     List,
+    Map,
     Status,
     Batch,
     Put,
@@ -62,6 +63,8 @@ fn other_verb_of(word: &[u8]) -> Option<Verb>
         Some(Verb::Image)
     } else if is_same_text(word, b"LIST") {
         Some(Verb::List)
+    } else if is_same_text(word, b"MAP") {
+        Some(Verb::Map)
     } else if is_same_text(word, b"STATUS") {
         Some(Verb::Status)
     } else if is_same_text(word, b"BATCH") {
