@@ -4,7 +4,7 @@ use crate::texts::{bytes_are, card, name, one_line, text_is};
 use cards::{CardFault, Edit, EditFault};
 use desk_core::{Row, State};
 use session_line::{
-    Command, Refusal, Reply, read_batch_line, read_command, reply_text, write_reply,
+    CardsView, Command, Refusal, Reply, read_batch_line, read_command, reply_text, write_reply,
 };
 use std::alloc::Global;
 use std::process::Abort;
@@ -21,6 +21,15 @@ fn edit_text(rt: &impl Abort, alloc: Global, edit: &Edit) -> String {
             format!(in alloc; "replace {at} '{columns}'")
         }
         Edit::Remove { at } => format!(in alloc; "remove {at}"),
+    };
+    text.expect(rt, "memory")
+}
+
+/// What is shown of cards.
+fn view_text(rt: &impl Abort, alloc: Global, view: &CardsView) -> String {
+    let text = match view {
+        CardsView::All => format!(in alloc; ""),
+        CardsView::From { place, count } => format!(in alloc; " from {place}, {count}"),
     };
     text.expect(rt, "memory")
 }
@@ -47,10 +56,10 @@ fn command_text(rt: &impl Abort, alloc: Global, command: &Command) -> String {
                 one_line(rt, alloc, name.as_slice())
             )
         }
-        Command::Cards { name } => format!(in alloc;
-            "cards {}",
-            one_line(rt, alloc, name.as_slice())
-        ),
+        Command::Cards { name, view } => {
+            let view = view_text(rt, alloc, view);
+            format!(in alloc; "cards {}{view}", one_line(rt, alloc, name.as_slice()))
+        }
         Command::Save { name, over } => format!(in alloc;
             "save {} {over:?}",
             one_line(rt, alloc, name.as_slice())
@@ -108,6 +117,10 @@ fn lines(rt: HostRuntime) {
         ("LOAD M", "load M"),
         ("DROP N 1", "drop N 1"),
         ("CARDS M", "cards M"),
+        ("CARDS M 11 10", "cards M from 11, 10"),
+        ("CARDS M 0 10", "BadCommand"),
+        ("CARDS M 1", "BadCommand"),
+        ("CARDS M+ 1 1", "BadName"),
         ("SAVE M", "save M Known"),
         ("SAVE M FORCE", "save M Any"),
         ("IMAGE", "image"),

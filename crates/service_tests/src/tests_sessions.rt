@@ -166,6 +166,25 @@ fn puts(rt: HostRuntime) {
     );
 }
 
+#[test]
+fn parts_of_a_deck(rt: HostRuntime) {
+    goes(
+        &rt,
+        &[
+            ("PUT M 0 4\n*A\n*B\n\n*D", "OK 1|"),
+            ("CARDS M 2 2", "OK 1 2|*B||"),
+            ("CARDS M 1 1", "OK 1 1|*A|"),
+            ("CARDS M 4 100", "OK 1 1|*D|"),
+            ("CARDS M 5 1", "OK 1 0|"),
+            ("CARDS M 1 0", "OK 1 0|"),
+            ("CARDS M 1 4611686018427387904", "OK 1 4|*A|*B||*D|"),
+            ("CARDS M 4611686018427387904 1", "OK 1 0|"),
+            ("CARDS M 0 1", "NO BadCommand|"),
+            ("CARDS N 1 1", "NO NoDeck|"),
+        ],
+    );
+}
+
 /// How many commands a session has at most.
 const MOST_COMMANDS: usize = 20;
 

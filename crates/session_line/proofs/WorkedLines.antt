@@ -4,6 +4,7 @@ use Rattle.cards.specs.declared.card.CardFault.TheVariants as card
 use Rattle.cards.specs.declared.edits.Edit.TheVariants.{Insert, Replace, Remove}
 use Rattle.deck_files.specs.declared.deck_shelf.SaveOver.TheVariants.{Known, Any}
 use Rattle.session_line.specs.declared.commands.Command.TheVariants as command
+use Rattle.session_line.specs.declared.views.CardsView.TheVariants.{All, From}
 use Rattle.session_line.specs.declared.refusals.Refusal.TheVariants.{BadCommand, BadName, BadCard}
 use Rattle.session_line.specs.Edits.{edit_in_batch}
 use Rattle.session_line.specs.Commands.{command_of}
@@ -27,8 +28,28 @@ replace = refl
 pub delete : command_of (codes "DEL M 007 0") ≡ Ok (command.Edit (codes "M") 7 (Remove 0))
 delete = refl
 
-pub cards : command_of (codes "CARDS M") ≡ Ok (command.Cards (codes "M"))
+pub cards : command_of (codes "CARDS M") ≡ Ok (command.Cards (codes "M") All)
 cards = refl
+
+pub cards_from : command_of (codes "CARDS M 11 10") ≡ Ok (command.Cards (codes "M") (From 11 10))
+cards_from = refl
+
+-- no cards are asked for
+pub cards_of_none : command_of (codes "CARDS M 1 0") ≡ Ok (command.Cards (codes "M") (From 1 0))
+cards_of_none = refl
+
+-- cards are counted from 1
+pub cards_from_0 : command_of (codes "CARDS M 0 10") ≡ Err BadCommand
+cards_from_0 = refl
+
+pub cards_without_count : command_of (codes "CARDS M 11") ≡ Err BadCommand
+cards_without_count = refl
+
+pub cards_and_more : command_of (codes "CARDS M 11 10 ") ≡ Err BadCommand
+cards_and_more = refl
+
+pub cards_of_nobody : command_of (codes "CARDS M+ 11 10") ≡ Err BadName
+cards_of_nobody = refl
 
 pub save : command_of (codes "SAVE M") ≡ Ok (command.Save (codes "M") Known)
 save = refl

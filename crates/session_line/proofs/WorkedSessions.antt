@@ -1,5 +1,5 @@
 -- Worked commands with the lines that belong to them, and worked texts, computed.
-use Rattle.std.proofs.Common.{◌≡◌, [], ◌∷◌, None, codes, refl}
+use Rattle.std.proofs.Common.{ℕ, ◌≡◌, List, [], ◌∷◌, None, codes, refl}
 use Rattle.std.specs.Fmt.{digits}
 use Rattle.cards.specs.declared.card.CardFault.TheVariants as card
 use Rattle.cards.specs.declared.edits.Edit.TheVariants.{Insert, Replace, Remove}
@@ -11,6 +11,7 @@ use Rattle.desk_core.specs.declared.replies.Refusal.TheVariants as desk
 use Rattle.deck_files.specs.declared.deck_shelf.SaveOver.TheVariants.{Known}
 use Rattle.session_line.specs.declared.refusals.Refusal.TheVariants.{BadCommand, BadName, BadCard, BadLine}
 use Rattle.session_line.specs.Commands.{command_of}
+use Rattle.session_line.specs.declared.views.CardsView.TheVariants.{All, From}
 use Rattle.session_line.specs.declared.tasks.PublishedText.TheVariants.{Image, Listing, Map}
 use Rattle.session_line.specs.declared.tasks.Task.TheVariants.{Ask, ShowCards, ShowText, LoadDeck, SaveDeck, Leave, Refuse}
 use Rattle.session_line.specs.Tasks.{lines_due, task_of}
@@ -29,7 +30,7 @@ load = refl
 pub save : task_of (codes "SAVE M") [] ≡ SaveDeck (codes "M") Known
 save = refl
 
-pub cards_of_deck : task_of (codes "CARDS M") [] ≡ ShowCards (codes "M")
+pub cards_of_deck : task_of (codes "CARDS M") [] ≡ ShowCards (codes "M") All
 cards_of_deck = refl
 
 pub image : task_of (codes "IMAGE") [] ≡ ShowText Image
@@ -87,12 +88,29 @@ put-bad_line = refl
 pub lines_of_bad_put : lines_due (command_of (codes "PUT M 4 20001")) ≡ 0
 lines_of_bad_put = refl
 
+-- some cards
+abbrev pub four : List (List ℕ)
+four = codes "*A" ∷ codes "*B" ∷ codes "*C" ∷ codes "*D" ∷ []
+
 -- replies of the desk
 pub changed : told_text (told_of_call (reply.Changed 4)) ≡ codes "OK 4\n"
 changed = unfold digits in refl
 
-pub cards : told_text (told_of_cards (reply.CardsAre 5 (codes "*B" ∷ codes "*A" ∷ []))) ≡ codes "OK 5 2\n*B\n*A\n"
+pub cards : told_text (told_of_cards All (reply.CardsAre 5 (codes "*B" ∷ codes "*A" ∷ []))) ≡ codes "OK 5 2\n*B\n*A\n"
 cards = unfold digits in refl
+
+-- of four cards, two from the second on, those behind the third, none behind the last, and none of no number
+pub some_cards : told_text (told_of_cards (From 2 2) (reply.CardsAre 5 four)) ≡ codes "OK 5 2\n*B\n*C\n"
+some_cards = unfold digits in refl
+
+pub last_cards : told_text (told_of_cards (From 4 10) (reply.CardsAre 5 four)) ≡ codes "OK 5 1\n*D\n"
+last_cards = unfold digits in refl
+
+pub no_cards : told_text (told_of_cards (From 5 10) (reply.CardsAre 5 four)) ≡ codes "OK 5 0\n"
+no_cards = unfold digits in refl
+
+pub none_of_them : told_text (told_of_cards (From 2 0) (reply.CardsAre 5 four)) ≡ codes "OK 5 0\n"
+none_of_them = unfold digits in refl
 
 pub status : told_text (told_of_call (reply.StatusIs 1 None (record { name = codes "M"; version = 1; cards = 0; state = Behind } ∷ []))) ≡ codes "OK 1 2\nPUBLISHED NONE\nM 1 0 BEHIND\n"
 status = unfold digits in refl

@@ -1,5 +1,6 @@
 -- What a command is answered, and the text of that (ours).
 use Rattle.std.specs.Prelude.{ℕ, ◌+◌, ◌≤◌, ⊤, Bool, true, false, nat_le, List, [], ◌++◌, length, codes, if◌then◌else◌}
+use Rattle.definitions.specs.Cards.{Card}
 use Rattle.deck_linker.specs.Publishing.{map_of}
 use Rattle.desk_core.specs.Language.{listing_of, image_of}
 use Rattle.desk_core.specs.Desks.{Publication}
@@ -11,6 +12,8 @@ use Rattle.session_line.specs.declared.refusals.Refusal.TheVariants as refusal
 use Rattle.session_line.specs.Refusals.{refusal_text}
 use Rattle.session_line.specs.Replies.{line_of, line_count, ok_text, counted_text, published_text, rows_text}
 use Rattle.session_line.specs.Reasons.{desk_reason}
+use Rattle.session_line.specs.declared.views.CardsView.{CardsView}
+use Rattle.session_line.specs.Views.{cards_shown}
 use Rattle.session_line.specs.declared.tasks.PublishedText.{PublishedText}
 use Rattle.session_line.specs.declared.tasks.PublishedText.TheVariants.{Image, Listing, Map}
 use Rattle.session_line.specs.declared.answers.Told.{Told}
@@ -36,11 +39,11 @@ told_of_call (StatusIs version published rows) = if nat_le (length rows) most_de
 told_of_call (Refused reason) = told.Refused (desk_reason reason)
 told_of_call _ = foreign
 
--- what is told of the reply to a call for the cards of a deck; no more than a deck may have
-abbrev pub told_of_cards : Reply → Told
-told_of_cards (CardsAre version cards) = if nat_le (length cards) most_cards then told.Cards version cards else foreign
-told_of_cards (Refused reason) = told.Refused (desk_reason reason)
-told_of_cards _ = foreign
+-- what is told of the reply to a call for the cards of a deck, of which this is shown; no more than a deck may have
+abbrev pub told_of_cards : CardsView → Reply → Told
+told_of_cards view (CardsAre version cards) = if nat_le (length cards) most_cards then told.Cards version cards view else foreign
+told_of_cards view (Refused reason) = told.Refused (desk_reason reason)
+told_of_cards view _ = foreign
 
 -- what is told of the reply to a call for the publication, of which this text is shown
 abbrev pub told_of_publication : PublishedText → Reply → Told
@@ -62,10 +65,14 @@ shown_text Image publication = image_of publication.decks
 shown_text Listing publication = listing_of publication.decks
 shown_text Map publication = map_of publication.decks
 
+-- the text of cards that are shown
+abbrev pub cards_text : ℕ → List Card → List ℕ
+cards_text version cards = with_body (counted_text version (length cards)) (file_of cards)
+
 -- the text that a session is told
 abbrev pub told_text : Told → List ℕ
 told_text (told.Done version) = with_body (ok_text version) []
-told_text (told.Cards version cards) = with_body (counted_text version (length cards)) (file_of cards)
+told_text (told.Cards version cards view) = cards_text version (cards_shown view cards)
 told_text (told.Published publication text) = with_body (counted_text publication.version (line_count (shown_text text publication))) (shown_text text publication)
 told_text (told.Status version published rows) = with_body (counted_text version (length rows + 1)) (line_of (published_text published) ++ rows_text rows)
 told_text (told.Refused reason) = refused_text reason
@@ -78,7 +85,7 @@ is_bye _ = false
 
 -- what is told has no more cards and decks than may be
 abbrev pub IsTellable : Told → Type 0
-IsTellable (told.Cards version cards) = length cards ≤ most_cards
+IsTellable (told.Cards version cards view) = length cards ≤ most_cards
 IsTellable (told.Status version published rows) = length rows ≤ most_decks
 IsTellable _ = ⊤
 

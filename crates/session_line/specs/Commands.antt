@@ -1,5 +1,5 @@
 -- Which line of a session is which command, or why it is refused: a line that is none first, then the name, then the card (ours).
-use Rattle.std.specs.Prelude.{ℕ, List, Option, Some, None, Result, Ok, Err, Bool, ◌&&◌, codes, nat_le, if◌then◌else◌}
+use Rattle.std.specs.Prelude.{ℕ, List, Option, Some, None, Result, Ok, Err, Bool, ◌&&◌, codes, nat_le, option_and_then, if◌then◌else◌}
 use Rattle.definitions.specs.Characters.{same_text}
 use Rattle.definitions.specs.DeckInput.{is_deck_name}
 use Rattle.definitions.specs.Fields.{unbroken_front}
@@ -11,6 +11,8 @@ use Rattle.deck_files.specs.declared.deck_shelf.SaveOver.{SaveOver}
 use Rattle.deck_files.specs.declared.deck_shelf.SaveOver.TheVariants as over
 use Rattle.session_line.specs.declared.commands.Command.{Command}
 use Rattle.session_line.specs.declared.commands.LinesHead.{LinesHead}
+use Rattle.session_line.specs.declared.views.CardsView.{CardsView}
+use Rattle.session_line.specs.declared.views.CardsView.TheVariants.{All, From}
 use Rattle.session_line.specs.declared.commands.Command.TheVariants as command
 use Rattle.session_line.specs.declared.refusals.Refusal.{Refusal}
 use Rattle.session_line.specs.declared.refusals.Refusal.TheVariants.{BadName}
@@ -39,6 +41,23 @@ abbrev pub save_in : List ℕ → Result Command Refusal
 save_in rest =
     needs (first_word rest) (λ name.
     needs (save_over_in (behind_word rest)) (λ over. made_of (λ name. command.Save name over) (name_in name)))
+
+-- those of a deck's cards that are shown from a place on, which counts from 1
+abbrev pub view_from : ℕ → ℕ → List ℕ → Option CardsView
+view_from place count rest = if nat_le 1 place && is_end rest then Some (From place count) else None
+
+-- what stands behind the name where cards are shown: nothing, or place count
+abbrev pub view_in : List ℕ → Option CardsView
+view_in rest =
+    let behind = behind_word rest in
+    if is_end rest then Some All else
+    option_and_then (λ place. option_and_then (λ count. view_from place count (behind_word behind)) (first_number behind)) (first_number rest)
+
+-- name, or name place count
+abbrev pub cards_in : List ℕ → Result Command Refusal
+cards_in rest =
+    needs (first_word rest) (λ name.
+    needs (view_in (behind_word rest)) (λ view. made_of (λ name. command.Cards name view) (name_in name)))
 
 -- name version
 abbrev pub drop_in : List ℕ → Result Command Refusal
@@ -97,7 +116,7 @@ command_by verb.Add rest = made_of command.Add (only_name rest)
 command_by verb.Load rest = made_of command.Load (only_name rest)
 command_by verb.Drop rest = drop_in rest
 command_by (verb.Edit kind) rest = edit_in kind rest
-command_by verb.Cards rest = made_of command.Cards (only_name rest)
+command_by verb.Cards rest = cards_in rest
 command_by verb.Save rest = save_in rest
 command_by verb.Image rest = alone command.Image rest
 command_by verb.List rest = alone command.List rest

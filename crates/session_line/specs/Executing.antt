@@ -8,6 +8,7 @@ use Rattle.deck_files.specs.Savings.{Saving, saving}
 use Rattle.desk_core.specs.declared.calls.Call.{Call}
 use Rattle.desk_core.specs.declared.replies.Reply.{Reply}
 use Rattle.desk_core.specs.declared.calls.Call.TheVariants.{AddDeck, Cards, Show}
+use Rattle.session_line.specs.declared.views.CardsView.TheVariants.{All}
 use Rattle.session_line.specs.declared.tasks.Task.{Task}
 use Rattle.session_line.specs.declared.tasks.Task.TheVariants.{Ask, ShowCards, ShowText, LoadDeck, SaveDeck, Leave, Refuse}
 use Rattle.session_line.specs.declared.answers.Told.{Told}
@@ -42,7 +43,7 @@ module _ {S : Type 0} (saves : S → Saving → S → Type 0) (refuses_to_save :
 
   -- the cards that would be told are saved; what else would be told is, and the shelf is not called
   abbrev pub SavesTold : List ℕ → SaveOver → Told → S → S → Answer → Type 0
-  SavesTold name over (told.Cards version cards) shelf after answer = SavesCards name over version cards shelf after answer
+  SavesTold name over (told.Cards version cards view) shelf after answer = SavesCards name over version cards shelf after answer
   SavesTold name over what shelf after answer = (after ≡ shelf) × (answer ≡ called what)
 
 module _ {C S : Type 0} (makes : C → Call → Reply → C → Type 0) (loads : S → List ℕ → List Card → S → Type 0) (refuses_to_load : S → List ℕ → ShelfLoadFault → S → Type 0) where
@@ -57,7 +58,7 @@ module _ {C S : Type 0} (makes : C → Call → Reply → C → Type 0) (saves :
   pub record SavesDeck (name : List ℕ) (over : SaveOver) (desk next : C) (shelf after : S) (answer : Answer) : Type 0 where
     pub reply : Reply
     pub made : makes desk (Cards name) reply next
-    pub kept : SavesTold saves refuses_to_save name over (told_of_cards reply) shelf after answer
+    pub kept : SavesTold saves refuses_to_save name over (told_of_cards All reply) shelf after answer
 
 module _ {C S : Type 0} (makes : C → Call → Reply → C → Type 0) (loads : S → List ℕ → List Card → S → Type 0) (refuses_to_load : S → List ℕ → ShelfLoadFault → S → Type 0)
     (saves : S → Saving → S → Type 0) (refuses_to_save : S → Saving → ShelfSaveFault → S → Type 0) where
@@ -68,7 +69,7 @@ module _ {C S : Type 0} (makes : C → Call → Reply → C → Type 0) (loads :
   -- a task is executed once
   abbrev pub Executes : Task → C → C → S → S → Answer → Type 0
   Executes (Ask call) desk next shelf after answer = Asks makes call told_of_call desk next answer × (after ≡ shelf)
-  Executes (ShowCards name) desk next shelf after answer = Asks makes (Cards name) told_of_cards desk next answer × (after ≡ shelf)
+  Executes (ShowCards name view) desk next shelf after answer = Asks makes (Cards name) (told_of_cards view) desk next answer × (after ≡ shelf)
   Executes (ShowText text) desk next shelf after answer = Asks makes Show (told_of_publication text) desk next answer × (after ≡ shelf)
   Executes (LoadDeck name) desk next shelf after answer = LoadsDeck makes loads refuses_to_load name desk next shelf after answer
   Executes (SaveDeck name over) desk next shelf after answer = SavesDeck makes saves refuses_to_save name over desk next shelf after answer

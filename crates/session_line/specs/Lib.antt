@@ -1,5 +1,6 @@
 pub mod Words
 pub mod Verbs
+pub mod Views
 pub mod Edits
 pub mod Commands
 pub mod Lines

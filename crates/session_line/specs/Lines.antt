@@ -8,6 +8,8 @@ use Rattle.deck_files.specs.declared.deck_shelf.SaveOver.TheVariants.{Known, Any
 use Rattle.session_line.specs.declared.commands.Command.{Command}
 use Rattle.session_line.specs.declared.commands.Command.TheVariants as command
 use Rattle.session_line.specs.declared.refusals.Refusal.{Refusal}
+use Rattle.session_line.specs.declared.views.CardsView.{CardsView}
+use Rattle.session_line.specs.declared.views.CardsView.TheVariants.{All, From}
 use Rattle.session_line.specs.Words.{greatest_number}
 use Rattle.session_line.specs.Commands.{is_batch_size, is_put_size}
 
@@ -36,13 +38,18 @@ abbrev pub line_of_head : List ℕ → Result (List ℕ) Refusal → ℕ → ℕ
 line_of_head verb (Ok name) version count = verb ++ name_and_number name version (behind_a_blank (decimal count ++ []))
 line_of_head verb (Err refusal) version count = []
 
+-- what stands behind the name for what is shown of the cards
+abbrev pub line_of_view : CardsView → List ℕ
+line_of_view All = []
+line_of_view (From place count) = behind_a_blank (decimal place ++ behind_a_blank (decimal count ++ []))
+
 -- the line of a command
 abbrev pub line_of_command : Command → List ℕ
 line_of_command (command.Add name) = codes "ADD" ++ behind_a_blank (name ++ [])
 line_of_command (command.Load name) = codes "LOAD" ++ behind_a_blank (name ++ [])
 line_of_command (command.Drop name version) = codes "DROP" ++ name_and_number name version []
 line_of_command (command.Edit name version edit) = line_of_edit name version edit
-line_of_command (command.Cards name) = codes "CARDS" ++ behind_a_blank (name ++ [])
+line_of_command (command.Cards name view) = codes "CARDS" ++ behind_a_blank (name ++ line_of_view view)
 line_of_command (command.Save name Known) = codes "SAVE" ++ behind_a_blank (name ++ [])
 line_of_command (command.Save name Any) = codes "SAVE" ++ behind_a_blank (name ++ behind_a_blank (codes "FORCE"))
 line_of_command command.Image = codes "IMAGE"
@@ -64,13 +71,18 @@ abbrev pub IsLawfulName : Result (List ℕ) Refusal → Type 0
 IsLawfulName (Ok name) = IsTrue (is_deck_name name)
 IsLawfulName (Err refusal) = ⊥
 
+-- a place and a number of cards that can be told
+abbrev pub IsLawfulView : CardsView → Type 0
+IsLawfulView All = ⊤
+IsLawfulView (From place count) = (1 ≤ place) × (place ≤ greatest_number) × (count ≤ greatest_number)
+
 -- a command with a lawful name, numbers that can be told, and a card; where it is a batch, with a name and 1 to 100 edits; where it is a put, with a name and at most 20,000 cards
 abbrev pub IsLawful : Command → Type 0
 IsLawful (command.Add name) = IsTrue (is_deck_name name)
 IsLawful (command.Load name) = IsTrue (is_deck_name name)
 IsLawful (command.Drop name version) = IsTrue (is_deck_name name) × (version ≤ greatest_number)
 IsLawful (command.Edit name version edit) = IsTrue (is_deck_name name) × (version ≤ greatest_number) × IsLawfulEdit edit
-IsLawful (command.Cards name) = IsTrue (is_deck_name name)
+IsLawful (command.Cards name view) = IsTrue (is_deck_name name) × IsLawfulView view
 IsLawful (command.Save name over) = IsTrue (is_deck_name name)
 IsLawful command.Image = ⊤
 IsLawful command.List = ⊤

@@ -73,7 +73,7 @@ task_of_command (command.Add name) lines = Ask (AddDeck (record { name = name; c
 task_of_command (command.Load name) lines = LoadDeck name
 task_of_command (command.Drop name version) lines = Ask (DropDeck name version)
 task_of_command (command.Edit name version edit) lines = Ask (EditDeck name version edit)
-task_of_command (command.Cards name) lines = ShowCards name
+task_of_command (command.Cards name view) lines = ShowCards name view
 task_of_command (command.Save name over) lines = SaveDeck name over
 task_of_command command.Image lines = ShowText Image
 task_of_command command.List lines = ShowText Listing

@@ -6,6 +6,7 @@ ghost use Rattle.session_line.specs.Answers.{foreign, told_of_call, told_of_card
 use crate::Refusal;
 use crate::reasons::desk_reason;
 use crate::tasks::PublishedText;
+use crate::views::{CardsView, cards_shown};
 use cards::{Card, MOST_CARDS};
 use deck_linker::Publication;
 use desk_core::{Listed, Reply, Row, SharedPublication};
@@ -18,8 +19,8 @@ const MOST_DECKS: usize = 64;
 pub(crate) enum Told {
     /// What was asked is done; the version is the deck's.
     Done(u64),
-    /// A deck's version and cards.
-    Cards(u64, Listed<Card>),
+    /// A deck's version, and of its cards this.
+    Cards(u64, Listed<Card>, CardsView),
     /// Of the publication, this text.
     Published(SharedPublication, PublishedText),
     /// The desk's version, the published one, and a row for each deck.
@@ -63,15 +64,15 @@ pub(crate) fn told_of_call(reply: Reply) -> Told
     }
 }
 
-/// What is told of the reply to a call for the cards of a deck.
-pub(crate) fn told_of_cards(reply: Reply) -> Told
-    ensures told { result ≡ told_of_cards reply }
+/// What is told of the reply to a call for the cards of a deck, of which this is shown.
+pub(crate) fn told_of_cards(view: CardsView, reply: Reply) -> Told
+    ensures told { result ≡ told_of_cards view reply }
     ensures fits { IsTellable result }
 {
     match reply {
         Reply::CardsAre(version, cards) => {
             if cards.as_slice().len() <= MOST_CARDS {
-                Told::Cards(version, cards)
+                Told::Cards(version, cards, view)
             } else {
                 foreign()
             }
@@ -113,9 +114,9 @@ impl Told {
     {
         match self {
             Told::Done(version) => crate::Reply::Done { version: *version },
-            Told::Cards(version, cards) => crate::Reply::Cards {
+            Told::Cards(version, cards, view) => crate::Reply::Cards {
                 version: *version,
-                cards: cards.as_slice(),
+                cards: cards_shown(view, cards.as_slice()),
             },
             Told::Published(shared, text) => crate::Reply::Text {
                 version: shared.publication().version(),

@@ -1,11 +1,12 @@
 //! The commands of a session.
 ghost use Rattle.std.specs.Prelude.{◌≡◌};
 ghost use Rattle.session_line.specs.declared.commands.Command.TheVariants as command;
-ghost use Rattle.session_line.specs.Commands.{name_in, alone, only_name, save_over_in, save_in, drop_in, edit_in, head_in, sized, command_by, command_of, is_batch_size, is_put_size};
+ghost use Rattle.session_line.specs.Commands.{name_in, alone, only_name, save_over_in, save_in, view_in, cards_in, drop_in, edit_in, head_in, sized, command_by, command_of, is_batch_size, is_put_size};
 
 use crate::edits::{edit_at, fits_edit};
 use crate::refusals::Refusal;
 use crate::verbs::{EditKind, Verb, verb_of};
+use crate::views::CardsView;
 use crate::words::{behind_word, first_number, first_word, from_blank, to_blank};
 use cards::{DeckName, Edit};
 use deck_files::SaveOver;
@@ -39,9 +40,10 @@ pub enum Command {
         version: u64,
         edit: Edit,
     },
-    /// The cards of the deck.
+    /// The cards of the deck, or some of them.
     Cards {
         name: DeckName,
+        view: CardsView,
     },
     /// The cards of the deck go to the shelf's file of its name, where that may be written over.
     Save {
@@ -135,6 +137,39 @@ fn save_in(rest: &[u8]) -> Result<Command, Refusal>
     Ok(Command::Save {
         name: name_in(name)?,
         over,
+    })
+}
+
+/// What is shown of the cards: all where nothing stands behind the name, or those from a place on, which
+/// counts from 1, at most so many.
+fn view_in(rest: &[u8]) -> Option<CardsView>
+    ensures { result ≡ view_in rest.now }
+{
+    if rest.is_empty() {
+        return Some(CardsView::All);
+    }
+    let place = first_number(rest)?;
+    let rest = behind_word(rest);
+    let count = first_number(rest)?;
+    if place == 0 || !behind_word(rest).is_empty() {
+        return None;
+    }
+    Some(CardsView::From { place, count })
+}
+
+/// `name`, or `name place count`
+fn cards_in(rest: &[u8]) -> Result<Command, Refusal>
+    ensures { result ≡ cards_in rest.now }
+{
+    let Some(name) = first_word(rest) else {
+        return Err(Refusal::BadCommand);
+    };
+    let Some(view) = view_in(behind_word(rest)) else {
+        return Err(Refusal::BadCommand);
+    };
+    Ok(Command::Cards {
+        name: name_in(name)?,
+        view,
     })
 }
 
@@ -271,9 +306,7 @@ fn command_by(verb: Verb, rest: &[u8]) -> Result<Command, Refusal>
         }),
         Verb::Drop => drop_in(rest),
         Verb::Edit(kind) => edit_in(kind, rest),
-        Verb::Cards => Ok(Command::Cards {
-            name: only_name(rest)?,
-        }),
+        Verb::Cards => cards_in(rest),
         Verb::Save => save_in(rest),
         Verb::Image => alone(Command::Image, rest),
         Verb::List => alone(Command::List, rest),

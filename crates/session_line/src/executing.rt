@@ -8,6 +8,7 @@ use crate::answers::{Answer, Told, told_of_call, told_of_cards, told_of_publicat
 use crate::calls::Calls;
 use crate::reasons::{load_reason, save_reason};
 use crate::tasks::{PublishedText, Task};
+use crate::views::CardsView;
 use cards::{Card, DeckName};
 use deck_files::{SaveOver, Shelf};
 use desk_core::{Call, NewDeck};
@@ -41,11 +42,11 @@ fn ask<C: Calls>(desk: &mut C, call: Call) -> Answer
 }
 
 /// The desk is asked for the cards of the deck.
-fn show_cards<C: Calls>(desk: &mut C, name: DeckName) -> Answer
-    ensures asks { Asks C.makes (Cards name) told_of_cards desk.old desk.new result }
+fn show_cards<C: Calls>(desk: &mut C, name: DeckName, view: CardsView) -> Answer
+    ensures asks { Asks C.makes (Cards name) (told_of_cards view) desk.old desk.new result }
     ensures fits { IsTellable result.told }
 {
-    called(told_of_cards(desk.call(Call::Cards(name))))
+    called(told_of_cards(view, desk.call(Call::Cards(name))))
 }
 
 /// The desk is asked for the publication.
@@ -95,8 +96,8 @@ fn save_deck<C: Calls, S: Shelf>(
     ensures saves { SavesDeck C.makes S.saves S.refuses_to_save name.now over desk.old desk.new shelf.old shelf.new result }
     ensures fits { IsTellable result.told }
 {
-    match told_of_cards(desk.call(Call::Cards(name.copied()))) {
-        Told::Cards(version, cards) => {
+    match told_of_cards(CardsView::All, desk.call(Call::Cards(name.copied()))) {
+        Told::Cards(version, cards, _) => {
             save_cards(shelf, name, over, version, cards.as_slice())
         }
         told => called(told),
@@ -110,7 +111,7 @@ pub(crate) fn execute<C: Calls, S: Shelf>(desk: &mut C, shelf: &mut S, task: Tas
 {
     match task {
         Task::Ask(call) => ask(desk, call),
-        Task::ShowCards(name) => show_cards(desk, name),
+        Task::ShowCards(name, view) => show_cards(desk, name, view),
         Task::ShowText(text) => show_text(desk, text),
         Task::LoadDeck(name) => load_deck(desk, shelf, name),
         Task::SaveDeck(name, over) => save_deck(desk, shelf, &name, over),

@@ -19,6 +19,7 @@ mod words;
 mod commands;
 mod edits;
 mod refusals;
+mod views;
 
 // Replies.
 mod refusal_texts;
@@ -57,5 +58,6 @@ pub use refusals::Refusal;
 pub use replies::Reply;
 pub use seat_calls::SeatCalls;
 pub use serving::{Outcome, serve_one};
+pub use views::CardsView;
 pub use words::{behind_blank, behind_word, first_number, first_word, from_blank, to_blank};
 pub use writing::{reply_text, write_reply};

@@ -8,7 +8,7 @@ ghost use Rattle.session_line.specs.Taking.{IsTaskFor};
 ghost use Rattle.session_line.specs.LineItems.{IsRead, is_lacking};
 
 use crate::line_items::ItemsRead;
-use crate::{Command, LinesHead, Refusal};
+use crate::{CardsView, Command, LinesHead, Refusal};
 use cards::{Card, DeckName, Edit};
 use deck_files::SaveOver;
 use desk_core::{Call, Listed, NewDeck};
@@ -27,8 +27,8 @@ pub(crate) enum PublishedText {
 pub(crate) enum Task {
     /// One call of the desk that shows neither cards nor a publication: a change, or the status.
     Ask(Call),
-    /// The cards of the deck of this name are shown.
-    ShowCards(DeckName),
+    /// This of the cards of the deck of this name is shown.
+    ShowCards(DeckName, CardsView),
     /// This text of the publication is shown.
     ShowText(PublishedText),
     /// The shelf's deck of this name is added.
@@ -146,7 +146,7 @@ fn task_of_command(alloc: Global, command: Command, edits: ItemsRead<Edit>) -> T
             seen: version,
             edit,
         }),
-        Command::Cards { name } => Task::ShowCards(name),
+        Command::Cards { name, view } => Task::ShowCards(name, view),
         Command::Save { name, over } => Task::SaveDeck(name, over),
         Command::Image => Task::ShowText(PublishedText::Image),
         Command::List => Task::ShowText(PublishedText::Listing),
