@@ -30,6 +30,10 @@ fn view_text(rt: &impl Abort, alloc: Global, view: &CardsView) -> String {
     let text = match view {
         CardsView::All => format!(in alloc; ""),
         CardsView::From { place, count } => format!(in alloc; " from {place}, {count}"),
+        CardsView::With(text) => format!(in alloc;
+            " with '{}'",
+            one_line(rt, alloc, text.as_slice())
+        ),
     };
     text.expect(rt, "memory")
 }
@@ -121,6 +125,13 @@ fn lines(rt: HostRuntime) {
         ("CARDS M 0 10", "BadCommand"),
         ("CARDS M 1", "BadCommand"),
         ("CARDS M+ 1 1", "BadName"),
+        ("FIND M SB1  X ", "cards M with 'SB1  X'"),
+        ("FIND M  X", "cards M with ' X'"),
+        ("FIND M", "BadCommand"),
+        ("FIND M  ", "BadCommand"),
+        ("FIND M x", "BadCommand"),
+        ("FIND M+ x", "BadCommand"),
+        ("FIND M+ X", "BadName"),
         ("SAVE M", "save M Known"),
         ("SAVE M FORCE", "save M Any"),
         ("IMAGE", "image"),
@@ -168,6 +179,7 @@ fn lines_of_a_batch(rt: HostRuntime) {
 fn reply_is(rt: &impl Abort, alloc: Global, reply: &Reply<'_>, wanted: &[u8]) {
     match reply {
         Reply::Cards { cards, .. } => assert!(rt; cards.len() <= 20_000),
+        Reply::Found { cards, .. } => assert!(rt; cards.len() <= 20_000),
         Reply::Status { decks, .. } => assert!(rt; decks.len() <= 64),
         Reply::Done { .. } | Reply::Text { .. } | Reply::Bye | Reply::Refused(_) => {}
     }
@@ -186,6 +198,12 @@ fn replies(rt: HostRuntime) {
         cards: &cards,
     };
     reply_is(&rt, alloc, &two, b"OK 5 2\n*B\n\n");
+    let found = Reply::Found {
+        version: 5,
+        cards: &cards,
+        text: b"B",
+    };
+    reply_is(&rt, alloc, &found, b"OK 5 1\n1\n");
     let text = b"MAP\nEND\n";
     reply_is(
         &rt,

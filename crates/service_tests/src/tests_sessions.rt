@@ -185,6 +185,28 @@ fn parts_of_a_deck(rt: HostRuntime) {
     );
 }
 
+#[test]
+fn texts_that_are_looked_for(rt: HostRuntime) {
+    goes(
+        &rt,
+        &[
+            ("PUT M 0 5\nA  SB1 1\n\n   SB1 2\n*ABAB\nSB 1", "OK 1|"),
+            ("FIND M SB1", "OK 1 2|1|3|"),
+            ("FIND M SB1 ", "OK 1 2|1|3|"),
+            ("FIND M SB1 2", "OK 1 1|3|"),
+            ("FIND M BAB", "OK 1 1|4|"),
+            ("FIND M ABB", "OK 1 0|"),
+            ("FIND M  1", "OK 1 2|1|5|"),
+            ("FIND M B1 10", "OK 1 0|"),
+            ("FIND M", "NO BadCommand|"),
+            ("FIND M  ", "NO BadCommand|"),
+            ("FIND M sb1", "NO BadCommand|"),
+            ("FIND M+ SB1", "NO BadName|"),
+            ("FIND N SB1", "NO NoDeck|"),
+        ],
+    );
+}
+
 /// How many commands a session has at most.
 const MOST_COMMANDS: usize = 20;
 

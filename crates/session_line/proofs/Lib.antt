@@ -5,3 +5,4 @@ pub mod LineLaws
 pub mod TakingSteps
 pub mod SessionKinds
 pub mod WorkedSessions
+pub mod FoundSteps

@@ -2,7 +2,7 @@
 use Rattle.std.proofs.Common.{ℕ, ◌≡◌, ◌≤◌, ◌&&◌, arith, Bool, true, false, List, [], ◌∷◌, ◌++◌, Option, Some, None, Result, Ok, Err, codes, length, refl, ap, ◌∙◌, ne_eqb, if◌then◌else◌}
 use Rattle.std.specs.Prelude.{nat_le, decimal, option_and_then}
 use Rattle.std.proofs.lemmas.Bool.{and_parts, le-leb, leb-true}
-use Rattle.definitions.specs.Cards.{CardRead}
+use Rattle.definitions.specs.Cards.{CardRead, IsCard, card_of}
 use Rattle.definitions.specs.DeckInput.{is_deck_name}
 use Rattle.session_line.specs.declared.verbs.EditKind.{EditKind}
 use Rattle.session_line.specs.declared.verbs.EditKind.TheVariants as kind
@@ -15,12 +15,13 @@ use Rattle.session_line.specs.declared.commands.Command.TheVariants as command
 use Rattle.session_line.specs.declared.commands.LinesHead.{LinesHead}
 use Rattle.session_line.specs.declared.refusals.Refusal.{Refusal}
 use Rattle.session_line.specs.declared.views.CardsView.{CardsView}
-use Rattle.session_line.specs.declared.views.CardsView.TheVariants.{All, From}
+use Rattle.session_line.specs.declared.views.CardsView.TheVariants.{All, From, With}
 use Rattle.session_line.specs.declared.refusals.Refusal.TheVariants.{BadName}
+use Rattle.session_line.specs.Views.{is_sought_size}
 use Rattle.session_line.specs.Words.{first_word, behind_word, first_number, greatest_number}
 use Rattle.session_line.specs.Edits.{needs, only_if, made_of, is_end, card_or_fault, fits_edit, edit_at, edit_in_batch}
-use Rattle.session_line.specs.Commands.{name_in, only_name, save_over_in, save_in, view_from, view_in, cards_in, drop_in, edit_of, edit_in, head_in, sized, is_batch_size, is_put_size, command_of}
-use Rattle.session_line.specs.Lines.{name_and_number, line_of_edit, line_in_batch, line_of_head, line_of_view, line_of_command, IsLawfulEdit, IsLawfulName, IsLawful}
+use Rattle.session_line.specs.Commands.{name_in, only_name, save_over_in, save_in, view_from, view_in, cards_in, sought_of, sought_in, find_in, drop_in, edit_of, edit_in, head_in, sized, is_batch_size, is_put_size, command_of}
+use Rattle.session_line.specs.Lines.{name_and_number, line_of_edit, line_in_batch, line_of_head, line_of_command, IsLawfulEdit, IsLawfulName, IsLawful}
 use Rattle.session_line.proofs.ReadBack.{IsRest, word-name, word-decimal, first-word, behind-word, first-number}
 
 -- a lawful name
@@ -78,7 +79,7 @@ no-end : (c : ℕ) (text : List ℕ) → is_end (c ∷ text) ≡ false
 no-end c text = ne_eqb (length (c ∷ text)) 0 (λ e. absurd (omega (arith, e)))
 
 -- a place and a number of cards
-from-back : (place count : ℕ) → 1 ≤ place → place ≤ greatest_number → count ≤ greatest_number → view_in (line_of_view (From place count)) ≡ Some (From place count)
+from-back : (place count : ℕ) → 1 ≤ place → place ≤ greatest_number → count ≤ greatest_number → view_in (32 ∷ (decimal place ++ (32 ∷ (decimal count ++ [])))) ≡ Some (From place count)
 from-back place count least placed counted =
     let rest = 32 ∷ (decimal count ++ []) in
     let line = 32 ∷ (decimal place ++ rest) in
@@ -88,6 +89,17 @@ from-back place count least placed counted =
     ∙ ap (λ (o : Option ℕ). option_and_then (λ n. view_from place n (behind_word rest)) o) (first-number count [] counted refl)
     ∙ ap (λ (l : List ℕ). view_from place count l) (behind-word (decimal count) [] (word-decimal count counted) refl)
     ∙ ap (λ (t : Bool). if t && true then Some (From place count) else None) (le-leb 1 place least)
+
+-- FIND
+find-back : (name text : List ℕ) → is_deck_name name ≡ true → card_of text ≡ IsCard text → is_sought_size (length text) ≡ true →
+    find_in (32 ∷ (name ++ (32 ∷ text))) ≡ Ok (command.Cards name (With text))
+find-back name text is card size =
+    let line = 32 ∷ (name ++ (32 ∷ text)) in
+    ap (λ (o : Option (List ℕ)). needs o (λ n. needs (sought_in (behind_word line)) (λ t. made_of (λ m. command.Cards m (With t)) (name_in n)))) (first-word name (32 ∷ text) (word-name name is) refl)
+    ∙ ap (λ (l : List ℕ). needs (sought_in l) (λ t. made_of (λ m. command.Cards m (With t)) (name_in name))) (behind-word name (32 ∷ text) (word-name name is) refl)
+    ∙ ap (λ (r : CardRead). needs (sought_of r) (λ t. made_of (λ m. command.Cards m (With t)) (name_in name))) card
+    ∙ ap (λ (b : Bool). needs (if b then Some text else None) (λ t. made_of (λ m. command.Cards m (With t)) (name_in name))) size
+    ∙ ap (λ (r : Result (List ℕ) Refusal). made_of (λ m. command.Cards m (With text)) r) (name-is name is)
 
 -- DROP
 drop-back : (name : List ℕ) (version : ℕ) → is_deck_name name ≡ true → version ≤ greatest_number → drop_in (name_and_number name version []) ≡ Ok (command.Drop name version)
@@ -162,7 +174,8 @@ line-back (command.Drop name version) lawful = drop-back name version lawful.0 l
 line-back (command.Edit name version edit) lawful = edit-back name version edit lawful.0 lawful.1 lawful.2
 line-back (command.Cards name All) lawful = cards-back name [] All lawful.0 refl refl
 line-back (command.Cards name (From place count)) lawful =
-    cards-back name (line_of_view (From place count)) (From place count) lawful.0 refl (from-back place count lawful.1.0 lawful.1.1 lawful.1.2)
+    cards-back name (32 ∷ (decimal place ++ (32 ∷ (decimal count ++ [])))) (From place count) lawful.0 refl (from-back place count lawful.1.0 lawful.1.1 lawful.1.2)
+line-back (command.Cards name (With text)) lawful = find-back name text lawful.0 lawful.1.0 lawful.1.1
 line-back (command.Save name Known) is = save-back name [] Known is refl refl
 line-back (command.Save name Any) is = save-back name (codes " FORCE") Any is refl refl
 line-back command.Image _ = refl

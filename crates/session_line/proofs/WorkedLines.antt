@@ -4,7 +4,7 @@ use Rattle.cards.specs.declared.card.CardFault.TheVariants as card
 use Rattle.cards.specs.declared.edits.Edit.TheVariants.{Insert, Replace, Remove}
 use Rattle.deck_files.specs.declared.deck_shelf.SaveOver.TheVariants.{Known, Any}
 use Rattle.session_line.specs.declared.commands.Command.TheVariants as command
-use Rattle.session_line.specs.declared.views.CardsView.TheVariants.{All, From}
+use Rattle.session_line.specs.declared.views.CardsView.TheVariants.{All, From, With}
 use Rattle.session_line.specs.declared.refusals.Refusal.TheVariants.{BadCommand, BadName, BadCard}
 use Rattle.session_line.specs.Edits.{edit_in_batch}
 use Rattle.session_line.specs.Commands.{command_of}
@@ -47,6 +47,37 @@ cards_without_count = refl
 
 pub cards_and_more : command_of (codes "CARDS M 11 10 ") ≡ Err BadCommand
 cards_and_more = refl
+
+-- a text behind one blank, without its trailing blanks
+pub find : command_of (codes "FIND M SB1  X ") ≡ Ok (command.Cards (codes "M") (With (codes "SB1  X")))
+find = refl
+
+pub find-blank : command_of (codes "FIND M  X") ≡ Ok (command.Cards (codes "M") (With (codes " X")))
+find-blank = refl
+
+-- texts that are none
+pub find-nothing : command_of (codes "FIND M") ≡ Err BadCommand
+find-nothing = refl
+
+pub find-blanks : command_of (codes "FIND M   ") ≡ Err BadCommand
+find-blanks = refl
+
+pub find-small : command_of (codes "FIND M sb1") ≡ Err BadCommand
+find-small = refl
+
+pub find-longest : command_of (codes "FIND M 123456789012345678901234567890123456789012345678901234567890123456789012")
+    ≡ Ok (command.Cards (codes "M") (With (codes "123456789012345678901234567890123456789012345678901234567890123456789012")))
+find-longest = refl
+
+pub find-longer : command_of (codes "FIND M 1234567890123456789012345678901234567890123456789012345678901234567890123") ≡ Err BadCommand
+find-longer = refl
+
+pub find-nobody : command_of (codes "FIND M+ X") ≡ Err BadName
+find-nobody = refl
+
+-- the text counts before the name
+pub find-order : command_of (codes "FIND M+ x") ≡ Err BadCommand
+find-order = refl
 
 pub cards_of_nobody : command_of (codes "CARDS M+ 11 10") ≡ Err BadName
 cards_of_nobody = refl

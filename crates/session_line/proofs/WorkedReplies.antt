@@ -1,12 +1,13 @@
 -- Worked replies, computed.
-use Rattle.std.proofs.Common.{◌≡◌, None, Some, codes, refl}
+use Rattle.std.proofs.Common.{◌≡◌, [], ◌∷◌, None, Some, codes, refl}
 use Rattle.std.specs.Fmt.{digits}
 use Rattle.cards.specs.declared.card.CardFault.TheVariants as card
 use Rattle.cards.specs.declared.edits.EditFault.TheVariants as fault
 use Rattle.session_line.specs.declared.refusals.Refusal.TheVariants as refusal
 use Rattle.session_line.specs.declared.replies.Reply.TheVariants as reply
 use Rattle.desk_core.specs.declared.replies.State.TheVariants.{Behind}
-use Rattle.session_line.specs.Replies.{text_of_reply, row_text, published_text, counted_text, line_count}
+use Rattle.session_line.specs.Replies.{text_of_reply, row_text, published_text, counted_text, line_count, numbers_text}
+use Rattle.session_line.specs.Views.{numbers_from}
 
 -- a version; names with their numbers
 pub done : text_of_reply (reply.Done 12) ≡ codes "OK 12\n"
@@ -29,6 +30,10 @@ bad_edit = unfold digits in refl
 
 pub write_fault : text_of_reply (reply.Refused (refusal.WriteFault 3)) ≡ codes "NO WriteFault 3\n"
 write_fault = unfold digits in refl
+
+-- numbers, each on a line of its own
+pub numbers : numbers_text (numbers_from 9 (codes "SB1") (codes "A SB1" ∷ codes "" ∷ codes "SB1" ∷ [])) ≡ codes "9\n11\n"
+numbers = unfold digits in refl
 
 -- the lines of a status
 pub row : row_text (record { name = codes "M"; version = 1; cards = 0; state = Behind }) ≡ codes "M 1 0 BEHIND"

@@ -11,7 +11,7 @@ use Rattle.desk_core.specs.declared.replies.Refusal.TheVariants as desk
 use Rattle.deck_files.specs.declared.deck_shelf.SaveOver.TheVariants.{Known}
 use Rattle.session_line.specs.declared.refusals.Refusal.TheVariants.{BadCommand, BadName, BadCard, BadLine}
 use Rattle.session_line.specs.Commands.{command_of}
-use Rattle.session_line.specs.declared.views.CardsView.TheVariants.{All, From}
+use Rattle.session_line.specs.declared.views.CardsView.TheVariants.{All, From, With}
 use Rattle.session_line.specs.declared.tasks.PublishedText.TheVariants.{Image, Listing, Map}
 use Rattle.session_line.specs.declared.tasks.Task.TheVariants.{Ask, ShowCards, ShowText, LoadDeck, SaveDeck, Leave, Refuse}
 use Rattle.session_line.specs.Tasks.{lines_due, task_of}
@@ -111,6 +111,19 @@ no_cards = unfold digits in refl
 
 pub none_of_them : told_text (told_of_cards (From 2 0) (reply.CardsAre 5 four)) ≡ codes "OK 5 0\n"
 none_of_them = unfold digits in refl
+
+-- the numbers of the cards that have a text
+pub found : told_text (told_of_cards (With (codes "*B")) (reply.CardsAre 5 four)) ≡ codes "OK 5 1\n2\n"
+found = unfold digits in refl
+
+pub all_found : told_text (told_of_cards (With (codes "*")) (reply.CardsAre 5 four)) ≡ codes "OK 5 4\n1\n2\n3\n4\n"
+all_found = unfold digits in refl
+
+pub last_found : told_text (told_of_cards (With (codes "D")) (reply.CardsAre 5 four)) ≡ codes "OK 5 1\n4\n"
+last_found = unfold digits in refl
+
+pub none_found : told_text (told_of_cards (With (codes "*AB")) (reply.CardsAre 5 four)) ≡ codes "OK 5 0\n"
+none_found = unfold digits in refl
 
 pub status : told_text (told_of_call (reply.StatusIs 1 None (record { name = codes "M"; version = 1; cards = 0; state = Behind } ∷ []))) ≡ codes "OK 1 2\nPUBLISHED NONE\nM 1 0 BEHIND\n"
 status = unfold digits in refl

@@ -10,10 +10,11 @@ use Rattle.deck_files.specs.DeckFiles.{file_of}
 use Rattle.session_line.specs.declared.refusals.Refusal.{Refusal}
 use Rattle.session_line.specs.declared.refusals.Refusal.TheVariants as refusal
 use Rattle.session_line.specs.Refusals.{refusal_text}
-use Rattle.session_line.specs.Replies.{line_of, line_count, ok_text, counted_text, published_text, rows_text}
+use Rattle.session_line.specs.Replies.{line_of, line_count, ok_text, counted_text, published_text, rows_text, numbers_text}
 use Rattle.session_line.specs.Reasons.{desk_reason}
 use Rattle.session_line.specs.declared.views.CardsView.{CardsView}
-use Rattle.session_line.specs.Views.{cards_shown}
+use Rattle.session_line.specs.declared.views.CardsView.TheVariants.{All, From, With}
+use Rattle.session_line.specs.Views.{cards_from, numbers_of}
 use Rattle.session_line.specs.declared.tasks.PublishedText.{PublishedText}
 use Rattle.session_line.specs.declared.tasks.PublishedText.TheVariants.{Image, Listing, Map}
 use Rattle.session_line.specs.declared.answers.Told.{Told}
@@ -69,10 +70,16 @@ shown_text Map publication = map_of publication.decks
 abbrev pub cards_text : ℕ → List Card → List ℕ
 cards_text version cards = with_body (counted_text version (length cards)) (file_of cards)
 
+-- the text of what is shown of a deck's cards
+abbrev pub view_text : ℕ → CardsView → List Card → List ℕ
+view_text version All cards = cards_text version cards
+view_text version (From place count) cards = cards_text version (cards_from place count cards)
+view_text version (With text) cards = with_body (counted_text version (length (numbers_of text cards))) (numbers_text (numbers_of text cards))
+
 -- the text that a session is told
 abbrev pub told_text : Told → List ℕ
 told_text (told.Done version) = with_body (ok_text version) []
-told_text (told.Cards version cards view) = cards_text version (cards_shown view cards)
+told_text (told.Cards version cards view) = view_text version view cards
 told_text (told.Published publication text) = with_body (counted_text publication.version (line_count (shown_text text publication))) (shown_text text publication)
 told_text (told.Status version published rows) = with_body (counted_text version (length rows + 1)) (line_of (published_text published) ++ rows_text rows)
 told_text (told.Refused reason) = refused_text reason

@@ -1,6 +1,7 @@
 -- Which line of a session is which command, or why it is refused: a line that is none first, then the name, then the card (ours).
-use Rattle.std.specs.Prelude.{ℕ, List, Option, Some, None, Result, Ok, Err, Bool, ◌&&◌, codes, nat_le, option_and_then, if◌then◌else◌}
+use Rattle.std.specs.Prelude.{ℕ, List, Option, Some, None, Result, Ok, Err, Bool, ◌&&◌, codes, length, drop, nat_le, option_and_then, if◌then◌else◌}
 use Rattle.definitions.specs.Characters.{same_text}
+use Rattle.definitions.specs.Cards.{Card, CardRead, IsCard, TooWide, BadCharacter, card_of}
 use Rattle.definitions.specs.DeckInput.{is_deck_name}
 use Rattle.definitions.specs.Fields.{unbroken_front}
 use Rattle.session_line.specs.declared.verbs.EditKind.{EditKind}
@@ -12,12 +13,13 @@ use Rattle.deck_files.specs.declared.deck_shelf.SaveOver.TheVariants as over
 use Rattle.session_line.specs.declared.commands.Command.{Command}
 use Rattle.session_line.specs.declared.commands.LinesHead.{LinesHead}
 use Rattle.session_line.specs.declared.views.CardsView.{CardsView}
-use Rattle.session_line.specs.declared.views.CardsView.TheVariants.{All, From}
+use Rattle.session_line.specs.declared.views.CardsView.TheVariants.{All, From, With}
 use Rattle.session_line.specs.declared.commands.Command.TheVariants as command
 use Rattle.session_line.specs.declared.refusals.Refusal.{Refusal}
 use Rattle.session_line.specs.declared.refusals.Refusal.TheVariants.{BadName}
 use Rattle.session_line.specs.Words.{from_blank, first_word, first_number, behind_word}
 use Rattle.session_line.specs.Verbs.{verb_of}
+use Rattle.session_line.specs.Views.{is_sought_size}
 use Rattle.session_line.specs.Edits.{needs, only_if, made_of, is_end, fits_edit, edit_at}
 
 -- the name that a word is
@@ -58,6 +60,22 @@ abbrev pub cards_in : List ℕ → Result Command Refusal
 cards_in rest =
     needs (first_word rest) (λ name.
     needs (view_in (behind_word rest)) (λ view. made_of (λ name. command.Cards name view) (name_in name)))
+
+-- a text that is looked for: a card of as many columns as such a text may have
+abbrev pub sought_of : CardRead → Option Card
+sought_of (IsCard columns) = if is_sought_size (length columns) then Some columns else None
+sought_of TooWide = None
+sought_of (BadCharacter column) = None
+
+-- the text that is all that stands behind one blank
+abbrev pub sought_in : List ℕ → Option Card
+sought_in rest = sought_of (card_of (drop 1 rest))
+
+-- name text
+abbrev pub find_in : List ℕ → Result Command Refusal
+find_in rest =
+    needs (first_word rest) (λ name.
+    needs (sought_in (behind_word rest)) (λ text. made_of (λ name. command.Cards name (With text)) (name_in name)))
 
 -- name version
 abbrev pub drop_in : List ℕ → Result Command Refusal
@@ -117,6 +135,7 @@ command_by verb.Load rest = made_of command.Load (only_name rest)
 command_by verb.Drop rest = drop_in rest
 command_by (verb.Edit kind) rest = edit_in kind rest
 command_by verb.Cards rest = cards_in rest
+command_by verb.Find rest = find_in rest
 command_by verb.Save rest = save_in rest
 command_by verb.Image rest = alone command.Image rest
 command_by verb.List rest = alone command.List rest

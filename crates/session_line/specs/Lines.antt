@@ -1,5 +1,5 @@
 -- The line that a client writes for a command (ours).
-use Rattle.std.specs.Prelude.{ℕ, ◌≡◌, ◌≤◌, ⊤, List, [], ◌++◌, Result, Ok, Err, IsTrue, codes, decimal}
+use Rattle.std.specs.Prelude.{ℕ, ◌≡◌, ◌≤◌, ⊤, List, [], ◌++◌, Result, Ok, Err, IsTrue, codes, decimal, length}
 use Rattle.definitions.specs.Cards.{IsCard, card_of}
 use Rattle.definitions.specs.DeckInput.{is_deck_name}
 use Rattle.cards.specs.declared.edits.Edit.{Edit}
@@ -9,8 +9,9 @@ use Rattle.session_line.specs.declared.commands.Command.{Command}
 use Rattle.session_line.specs.declared.commands.Command.TheVariants as command
 use Rattle.session_line.specs.declared.refusals.Refusal.{Refusal}
 use Rattle.session_line.specs.declared.views.CardsView.{CardsView}
-use Rattle.session_line.specs.declared.views.CardsView.TheVariants.{All, From}
+use Rattle.session_line.specs.declared.views.CardsView.TheVariants.{All, From, With}
 use Rattle.session_line.specs.Words.{greatest_number}
+use Rattle.session_line.specs.Views.{is_sought_size}
 use Rattle.session_line.specs.Commands.{is_batch_size, is_put_size}
 
 -- a blank, and a text behind it
@@ -38,10 +39,11 @@ abbrev pub line_of_head : List ℕ → Result (List ℕ) Refusal → ℕ → ℕ
 line_of_head verb (Ok name) version count = verb ++ name_and_number name version (behind_a_blank (decimal count ++ []))
 line_of_head verb (Err refusal) version count = []
 
--- what stands behind the name for what is shown of the cards
-abbrev pub line_of_view : CardsView → List ℕ
-line_of_view All = []
-line_of_view (From place count) = behind_a_blank (decimal place ++ behind_a_blank (decimal count ++ []))
+-- the line that asks for this of a deck's cards
+abbrev pub line_of_view : List ℕ → CardsView → List ℕ
+line_of_view name All = codes "CARDS" ++ behind_a_blank (name ++ [])
+line_of_view name (From place count) = codes "CARDS" ++ name_and_number name place (behind_a_blank (decimal count ++ []))
+line_of_view name (With text) = codes "FIND" ++ behind_a_blank (name ++ behind_a_blank text)
 
 -- the line of a command
 abbrev pub line_of_command : Command → List ℕ
@@ -49,7 +51,7 @@ line_of_command (command.Add name) = codes "ADD" ++ behind_a_blank (name ++ [])
 line_of_command (command.Load name) = codes "LOAD" ++ behind_a_blank (name ++ [])
 line_of_command (command.Drop name version) = codes "DROP" ++ name_and_number name version []
 line_of_command (command.Edit name version edit) = line_of_edit name version edit
-line_of_command (command.Cards name view) = codes "CARDS" ++ behind_a_blank (name ++ line_of_view view)
+line_of_command (command.Cards name view) = line_of_view name view
 line_of_command (command.Save name Known) = codes "SAVE" ++ behind_a_blank (name ++ [])
 line_of_command (command.Save name Any) = codes "SAVE" ++ behind_a_blank (name ++ behind_a_blank (codes "FORCE"))
 line_of_command command.Image = codes "IMAGE"
@@ -71,10 +73,11 @@ abbrev pub IsLawfulName : Result (List ℕ) Refusal → Type 0
 IsLawfulName (Ok name) = IsTrue (is_deck_name name)
 IsLawfulName (Err refusal) = ⊥
 
--- a place and a number of cards that can be told
+-- a place and a number of cards that can be told, or a text that can be looked for
 abbrev pub IsLawfulView : CardsView → Type 0
 IsLawfulView All = ⊤
 IsLawfulView (From place count) = (1 ≤ place) × (place ≤ greatest_number) × (count ≤ greatest_number)
+IsLawfulView (With text) = (card_of text ≡ IsCard text) × IsTrue (is_sought_size (length text))
 
 -- a command with a lawful name, numbers that can be told, and a card; where it is a batch, with a name and 1 to 100 edits; where it is a put, with a name and at most 20,000 cards
 abbrev pub IsLawful : Command → Type 0

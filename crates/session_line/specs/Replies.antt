@@ -3,6 +3,7 @@ use Rattle.std.specs.Prelude.{ℕ, ◌+◌, ◌≤◌, ◌==◌, ⊤, List, [], 
 use Rattle.definitions.specs.Characters.{line_feed}
 use Rattle.deck_files.specs.DeckFiles.{file_of}
 use Rattle.session_line.specs.Refusals.{refusal_text}
+use Rattle.session_line.specs.Views.{numbers_of}
 use Rattle.desk_core.specs.declared.replies.Row.{Row}
 use Rattle.desk_core.specs.declared.replies.State.{State}
 use Rattle.desk_core.specs.declared.replies.State.TheVariants.{Out, Behind, Ready}
@@ -44,6 +45,7 @@ counted_text version count = codes "OK " ++ (decimal version ++ (codes " " ++ de
 abbrev pub head_text : Reply → List ℕ
 head_text (reply.Done version) = ok_text version
 head_text (reply.Cards version cards) = counted_text version (length cards.now)
+head_text (reply.Found version cards text) = counted_text version (length (numbers_of text.now cards.now))
 head_text (reply.Text version text) = counted_text version (line_count text.now)
 head_text (reply.Status version published decks) = counted_text version (length decks.now + 1)
 head_text reply.Bye = codes "BYE"
@@ -53,10 +55,15 @@ head_text (reply.Refused refusal) = codes "NO " ++ refusal_text refusal
 abbrev pub rows_text : List Row → List ℕ
 rows_text rows = flat_map (λ row. line_of (row_text row)) rows
 
+-- numbers, each on a line of its own
+abbrev pub numbers_text : List ℕ → List ℕ
+numbers_text numbers = flat_map (λ number. line_of (decimal number)) numbers
+
 -- the lines that follow the first
 abbrev pub body_text : Reply → List ℕ
 body_text (reply.Done version) = []
 body_text (reply.Cards version cards) = file_of cards.now
+body_text (reply.Found version cards text) = numbers_text (numbers_of text.now cards.now)
 body_text (reply.Text version text) = text.now
 body_text (reply.Status version published decks) = line_of (published_text published) ++ rows_text decks.now
 body_text reply.Bye = []
@@ -70,6 +77,7 @@ text_of_reply reply = line_of (head_text reply) ++ body_text reply
 abbrev pub IsWithinLimits : Reply → Type 0
 IsWithinLimits (reply.Done version) = ⊤
 IsWithinLimits (reply.Cards version cards) = length cards.now ≤ 20000
+IsWithinLimits (reply.Found version cards text) = length cards.now ≤ 20000
 IsWithinLimits (reply.Text version text) = ⊤
 IsWithinLimits (reply.Status version published decks) = length decks.now ≤ 64
 IsWithinLimits reply.Bye = ⊤

@@ -1,12 +1,12 @@
 //! What a command is answered, and how the session is told.
-ghost use Rattle.std.specs.Prelude.{◌≡◌};
+ghost use Rattle.std.specs.Prelude.{◌≡◌, ◌≤◌, length};
 ghost use Rattle.session_line.specs.Replies.{text_of_reply, IsWithinLimits};
-ghost use Rattle.session_line.specs.Answers.{foreign, told_of_call, told_of_cards, told_of_publication, shown_text, told_text, is_bye, IsTellable};
+ghost use Rattle.session_line.specs.Answers.{foreign, told_of_call, told_of_cards, told_of_publication, shown_text, view_text, told_text, is_bye, IsTellable};
 
 use crate::Refusal;
 use crate::reasons::desk_reason;
 use crate::tasks::PublishedText;
-use crate::views::{CardsView, cards_shown};
+use crate::views::{CardsView, cards_from};
 use cards::{Card, MOST_CARDS};
 use deck_linker::Publication;
 use desk_core::{Listed, Reply, Row, SharedPublication};
@@ -105,6 +105,26 @@ fn shown_text(publication: &Publication, text: PublishedText) -> &[u8]
     }
 }
 
+/// The reply with what is shown of a deck's cards.
+fn view_reply<'a>(version: u64, view: &'a CardsView, cards: &'a [Card]) -> crate::Reply<'a>
+    requires { length cards.now ≤ 20000 }
+    ensures text { text_of_reply result ≡ view_text version view.now cards.now }
+    ensures limits { IsWithinLimits result }
+{
+    match view {
+        CardsView::All => crate::Reply::Cards { version, cards },
+        CardsView::From { place, count } => crate::Reply::Cards {
+            version,
+            cards: cards_from(*place, *count, cards),
+        },
+        CardsView::With(text) => crate::Reply::Found {
+            version,
+            cards,
+            text: text.as_slice(),
+        },
+    }
+}
+
 impl Told {
     /// The reply of the session.
     pub(crate) fn as_reply(&self) -> crate::Reply<'_>
@@ -114,10 +134,7 @@ impl Told {
     {
         match self {
             Told::Done(version) => crate::Reply::Done { version: *version },
-            Told::Cards(version, cards, view) => crate::Reply::Cards {
-                version: *version,
-                cards: cards_shown(view, cards.as_slice()),
-            },
+            Told::Cards(version, cards, view) => view_reply(*version, view, cards.as_slice()),
             Told::Published(shared, text) => crate::Reply::Text {
                 version: shared.publication().version(),
                 text: shown_text(shared.publication(), *text),

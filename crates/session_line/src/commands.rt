@@ -1,14 +1,14 @@
 //! The commands of a session.
 ghost use Rattle.std.specs.Prelude.{◌≡◌};
 ghost use Rattle.session_line.specs.declared.commands.Command.TheVariants as command;
-ghost use Rattle.session_line.specs.Commands.{name_in, alone, only_name, save_over_in, save_in, view_in, cards_in, drop_in, edit_in, head_in, sized, command_by, command_of, is_batch_size, is_put_size};
+ghost use Rattle.session_line.specs.Commands.{name_in, alone, only_name, save_over_in, save_in, view_in, cards_in, sought_in, find_in, drop_in, edit_in, head_in, sized, command_by, command_of, is_batch_size, is_put_size};
 
 use crate::edits::{edit_at, fits_edit};
 use crate::refusals::Refusal;
 use crate::verbs::{EditKind, Verb, verb_of};
-use crate::views::CardsView;
-use crate::words::{behind_word, first_number, first_word, from_blank, to_blank};
-use cards::{DeckName, Edit};
+use crate::views::{CardsView, is_sought_size};
+use crate::words::{behind_blank, behind_word, first_number, first_word, from_blank, to_blank};
+use cards::{Card, DeckName, Edit};
 use deck_files::SaveOver;
 use definitions::is_same_text;
 
@@ -40,7 +40,7 @@ pub enum Command {
         version: u64,
         edit: Edit,
     },
-    /// The cards of the deck, or some of them.
+    /// The cards of the deck, some of them, or the numbers of some.
     Cards {
         name: DeckName,
         view: CardsView,
@@ -170,6 +170,35 @@ fn cards_in(rest: &[u8]) -> Result<Command, Refusal>
     Ok(Command::Cards {
         name: name_in(name)?,
         view,
+    })
+}
+
+/// The text that is looked for: 1 to 72 columns of a card, all that stands behind one blank.
+fn sought_in(rest: &[u8]) -> Option<Card>
+    ensures { result ≡ sought_in rest.now }
+{
+    let Ok(text) = Card::read(behind_blank(rest)) else {
+        return None;
+    };
+    if !is_sought_size(text.as_slice().len()) {
+        return None;
+    }
+    Some(text)
+}
+
+/// `name text`
+fn find_in(rest: &[u8]) -> Result<Command, Refusal>
+    ensures { result ≡ find_in rest.now }
+{
+    let Some(name) = first_word(rest) else {
+        return Err(Refusal::BadCommand);
+    };
+    let Some(text) = sought_in(behind_word(rest)) else {
+        return Err(Refusal::BadCommand);
+    };
+    Ok(Command::Cards {
+        name: name_in(name)?,
+        view: CardsView::With(text),
     })
 }
 
@@ -307,6 +336,7 @@ fn command_by(verb: Verb, rest: &[u8]) -> Result<Command, Refusal>
         Verb::Drop => drop_in(rest),
         Verb::Edit(kind) => edit_in(kind, rest),
         Verb::Cards => cards_in(rest),
+        Verb::Find => find_in(rest),
         Verb::Save => save_in(rest),
         Verb::Image => alone(Command::Image, rest),
         Verb::List => alone(Command::List, rest),

@@ -16,6 +16,12 @@ pub enum Reply<'a> {
         version: u64,
         cards: &'a [Card],
     },
+    /// `OK version n`, then a line for each card that has the text: its number, counted from 1.
+    Found {
+        version: u64,
+        cards: &'a [Card],
+        text: &'a [u8],
+    },
     /// `OK version n`, then the `n` lines of a text, each of which has its line feed.
     Text {
         version: u64,

@@ -1,11 +1,14 @@
 //! The lines of replies.
 ghost use Rattle.std.specs.Prelude.{◌≡◌, ◌+◌, ◌≤◌, ◌++◌, length};
-ghost use Rattle.session_line.specs.Replies.{line_of, line_count, counted_text, ok_text, head_text, published_text, row_text, state_text};
+ghost use Rattle.session_line.specs.Replies.{line_of, line_count, counted_text, ok_text, head_text, numbers_text, published_text, row_text, state_text};
+ghost use Rattle.session_line.specs.Views.{has_text, number_where};
 
 use crate::refusal_texts::put_refusal;
 use crate::refusals::Refusal;
 use crate::replies::Reply;
 use crate::reply_line::ReplyLine;
+use crate::views::{count_with, has_text};
+use cards::Card;
 use desk_core::{Row, State};
 
 /// `OK version`
@@ -67,11 +70,28 @@ pub(crate) fn head_line(reply: &Reply<'_>) -> ReplyLine
     match reply {
         Reply::Done { version } => ok_line(*version),
         Reply::Cards { version, cards } => counted_line(*version, cards.len()),
+        Reply::Found {
+            version,
+            cards,
+            text,
+        } => counted_line(*version, count_with(text, cards)),
         Reply::Text { version, text } => counted_line(*version, line_count(text)),
         Reply::Status { version, decks, .. } => counted_line(*version, decks.len() + 1),
         Reply::Bye => bye_line(),
         Reply::Refused(refusal) => refusal_line(refusal),
     }
+}
+
+/// The line of a card where it has the text: its number. Otherwise nothing.
+pub(crate) fn found_line(number: u64, card: &Card, text: &[u8]) -> ReplyLine
+    ensures { result ≡ numbers_text (number_where (has_text text.now card.now) number) }
+{
+    let mut line = ReplyLine::new();
+    if has_text(text, card.as_slice()) {
+        line.put_number(number);
+        line.end();
+    }
+    line
 }
 
 /// The version that is published.

@@ -21,6 +21,7 @@ pub(crate) enum Verb {
     Drop,
     Edit(EditKind),
     Cards,
+    Find,
     Save,
     Image,
     List,
@@ -57,6 +58,8 @@ fn other_verb_of(word: &[u8]) -> Option<Verb>
         Some(Verb::Drop)
     } else if is_same_text(word, b"CARDS") {
         Some(Verb::Cards)
+    } else if is_same_text(word, b"FIND") {
+        Some(Verb::Find)
     } else if is_same_text(word, b"SAVE") {
         Some(Verb::Save)
     } else if is_same_text(word, b"IMAGE") {

@@ -1,10 +1,12 @@
 //! Replies as bytes: to a writer, or in memory.
 ghost use Rattle.std.specs.Prelude.{◌≡◌, ◌≤◌, ◌<◌, ◌*◌, ◌^◌, ◌++◌, length, IfOk, IfErr};
-ghost use Rattle.session_line.specs.Replies.{line_of, published_text, row_text, rows_text, body_text, text_of_reply, IsWithinLimits};
+ghost use Rattle.session_line.specs.Replies.{line_of, published_text, row_text, rows_text, numbers_text, body_text, text_of_reply, IsWithinLimits};
+ghost use Rattle.session_line.specs.Views.{numbers_of};
 ghost use Rattle.text_ports.specs.Sending.{Sends, count_after_sending};
 
 use crate::replies::Reply;
-use crate::reply_texts::{head_line, published_line, row_line};
+use crate::reply_texts::{found_line, head_line, published_line, row_line};
+use cards::Card;
 use deck_files::save;
 use desk_core::Row;
 use std::alloc::{AllocError, Global};
@@ -54,6 +56,27 @@ fn write_status<W: Write>(
     }
 }
 
+/// The numbers of the cards that have a text, a line each.
+fn write_found<W: Write>(output: &mut Counted<W>, cards: &[Card], text: &[u8]) -> Result<(), Broken>
+    requires { length cards.now ≤ 20000 }
+    ensures sends { Sends (W.contents output.old.0) (W.contents output.new.0) (numbers_text (numbers_of text.now cards.now)) result }
+    ensures count { output.new.1 ≡ count_after_sending result output.old.1 }
+    ensures few { IfErr result (λ broken. broken.sent ≤ 80 * 20001) }
+{
+    let mut sent = 0;
+    for (place, card) in cards.iter().enumerate() {
+        let line = found_line(place as u64 + 1, card, text);
+        let bytes = line.as_slice();
+        if let Err(broken) = put_all(output, bytes) {
+            return Err(Broken {
+                sent: sent + broken.sent,
+            });
+        }
+        sent += bytes.len();
+    }
+    Ok(())
+}
+
 /// The lines behind the first of a reply.
 fn write_body<W: Write>(output: &mut Counted<W>, reply: &Reply<'_>) -> Result<(), Broken>
     requires { IsWithinLimits reply.now }
@@ -64,6 +87,7 @@ fn write_body<W: Write>(output: &mut Counted<W>, reply: &Reply<'_>) -> Result<()
     match reply {
         Reply::Done { .. } | Reply::Bye | Reply::Refused(_) => Ok(()),
         Reply::Cards { cards, .. } => save(output, cards),
+        Reply::Found { cards, text, .. } => write_found(output, cards, text),
         Reply::Text { text, .. } => put_all(output, text),
         Reply::Status {
             published,

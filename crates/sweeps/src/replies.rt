@@ -36,6 +36,7 @@ fn is_within(reply: &Reply<'_>) -> bool
 {
     match reply {
         Reply::Cards { cards, .. } => cards.len() <= MOST_CARDS,
+        Reply::Found { cards, .. } => cards.len() <= MOST_CARDS,
         Reply::Status { decks, .. } => decks.len() <= 64,
         Reply::Done { .. } | Reply::Text { .. } | Reply::Bye | Reply::Refused(_) => true,
     }
@@ -95,7 +96,13 @@ fn compare_decks(alloc: Global, journal: &mut Journal) -> Result<(), AllocError>
         published: Some(11),
         decks: &rows,
     };
+    let found = Reply::Found {
+        version: 5,
+        cards: &cards,
+        text: b"A",
+    };
     compare(alloc, journal, &many)?;
+    compare(alloc, journal, &found)?;
     compare(alloc, journal, &status)
 }
 

@@ -28,7 +28,7 @@ const TURNS: u32 = 8;
 const MOST: u64 = 5000;
 
 /// Commands with their lines, and their replies.
-const COMMANDS: [(&str, &str); 15] = [
+const COMMANDS: [(&str, &str); 18] = [
     ("ADD M\n", "OK 1\n"),
     ("INS M 1 1           IDENT  M\n", "OK 2\n"),
     (
@@ -40,6 +40,8 @@ const COMMANDS: [(&str, &str); 15] = [
         "CARDS M\n",
         "OK 3 3\n          IDENT  M\n*\n          RJ     GO\n",
     ),
+    ("CARDS M 3 5\n", "OK 3 1\n          RJ     GO\n"),
+    ("FIND M  M\n", "OK 3 1\n1\n"),
     ("SAVE M\n", "OK 3\n"),
     ("LOAD N\n", "OK 4\n"),
     ("PUT N 4 2\n*\n*a\n", "NO BadLine 2 BadCharacter 2\n"),
@@ -54,6 +56,7 @@ const COMMANDS: [(&str, &str); 15] = [
         "OK 5 3\nPUBLISHED NONE\nM 3 3 BEHIND\nN 5 4 BEHIND\n",
     ),
     ("IMAGE\n", "NO NoPublication\n"),
+    ("MAP\n", "NO NoPublication\n"),
     ("ADD M+\n", "NO BadName\n"),
     ("BYE\n", "BYE\n"),
 ];
