@@ -86,6 +86,48 @@ fn new_desks(rt: HostRuntime) {
 }
 
 #[test]
+fn parts_of_a_publication(rt: HostRuntime) {
+    goes(
+        &rt,
+        &[
+            (
+                "put T\n          IDENT  T\n          SB1    1\n          BX6    X1\n          END",
+                "",
+            ),
+            ("put U\n          IDENT  U\n          END", ""),
+            ("LOAD T", "OK 1|"),
+            ("LOAD U", "OK 2|"),
+            ("LIST T", "NO NoPublication|"),
+            ("claim", "T 1 at 1 cards 4 edits 0"),
+            ("deliver 1", "stored"),
+            ("claim", "U 2 at 2 cards 2 edits 0"),
+            ("deliver 2", "stored"),
+            ("claim", "link 3 at 2"),
+            ("deliver 3", "stored"),
+            (
+                "LIST T",
+                "OK 2 9|DECK T REL|00001           IDENT  T|00002           SB1    1|  000000 0 6110000001|00003           BX6    X1|  000000 2 10611|00004           END|BLOCK 0 00000000 00000001|ERRORS 0|",
+            ),
+            (
+                "IMAGE T",
+                "OK 2 2|DECK T REL 000100|000100 61100000011061146000|",
+            ),
+            ("IMAGE U", "OK 2 1|DECK U REL 000101|"),
+            (
+                "LIST U",
+                "OK 2 5|DECK U REL|00001           IDENT  U|00002           END|BLOCK 0 00000000 00000000|ERRORS 0|",
+            ),
+            ("IMAGE V", "NO NoDeck|"),
+            ("LIST M+", "NO BadName|"),
+            (
+                "MAP",
+                "OK 2 4|MAP|DECK T REL 000100 00000001|DECK U REL 000101 00000000|END|",
+            ),
+        ],
+    );
+}
+
+#[test]
 fn a_deck_of_20_000_cards_is_full(rt: HostRuntime) {
     goes(
         &rt,

@@ -71,6 +71,14 @@ fn command_text(rt: &impl Abort, alloc: Global, command: &Command) -> String {
         Command::Image => format!(in alloc; "image"),
         Command::List => format!(in alloc; "list"),
         Command::Map => format!(in alloc; "map"),
+        Command::ImageOf { name } => format!(in alloc;
+            "image of {}",
+            one_line(rt, alloc, name.as_slice())
+        ),
+        Command::ListOf { name } => format!(in alloc;
+            "list of {}",
+            one_line(rt, alloc, name.as_slice())
+        ),
         Command::Status => format!(in alloc; "status"),
         Command::Batch(head) => {
             let fault = head.name.as_ref().err();
@@ -136,6 +144,10 @@ fn lines(rt: HostRuntime) {
         ("SAVE M FORCE", "save M Any"),
         ("IMAGE", "image"),
         ("LIST", "list"),
+        ("IMAGE M", "image of M"),
+        ("LIST M", "list of M"),
+        ("LIST M ", "BadCommand"),
+        ("LIST M+", "BadName"),
         ("MAP", "map"),
         ("MAP M", "BadCommand"),
         ("STATUS", "status"),

@@ -101,6 +101,13 @@ find-back name text is card size =
     ∙ ap (λ (b : Bool). needs (if b then Some text else None) (λ t. made_of (λ m. command.Cards m (With t)) (name_in name))) size
     ∙ ap (λ (r : Result (List ℕ) Refusal). made_of (λ m. command.Cards m (With text)) r) (name-is name is)
 
+-- IMAGE and LIST with a name
+part-back : (all : Command) (part : List ℕ → Command) (name : List ℕ) → is_deck_name name ≡ true →
+    (if is_end (32 ∷ (name ++ [])) then Ok all else made_of part (only_name (32 ∷ (name ++ [])))) ≡ Ok (part name)
+part-back all part name is =
+    ap (λ (t : Bool). if t then Ok all else made_of part (only_name (32 ∷ (name ++ [])))) (no-end 32 (name ++ []))
+    ∙ ap (λ (r : Result (List ℕ) Refusal). made_of part r) (only-name name is)
+
 -- DROP
 drop-back : (name : List ℕ) (version : ℕ) → is_deck_name name ≡ true → version ≤ greatest_number → drop_in (name_and_number name version []) ≡ Ok (command.Drop name version)
 drop-back name version is within =
@@ -181,6 +188,8 @@ line-back (command.Save name Any) is = save-back name (codes " FORCE") Any is re
 line-back command.Image _ = refl
 line-back command.List _ = refl
 line-back command.Map _ = refl
+line-back (command.ImageOf name) is = part-back command.Image command.ImageOf name is
+line-back (command.ListOf name) is = part-back command.List command.ListOf name is
 line-back command.Status _ = refl
 line-back (command.Batch head) lawful = batch-back head.name head.version head.count lawful.0 lawful.1 lawful.2
 line-back (command.Put head) lawful = put-back head.name head.version head.count lawful.0 lawful.1 lawful.2

@@ -1,8 +1,8 @@
 -- The replies of a desk to the calls of sessions, call by call.
-use Rattle.std.proofs.Common.{ℕ, ◌≡◌, true, false, Option, None, Some, inl, inr, refl, ap, ◌∙◌}
+use Rattle.std.proofs.Common.{◌≡◌, true, Option, None, Some, inl, inr, refl, ap, ◌∙◌}
 use Rattle.desk_core.specs.Desks.{Desk, DeskDeck, Publication, deck_named}
-use Rattle.desk_core.specs.Answers.{Answer, unless}
-use Rattle.desk_core.specs.Changing.{accepted, against_add, against_put, against_drop, against_edit, against_batch, added, put, dropped, edited}
+use Rattle.desk_core.specs.Answers.{unless}
+use Rattle.desk_core.specs.Changing.{accepted, against_add, against_put, against_drop, against_edit, against_batch}
 use Rattle.desk_core.specs.Reading.{cards_reply, show_reply}
 use Rattle.desk_core.specs.Steps.{Steps, answer}
 use Rattle.desk_core.specs.declared.calls.Call.{Call}

@@ -103,6 +103,18 @@ list = refl
 pub map : command_of (codes "MAP") ≡ Ok command.Map
 map = refl
 
+pub image_of : command_of (codes "IMAGE M") ≡ Ok (command.ImageOf (codes "M"))
+image_of = refl
+
+pub list_of : command_of (codes "LIST M") ≡ Ok (command.ListOf (codes "M"))
+list_of = refl
+
+pub list_of_nobody : command_of (codes "LIST M+") ≡ Err BadName
+list_of_nobody = refl
+
+pub list_of_two : command_of (codes "LIST M N") ≡ Err BadCommand
+list_of_two = refl
+
 -- a map is that of all decks
 pub map_of_one : command_of (codes "MAP M") ≡ Err BadCommand
 map_of_one = refl

@@ -1,5 +1,5 @@
 -- Worked commands with the lines that belong to them, and worked texts, computed.
-use Rattle.std.proofs.Common.{ℕ, ◌≡◌, List, [], ◌∷◌, None, codes, refl}
+use Rattle.std.proofs.Common.{ℕ, ◌≡◌, List, [], ◌∷◌, None, Some, codes, refl}
 use Rattle.std.specs.Fmt.{digits}
 use Rattle.cards.specs.declared.card.CardFault.TheVariants as card
 use Rattle.cards.specs.declared.edits.Edit.TheVariants.{Insert, Replace, Remove}
@@ -13,9 +13,10 @@ use Rattle.session_line.specs.declared.refusals.Refusal.TheVariants.{BadCommand,
 use Rattle.session_line.specs.Commands.{command_of}
 use Rattle.session_line.specs.declared.views.CardsView.TheVariants.{All, From, With}
 use Rattle.session_line.specs.declared.tasks.PublishedText.TheVariants.{Image, Listing, Map}
-use Rattle.session_line.specs.declared.tasks.Task.TheVariants.{Ask, ShowCards, ShowText, LoadDeck, SaveDeck, Leave, Refuse}
+use Rattle.session_line.specs.declared.tasks.Task.TheVariants.{Ask, ShowCards, ShowText, ShowPart, LoadDeck, SaveDeck, Leave, Refuse}
 use Rattle.session_line.specs.Tasks.{lines_due, task_of}
-use Rattle.session_line.specs.Answers.{told_of_call, told_of_cards, told_of_publication, told_text}
+use Rattle.session_line.specs.Answers.{told_of_call, told_of_cards, told_of_publication, told_of_part, told_text}
+use Rattle.session_line.specs.Parts.{part_of}
 
 -- which call of the desk a line is
 pub add : task_of (codes "ADD M") [] ≡ Ask (call.AddDeck (record { name = codes "M"; cards = [] }))
@@ -38,6 +39,12 @@ image = refl
 
 pub map : task_of (codes "MAP") [] ≡ ShowText Map
 map = refl
+
+pub image_of : task_of (codes "IMAGE M") [] ≡ ShowPart Image (codes "M")
+image_of = refl
+
+pub list_of : task_of (codes "LIST M") [] ≡ ShowPart Listing (codes "M")
+list_of = refl
 
 pub bye : task_of (codes "BYE") [] ≡ Leave
 bye = refl
@@ -111,6 +118,22 @@ no_cards = unfold digits in refl
 
 pub none_of_them : told_text (told_of_cards (From 2 0) (reply.CardsAre 5 four)) ≡ codes "OK 5 0\n"
 none_of_them = unfold digits in refl
+
+-- the part of a deck: from the first line of it up to the next deck, common block, map or end
+pub first_part_of_two : part_of (codes "M") (codes "DECK M REL\n00001 DECK N \nERRORS 0\nDECK N REL\nMAP\nDECK M REL 000100\nEND\n") ≡ Some (codes "DECK M REL\n00001 DECK N \nERRORS 0\n")
+first_part_of_two = refl
+
+pub last_part_of_two : part_of (codes "N") (codes "DECK M REL\n00001 DECK N \nERRORS 0\nDECK N REL\nMAP\nDECK M REL 000100\nEND\n") ≡ Some (codes "DECK N REL\n")
+last_part_of_two = refl
+
+pub part_of_the_image : part_of (codes "M") (codes "DECK MM REL 000100\nDECK M REL 000100\n000100 61\nCOMMON M 000101\nEND\n") ≡ Some (codes "DECK M REL 000100\n000100 61\n")
+part_of_the_image = refl
+
+pub no_part : part_of (codes "M") (codes "DECK MM REL 000100\nEND\n") ≡ None
+no_part = refl
+
+pub no_part_told : told_text (told_of_part Listing (codes "M") (reply.Shown (record { version = 0; decks = [] }))) ≡ codes "NO NoDeck\n"
+no_part_told = refl
 
 -- the numbers of the cards that have a text
 pub found : told_text (told_of_cards (With (codes "*B")) (reply.CardsAre 5 four)) ≡ codes "OK 5 1\n2\n"

@@ -1,5 +1,5 @@
 -- What a command is answered, and the text of that (ours).
-use Rattle.std.specs.Prelude.{ℕ, ◌+◌, ◌≤◌, ⊤, Bool, true, false, nat_le, List, [], ◌++◌, length, codes, if◌then◌else◌}
+use Rattle.std.specs.Prelude.{ℕ, ◌+◌, ◌≤◌, ⊤, Bool, true, false, nat_le, List, [], ◌++◌, Option, Some, None, length, codes, if◌then◌else◌}
 use Rattle.definitions.specs.Cards.{Card}
 use Rattle.deck_linker.specs.Publishing.{map_of}
 use Rattle.desk_core.specs.Language.{listing_of, image_of}
@@ -15,6 +15,7 @@ use Rattle.session_line.specs.Reasons.{desk_reason}
 use Rattle.session_line.specs.declared.views.CardsView.{CardsView}
 use Rattle.session_line.specs.declared.views.CardsView.TheVariants.{All, From, With}
 use Rattle.session_line.specs.Views.{cards_from, numbers_of}
+use Rattle.session_line.specs.Parts.{part_of}
 use Rattle.session_line.specs.declared.tasks.PublishedText.{PublishedText}
 use Rattle.session_line.specs.declared.tasks.PublishedText.TheVariants.{Image, Listing, Map}
 use Rattle.session_line.specs.declared.answers.Told.{Told}
@@ -52,6 +53,12 @@ told_of_publication text (Shown publication) = told.Published publication text
 told_of_publication text (Refused reason) = told.Refused (desk_reason reason)
 told_of_publication text _ = foreign
 
+-- what is told of the reply to a call for the publication, of which the part of this text is shown that is the deck's
+abbrev pub told_of_part : PublishedText → List ℕ → Reply → Told
+told_of_part text name (Shown publication) = told.Part publication text name
+told_of_part text name (Refused reason) = told.Refused (desk_reason reason)
+told_of_part text name _ = foreign
+
 -- a first line, and what follows it
 abbrev pub with_body : List ℕ → List ℕ → List ℕ
 with_body head body = line_of head ++ body
@@ -65,6 +72,15 @@ abbrev pub shown_text : PublishedText → Publication → List ℕ
 shown_text Image publication = image_of publication.decks
 shown_text Listing publication = listing_of publication.decks
 shown_text Map publication = map_of publication.decks
+
+-- lines behind a version and their count
+abbrev pub lines_text : ℕ → List ℕ → List ℕ
+lines_text version lines = with_body (counted_text version (line_count lines)) lines
+
+-- the text of a part that is shown; without one there is no such deck
+abbrev pub part_text : ℕ → Option (List ℕ) → List ℕ
+part_text version (Some lines) = lines_text version lines
+part_text version None = refused_text refusal.NoDeck
 
 -- the text of cards that are shown
 abbrev pub cards_text : ℕ → List Card → List ℕ
@@ -80,7 +96,8 @@ view_text version (With text) cards = with_body (counted_text version (length (n
 abbrev pub told_text : Told → List ℕ
 told_text (told.Done version) = with_body (ok_text version) []
 told_text (told.Cards version cards view) = view_text version view cards
-told_text (told.Published publication text) = with_body (counted_text publication.version (line_count (shown_text text publication))) (shown_text text publication)
+told_text (told.Published publication text) = lines_text publication.version (shown_text text publication)
+told_text (told.Part publication text name) = part_text publication.version (part_of name (shown_text text publication))
 told_text (told.Status version published rows) = with_body (counted_text version (length rows + 1)) (line_of (published_text published) ++ rows_text rows)
 told_text (told.Refused reason) = refused_text reason
 told_text told.Bye = with_body (codes "BYE") []

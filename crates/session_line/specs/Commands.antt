@@ -77,6 +77,14 @@ find_in rest =
     needs (first_word rest) (λ name.
     needs (sought_in (behind_word rest)) (λ text. made_of (λ name. command.Cards name (With text)) (name_in name)))
 
+-- nothing, or name, behind IMAGE
+abbrev pub image_in : List ℕ → Result Command Refusal
+image_in rest = if is_end rest then Ok command.Image else made_of command.ImageOf (only_name rest)
+
+-- nothing, or name, behind LIST
+abbrev pub list_in : List ℕ → Result Command Refusal
+list_in rest = if is_end rest then Ok command.List else made_of command.ListOf (only_name rest)
+
 -- name version
 abbrev pub drop_in : List ℕ → Result Command Refusal
 drop_in rest =
@@ -137,8 +145,8 @@ command_by (verb.Edit kind) rest = edit_in kind rest
 command_by verb.Cards rest = cards_in rest
 command_by verb.Find rest = find_in rest
 command_by verb.Save rest = save_in rest
-command_by verb.Image rest = alone command.Image rest
-command_by verb.List rest = alone command.List rest
+command_by verb.Image rest = image_in rest
+command_by verb.List rest = list_in rest
 command_by verb.Map rest = alone command.Map rest
 command_by verb.Status rest = alone command.Status rest
 command_by verb.Batch rest = sized is_batch_size command.Batch (head_in rest)

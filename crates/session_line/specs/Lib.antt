@@ -1,6 +1,7 @@
 pub mod Words
 pub mod Verbs
 pub mod Views
+pub mod Parts
 pub mod Edits
 pub mod Commands
 pub mod Lines

@@ -1,13 +1,15 @@
 //! What a command is answered, and how the session is told.
 ghost use Rattle.std.specs.Prelude.{◌≡◌, ◌≤◌, length};
 ghost use Rattle.session_line.specs.Replies.{text_of_reply, IsWithinLimits};
-ghost use Rattle.session_line.specs.Answers.{foreign, told_of_call, told_of_cards, told_of_publication, shown_text, view_text, told_text, is_bye, IsTellable};
+ghost use Rattle.session_line.specs.Parts.{part_of};
+ghost use Rattle.session_line.specs.Answers.{foreign, told_of_call, told_of_cards, told_of_part, told_of_publication, part_text, shown_text, view_text, told_text, is_bye, IsTellable};
 
 use crate::Refusal;
+use crate::parts::part_of;
 use crate::reasons::desk_reason;
 use crate::tasks::PublishedText;
 use crate::views::{CardsView, cards_from};
-use cards::{Card, MOST_CARDS};
+use cards::{Card, DeckName, MOST_CARDS};
 use deck_linker::Publication;
 use desk_core::{Listed, Reply, Row, SharedPublication};
 
@@ -23,6 +25,8 @@ pub(crate) enum Told {
     Cards(u64, Listed<Card>, CardsView),
     /// Of the publication, this text.
     Published(SharedPublication, PublishedText),
+    /// Of the publication, the part of this text that is this deck's.
+    Part(SharedPublication, PublishedText, DeckName),
     /// The desk's version, the published one, and a row for each deck.
     Status(u64, Option<u64>, Listed<Row>),
     /// Why nothing was done.
@@ -94,6 +98,19 @@ pub(crate) fn told_of_publication(text: PublishedText, reply: Reply) -> Told
     }
 }
 
+/// What is told of the reply to a call for the publication, of which the part of this text is shown that
+/// is the deck's.
+pub(crate) fn told_of_part(text: PublishedText, name: DeckName, reply: Reply) -> Told
+    ensures told { result ≡ told_of_part text name reply }
+    ensures fits { IsTellable result }
+{
+    match reply {
+        Reply::Shown(publication) => Told::Part(publication, text, name),
+        Reply::Refused(refusal) => Told::Refused(desk_reason(refusal)),
+        _ => foreign(),
+    }
+}
+
 /// The text of a publication that is shown.
 fn shown_text(publication: &Publication, text: PublishedText) -> &[u8]
     ensures { result.now ≡ shown_text text (record { version = publication.now.version; decks = publication.now.decks }) }
@@ -102,6 +119,25 @@ fn shown_text(publication: &Publication, text: PublishedText) -> &[u8]
         PublishedText::Image => publication.image(),
         PublishedText::Listing => publication.listing(),
         PublishedText::Map => publication.map(),
+    }
+}
+
+/// The reply with the part that is a deck's in this text of a publication. Without one there is no such
+/// deck.
+fn part_reply<'a>(
+    publication: &'a Publication,
+    text: PublishedText,
+    name: &DeckName,
+) -> crate::Reply<'a>
+    ensures text { text_of_reply result ≡ part_text publication.now.version (part_of name.now (shown_text text (record { version = publication.now.version; decks = publication.now.decks }))) }
+    ensures limits { IsWithinLimits result }
+{
+    match part_of(name, shown_text(publication, text)) {
+        Some(lines) => crate::Reply::Text {
+            version: publication.version(),
+            text: lines,
+        },
+        None => crate::Reply::Refused(Refusal::NoDeck),
     }
 }
 
@@ -139,6 +175,7 @@ impl Told {
                 version: shared.publication().version(),
                 text: shown_text(shared.publication(), *text),
             },
+            Told::Part(shared, text, name) => part_reply(shared.publication(), *text, name),
             Told::Status(version, published, rows) => crate::Reply::Status {
                 version: *version,
                 published: *published,

@@ -1,7 +1,7 @@
 //! The commands of a session.
 ghost use Rattle.std.specs.Prelude.{◌≡◌};
 ghost use Rattle.session_line.specs.declared.commands.Command.TheVariants as command;
-ghost use Rattle.session_line.specs.Commands.{name_in, alone, only_name, save_over_in, save_in, view_in, cards_in, sought_in, find_in, drop_in, edit_in, head_in, sized, command_by, command_of, is_batch_size, is_put_size};
+ghost use Rattle.session_line.specs.Commands.{name_in, alone, only_name, save_over_in, save_in, view_in, cards_in, sought_in, find_in, image_in, list_in, drop_in, edit_in, head_in, sized, command_by, command_of, is_batch_size, is_put_size};
 
 use crate::edits::{edit_at, fits_edit};
 use crate::refusals::Refusal;
@@ -56,6 +56,14 @@ pub enum Command {
     List,
     /// The map of the published link alone.
     Map,
+    /// The part of the published image that is this deck's.
+    ImageOf {
+        name: DeckName,
+    },
+    /// The part of the published listing that is this deck's.
+    ListOf {
+        name: DeckName,
+    },
     /// The versions and states of all decks.
     Status,
     /// Edits of one deck, all or none, each on a line of its own behind this one.
@@ -202,6 +210,30 @@ fn find_in(rest: &[u8]) -> Result<Command, Refusal>
     })
 }
 
+/// Nothing, or `name`, behind `IMAGE`.
+fn image_in(rest: &[u8]) -> Result<Command, Refusal>
+    ensures { result ≡ image_in rest.now }
+{
+    if rest.is_empty() {
+        return Ok(Command::Image);
+    }
+    Ok(Command::ImageOf {
+        name: only_name(rest)?,
+    })
+}
+
+/// Nothing, or `name`, behind `LIST`.
+fn list_in(rest: &[u8]) -> Result<Command, Refusal>
+    ensures { result ≡ list_in rest.now }
+{
+    if rest.is_empty() {
+        return Ok(Command::List);
+    }
+    Ok(Command::ListOf {
+        name: only_name(rest)?,
+    })
+}
+
 /// `name version`
 fn drop_in(rest: &[u8]) -> Result<Command, Refusal>
     ensures { result ≡ drop_in rest.now }
@@ -338,8 +370,8 @@ fn command_by(verb: Verb, rest: &[u8]) -> Result<Command, Refusal>
         Verb::Cards => cards_in(rest),
         Verb::Find => find_in(rest),
         Verb::Save => save_in(rest),
-        Verb::Image => alone(Command::Image, rest),
-        Verb::List => alone(Command::List, rest),
+        Verb::Image => image_in(rest),
+        Verb::List => list_in(rest),
         Verb::Map => alone(Command::Map, rest),
         Verb::Status => alone(Command::Status, rest),
         Verb::Batch => batch_in(rest),

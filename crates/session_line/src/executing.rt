@@ -1,10 +1,12 @@
 //! Executes a task once.
 ghost use Rattle.std.specs.Prelude.{◌≡◌, ◌≤◌, length};
-ghost use Rattle.session_line.specs.Answers.{IsTellable, called, most_cards, told_of_call, told_of_cards, told_of_publication, uncalled};
+ghost use Rattle.session_line.specs.Answers.{IsTellable, called, most_cards, told_of_call, told_of_cards, told_of_part, told_of_publication, uncalled};
 ghost use Rattle.session_line.specs.Executing.{Asks, Executes, LoadsDeck, SavesCards, SavesDeck};
 ghost use Rattle.desk_core.specs.declared.calls.Call.TheVariants.{Cards, Show};
 
-use crate::answers::{Answer, Told, told_of_call, told_of_cards, told_of_publication};
+use crate::answers::{
+    Answer, Told, told_of_call, told_of_cards, told_of_part, told_of_publication,
+};
 use crate::calls::Calls;
 use crate::reasons::{load_reason, save_reason};
 use crate::tasks::{PublishedText, Task};
@@ -55,6 +57,14 @@ fn show_text<C: Calls>(desk: &mut C, text: PublishedText) -> Answer
     ensures fits { IsTellable result.told }
 {
     called(told_of_publication(text, desk.call(Call::Show)))
+}
+
+/// The desk is asked for the publication, and the part of one deck is shown.
+fn show_part<C: Calls>(desk: &mut C, text: PublishedText, name: DeckName) -> Answer
+    ensures asks { Asks C.makes Show (told_of_part text name) desk.old desk.new result }
+    ensures fits { IsTellable result.told }
+{
+    called(told_of_part(text, name, desk.call(Call::Show)))
 }
 
 /// One load of the shelf, and then the addition of its cards to the desk.
@@ -113,6 +123,7 @@ pub(crate) fn execute<C: Calls, S: Shelf>(desk: &mut C, shelf: &mut S, task: Tas
         Task::Ask(call) => ask(desk, call),
         Task::ShowCards(name, view) => show_cards(desk, name, view),
         Task::ShowText(text) => show_text(desk, text),
+        Task::ShowPart(text, name) => show_part(desk, text, name),
         Task::LoadDeck(name) => load_deck(desk, shelf, name),
         Task::SaveDeck(name, over) => save_deck(desk, shelf, &name, over),
         Task::Leave => uncalled(Told::Bye),

@@ -22,6 +22,7 @@ mod refusals;
 mod views;
 
 // Replies.
+mod parts;
 mod refusal_texts;
 mod replies;
 mod reply_line;

@@ -31,6 +31,8 @@ pub(crate) enum Task {
     ShowCards(DeckName, CardsView),
     /// This text of the publication is shown.
     ShowText(PublishedText),
+    /// The part of this text that is this deck's is shown.
+    ShowPart(PublishedText, DeckName),
     /// The shelf's deck of this name is added.
     LoadDeck(DeckName),
     /// The cards of the deck of this name go to the shelf, over what may be written over.
@@ -50,6 +52,7 @@ fn lines_behind(command: &Command) -> u64
         Command::Add { .. } | Command::Load { .. } | Command::Drop { .. } => 0,
         Command::Edit { .. } | Command::Cards { .. } | Command::Save { .. } => 0,
         Command::Image | Command::List | Command::Map => 0,
+        Command::ImageOf { .. } | Command::ListOf { .. } => 0,
         Command::Status | Command::Bye => 0,
     }
 }
@@ -151,6 +154,8 @@ fn task_of_command(alloc: Global, command: Command, edits: ItemsRead<Edit>) -> T
         Command::Image => Task::ShowText(PublishedText::Image),
         Command::List => Task::ShowText(PublishedText::Listing),
         Command::Map => Task::ShowText(PublishedText::Map),
+        Command::ImageOf { name } => Task::ShowPart(PublishedText::Image, name),
+        Command::ListOf { name } => Task::ShowPart(PublishedText::Listing, name),
         Command::Status => Task::Ask(Call::Status),
         Command::Batch(head) => batch_named(head, edits),
         Command::Put(_) => unreachable!(),

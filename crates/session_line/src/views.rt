@@ -42,7 +42,7 @@ pub(crate) fn is_sought_size(len: usize) -> bool
 }
 
 /// Whether columns begin with a text.
-fn begins_with(text: &[u8], columns: &[u8]) -> bool
+pub(crate) fn begins_with(text: &[u8], columns: &[u8]) -> bool
     ensures { result ≡ begins_with text.now columns.now }
 {
     text.len() <= columns.len() && is_same_text(columns.split_at(text.len()).0, text)

@@ -1,7 +1,9 @@
-use Rattle.std.proofs.Common.{ℕ, List, sym, subst, ◌∙◌}
+use Rattle.std.proofs.Common.{ℕ, List, sym, subst}
 use Rattle.definitions.specs.Cards.{Card}
 use Rattle.desk_core.specs.declared.calls.Call.TheVariants.{Cards}
 use Rattle.session_line.specs.declared.answers.Told.{Told}
+use Rattle.session_line.specs.declared.views.CardsView.TheVariants.{All}
+use Rattle.session_line.specs.Answers.{told_of_cards}
 use Rattle.session_line.specs.Executing.{SavesCards, SavesTold}
 use Rattle.session_line.proofs.executing.save_deck.Goals as goal
 
@@ -13,5 +15,5 @@ returns-in-Cards-clause-saves g c =
     record {
       reply = c.call.result;
       made = subst M c.copied.ensures c.call.ensures;
-      kept = subst Q (sym c.in-Cards.is ∙ c.told_of_cards.ensures.told) (subst P c.as_slice.ensures c.save_cards.ensures.saves);
+      kept = subst Q {y = told_of_cards All c.call.result} c.told_of_cards.ensures.told (subst Q {y = c.told_of_cards.result} (sym c.in-Cards.is) (subst P c.as_slice.ensures c.save_cards.ensures.saves));
     }
