@@ -1,2 +1,3 @@
 pub mod ConnectionSteps
 pub mod SessionSteps
+pub mod PlaceSteps

@@ -5,6 +5,8 @@
 //! | a session whose change was made | puts its record into the queue; writes where the next record is there and nobody writes, and else sleeps |
 //! | who writes | takes a copy of all records that may go out, leaves the queue to others, writes and syncs once, and tells those who wait |
 //! | a session that wants to change | is refused where a record was given up, unless that can be written now |
+ghost use Rattle.std.specs.Prelude.{◌≡◌};
+
 use crate::journal_file::JournalFile;
 use crate::keeping::Keep;
 use desk_core::Refusal;
@@ -144,7 +146,9 @@ impl<'a, R, F> SessionKeeper<'a, R, F> {
         alloc: Global,
         journal: Option<&'a Journal<F>>,
         session: usize,
-    ) -> SessionKeeper<'a, R, F> {
+    ) -> SessionKeeper<'a, R, F>
+        ensures { result.session ≡ session }
+    {
         SessionKeeper {
             rt,
             alloc,

@@ -1,5 +1,6 @@
 //! The places of a service's threads: what each works with, made before any thread starts.
-ghost use Rattle.std.specs.Prelude.{◌≡◌, ◌-◌, ◌≤◌, length, IfOk, OnOk};
+ghost use Rattle.std.specs.Prelude.{◌≡◌, ◌-◌, ◌≤◌, All, length, map, IfOk, OnOk};
+ghost use Rattle.std.specs.List.{range_with_len};
 ghost use Rattle.turn_office.specs.Seats.{AreOf};
 
 use crate::bells::{Ringing, WorkBell};
@@ -107,6 +108,7 @@ pub(crate) fn worker_places<'a, R>(
     ensures own { OnOk result (AreOf office.now.id seats.new.items) }
     ensures left { OnOk result (length seats.new.items ≡ length seats.old.items - count) }
     ensures all { IfOk result (λ places. length places.items ≡ count) }
+    ensures office { IfOk result (λ places. All (λ place. place.seat.office ≡ office.now.id) places.items) }
 {
     let mut places = Vec::new(alloc);
     for _ in 0..count {
@@ -138,7 +140,13 @@ pub(crate) fn session_places<'a, R, F>(
 ) -> Result<Vec<SessionPlace<'a, R, F>>, AllocError>
     requires own { AreOf office.now.id seats.old.items }
     requires enough { settings.now.sessions ≤ length seats.old.items }
-    ensures { IfOk result (λ places. length places.items ≡ settings.now.sessions) }
+    ensures all { IfOk result (λ places. length places.items ≡ settings.now.sessions) }
+    ensures number { IfOk result (λ places. map (λ place. place.shelf.number) places.items ≡ range_with_len 0 settings.now.sessions) }
+    ensures session { IfOk result (λ places. map (λ place. place.serving.session) places.items ≡ range_with_len 0 settings.now.sessions) }
+    ensures keeper { IfOk result (λ places. map (λ place. place.desk.1.session) places.items ≡ range_with_len 0 settings.now.sessions) }
+    ensures folder { IfOk result (λ places. All (λ place. place.shelf.folder ≡ settings.now.root.now) places.items) }
+    ensures once { IfOk result (λ places. All (λ place. place.serving.once ≡ settings.now.once) places.items) }
+    ensures office { IfOk result (λ places. All (λ place. place.desk.0.0.seat.office ≡ office.now.id) places.items) }
 {
     let mut places = Vec::new(alloc);
     for number in 0..settings.sessions {

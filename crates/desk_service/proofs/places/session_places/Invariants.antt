@@ -1,7 +1,18 @@
-use Rattle.std.proofs.Common.{◌≡◌, ◌+◌, length}
+use Rattle.std.proofs.Common.{◌≡◌, ◌+◌, All, length, map}
+use Rattle.std.specs.List.{range_with_len}
 use Rattle.turn_office.specs.Seats.{AreOf}
 use Rattle.desk_service.proofs.places.session_places.Given as goal
 
--- the seats that are left are of the office, and as many as were taken are places
+-- the seats that are left are of the office, and as many as were taken are places, each with its number
 abbrev pub invariant-loop-number : goal.invariant-loop-number
-invariant-loop-number g l = AreOf l.office.id l.seats.items × (length l.seats.items + l.number ≡ length l.fn.seats.items) × (length l.places.items ≡ l.number)
+invariant-loop-number g l = record {
+  own : AreOf l.office.id l.seats.items;
+  left : length l.seats.items + l.number ≡ length l.fn.seats.items;
+  all : length l.places.items ≡ l.number;
+  number : map (λ place. place.shelf.number) l.places.items ≡ range_with_len 0 l.number;
+  session : map (λ place. place.serving.session) l.places.items ≡ range_with_len 0 l.number;
+  keeper : map (λ place. place.desk.1.session) l.places.items ≡ range_with_len 0 l.number;
+  folder : All (λ place. place.shelf.folder ≡ l.settings.root.now) l.places.items;
+  once : All (λ place. place.serving.once ≡ l.settings.once) l.places.items;
+  office : All (λ place. place.desk.0.0.seat.office ≡ l.office.id) l.places.items;
+}

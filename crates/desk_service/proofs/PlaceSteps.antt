@@ -1,0 +1,20 @@
+-- The places of sessions, one more each time.
+use Rattle.std.proofs.Common.{◌≡◌, ℕ, ◌+◌, All, List, [], ◌∷◌, ◌++◌, map, sym, ap, ap₂, ◌∙◌, subst, map-id, arith}
+use Rattle.std.specs.List.{range_with_len}
+use Rattle.std.proofs.lemmas.List.{map-append}
+use Rattle.std.proofs.lemmas.List.Elements.{All-push}
+use Rattle.std.proofs.lemmas.List.FromFn.{map-range_with_len_more}
+
+-- the numbers from 0 on, with one more
+range-more : (n : ℕ) → range_with_len 0 (n + 1) ≡ range_with_len 0 n ++ n ∷ []
+range-more n = sym (map-id (range_with_len 0 (n + 1))) ∙ map-range_with_len_more (λ (k : ℕ). k) 0 n n (omega arith) ∙ ap (λ (ks : List ℕ). ks ++ n ∷ []) (map-id (range_with_len 0 n))
+
+module _ {X : Type 0} where
+  -- places have the numbers from 0 on, and so with one that has the next
+  pub numbers-more : (number : X → ℕ) (xs new : List X) (x : X) (n : ℕ) → map number xs ≡ range_with_len 0 n → new ≡ xs ++ x ∷ [] → number x ≡ n → map number new ≡ range_with_len 0 (n + 1)
+  numbers-more number xs new x n so_far pushed next =
+      ap (map number) pushed ∙ (map-append number xs (x ∷ []) ∙ (ap₂ (λ (a b : List ℕ). a ++ b) so_far (ap (λ (k : ℕ). k ∷ []) next) ∙ sym (range-more n)))
+
+  -- what is true of each place
+  pub all-more : (P : X → Type 0) (xs new : List X) (x : X) → All P xs → new ≡ xs ++ x ∷ [] → P x → All P new
+  all-more P xs new x all pushed one = subst (λ (ys : List X). All P ys) (sym pushed) (All-push P xs x all one)
