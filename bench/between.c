@@ -2,7 +2,8 @@
 // NO_READ_AT and NO_WRITE_AT tell which request for memory, which read and which write fails, counted
 // from 1; PIECE tells how many bytes a read or a write takes at most. With FILES these are reads and
 // writes of files, and syncs are writes; without it, reads of standard input and writes of standard
-// output. REQUESTS names a file into which the three counts go at the end.
+// output. NO_MEMORY_WHILE names a file: while it is there, no request of 64 kB or more is granted.
+// REQUESTS names a file into which the three counts go at the end.
 #define _GNU_SOURCE
 #include <dlfcn.h>
 #include <errno.h>
@@ -18,7 +19,11 @@ static long told(const char *name) {
     return text ? atol(text) : 0;
 }
 
-static int is_refused(void) { return ++requests == told("NO_MEMORY_AT"); }
+static int is_refused(size_t size) {
+    char *file = getenv("NO_MEMORY_WHILE");
+    if (file && size >= 65536 && access(file, F_OK) == 0) return 1;
+    return ++requests == told("NO_MEMORY_AT");
+}
 
 static int is_counted(int port, int standard) { return getenv("FILES") ? port > 2 : port == standard; }
 
@@ -30,25 +35,25 @@ static size_t piece(size_t size) {
 void *malloc(size_t size) {
     static void *(*real)(size_t);
     if (!real) real = dlsym(RTLD_NEXT, "malloc");
-    return is_refused() ? 0 : real(size);
+    return is_refused(size) ? 0 : real(size);
 }
 
 void *realloc(void *old, size_t size) {
     static void *(*real)(void *, size_t);
     if (!real) real = dlsym(RTLD_NEXT, "realloc");
-    return is_refused() ? 0 : real(old, size);
+    return is_refused(size) ? 0 : real(old, size);
 }
 
 void *aligned_alloc(size_t align, size_t size) {
     static void *(*real)(size_t, size_t);
     if (!real) real = dlsym(RTLD_NEXT, "aligned_alloc");
-    return is_refused() ? 0 : real(align, size);
+    return is_refused(size) ? 0 : real(align, size);
 }
 
 int posix_memalign(void **found, size_t align, size_t size) {
     static int (*real)(void **, size_t, size_t);
     if (!real) real = dlsym(RTLD_NEXT, "posix_memalign");
-    return is_refused() ? ENOMEM : real(found, align, size);
+    return is_refused(size) ? ENOMEM : real(found, align, size);
 }
 
 ssize_t read(int port, void *bytes, size_t size) {

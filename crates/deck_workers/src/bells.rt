@@ -18,7 +18,7 @@ pub enum Bell {
 pub(crate) enum Round {
     /// It delivered something.
     Delivered,
-    /// It gave a job up.
+    /// It gave a job up, or its claim was refused.
     GaveUp,
     /// It got no job.
     NoJob,
@@ -31,6 +31,15 @@ impl Round {
             Round::Delivered
         } else {
             Round::GaveUp
+        }
+    }
+
+    /// A round without a job, whose claim was refused or not.
+    pub(crate) fn without_job(is_refused: bool) -> Round {
+        if is_refused {
+            Round::GaveUp
+        } else {
+            Round::NoJob
         }
     }
 }
@@ -80,7 +89,7 @@ fn hears_within<R: Wait + Clock>(rt: &R, bells: &Receiver<Bell>, sleep: Duration
 }
 
 /// Whether a worker claims again behind a round: at once where it delivered something, after a while where
-/// it gave a job up, and else when a bell comes.
+/// it gave a job up or its claim was refused, and else when a bell comes.
 pub(crate) fn goes_on<R: Wait + Clock>(
     rt: &R,
     bells: &Receiver<Bell>,

@@ -9,7 +9,7 @@ use crate::bells::{Bell, Patience, Round, goes_on};
 use crate::gates::Gate;
 use crate::{Job, Made, Runs, job_in};
 use crossbeam_channel::Receiver;
-use desk_core::{Call, Desk};
+use desk_core::{Call, Desk, Reply};
 use statement_coder::Meter;
 use std::alloc::Global;
 use std::sync::Wait;
@@ -18,8 +18,8 @@ use turn_office::{Office, Seat};
 
 /// Works at a seat of the office until it is told to stop, and hands the seat back. It claims; a job
 /// that it gets it runs between `enter` and `leave` of the gate, and then delivers what it made, or
-/// gives the lease up. After a delivery, refused or not, it claims again; after it gave a lease up it
-/// sleeps for a while, the longer the more often, or until a bell comes; after all else until a bell comes.
+/// gives the lease up. After a delivery, refused or not, it claims again; after it gave a lease up, or
+/// its claim was refused, as for want of memory, it sleeps for a while, the longer the more often, or until a bell comes; after all else until a bell comes.
 /// `Stop` ends it, and so does a channel that no bell can come from.
 ///
 /// What the seat had seen begins what it has seen then, and its calls since are rounds: each is a
@@ -62,14 +62,16 @@ fn make_round<R: Wait, G: Gate>(
     ensures round { MakesRound seat.old.number seat.old.seen seat.new.seen }
     ensures legal { IsLegal Steps office.now.seats office.now.first seat.new.seen }
 {
-    match job_in(seat.call(rt, office, Call::Claim)) {
+    let reply = seat.call(rt, office, Call::Claim);
+    let is_refused = matches!(reply, Reply::Refused(_));
+    match job_in(reply) {
         Some(job) => {
             let made = run(alloc, gate, job, meter);
             let is_result = made.is_result();
             seat.call(rt, office, made.into_call());
             Round::with_job(is_result)
         }
-        None => Round::NoJob,
+        None => Round::without_job(is_refused),
     }
 }
 
