@@ -20,6 +20,7 @@ use Rattle.statement_coder.specs.declared.sizing.Sizing.{Sizing}
 use Rattle.deck_assembler.specs.Agreements.{AreNamesAlike, AreExternalsAlike, AreAlikeFrom}
 use Rattle.deck_assembler.specs.OldDecks.{AreKeptFrom}
 use Rattle.deck_assembler.specs.SizedDecks.{IsSizedStatement, AreSizedFrom}
+use Rattle.deck_assembler.specs.Tails.{AreKeptAlike}
 use Rattle.deck_assembler.specs.declared.sized_statement.SizedStatement.{SizedStatement}
 use Rattle.deck_assembler.proofs.OntoLaws.{drop-more}
 use Rattle.std.specs.Prelude.{IfSome}
@@ -113,15 +114,15 @@ alike-later middle other earlier before all whole names operand what a w same h 
 first-same : (a b : Settled) → a ∷ [] ≡ b ∷ [] → a ≡ b
 first-same a b h = cc
 
--- the statements that are left of a deck stay, behind a front of an equal state that agrees with its own on what they need early
+-- the statements that are left of a deck stay, behind a front of an equal state that agrees with its own on what they need early; and each is settled as it was
 pub tail-kept : (kind : DeckKind) (cards : List Card) (v w middle other : List Settled) (front earlier : List Statement) (stood there : ℕ) (ahead : List Card)
     (sized : List SizedStatement) (statements : List Statement) (behind : List ℕ) (others : List Statement) →
     settled_all kind front ≡ middle ++ v → settled_all kind earlier ≡ other ++ w → map unnumbered middle ≡ map unnumbered other →
     state_after (settled_all kind front) ≡ state_after (settled_all kind earlier) → ahead ≡ drop there cards →
     AreSizedFrom kind front stood ahead sized statements behind others →
     AreAlikeFrom kind (λ name. defined name v) (λ name. defined name w) front sized statements →
-    AreKeptFrom kind cards earlier there sized
-tail-kept kind cards v w middle other front earlier stood there ahead [] statements behind others a b same states e are alike = tt
+    AreKeptFrom kind cards earlier there sized × AreKeptAlike kind cards earlier there front sized statements
+tail-kept kind cards v w middle other front earlier stood there ahead [] statements behind others a b same states e are alike = (tt, tt)
 tail-kept kind cards v w middle other front earlier stood there ahead (sized ∷ later) [] behind others a b same states e are alike = absurd are
 tail-kept kind cards v w middle other front earlier stood there ahead (sized ∷ later) (statement ∷ statements) behind others a b same states e are alike =
     let next : Statement = statement_at cards (record { start = there; count = sized.cards }) in
@@ -132,9 +133,8 @@ tail-kept kind cards v w middle other front earlier stood there ahead (sized ∷
     let here = alike-later middle other v w all whole (early_symbols first.read) first.read.operand sized.sizing.defines a b same alike.0.early alike.0.externals in
     let taken : statement.cards ≡ next.cards = sym are.0.cards ∙ ap (take sized.cards) e in
     let step = tails-agree kind all whole (statement ∷ []) (next ∷ []) (settled_all-in_use kind front) (settled_all-in_use kind earlier) states (taken, tt) (here.0, tt) in
-    let one : unnumbered first ≡ unnumbered second = first-same (unnumbered first) (unnumbered second) step.0 in (
-      sized-alike kind front earlier stood there ahead cards sized statement next are.0 e refl one states here.1,
-      tail-kept kind cards v w (first ∷ middle) (second ∷ other) (statement ∷ front) (next ∷ earlier) (stood + sized.cards) (there + sized.cards) (drop sized.cards ahead) later statements behind others
-          (ap (λ l. first ∷ l) a) (ap (λ l. second ∷ l) b) (ap₂ (λ s l. s ∷ l) one same) step.1
-          (ap (drop sized.cards) e ∙ drop-more sized.cards there cards) are.1 alike.1,
-    )
+    let one : unnumbered first ≡ unnumbered second = first-same (unnumbered first) (unnumbered second) step.0 in
+    let rest = tail-kept kind cards v w (first ∷ middle) (second ∷ other) (statement ∷ front) (next ∷ earlier) (stood + sized.cards) (there + sized.cards) (drop sized.cards ahead) later statements behind others
+    (ap (λ l. first ∷ l) a) (ap (λ l. second ∷ l) b) (ap₂ (λ s l. s ∷ l) one same) step.1
+    (ap (drop sized.cards) e ∙ drop-more sized.cards there cards) are.1 alike.1 in
+    ((sized-alike kind front earlier stood there ahead cards sized statement next are.0 e refl one states here.1, rest.0), (one, rest.1))

@@ -1,6 +1,7 @@
 -- The lines of the object before an edit go beside a walk over the edited deck; what was not bound otherwise keeps its line.
-use Rattle.std.proofs.Common.{◌≡◌, ◌∙◌, ℕ, ◌+◌, ◌≤◌, ◌⊎◌, inl, inr, true, false, List, [], ◌∷◌, ◌++◌, Option, Some, None, zero, suc, ◌<◌, length, get_or, arith, map, take, drop, reverse, refl, ap, ap₂, sym, subst, append_assoc}
+use Rattle.std.proofs.Common.{◌≡◌, ◌∙◌, ℕ, ◌+◌, ◌-◌, ◌≤◌, ◌⊎◌, inl, inr, true, false, List, [], ◌∷◌, ◌++◌, Option, Some, None, zero, suc, ◌<◌, length, get_or, arith, map, take, drop, reverse, refl, ap, ap₂, sym, subst, append_assoc, length-append, length-take-le}
 use Rattle.std.specs.Prelude.{IfSome}
+use Rattle.std.proofs.lemmas.Bool.{cases_lt}
 use Rattle.std.proofs.lemmas.List.{drop-drop, reverse-append, reverse-reverse}
 use Rattle.definitions.specs.Cards.{Card}
 use Rattle.definitions.specs.DeckInput.{Deck}
@@ -12,22 +13,26 @@ use Rattle.definitions.specs.Rebound.{is_rebound}
 use Rattle.definitions.specs.Settled.{Settled, defined}
 use Rattle.definitions.specs.Settling.{View, settle, settled_all}
 use Rattle.definitions.specs.StatementItems.{Context, Item, items_of}
-use Rattle.definitions.specs.Statements.{Statement, statements_of}
+use Rattle.definitions.specs.Statements.{Statement, cards_in, statements_of}
 use Rattle.definitions.specs.States.{unnumbered}
 use Rattle.definitions.specs.Words.{Coded}
 use Rattle.definitions.specs.declared.deck_kind.DeckKind.{DeckKind}
 use Rattle.definitions.specs.Lengths.{BlockRow}
+use Rattle.definitions.proofs.EditLaws.{cards_in-append}
 use Rattle.definitions.proofs.ReboundLaws.{letters-enough, fields-enough}
 use Rattle.statement_coder.specs.declared.items.Item as code
-use Rattle.deck_assembler.specs.CodedLines.{IsCoded, IsStored, AreShown}
+use Rattle.deck_assembler.specs.CodedLines.{IsCoded, IsShown, IsStored, AreShown}
 use Rattle.deck_assembler.specs.DeckParts.{sized_in}
 use Rattle.deck_assembler.specs.DeckWalks.{IsWalked}
-use Rattle.deck_assembler.specs.FormerLines.{IsTaken, IsNextLine, WasLine, WasLineIfAny, shown_from, AreBeside, AreBesideIfAny, IsWalkedBeside}
+use Rattle.deck_assembler.specs.FormerLines.{IsSameTail, IsOneOf, IsTaken, IsTakenOfTail, IsNextInFront, IsNextInTail, IsNextLine, IsBare, WasLine, WasLineIfAny, shown_from, AreBeside, AreOfTail, AreOfTailIfAny, IsBeside, IsWalkedBeside}
 use Rattle.deck_assembler.specs.FirstSymbols.{symbol_in}
 use Rattle.deck_assembler.specs.Formers.{known_in, IsFormerOf}
 use Rattle.deck_assembler.specs.PartsOf.{ArePartsOf}
 use Rattle.deck_assembler.specs.Rebindings.{AreBindings}
 use Rattle.deck_assembler.specs.SizedDecks.{IsSizedStatement, AreSizedFrom}
+use Rattle.deck_assembler.specs.Sizers.{stood}
+use Rattle.deck_assembler.specs.TailLines.{lines_behind, AreAlikeOn}
+use Rattle.deck_assembler.specs.Tails.{AreSettledAlike, HasTail, HasTailIfAny, IsEditedOf}
 use Rattle.deck_assembler.specs.Walks.{Whole, IsWhole, has_row, AreLined, AreNoted}
 use Rattle.deck_assembler.specs.declared.deck_walk.Making.{Making}
 use Rattle.deck_assembler.specs.declared.former.Former.{Former}
@@ -39,8 +44,10 @@ use Rattle.deck_assembler.specs.declared.object.ObjectParts.{ObjectParts}
 use Rattle.deck_assembler.specs.declared.sized_statement.SizedStatement.{SizedStatement}
 use Rattle.deck_assembler.proofs.DeckWalkLaws.{IsStep, there}
 use Rattle.deck_assembler.proofs.HeadLaws.{same-between}
-use Rattle.deck_assembler.proofs.OntoLaws.{append-none, drop-none}
+use Rattle.deck_assembler.proofs.ForwardLaws.{stood-more}
+use Rattle.deck_assembler.proofs.OntoLaws.{append-none, drop-none, reverse-onto}
 use Rattle.deck_assembler.proofs.PartLaws.{shown-object}
+use Rattle.deck_assembler.proofs.WalkLaws.{stood-step}
 
 -- a coded statement is told by its operation, its block, its place and its fields
 abbrev IsCodedAs : DeckKind → List BlockRow → List code.Item → CodedLine → Settled → List Item → Type 0
@@ -77,12 +84,37 @@ was-coded kind rows items line stored coded e is = subst (λ (l : Option CodedLi
 not-listed : (kind : DeckKind) (rows : List BlockRow) (items : List code.Item) (line : Option CodedLine) (stored : CodedLine) → line ≡ Some stored → IsStored kind rows items line None → ⊥
 not-listed kind rows items line stored e is = subst (λ (l : Option CodedLine). IsStored kind rows items l None) e is
 
-record Goes (kind : DeckKind) (cards : List Card) (earlier : List Statement) (given : Statement) (stood count : ℕ) (found : FormerLine) (after : FormerLines) : Type 0 where
-  was : WasLine kind found (settle kind (settled_all kind earlier) given)
-  beside : AreBeside kind cards (given ∷ earlier) (stood + count) after
+-- a line that was found and shows a statement of a deck is the line of one that is settled alike
+was-line : (kind : DeckKind) (context : Context) (other settled : Settled) (found : FormerLine) (old after : FormerLines) (stood : ℕ) (ahead : List Card) → IsOneOf old after found → context.kind ≡ kind → AreBindings old.bindings context →
+    unnumbered other ≡ unnumbered settled → IsShown context.kind context.rows old.items.now stood ahead found.line.now (shown_of context other) → WasLine kind found settled
+was-line kind context other settled found old after stood ahead one same bindings alike here = record {
+  context = context;
+  other = other;
+  same_kind = same;
+  bindings = subst (λ b. AreBindings b context) (sym one.bindings) bindings;
+  alike = alike;
+  letters = here.letters;
+  coded = subst (λ (l : List code.Item). IsCoded context.kind context.rows l found.coded.now (coded_of context other)) (sym one.items)
+      (was-coded context.kind context.rows old.items.now found.line.now.coded found.coded.now (coded_of context other) one.coded here.stored);
+}
+
+at-or-not : (a b : ℕ) → (a ≡ b) ⊎ (a ≡ b → ⊥)
+at-or-not a b = elim (cases_lt a b) [
+  | inl less ↦ inr (λ e. omega (arith, less, e))
+  | inr more ↦ elim (cases_lt b a) [
+    | inl less ↦ inr (λ e. omega (arith, less, e))
+    | inr enough ↦ inl (omega (arith, more, enough))
+  ]
+]
+
+-- what was found is the line of a statement, and the lines that are left go beside those behind it
+record Goes (kind : DeckKind) (found : FormerLine) (settled : Settled) (Beside : Type 0) : Type 0 where
+  was : WasLine kind found settled
+  beside : Beside
 
 next-line : (kind : DeckKind) (cards : List Card) (earlier : List Statement) (given : Statement) (stood : ℕ) (sized : SizedStatement) (found : FormerLine) (old after : FormerLines) →
-    AreBeside kind cards earlier stood old → IsTaken old after stood sized.cards found → IsSizedStatement kind earlier stood (drop stood cards) sized given → Goes kind cards earlier given stood sized.cards found after
+    AreBeside kind cards earlier stood old → IsTaken old after stood sized.cards found → IsSizedStatement kind earlier stood (drop stood cards) sized given →
+    Goes kind found (settle kind (settled_all kind earlier) given) (AreBeside kind cards (given ∷ earlier) (stood + sized.cards) after)
 next-line kind cards earlier given stood sized found old after is taken next = by is.coming is.listed shown
   where
     line : Line
@@ -92,9 +124,9 @@ next-line kind cards earlier given stood sized found old after is taken next = b
     shown = subst (λ (l : List Line). AreShown is.context.kind is.context.rows old.items.now stood (drop stood is.old_cards) l (shown_from is.context earlier is.coming is.listed)) taken.lines is.shown
 
     by : (coming listed : List Statement) → AreShown is.context.kind is.context.rows old.items.now stood (drop stood is.old_cards) (line ∷ after.left.now) (shown_from is.context earlier coming listed) →
-        Goes kind cards earlier given stood sized.cards found after
+        Goes kind found (settle kind (settled_all kind earlier) given) (AreBeside kind cards (given ∷ earlier) (stood + sized.cards) after)
     by [] [] h = absurd h
-    by [] (one ∷ listed) h = absurd (not-listed is.context.kind is.context.rows old.items.now line.coded found.coded.now taken.coded h.0.stored)
+    by [] (one ∷ listed) h = absurd (not-listed is.context.kind is.context.rows old.items.now line.coded found.coded.now taken.one.coded h.0.stored)
     by (statement ∷ coming) listed h =
         let k = is.context.kind in
         let here = h.0 in
@@ -102,43 +134,169 @@ next-line kind cards earlier given stood sized found old after is taken next = b
         let own : take line.cards (drop stood is.old_cards) ≡ take sized.cards (drop stood is.old_cards) = ap (λ n. take n (drop stood is.old_cards)) taken.cards in
         let same : statement ≡ given = statement-same statement given (sym here.before ∙ sym next.before) (sym here.cards ∙ own ∙ between ∙ next.cards) in
         record {
-          was = record {
-            context = is.context;
-            other = settle k (settled_all k earlier) statement;
-            same_kind = is.same_kind;
-            bindings = subst (λ b. AreBindings b is.context) (sym taken.bindings) is.bindings;
-            alike = ap₂ (λ (d : DeckKind) (s : Statement). unnumbered (settle d (settled_all d earlier) s)) is.same_kind same;
-            letters = here.letters;
-            coded = subst (λ (l : List code.Item). IsCoded k is.context.rows l found.coded.now (coded_of is.context (settle k (settled_all k earlier) statement))) (sym taken.items)
-                (was-coded k is.context.rows old.items.now line.coded found.coded.now (coded_of is.context (settle k (settled_all k earlier) statement)) taken.coded here.stored);
-          };
+          was = was-line kind is.context (settle k (settled_all k earlier) statement) (settle kind (settled_all kind earlier) given) found old after stood (drop stood is.old_cards) taken.one is.same_kind is.bindings
+              (ap₂ (λ (d : DeckKind) (s : Statement). unnumbered (settle d (settled_all d earlier) s)) is.same_kind same) here;
           beside = record {
             context = is.context;
             old_cards = is.old_cards;
             coming = coming;
             listed = listed;
             same_kind = is.same_kind;
-            bindings = subst (λ b. AreBindings b is.context) (sym taken.same_bindings) is.bindings;
+            bindings = subst (λ b. AreBindings b is.context) (sym taken.one.same_bindings) is.bindings;
             same = subst (λ n. take n is.old_cards ≡ take n cards) (sym taken.same_before) is.same;
-            shown = subst (λ (l : List code.Item). AreShown k is.context.rows l (stood + sized.cards) (drop (stood + sized.cards) is.old_cards) after.left.now (shown_from is.context (given ∷ earlier) coming listed)) (sym taken.same_items)
+            shown = subst (λ (l : List code.Item). AreShown k is.context.rows l (stood + sized.cards) (drop (stood + sized.cards) is.old_cards) after.left.now (shown_from is.context (given ∷ earlier) coming listed)) (sym taken.one.same_items)
                 (subst (λ (s : Statement). AreShown k is.context.rows old.items.now (stood + sized.cards) (drop (stood + sized.cards) is.old_cards) after.left.now (shown_from is.context (s ∷ earlier) coming listed)) same
                 (subst (λ n. AreShown k is.context.rows old.items.now (stood + n) (drop (stood + n) is.old_cards) after.left.now (shown_from is.context (statement ∷ earlier) coming listed)) taken.cards
                 (subst (λ (a : List Card). AreShown k is.context.rows old.items.now (stood + line.cards) a after.left.now (shown_from is.context (statement ∷ earlier) coming listed)) (drop-drop line.cards stood is.old_cards) h.1)));
           };
         }
 
+-- the first statement of two lists, and the others
+first-of : (a b : Statement) (x y : List Statement) → a ∷ x ≡ b ∷ y → a ≡ b
+first-of a b x y e = cc
+
+rest-of : (a b : Statement) (x y : List Statement) → a ∷ x ≡ b ∷ y → x ≡ y
+rest-of a b x y e = cc
+
+-- more cards stand behind a statement than before it
+stood-longer : (between earlier : List Statement) (given : Statement) → 0 < length given.cards → stood earlier < stood (reverse between ++ given ∷ earlier)
+stood-longer between earlier given some =
+    let parts = cards_in-append (reverse between) (given ∷ earlier) in
+    let own = length-append (cards_in earlier) given.cards in
+    omega (arith, parts, own, some)
+
+-- before the tail its lines are left as they are
+before-tail : (kind : DeckKind) (cards : List Card) (earlier coming : List Statement) (given : Statement) (standing : ℕ) (sized : SizedStatement) (old after : FormerLines) →
+    AreOfTailIfAny kind earlier (given ∷ coming) standing old → (standing ≡ old.tail.at → ⊥) → IsSameTail old after → IsSizedStatement kind earlier standing (drop standing cards) sized given →
+    AreOfTailIfAny kind (given ∷ earlier) coming (standing + sized.cards) after
+before-tail kind cards earlier coming given standing sized old after is other same next = elim is [
+  | inl none ↦ inl (ap (λ t. t.left.now) same.tail ∙ none)
+  | inr of ↦ inr (by of of.between of.all of.place of.alike)
+]
+  where
+    by : (of : AreOfTail kind earlier (given ∷ coming) standing old) (between : List Statement) → given ∷ coming ≡ between ++ of.tail → stood (reverse between ++ earlier) ≡ old.tail.at →
+        AreAlikeOn kind of.passed of.later (reverse between ++ earlier) of.tail → AreOfTail kind (given ∷ earlier) coming (standing + sized.cards) after
+    by of [] all place alike = absurd (other (of.stands ∙ place))
+    by of (first ∷ between) all place alike =
+        let whole : reverse between ++ given ∷ earlier ≡ reverse (first ∷ between) ++ earlier =
+        ap (λ s. reverse between ++ s ∷ earlier) (first-of given first coming (between ++ of.tail) all) ∙ reverse-onto first between earlier in
+        record {
+          context = of.context;
+          same_kind = of.same_kind;
+          bindings = subst (λ b. AreBindings b of.context) (sym same.bindings) of.bindings;
+          between = between;
+          tail = of.tail;
+          all = rest-of given first coming (between ++ of.tail) all;
+          stands = ap (λ n. n + sized.cards) of.stands ∙ stood-more earlier given (drop standing cards) sized.cards next.cards next.within;
+          place = ap (λ l. stood l) whole ∙ place ∙ sym (ap (λ t. t.at) same.tail);
+          passed = of.passed;
+          later = of.later;
+          listed = of.listed;
+          old_stood = of.old_stood;
+          old_ahead = of.old_ahead;
+          shown = subst (λ (l : List Line). AreShown of.context.kind of.context.rows after.items.now of.old_stood of.old_ahead l (shown_from of.context of.passed of.later of.listed)) (sym (ap (λ t. t.left.now) same.tail))
+              (subst (λ (i : List code.Item). AreShown of.context.kind of.context.rows i of.old_stood of.old_ahead old.tail.left.now (shown_from of.context of.passed of.later of.listed)) (sym same.items) of.shown);
+          alike = subst (λ (l : List Statement). AreAlikeOn kind of.passed of.later l of.tail) (sym whole) alike;
+        }
+
+-- the next line of the tail is that of the next statement
+next-of-tail : (kind : DeckKind) (cards : List Card) (earlier coming : List Statement) (given : Statement) (standing : ℕ) (sized : SizedStatement) (found : FormerLine) (old after : FormerLines) →
+    AreOfTail kind earlier (given ∷ coming) standing old → standing ≡ old.tail.at → IsTakenOfTail old after standing sized.cards found → IsSizedStatement kind earlier standing (drop standing cards) sized given → length cards ≤ 20000 →
+    Goes kind found (settle kind (settled_all kind earlier) given) (AreOfTail kind (given ∷ earlier) coming (standing + sized.cards) after)
+next-of-tail kind cards earlier coming given standing sized found old after is at_place taken next few = by is.between is.all is.place is.alike
+  where
+    line : Line
+    line = found.line.now
+
+    rows : List BlockRow
+    rows = is.context.rows
+
+    some : 0 < length given.cards
+    some = let own = ap length (sym next.cards) ∙ length-take-le sized.cards (drop standing cards) next.within in let more = next.some in omega (arith, own, more)
+
+    shown : AreShown is.context.kind rows old.items.now is.old_stood is.old_ahead (line ∷ after.tail.left.now) (shown_from is.context is.passed is.later is.listed)
+    shown = subst (λ (l : List Line). AreShown is.context.kind rows old.items.now is.old_stood is.old_ahead l (shown_from is.context is.passed is.later is.listed)) taken.lines is.shown
+
+    here : (later : List Statement) → AreShown is.context.kind rows old.items.now is.old_stood is.old_ahead (line ∷ after.tail.left.now) (shown_from is.context is.passed later is.listed) →
+        AreAlikeOn kind is.passed later earlier (given ∷ coming) → Goes kind found (settle kind (settled_all kind earlier) given) (AreOfTail kind (given ∷ earlier) coming (standing + sized.cards) after)
+    here [] h alike = absurd alike
+    here (other ∷ later) h alike =
+        let k = is.context.kind in
+        let stands = ap (λ n. n + sized.cards) is.stands ∙ stood-more earlier given (drop standing cards) sized.cards next.cards next.within in
+        record {
+          was = was-line kind is.context (settle k (settled_all k is.passed) other) (settle kind (settled_all kind earlier) given) found old after is.old_stood is.old_ahead taken.one is.same_kind is.bindings
+              (ap (λ (d : DeckKind). unnumbered (settle d (settled_all d is.passed) other)) is.same_kind ∙ alike.0) h.0;
+          beside = record {
+            context = is.context;
+            same_kind = is.same_kind;
+            bindings = subst (λ b. AreBindings b is.context) (sym taken.one.same_bindings) is.bindings;
+            between = [];
+            tail = coming;
+            all = refl;
+            stands = stands;
+            place = sym stands ∙ sym (stood-step standing sized.cards cards next.some next.within few) ∙ sym taken.at_is;
+            passed = other ∷ is.passed;
+            later = later;
+            listed = is.listed;
+            old_stood = is.old_stood + line.cards;
+            old_ahead = drop line.cards is.old_ahead;
+            shown = subst (λ (i : List code.Item). AreShown k rows i (is.old_stood + line.cards) (drop line.cards is.old_ahead) after.tail.left.now (shown_from is.context (other ∷ is.passed) later is.listed)) (sym taken.one.same_items) h.1;
+            alike = alike.1;
+          };
+        }
+
+    by : (between : List Statement) → given ∷ coming ≡ between ++ is.tail → stood (reverse between ++ earlier) ≡ old.tail.at → AreAlikeOn kind is.passed is.later (reverse between ++ earlier) is.tail →
+        Goes kind found (settle kind (settled_all kind earlier) given) (AreOfTail kind (given ∷ earlier) coming (standing + sized.cards) after)
+    by [] all place alike = here is.later shown (subst (AreAlikeOn kind is.passed is.later earlier) (sym all) alike)
+    by (first ∷ between) all place alike =
+        let whole = ap (λ s. reverse between ++ s ∷ earlier) (first-of given first coming (between ++ is.tail) all) ∙ reverse-onto first between earlier in
+        let longer = subst (λ (l : List Statement). stood earlier < stood l) whole (stood-longer between earlier given some) in
+        let stands = is.stands in
+        absurd (omega (arith, longer, place, at_place, stands))
+
 no-line : (line : Line) (lines : List Line) → line ∷ lines ≡ [] → ⊥
 no-line line lines e = cc
 
--- whether or not there is a line
-next-if-any : (kind : DeckKind) (cards : List Card) (earlier : List Statement) (given : Statement) (stood : ℕ) (sized : SizedStatement) (found : Option FormerLine) (old after : FormerLines) →
-    AreBesideIfAny kind cards earlier stood old → IsNextLine old after stood sized.cards found → IsSizedStatement kind earlier stood (drop stood cards) sized given →
-    WasLineIfAny kind found (settle kind (settled_all kind earlier) given) × AreBesideIfAny kind cards (given ∷ earlier) (stood + sized.cards) after
-next-if-any kind cards earlier given stood sized None old after is next statement = (tt, inl next)
-next-if-any kind cards earlier given stood sized (Some found) old after is next statement = elim is [
+-- what a step leaves of the lines of the object before
+record Leaves (kind : DeckKind) (cards : List Card) (earlier coming : List Statement) (given : Statement) (stood count : ℕ) (found : Option FormerLine) (after : FormerLines) : Type 0 where
+  was : WasLineIfAny kind found (settle kind (settled_all kind earlier) given)
+  beside : IsBeside kind cards (given ∷ earlier) coming (stood + count) after
+
+-- in front, whether or not there is a line
+in-front-if-any : (kind : DeckKind) (cards : List Card) (earlier coming : List Statement) (given : Statement) (stood : ℕ) (sized : SizedStatement) (found : Option FormerLine) (old after : FormerLines) →
+    IsBeside kind cards earlier (given ∷ coming) stood old → (stood ≡ old.tail.at → ⊥) → IsNextInFront old after stood sized.cards found → IsSizedStatement kind earlier stood (drop stood cards) sized given →
+    Leaves kind cards earlier coming given stood sized.cards found after
+in-front-if-any kind cards earlier coming given stood sized None old after is other next statement =
+    record { was = tt; beside = record { front = inl next.0; tail = before-tail kind cards earlier coming given stood sized old after is.tail other next.1 statement } }
+in-front-if-any kind cards earlier coming given stood sized (Some found) old after is other next statement = elim is.front [
   | inl none ↦ absurd (no-line found.line.now after.left.now (sym next.lines ∙ none))
-  | inr beside ↦ let goes = next-line kind cards earlier given stood sized found old after beside next statement in (goes.was, inr goes.beside)
+  | inr beside ↦
+      let goes = next-line kind cards earlier given stood sized found old after beside next statement in
+      let same : IsSameTail old after = record { tail = next.same_tail; items = next.one.same_items; bindings = next.one.same_bindings } in
+      record { was = goes.was; beside = record { front = inr goes.beside; tail = before-tail kind cards earlier coming given stood sized old after is.tail other same statement } }
 ]
+
+-- in the tail
+in-tail-if-any : (kind : DeckKind) (cards : List Card) (earlier coming : List Statement) (given : Statement) (stood : ℕ) (sized : SizedStatement) (found : Option FormerLine) (old after : FormerLines) →
+    IsBeside kind cards earlier (given ∷ coming) stood old → stood ≡ old.tail.at → IsNextInTail old after stood sized.cards found → IsSizedStatement kind earlier stood (drop stood cards) sized given → length cards ≤ 20000 →
+    Leaves kind cards earlier coming given stood sized.cards found after
+in-tail-if-any kind cards earlier coming given stood sized None old after is place next statement few = record { was = tt; beside = record { front = inl next.0; tail = inl next.1 } }
+in-tail-if-any kind cards earlier coming given stood sized (Some found) old after is place next statement few = elim is.tail [
+  | inl none ↦ absurd (no-line found.line.now after.tail.left.now (sym next.lines ∙ none))
+  | inr of ↦
+      let goes = next-of-tail kind cards earlier coming given stood sized found old after of place next statement few in
+      record { was = goes.was; beside = record { front = inl next.front; tail = inr goes.beside } }
+]
+
+-- in either
+next-if-any : (kind : DeckKind) (cards : List Card) (earlier coming : List Statement) (given : Statement) (stood : ℕ) (sized : SizedStatement) (found : Option FormerLine) (old after : FormerLines) →
+    IsBeside kind cards earlier (given ∷ coming) stood old → IsNextLine old after stood sized.cards found → IsSizedStatement kind earlier stood (drop stood cards) sized given → length cards ≤ 20000 →
+    Leaves kind cards earlier coming given stood sized.cards found after
+next-if-any kind cards earlier coming given stood sized found old after is next statement few = by (at-or-not stood old.tail.at)
+  where
+    by : (stood ≡ old.tail.at) ⊎ (stood ≡ old.tail.at → ⊥) → Leaves kind cards earlier coming given stood sized.cards found after
+    by (inl place) = in-tail-if-any kind cards earlier coming given stood sized found old after is place (next.tail place) statement few
+    by (inr other) = in-front-if-any kind cards earlier coming given stood sized found old after is other (next.front other) statement
 
 -- one step of a walk beside the lines of the object before
 pub beside-step : (whole : Whole) (left : List SizedStatement) (sized : SizedStatement) (old new : Making) (found : Option FormerLine) (before after : FormerLines) → IsWhole whole → IsWalkedBeside whole (sized ∷ left) old before →
@@ -147,17 +305,18 @@ pub beside-step : (whole : Whole) (left : List SizedStatement) (sized : SizedSta
     has_row (settle whole.deck.kind (settled_all whole.deck.kind earlier) given).block whole.rows ≡ true → WasLineIfAny whole.deck.kind found (settle whole.deck.kind (settled_all whole.deck.kind earlier) given) →
     AreLined whole earlier old.lines → AreNoted whole earlier old.names → IsStep whole sized old new earlier given) →
     IsWalkedBeside whole left new after
-beside-step whole left sized old new found before after is beside taken next = step walked.coming walked.all walked.sized
+beside-step whole left sized old new found before after is beside taken next = step walked.coming walked.all walked.sized beside.beside
   where
     walked : IsWalked whole (sized ∷ left) old
     walked = beside.walked
 
     step : (coming : List Statement) → reverse coming ++ walked.earlier ≡ whole.known →
-        AreSizedFrom whole.deck.kind walked.earlier old.lines.stood (drop old.lines.stood whole.cards) (sized ∷ left) coming whole.deck.behind (reverse whole.others) → IsWalkedBeside whole left new after
-    step [] all h = absurd h
-    step (given ∷ coming) all h =
-        let both = next-if-any whole.deck.kind whole.cards walked.earlier given old.lines.stood sized found before after beside.beside taken h.0 in
-        let stepped = next walked.earlier given h.0 (there whole walked.earlier coming given is all) both.0 walked.lined walked.noted in
+        AreSizedFrom whole.deck.kind walked.earlier old.lines.stood (drop old.lines.stood whole.cards) (sized ∷ left) coming whole.deck.behind (reverse whole.others) →
+        IsBeside whole.deck.kind whole.cards walked.earlier coming old.lines.stood before → IsWalkedBeside whole left new after
+    step [] all h there_is = absurd h
+    step (given ∷ coming) all h there_is =
+        let both = next-if-any whole.deck.kind whole.cards walked.earlier coming given old.lines.stood sized found before after there_is taken h.0 is.few in
+        let stepped = next walked.earlier given h.0 (there whole walked.earlier coming given is all) both.was walked.lined walked.noted in
         record {
           walked = record {
             earlier = given ∷ walked.earlier;
@@ -169,7 +328,7 @@ beside-step whole left sized old new found before after is beside taken next = s
             lined = stepped.lined;
             noted = stepped.noted;
           };
-          beside = subst (λ n. AreBesideIfAny whole.deck.kind whole.cards (given ∷ walked.earlier) n after) (sym stepped.stood) both.1;
+          beside = subst (λ n. IsBeside whole.deck.kind whole.cards (given ∷ walked.earlier) coming n after) (sym stepped.stood) both.beside;
         }
 
 -- all lines of a listing, from the first one on
@@ -185,54 +344,167 @@ shown-from context earlier (statement ∷ coming) listed =
     ∙ ap (λ (l : List Statement). reverse (map (shown_of context) (settled_all context.kind l)) ++ map only_listed listed)
     (sym (append_assoc (reverse coming) (statement ∷ []) earlier) ∙ ap (λ l. l ++ earlier) (sym (reverse-append (statement ∷ []) coming)))
 
--- what is kept of the deck before an edit goes beside a walk that begins
-pub begin-beside : (kind : DeckKind) (old cards : List Card) (name : List ℕ) (former : Former) (parts : ObjectParts) (lines : FormerLines) → IsFormerOf old former →
-    (let given : Deck = record { name = name; cards = old } in ArePartsOf old parts (object_of given)) → take former.before old ≡ take former.before cards →
-    lines.items.now ≡ parts.items.items → lines.before ≡ former.before → lines.bindings.symbols.now ≡ former.symbols → lines.bindings.literals.now ≡ former.literals → lines.bindings.bases.now ≡ parts.bases →
-    (former.kind ≡ kind → lines.left.now ≡ parts.lines.items) → (lines.left.now ≡ []) ⊎ (former.kind ≡ kind) → AreBesideIfAny kind cards [] 0 lines
-begin-beside kind old cards name former parts lines is are same items before symbols literals bases alike other = elim other [ inl none ↦ inl none | inr k ↦ inr (there-is k) ]
-  where
-    known : List Statement
-    known = known_in old
+-- what is known of the lines that were chosen
+pub record AreChosen (kind : DeckKind) (old cards : List Card) (former : Former) (parts : ObjectParts) (lines : FormerLines) : Type 0 where
+  pub items : lines.items.now ≡ parts.items.items
+  pub before : lines.before ≡ former.before
+  pub symbols : lines.bindings.symbols.now ≡ former.symbols
+  pub literals : lines.bindings.literals.now ≡ former.literals
+  pub bases : lines.bindings.bases.now ≡ parts.bases
+  pub alike : former.kind ≡ kind → lines.left.now ≡ parts.lines.items
+  pub other : (lines.left.now ≡ []) ⊎ (former.kind ≡ kind)
+  pub none : former.tail ≡ 0 → lines.tail.left.now ≡ []
+  pub tail : (former.tail ≡ 0) ⊎ (lines.tail.left.now ≡ lines_behind (length old - former.tail) lines.left.now)
+  pub place : lines.tail.at ≡ length cards - former.tail
 
-    others : List Statement
-    others = behind_end (statements_of (reverse old))
+-- the deck before an edit, and its lines
+record HasLines (kind : DeckKind) (old : List Card) (parts : ObjectParts) (lines : FormerLines) : Type 0 where
+  context : Context
+  same_kind : context.kind ≡ kind
+  bindings : AreBindings lines.bindings context
+  listed : List Statement
+  shown : AreShown context.kind context.rows lines.items.now 0 old parts.lines.items (shown_from context [] (reverse (known_in old)) listed)
 
-    context : Context
-    context = context_of (kind_of_statements known) (settled_all (kind_of_statements known) known)
-
-    listing : reverse (map only_listed others ++ map (shown_of context) context.settled) ≡ shown_from context [] (reverse known) (reverse others)
-    listing =
-        shown-object context context.settled others
-        ∙ ap (λ (l : List Statement). reverse (map (shown_of context) (settled_all context.kind l)) ++ map only_listed (reverse others)) (sym (append-none (reverse (reverse known)) ∙ reverse-reverse known))
-        ∙ sym (shown-from context [] (reverse known) (reverse others))
-
-    seen : DeckKind → View
-    seen d = λ name. defined name (settled_all d known)
-
-    there-is : former.kind ≡ kind → AreBeside kind cards [] 0 lines
-    there-is k = record {
+has-lines : (kind : DeckKind) (old cards : List Card) (name : List ℕ) (former : Former) (parts : ObjectParts) (lines : FormerLines) → IsFormerOf old former →
+    (let given : Deck = record { name = name; cards = old } in ArePartsOf old parts (object_of given)) → AreChosen kind old cards former parts lines → former.kind ≡ kind → HasLines kind old parts lines
+has-lines kind old cards name former parts lines is are chosen k =
+    let known = known_in old in
+    let others = behind_end (statements_of (reverse old)) in
+    let context = context_of (kind_of_statements known) (settled_all (kind_of_statements known) known) in
+    let seen : DeckKind → View = λ d name. defined name (settled_all d known) in
+    let listing : reverse (map only_listed others ++ map (shown_of context) context.settled) ≡ shown_from context [] (reverse known) (reverse others) =
+    shown-object context context.settled others
+    ∙ ap (λ (l : List Statement). reverse (map (shown_of context) (settled_all context.kind l)) ++ map only_listed (reverse others)) (sym (append-none (reverse (reverse known)) ∙ reverse-reverse known))
+    ∙ sym (shown-from context [] (reverse known) (reverse others)) in
+    record {
       context = context;
-      old_cards = old;
-      coming = reverse known;
-      listed = reverse others;
       same_kind = sym is.kind ∙ k;
       bindings = record {
-        symbols = ap symbol_in symbols ∙ is.symbols ∙ ap seen is.kind;
-        literals = literals ∙ is.literals ∙ ap (λ (d : DeckKind). literal_words (settled_all d known)) is.kind;
-        rows = bases ∙ are.rows;
+        symbols = ap symbol_in chosen.symbols ∙ is.symbols ∙ ap seen is.kind;
+        literals = chosen.literals ∙ is.literals ∙ ap (λ (d : DeckKind). literal_words (settled_all d known)) is.kind;
+        rows = chosen.bases ∙ are.rows;
       };
-      same = subst (λ n. take n old ≡ take n cards) (sym before) same;
-      shown = subst (λ (l : List Line). AreShown context.kind context.rows lines.items.now 0 old l (shown_from context [] (reverse known) (reverse others))) (sym (alike k))
-          (subst (λ (i : List code.Item). AreShown context.kind context.rows i 0 old parts.lines.items (shown_from context [] (reverse known) (reverse others))) (sym items)
+      listed = reverse others;
+      shown = subst (λ (i : List code.Item). AreShown context.kind context.rows i 0 old parts.lines.items (shown_from context [] (reverse known) (reverse others))) (sym chosen.items)
           (subst (λ (d : DeckKind). AreShown d context.rows parts.items.items 0 old parts.lines.items (shown_from context [] (reverse known) (reverse others))) are.kind
           (subst (λ (r : List BlockRow). AreShown parts.kind r parts.items.items 0 old parts.lines.items (shown_from context [] (reverse known) (reverse others))) are.rows
-          (subst (AreShown parts.kind parts.bases parts.items.items 0 old parts.lines.items) listing are.shown))));
+          (subst (AreShown parts.kind parts.bases parts.items.items 0 old parts.lines.items) listing are.shown)));
     }
+
+behind-none : (lines : List Line) → lines_behind 0 lines ≡ lines
+behind-none [] = refl
+behind-none (line ∷ lines) = refl
+
+behind-some : (count : ℕ) (line : Line) (lines : List Line) → 0 < count → lines_behind count (line ∷ lines) ≡ lines_behind (count - line.cards) lines
+behind-some zero line lines some = absurd (omega (arith, some))
+behind-some (suc count) line lines some = refl
+
+-- lines behind some cards, and the statements that they show
+record ShowBehind (context : Context) (items : List code.Item) (lines : List Line) (earlier coming listed : List Statement) : Type 0 where
+  stood : ℕ
+  ahead : List Card
+  shown : AreShown context.kind context.rows items stood ahead lines (shown_from context earlier coming listed)
+
+show-behind : (context : Context) (items : List code.Item) (front earlier coming listed : List Statement) (count standing : ℕ) (cards : List Card) (lines : List Line) →
+    AreShown context.kind context.rows items standing cards lines (shown_from context earlier (front ++ coming) listed) → stood earlier + count ≡ stood (reverse front ++ earlier) →
+    ShowBehind context items (lines_behind count lines) (reverse front ++ earlier) coming listed
+show-behind context items [] earlier coming listed count standing cards lines h n =
+    let none : count ≡ 0 = omega (arith, n) in
+    record { stood = standing; ahead = cards; shown = subst (λ (l : List Line). AreShown context.kind context.rows items standing cards l (shown_from context earlier coming listed)) (sym (ap (λ k. lines_behind k lines) none ∙ behind-none lines)) h }
+show-behind context items (first ∷ front) earlier coming listed count standing cards [] h n = absurd h
+show-behind context items (first ∷ front) earlier coming listed count standing cards (line ∷ lines) h n =
+    let whole = reverse-onto first front earlier in
+    let place = ap (λ l. stood l) whole in
+    let own : length first.cards ≡ line.cards = ap length (sym h.0.cards) ∙ length-take-le line.cards cards h.0.within in
+    let parts = cards_in-append (reverse front) (first ∷ earlier) in
+    let one = length-append (cards_in earlier) first.cards in
+    let some = h.0.some in
+    let rest = show-behind context items front (first ∷ earlier) coming listed (count - line.cards) (standing + line.cards) (drop line.cards cards) lines h.1 (omega (arith, n, place, own, parts, one)) in
+    subst (λ (both : List Line × List Statement). ShowBehind context items both.0 both.1 coming listed) (λ i. (sym (behind-some count line lines (omega (arith, n, place, own, parts, one, some))) i, whole i)) rest
+
+-- settled alike from the last ones on, and so from the first ones on
+alike-onward : (kind : DeckKind) (before others earlier statements later coming : List Statement) → AreSettledAlike kind before others earlier statements →
+    AreAlikeOn kind (others ++ before) later (statements ++ earlier) coming → AreAlikeOn kind before (reverse others ++ later) earlier (reverse statements ++ coming)
+alike-onward kind before [] earlier [] later coming h rest = rest
+alike-onward kind before [] earlier (statement ∷ statements) later coming h rest = absurd h
+alike-onward kind before (other ∷ others) earlier [] later coming h rest = absurd h
+alike-onward kind before (other ∷ others) earlier (statement ∷ statements) later coming h rest =
+    subst (λ (both : List Statement × List Statement). AreAlikeOn kind before both.0 earlier both.1) (λ i. (reverse-onto other others later i, reverse-onto statement statements coming i))
+    (alike-onward kind before others earlier statements (other ∷ later) (statement ∷ coming) h.1 (h.0, rest))
+
+-- the lines of a tail
+tail-beside : (kind : DeckKind) (old cards : List Card) (former : Former) (parts : ObjectParts) (lines : FormerLines) → AreChosen kind old cards former parts lines → HasLines kind old parts lines →
+    lines.tail.left.now ≡ lines_behind (length old - former.tail) parts.lines.items → lines.tail.at ≡ length cards - former.tail → HasTail kind old cards former.tail (known_in cards) →
+    AreOfTail kind [] (reverse (known_in cards)) 0 lines
+tail-beside kind old cards former parts lines chosen has left place tail =
+    let split = tail.tail.split in
+    let old_place = tail.tail.old_place in
+    let new_place = tail.tail.new_place in
+    let back = reverse-reverse split.old_front in
+    let later = reverse split.old_tail ++ reverse tail.behind in
+    let all : reverse (known_in old) ≡ reverse split.old_front ++ later =
+    ap reverse (sym tail.all ∙ ap (λ l. tail.behind ++ l) tail.tail.of_old) ∙ reverse-append tail.behind (split.old_tail ++ split.old_front) ∙ ap (λ l. l ++ reverse tail.behind) (reverse-append split.old_tail split.old_front)
+    ∙ append_assoc (reverse split.old_front) (reverse split.old_tail) (reverse tail.behind) in
+    let whole : reverse (reverse split.old_front) ++ [] ≡ split.old_front = append-none (reverse (reverse split.old_front)) ∙ back in
+    let own = ap (λ l. stood l) whole in
+    let shown = show-behind has.context lines.items.now (reverse split.old_front) [] later has.listed (length old - former.tail) 0 old parts.lines.items
+    (subst (λ (l : List Statement). AreShown has.context.kind has.context.rows lines.items.now 0 old parts.lines.items (shown_from has.context [] l has.listed)) all has.shown) (omega (arith, old_place, own)) in
+    let there = subst (λ (both : List Line × List Statement). ShowBehind has.context lines.items.now both.0 both.1 later has.listed) (λ i. (sym left i, whole i)) shown in
+    let front : reverse (reverse split.new_front) ++ [] ≡ split.new_front = append-none (reverse (reverse split.new_front)) ∙ reverse-reverse split.new_front in
+    record {
+      context = has.context;
+      same_kind = has.same_kind;
+      bindings = has.bindings;
+      between = reverse split.new_front;
+      tail = reverse split.new_tail;
+      all = ap reverse tail.tail.of_new ∙ reverse-append split.new_tail split.new_front;
+      stands = refl;
+      place = ap (λ l. stood l) front ∙ (omega (arith, new_place, place));
+      passed = split.old_front;
+      later = later;
+      listed = has.listed;
+      old_stood = there.stood;
+      old_ahead = there.ahead;
+      shown = there.shown;
+      alike = subst (λ (both : List Statement × List Statement). AreAlikeOn kind split.old_front later both.0 both.1) (λ i. (sym front i, append-none (reverse split.new_tail) i))
+          (alike-onward kind split.old_front split.old_tail split.new_front split.new_tail (reverse tail.behind) [] tail.tail.alike tt);
+    }
+
+-- what is kept of the deck before an edit goes beside a walk that begins
+pub begin-beside : (kind : DeckKind) (old cards : List Card) (name : List ℕ) (former : Former) (parts : ObjectParts) (lines : FormerLines) → IsFormerOf old former →
+    (let given : Deck = record { name = name; cards = old } in ArePartsOf old parts (object_of given)) → IsEditedOf old cards former → kind ≡ kind_of_statements (known_in cards) → AreChosen kind old cards former parts lines →
+    IsBeside kind cards [] (reverse (known_in cards)) 0 lines
+begin-beside kind old cards name former parts lines is are edited kinds chosen = elim chosen.other [
+  | inl none ↦ record { front = inl none; tail = inl (no-tail none chosen.tail) }
+  | inr k ↦ let has = has-lines kind old cards name former parts lines is are chosen k in record { front = inr (in-front has k); tail = by-tail has k edited.tail chosen.tail }
+]
+  where
+    no-tail : lines.left.now ≡ [] → (former.tail ≡ 0) ⊎ (lines.tail.left.now ≡ lines_behind (length old - former.tail) lines.left.now) → lines.tail.left.now ≡ []
+    no-tail none (inl e) = chosen.none e
+    no-tail none (inr e) = e ∙ ap (lines_behind (length old - former.tail)) none
+
+    in-front : HasLines kind old parts lines → former.kind ≡ kind → AreBeside kind cards [] 0 lines
+    in-front has k = record {
+      context = has.context;
+      old_cards = old;
+      coming = reverse (known_in old);
+      listed = has.listed;
+      same_kind = has.same_kind;
+      bindings = has.bindings;
+      same = subst (λ n. take n old ≡ take n cards) (sym chosen.before) edited.same;
+      shown = subst (λ (l : List Line). AreShown has.context.kind has.context.rows lines.items.now 0 old l (shown_from has.context [] (reverse (known_in old)) has.listed)) (sym (chosen.alike k)) has.shown;
+    }
+
+    by-tail : HasLines kind old parts lines → former.kind ≡ kind → HasTailIfAny (kind_of_statements (known_in cards)) old cards former.tail (known_in cards) →
+        (former.tail ≡ 0) ⊎ (lines.tail.left.now ≡ lines_behind (length old - former.tail) lines.left.now) → AreOfTailIfAny kind [] (reverse (known_in cards)) 0 lines
+    by-tail has k (inl e) left = inl (chosen.none e)
+    by-tail has k (inr tail) (inl e) = inl (chosen.none e)
+    by-tail has k (inr tail) (inr left) =
+        inr (tail-beside kind old cards former parts lines chosen has (left ∙ ap (lines_behind (length old - former.tail)) (chosen.alike k)) chosen.place (subst (λ (d : DeckKind). HasTail d old cards former.tail (known_in cards)) (sym kinds) tail))
 
 -- before the first statement
 pub beside-begin : (whole : Whole) (made : Making) (former : FormerLines) → IsWhole whole → made.lines.stood ≡ 0 → AreLined whole [] made.lines → AreNoted whole [] made.names →
-    AreBesideIfAny whole.deck.kind whole.cards [] 0 former → IsWalkedBeside whole (sized_in whole.deck.pieces) made former
+    IsBeside whole.deck.kind whole.cards [] (reverse whole.known) 0 former → IsWalkedBeside whole (sized_in whole.deck.pieces) made former
 beside-begin whole made former is stood lined noted beside = record {
   walked = record {
     earlier = [];
@@ -242,19 +514,29 @@ beside-begin whole made former is stood lined noted beside = record {
     lined = lined;
     noted = noted;
   };
-  beside = subst (λ n. AreBesideIfAny whole.deck.kind whole.cards [] n former) (sym stood) beside;
+  beside = subst (λ n. IsBeside whole.deck.kind whole.cards [] (reverse whole.known) n former) (sym stood) beside;
 }
 
 -- the lines that were given, or none
-pub chosen-beside : (kind : DeckKind) (cards : List Card) (given : Option FormerLines) (lines : FormerLines) → IfSome given (λ l. AreBesideIfAny kind cards [] 0 l) → IfSome given (λ l. lines ≡ l) →
-    (given ≡ None → lines.left.now ≡ []) → AreBesideIfAny kind cards [] 0 lines
-chosen-beside kind cards None lines h e n = inl (n refl)
-chosen-beside kind cards (Some l) lines h e n = subst (AreBesideIfAny kind cards [] 0) (sym e) h
+pub chosen-beside : (kind : DeckKind) (cards : List Card) (known : List Statement) (given : Option FormerLines) (lines : FormerLines) → IfSome given (λ l. IsBeside kind cards [] (reverse known) 0 l) → IfSome given (λ l. lines ≡ l) →
+    (given ≡ None → IsBare lines) → IsBeside kind cards [] (reverse known) 0 lines
+chosen-beside kind cards known None lines h e n = let none = n refl in record { front = inl none.front; tail = inl none.tail }
+chosen-beside kind cards known (Some l) lines h e n = subst (IsBeside kind cards [] (reverse known) 0) (sym e) h
+
+none-in-front : (old new : FormerLines) (stood count : ℕ) (found : Option FormerLine) → IsNextInFront old new stood count found → IsBare old → (found ≡ None) × IsBare new
+none-in-front old new stood count None next e = (refl, record { front = next.0; tail = ap (λ t. t.left.now) next.1.tail ∙ e.tail })
+none-in-front old new stood count (Some found) next e = absurd (no-line found.line.now new.left.now (sym next.lines ∙ e.front))
+
+none-in-tail : (old new : FormerLines) (stood count : ℕ) (found : Option FormerLine) → IsNextInTail old new stood count found → IsBare old → (found ≡ None) × IsBare new
+none-in-tail old new stood count None next e = (refl, record { front = next.0; tail = next.1 })
+none-in-tail old new stood count (Some found) next e = absurd (no-line found.line.now new.tail.left.now (sym next.lines ∙ e.tail))
 
 -- where no line is left none is taken
-pub none-left : (old new : FormerLines) (stood count : ℕ) (found : Option FormerLine) → IsNextLine old new stood count found → old.left.now ≡ [] → (found ≡ None) × (new.left.now ≡ [])
-none-left old new stood count None next e = (refl, next)
-none-left old new stood count (Some found) next e = absurd (no-line found.line.now new.left.now (sym next.lines ∙ e))
+pub none-left : (old new : FormerLines) (stood count : ℕ) (found : Option FormerLine) → IsNextLine old new stood count found → IsBare old → (found ≡ None) × IsBare new
+none-left old new stood count found next e = elim (at-or-not stood old.tail.at) [
+  | inl place ↦ none-in-tail old new stood count found (next.tail place) e
+  | inr other ↦ none-in-front old new stood count found (next.front other) e
+]
 
 -- one of a list, and those behind it
 pub item-split : {A : Type 0} (xs : List A) (i : ℕ) (x : A) → i < length xs → x ≡ get_or xs i x → drop i xs ≡ x ∷ drop (i + 1) xs

@@ -1,6 +1,6 @@
 -- Where an old deck and an edited one agree, all that is left of the old one stays.
-use Rattle.std.proofs.Common.{◌≡◌, ◌+◌, ◌-◌, ◌≤◌, List, [], ◌∷◌, drop, length, refl, sym, ap, ◌∙◌, subst, arith}
-use Rattle.std.specs.Prelude.{Option, Some, None, Result, Ok, Err, IfOk, IfSome}
+use Rattle.std.proofs.Common.{◌≡◌, ℕ, ◌+◌, ◌-◌, ◌≤◌, ◌⊎◌, inl, inr, List, [], ◌∷◌, ◌++◌, drop, length, refl, sym, ap, ◌∙◌, subst, arith}
+use Rattle.std.specs.Prelude.{Option, Some, None, Result, Ok, Err, IfOk, IfSome, reverse}
 use Rattle.std.proofs.lemmas.List.{length-drop}
 use Rattle.cards.specs.Spans.{statement_at}
 use Rattle.cards.specs.declared.statement_list.Span.{Span}
@@ -9,9 +9,11 @@ use Rattle.definitions.specs.Settling.{View, settled_all}
 use Rattle.definitions.specs.Statements.{Statement}
 use Rattle.definitions.specs.declared.deck_kind.DeckKind.{DeckKind}
 use Rattle.deck_assembler.specs.Agreements.{left, AreAlikeFrom, HasFront, HaveSameEnd, IsAgreeing, IsOfSameDeck}
-use Rattle.deck_assembler.specs.OldDecks.{AreKeptFrom, IsAtStage, IsKeptOn, IsOnSpan}
+use Rattle.deck_assembler.specs.Formers.{known_in}
+use Rattle.deck_assembler.specs.OldDecks.{AreKeptFrom, IsAtStage, IsInTail, IsKeptOn, IsOnSpan}
 use Rattle.deck_assembler.specs.SizedDecks.{IsSizedStatement, AreSizedFrom}
 use Rattle.deck_assembler.specs.Sizers.{stood, ahead, IsNext, IsSizer}
+use Rattle.deck_assembler.specs.Tails.{AreKeptAlike, HasTailIfAny, HaveOneTail, IsSettledAlike}
 use Rattle.deck_assembler.specs.declared.old_deck.OldDeck.{OldDeck}
 use Rattle.deck_assembler.specs.declared.old_deck.Stage.TheVariants as stages
 use Rattle.deck_assembler.specs.declared.sized_statement.SizedStatement.{SizedStatement}
@@ -19,11 +21,12 @@ use Rattle.deck_assembler.specs.declared.sizer.Sizer.{Sizer}
 use Rattle.deck_assembler.proofs.AgreeLaws.{tail-kept}
 use Rattle.deck_assembler.proofs.ForwardLaws.{stood-more}
 use Rattle.deck_assembler.proofs.OldLaws.{same-ahead}
+use Rattle.deck_assembler.proofs.OntoLaws.{reverse-onto}
 
 pub meet-kept : (kind : DeckKind) (old cards : List Card) (earlier : List Statement) (sizer : Sizer) (deck : OldDeck) →
-    IsSizer kind cards earlier sizer → deck.kind ≡ kind → HasFront old (left deck) deck → HaveSameEnd deck.behind old cards → stood earlier ≤ length cards →
+    IsSizer kind cards earlier sizer → deck.kind ≡ kind → (has : HasFront old (left deck) deck) → HaveSameEnd deck.behind old cards → stood earlier ≤ length cards →
     length deck.ahead.now ≡ length cards - stood earlier → length cards - stood earlier ≤ deck.behind → deck.state ≡ sizer.state → IsAgreeing deck sizer.symbols →
-    AreKeptFrom kind cards earlier (stood earlier) (left deck)
+    AreKeptFrom kind cards earlier (stood earlier) (left deck) × AreKeptAlike kind cards earlier (stood earlier) has.front (left deck) has.later
 meet-kept kind old cards earlier sizer deck sizer_is kinds has same here many few state agrees =
     let k = deck.kind in
     let is = subst (λ (k : DeckKind). IsSizer k cards earlier sizer) (sym kinds) sizer_is in
@@ -31,7 +34,7 @@ meet-kept kind old cards earlier sizer deck sizer_is kinds has same here many fe
     let rest = subst (λ (l : List Card). AreSizedFrom k has.front has.stood l (left deck) has.later has.behind has.others) (sym has.ahead) has.rest in
     let alike = subst (λ (both : View × View). AreAlikeFrom k both.0 both.1 has.front (left deck) has.later) (λ i. (has.symbols i, is.symbols i))
     (agrees has.front has.stood has.later has.behind has.others rest) in
-    subst (λ (k : DeckKind). AreKeptFrom k cards earlier (stood earlier) (left deck)) kinds
+    subst (λ (k : DeckKind). AreKeptFrom k cards earlier (stood earlier) (left deck) × AreKeptAlike k cards earlier (stood earlier) has.front (left deck) has.later) kinds
     (tail-kept k cards (settled_all k has.front) (settled_all k earlier) [] [] has.front earlier has.stood (stood earlier) (drop has.stood old) (left deck) has.later has.behind has.others
     refl refl refl (sym has.state ∙ state ∙ is.state) there has.rest alike)
 
@@ -47,6 +50,45 @@ next-in-tail kind cards earlier span sized later next kept count =
     let more = stood-more earlier (statement_at cards span) (ahead cards earlier) span.count next.cards next.within in
     (there.0, subst (λ n. AreKeptFrom kind cards (statement_at cards span ∷ earlier) n later) more there.1)
 
+-- and each since the decks agree is settled as it was
+pub tail-next : (kind : DeckKind) (old cards : List Card) (earlier : List Statement) (span : Span) (deck new : OldDeck) (sized : SizedStatement) →
+    IsNext cards earlier span.count (statement_at cards span) → IsInTail kind old cards earlier deck → left deck ≡ sized ∷ left new → new.ahead.now ≡ deck.ahead.now → sized.cards ≡ span.count →
+    IsSizedStatement kind earlier (stood earlier) (ahead cards earlier) sized (statement_at cards span) × IsInTail kind old cards (statement_at cards span ∷ earlier) new
+tail-next kind old cards earlier span deck new sized next is e same count = by is.later is.all (subst (λ l. AreKeptAlike kind cards earlier (stood earlier) is.passed l is.later) e is.alike)
+  where
+    given : Statement
+    given = statement_at cards span
+
+    here : IsSizedStatement kind earlier (stood earlier) (ahead cards earlier) sized given × AreKeptFrom kind cards (given ∷ earlier) (stood (given ∷ earlier)) (left new)
+    here = next-in-tail kind cards earlier span sized (left new) next (subst (AreKeptFrom kind cards earlier (stood earlier)) e is.kept) count
+
+    by : (later : List Statement) → reverse later ++ is.passed ≡ known_in old → AreKeptAlike kind cards earlier (stood earlier) is.passed (sized ∷ left new) later →
+        IsSizedStatement kind earlier (stood earlier) (ahead cards earlier) sized given × IsInTail kind old cards (given ∷ earlier) new
+    by [] all h = absurd h
+    by (other ∷ later) all h =
+        let moved : IsSettledAlike kind is.passed other earlier given × AreKeptAlike kind cards (given ∷ earlier) (stood earlier + span.count) (other ∷ is.passed) (left new) later =
+        subst (λ (s : Span). IsSettledAlike kind is.passed other earlier (statement_at cards s) × AreKeptAlike kind cards (statement_at cards s ∷ earlier) (stood earlier + s.count) (other ∷ is.passed) (left new) later)
+        (λ i. record { start = sym next.before i; count = count i }) h in
+        let more = stood-more earlier given (ahead cards earlier) span.count next.cards next.within in
+        let split = is.tail.split in (
+          here.0,
+          record {
+            kept = here.1;
+            passed = other ∷ is.passed;
+            later = later;
+            all = reverse-onto other later is.passed ∙ all;
+            tail = record {
+              split = record { old_front = split.old_front; old_tail = other ∷ split.old_tail; new_front = split.new_front; new_tail = given ∷ split.new_tail };
+              of_old = ap (λ l. other ∷ l) is.tail.of_old;
+              of_new = ap (λ l. given ∷ l) is.tail.of_new;
+              old_place = ap (λ (l : List Card). stood split.old_front + length l) same ∙ is.tail.old_place;
+              new_place = ap (λ (l : List Card). stood split.new_front + length l) same ∙ is.tail.new_place;
+              alike = (subst (λ (both : List Statement × List Statement). IsSettledAlike kind both.0 other both.1 given) (λ i. (is.tail.of_old i, is.tail.of_new i)) moved.0, is.tail.alike);
+            };
+            alike = subst (λ n. AreKeptAlike kind cards (given ∷ earlier) n (other ∷ is.passed) (left new) later) more moved.1;
+          },
+        )
+
 -- the same deck goes on behind a statement
 pub goes-on : (kind : DeckKind) (old cards : List Card) (earlier now : List Statement) (span : Span) (sizer : Sizer) (deck new : OldDeck) → IsOnSpan kind old cards earlier span sizer deck →
     IsOfSameDeck deck new → IsAtStage kind old cards now new new.stage → IsKeptOn kind old cards now new
@@ -58,18 +100,36 @@ goes-on kind old cards earlier now span sizer deck new on same standing = record
 
 -- where it agrees the old deck goes on with its tail
 pub on-tail : (kind : DeckKind) (old cards : List Card) (earlier : List Statement) (span : Span) (sizer : Sizer) (deck passed new : OldDeck) → IsOnSpan kind old cards earlier span sizer deck →
-    span.start + span.count ≤ length cards → HasFront old (left passed) passed → IsOfSameDeck deck passed → IsOfSameDeck passed new → left new ≡ left passed →
+    span.start + span.count ≤ length cards → HasFront old (left passed) passed → IsOfSameDeck deck passed → IsOfSameDeck passed new → left new ≡ left passed → new.ahead.now ≡ passed.ahead.now →
     length passed.ahead.now ≡ length cards - span.start → length cards - span.start ≤ passed.behind → passed.state ≡ sizer.state → IsAgreeing passed sizer.symbols → new.stage ≡ stages.Tail →
     IsOnSpan kind old cards earlier span sizer new
-on-tail kind old cards earlier span sizer deck passed new on within has same there rest many few state agrees stage =
+on-tail kind old cards earlier span sizer deck passed new on within has same there rest same_ahead many few state agrees stage =
     let start = on.next.before in
+    let before = has.within in
+    let own = ap length same_ahead ∙ ap length has.ahead ∙ length-drop has.stood old in
+    let its = ap length same_ahead ∙ many in
+    let place = has.place in
     let kept = meet-kept kind old cards earlier sizer passed on.sizer_is (same.kind ∙ on.kept_on.kinds) has (subst (λ n. HaveSameEnd n old cards) (sym same.behind) on.kept_on.same) (omega (arith, start, within))
     (many ∙ ap (λ n. length cards - n) start) (subst (λ n. length cards - n ≤ passed.behind) start few) state agrees in
     record {
       sizer_is = on.sizer_is;
       next = on.next;
       kept_on = record {
-        standing = subst (IsAtStage kind old cards earlier new) (sym stage) (subst (AreKeptFrom kind cards earlier (stood earlier)) (sym rest) kept);
+        standing = subst (IsAtStage kind old cards earlier new) (sym stage) (record {
+          kept = subst (AreKeptFrom kind cards earlier (stood earlier)) (sym rest) kept.0;
+          passed = has.front;
+          later = has.later;
+          all = has.all;
+          tail = record {
+            split = record { old_front = has.front; old_tail = []; new_front = earlier; new_tail = [] };
+            of_old = refl;
+            of_new = refl;
+            old_place = omega (arith, own, before, place);
+            new_place = omega (arith, its, start, within);
+            alike = tt;
+          };
+          alike = subst (λ l. AreKeptAlike kind cards earlier (stood earlier) has.front l has.later) (sym rest) kept.1;
+        });
         kinds = there.kind ∙ same.kind ∙ on.kept_on.kinds;
         same = subst (λ n. HaveSameEnd n old cards) (sym (there.behind ∙ same.behind)) on.kept_on.same;
       };
@@ -83,3 +143,13 @@ some-weaker (Some x) f h = f x h
 pub found-weaker : {T E : Type 0} {P Q : T → Type 0} (r : Result (Option T) E) → ((x : T) → P x → Q x) → IfOk r (λ found. IfSome found P) → IfOk r (λ found. IfSome found Q)
 found-weaker (Ok found) f h = some-weaker found f h
 found-weaker (Err e) f h = tt
+
+-- the tail that was kept, where the decks agree
+pub tail-taken : (kind : DeckKind) (old cards : List Card) (earlier : List Statement) (deck : OldDeck) (count : ℕ) → IsKeptOn kind old cards earlier deck → (deck.stage ≡ stages.Tail → count ≡ length deck.ahead.now) →
+    (count ≡ 0) ⊎ (deck.stage ≡ stages.Tail) → HasTailIfAny kind old cards count earlier
+tail-taken kind old cards earlier deck count kept is either = elim either [
+  | inl none ↦ inl none
+  | inr stage ↦
+      let there = subst (IsAtStage kind old cards earlier deck) stage kept.standing in
+      inr (record { passed = there.passed; behind = reverse there.later; all = there.all; tail = subst (λ n. HaveOneTail kind old cards n there.passed earlier) (sym (is stage)) there.tail })
+]

@@ -36,3 +36,7 @@ pub drop-more : {A : Type 0} (n m : ℕ) (items : List A) → drop n (drop m ite
 drop-more n zero items = ap (λ k. drop k items) (omega arith)
 drop-more n (suc m) [] = drop-none n ∙ sym (drop-none (suc m + n))
 drop-more n (suc m) (item ∷ items) = drop-more n m items ∙ ap (λ k. drop k (item ∷ items)) (let e : suc (m + n) ≡ suc m + n = omega arith in e)
+
+-- a list turned round in front of another, with its first item at the end of that
+pub reverse-onto : {A : Type 0} (item : A) (items others : List A) → reverse items ++ item ∷ others ≡ reverse (item ∷ items) ++ others
+reverse-onto item items others = sym (append_assoc (reverse items) (item ∷ []) others) ∙ ap (λ l. l ++ others) (sym (reverse-append (item ∷ []) items))

@@ -104,7 +104,7 @@ shown-longer kind rows before after keeps front cards [] [] stood ahead h = h
 shown-longer kind rows before after keeps front cards [] (one ∷ shown) stood ahead h = h
 shown-longer kind rows before after keeps front cards (line ∷ lines) [] stood ahead h = h
 shown-longer kind rows before after keeps front cards (line ∷ lines) (one ∷ shown) stood ahead h = (
-  record { before = h.0.before; cards = h.0.cards; letters = h.0.letters; stored = stored-longer kind rows before after line.coded one.coded keeps h.0.stored },
+  record { before = h.0.before; cards = h.0.cards; some = h.0.some; within = h.0.within; letters = h.0.letters; stored = stored-longer kind rows before after line.coded one.coded keeps h.0.stored },
   shown-longer kind rows before after keeps (front + line.cards) (drop line.cards cards) lines shown stood ahead h.1,
 )
 

@@ -1,5 +1,5 @@
 -- The lines of an object, and the statements of the definitions that they are.
-use Rattle.std.specs.Prelude.{ℕ, ◌≡◌, ⊤, ◌+◌, List, [], ◌∷◌, Option, Some, None, slice_get, take, drop, ◌↔◌}
+use Rattle.std.specs.Prelude.{ℕ, ◌≡◌, ⊤, ◌+◌, ◌<◌, ◌≤◌, List, [], ◌∷◌, Option, Some, None, slice_get, take, drop, length, ◌↔◌}
 use Rattle.definitions.specs.Cards.{Card}
 use Rattle.definitions.specs.Lengths.{BlockRow}
 use Rattle.definitions.specs.Objects.{Shown}
@@ -41,6 +41,8 @@ IsStored kind rows items (Some line) (Some coded) = IsCoded kind rows items line
 pub record IsShown (kind : DeckKind) (rows : List BlockRow) (items : List code.Item) (stood : ℕ) (ahead : List Card) (line : Line) (shown : Shown) : Type 0 where
   pub before : stood ≡ shown.statement.before
   pub cards : take line.cards ahead ≡ shown.statement.cards
+  pub some : 0 < line.cards
+  pub within : line.cards ≤ length ahead
   pub letters : line.letters ≡ shown.letters
   pub stored : IsStored kind rows items line.coded shown.coded
 

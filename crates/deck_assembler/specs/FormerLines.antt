@@ -1,5 +1,5 @@
 -- The lines of the object before an edit, beside a walk over the statements of the edited deck.
-use Rattle.std.specs.Prelude.{ℕ, ◌≡◌, ⊤, ◌≤◌, ◌+◌, ◌⊎◌, List, [], ◌∷◌, Option, Some, None, map, take, drop}
+use Rattle.std.specs.Prelude.{ℕ, ◌≡◌, ⊤, ◌≤◌, ◌+◌, ◌-◌, ◌^◌, ◌⊎◌, List, [], ◌∷◌, ◌++◌, Option, Some, None, map, min, take, drop, reverse}
 use Rattle.definitions.specs.Cards.{Card}
 use Rattle.definitions.specs.Objects.{Shown, shown_of, only_listed, coded_of}
 use Rattle.definitions.specs.Settled.{Settled}
@@ -11,28 +11,63 @@ use Rattle.definitions.specs.declared.deck_kind.DeckKind.{DeckKind}
 use Rattle.deck_assembler.specs.CodedLines.{IsCoded, AreShown}
 use Rattle.deck_assembler.specs.DeckWalks.{IsWalked}
 use Rattle.deck_assembler.specs.Rebindings.{AreBindings}
+use Rattle.deck_assembler.specs.Sizers.{stood}
+use Rattle.deck_assembler.specs.TailLines.{AreAlikeOn}
 use Rattle.deck_assembler.specs.Walks.{Whole}
 use Rattle.deck_assembler.specs.declared.deck_walk.Making.{Making}
 use Rattle.deck_assembler.specs.declared.former_lines.FormerLine.{FormerLine}
 use Rattle.deck_assembler.specs.declared.former_lines.FormerLines.{FormerLines}
 use Rattle.deck_assembler.specs.declared.sized_statement.SizedStatement.{SizedStatement}
 
+-- the same tail, fields and names
+pub record IsSameTail (old new : FormerLines) : Type 0 where
+  pub tail : new.tail ≡ old.tail
+  pub items : new.items.now ≡ old.items.now
+  pub bindings : new.bindings ≡ old.bindings
+
+-- the line that was found is one of these
+pub record IsOneOf (old new : FormerLines) (found : FormerLine) : Type 0 where
+  pub coded : found.line.now.coded ≡ Some found.coded.now
+  pub items : found.items.now ≡ old.items.now
+  pub bindings : found.bindings ≡ old.bindings
+  pub same_items : new.items.now ≡ old.items.now
+  pub same_bindings : new.bindings ≡ old.bindings
+
 -- the first of the lines that are left is taken: it has so many cards, which are among the unchanged ones
 pub record IsTaken (old new : FormerLines) (stood count : ℕ) (found : FormerLine) : Type 0 where
   pub lines : old.left.now ≡ found.line.now ∷ new.left.now
   pub cards : found.line.now.cards ≡ count
-  pub coded : found.line.now.coded ≡ Some found.coded.now
   pub within : stood + count ≤ old.before
-  pub items : found.items.now ≡ old.items.now
-  pub bindings : found.bindings ≡ old.bindings
-  pub same_items : new.items.now ≡ old.items.now
+  pub one : IsOneOf old new found
   pub same_before : new.before ≡ old.before
-  pub same_bindings : new.bindings ≡ old.bindings
+  pub same_tail : new.tail ≡ old.tail
 
--- one of the lines is taken, or no line is left
-abbrev pub IsNextLine : FormerLines → FormerLines → ℕ → ℕ → Option FormerLine → Type 0
-IsNextLine old new stood count None = new.left.now ≡ []
-IsNextLine old new stood count (Some found) = IsTaken old new stood count found
+-- the first line of the tail is taken, and none is left in front
+pub record IsTakenOfTail (old new : FormerLines) (stood count : ℕ) (found : FormerLine) : Type 0 where
+  pub lines : old.tail.left.now ≡ found.line.now ∷ new.tail.left.now
+  pub at_is : new.tail.at ≡ min (stood + count) (2 ^ 64 - 1)
+  pub one : IsOneOf old new found
+  pub front : new.left.now ≡ []
+
+-- one of the lines in front is taken, or none of them is left
+abbrev pub IsNextInFront : FormerLines → FormerLines → ℕ → ℕ → Option FormerLine → Type 0
+IsNextInFront old new stood count None = (new.left.now ≡ []) × IsSameTail old new
+IsNextInFront old new stood count (Some found) = IsTaken old new stood count found
+
+-- one of the lines of the tail is taken, or no line is left
+abbrev pub IsNextInTail : FormerLines → FormerLines → ℕ → ℕ → Option FormerLine → Type 0
+IsNextInTail old new stood count None = (new.left.now ≡ []) × (new.tail.left.now ≡ [])
+IsNextInTail old new stood count (Some found) = IsTakenOfTail old new stood count found
+
+-- of the tail where that begins
+pub record IsNextLine (old new : FormerLines) (stood count : ℕ) (found : Option FormerLine) : Type 0 where
+  pub front : (stood ≡ old.tail.at → ⊥) → IsNextInFront old new stood count found
+  pub tail : stood ≡ old.tail.at → IsNextInTail old new stood count found
+
+-- no line is left
+pub record IsBare (former : FormerLines) : Type 0 where
+  pub front : former.left.now ≡ []
+  pub tail : former.tail.left.now ≡ []
 
 -- a line was that of a statement, settled alike, in a deck of the same kind
 pub record WasLine (kind : DeckKind) (found : FormerLine) (settled : Settled) : Type 0 where
@@ -70,7 +105,34 @@ pub record AreBeside (kind : DeckKind) (cards : List Card) (earlier : List State
 abbrev pub AreBesideIfAny : DeckKind → List Card → List Statement → ℕ → FormerLines → Type 0
 AreBesideIfAny kind cards earlier stood former = (former.left.now ≡ []) ⊎ AreBeside kind cards earlier stood former
 
+-- those of the tail are lines of a deck of the same kind; the statements to come, behind these, come to the tail, and are settled there as those of the lines were
+pub record AreOfTail (kind : DeckKind) (earlier coming : List Statement) (standing : ℕ) (former : FormerLines) : Type 0 where
+  pub context : Context
+  pub same_kind : context.kind ≡ kind
+  pub bindings : AreBindings former.bindings context
+  pub between : List Statement
+  pub tail : List Statement
+  pub all : coming ≡ between ++ tail
+  pub stands : standing ≡ stood earlier
+  pub place : stood (reverse between ++ earlier) ≡ former.tail.at
+  pub passed : List Statement
+  pub later : List Statement
+  pub listed : List Statement
+  pub old_stood : ℕ
+  pub old_ahead : List Card
+  pub shown : AreShown context.kind context.rows former.items.now old_stood old_ahead former.tail.left.now (shown_from context passed later listed)
+  pub alike : AreAlikeOn kind passed later (reverse between ++ earlier) tail
+
+-- or there are none
+abbrev pub AreOfTailIfAny : DeckKind → List Statement → List Statement → ℕ → FormerLines → Type 0
+AreOfTailIfAny kind earlier coming standing former = (former.tail.left.now ≡ []) ⊎ AreOfTail kind earlier coming standing former
+
+-- the lines of the object before, beside the statements so far and those to come
+pub record IsBeside (kind : DeckKind) (cards : List Card) (earlier coming : List Statement) (stood : ℕ) (former : FormerLines) : Type 0 where
+  pub front : AreBesideIfAny kind cards earlier stood former
+  pub tail : AreOfTailIfAny kind earlier coming stood former
+
 -- how far a walk has come, and beside it the lines of the object before
 pub record IsWalkedBeside (whole : Whole) (left : List SizedStatement) (made : Making) (former : FormerLines) : Type 0 where
   pub walked : IsWalked whole left made
-  pub beside : AreBesideIfAny whole.deck.kind whole.cards walked.earlier made.lines.stood former
+  pub beside : IsBeside whole.deck.kind whole.cards walked.earlier walked.coming made.lines.stood former

@@ -14,6 +14,7 @@ pub mod LiteralsRead
 pub mod PieceSteps
 pub mod Sizers
 pub mod Agreements
+pub mod Tails
 pub mod OldDecks
 -- Where an old deck and an edited one are found to agree.
 pub mod Meetings
@@ -30,5 +31,6 @@ pub mod Rebindings
 -- A line taken over into another object.
 pub mod CopiedFields
 -- The lines of the object before an edit.
+pub mod TailLines
 pub mod FormerLines
 pub mod Formers

@@ -10,6 +10,7 @@ use Rattle.deck_assembler.specs.Agreements.{left, HasFront, HaveSameEnd}
 use Rattle.deck_assembler.specs.Formers.{known_in}
 use Rattle.deck_assembler.specs.SizedDecks.{IsSizedStatement, AreSizedFrom}
 use Rattle.deck_assembler.specs.Sizers.{stood, ahead, IsNext, IsSizer}
+use Rattle.deck_assembler.specs.Tails.{AreKeptAlike, HaveOneTail}
 use Rattle.deck_assembler.specs.declared.old_deck.OldDeck.{OldDeck}
 use Rattle.deck_assembler.specs.declared.old_deck.Stage.{Stage}
 use Rattle.deck_assembler.specs.declared.old_deck.Stage.TheVariants as stages
@@ -34,11 +35,20 @@ pub record IsInFront (old cards : List Card) (earlier : List Statement) (sized :
   pub unchanged : take deck.before old ≡ take deck.before cards
   pub all : reverse later ++ earlier ≡ known_in old
 
+-- where both decks agree: all that is left of the old one stays, and each statement since is settled as it was but for its number
+pub record IsInTail (kind : DeckKind) (old cards : List Card) (earlier : List Statement) (deck : OldDeck) : Type 0 where
+  pub kept : AreKeptFrom kind cards earlier (stood earlier) (left deck)
+  pub passed : List Statement
+  pub later : List Statement
+  pub all : reverse later ++ passed ≡ known_in old
+  pub tail : HaveOneTail kind old cards (length deck.ahead.now) passed earlier
+  pub alike : AreKeptAlike kind cards earlier (stood earlier) passed (left deck) later
+
 -- what is left of the old deck behind these statements of the new one
 abbrev pub IsAtStage : DeckKind → List Card → List Card → List Statement → OldDeck → Stage → Type 0
 IsAtStage kind old cards earlier deck stages.Front = IsInFront old cards earlier (left deck) deck
 IsAtStage kind old cards earlier deck stages.Between = HasFront old (left deck) deck
-IsAtStage kind old cards earlier deck stages.Tail = AreKeptFrom kind cards earlier (stood earlier) (left deck)
+IsAtStage kind old cards earlier deck stages.Tail = IsInTail kind old cards earlier deck
 IsAtStage kind old cards earlier deck stages.Over = ⊤
 
 -- the old deck goes on with these statements of the new one

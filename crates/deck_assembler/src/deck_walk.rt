@@ -1,12 +1,12 @@
 //! All statements of a deck, one after the other: their lines and their names.
-ghost use Rattle.std.specs.Prelude.{◌≡◌, ◌≤◌, ◌+◌, ◌∷◌, ◌++◌, [], List, IfOk, None, OnOk, length};
+ghost use Rattle.std.specs.Prelude.{◌≡◌, ◌≤◌, ◌+◌, ◌∷◌, ◌++◌, [], List, IfOk, None, OnOk, length, reverse};
 ghost use Rattle.definitions.specs.Statements as statements;
 ghost use Rattle.statement_coder.specs.Meters.{RisesBy};
 ghost use Rattle.deck_assembler.specs.DeckParts.{sized_in};
 ghost use Rattle.deck_assembler.specs.declared.sized_statement.SizedStatement as code;
 ghost use Rattle.deck_assembler.specs.Walks.{IsWhole, Whole, whole_of};
 ghost use Rattle.deck_assembler.specs.DeckWalks.{IsDone, IsListing};
-ghost use Rattle.deck_assembler.specs.FormerLines.{AreBesideIfAny, IsNextLine, IsWalkedBeside};
+ghost use Rattle.deck_assembler.specs.FormerLines.{IsBare, IsBeside, IsNextLine, IsWalkedBeside};
 
 use crate::deck_lines::{DeckLines, next_cards};
 use crate::deck_names::DeckNames;
@@ -34,7 +34,7 @@ impl Making {
     /// Those of no statement, with memory for the lines of all of them.
     fn new(alloc: Global, view: &DeckView<'_>) -> Result<Making, AllocError>
         ensures { IfOk result (λ made. (known others : List statements.Statement) (former : FormerLines) → let whole = whole_of view.now known others in
-            IsWhole whole → AreBesideIfAny whole.deck.kind whole.cards [] 0 former → IsWalkedBeside whole (sized_in whole.deck.pieces) made former) }
+            IsWhole whole → IsBeside whole.deck.kind whole.cards [] (reverse known) 0 former → IsWalkedBeside whole (sized_in whole.deck.pieces) made former) }
     {
         Ok(Making {
             lines: DeckLines::new(alloc, line_room(view.deck))?,
@@ -108,8 +108,8 @@ impl Making {
             IsWhole whole → IsWalkedBeside whole (piece.now ++ left) self.old former.old → IsWalkedBeside whole left self.new former.new) }
         ensures coded { meter.new.coded ≤ meter.old.coded + length piece.now }
         ensures rises { meter.old.coded ≤ meter.new.coded }
-        ensures ended { former.old.left.now ≡ [] → former.new.left.now ≡ [] }
-        ensures all { OnOk result (former.old.left.now ≡ [] → RisesBy (length piece.now) meter.old.coded meter.new.coded) }
+        ensures ended { IsBare former.old → IsBare former.new }
+        ensures all { OnOk result (IsBare former.old → RisesBy (length piece.now) meter.old.coded meter.new.coded) }
         ensures sized { meter.new.sized ≡ meter.old.sized }
     {
         for sized in piece {
@@ -132,7 +132,7 @@ impl Making {
             IsWhole whole → IsWalkedBeside whole (sized_in pieces.now) self.old former.old → IsWalkedBeside whole [] self.new former.new) }
         ensures coded { meter.new.coded ≤ meter.old.coded + length (sized_in pieces.now) }
         ensures rises { meter.old.coded ≤ meter.new.coded }
-        ensures all { OnOk result (former.old.left.now ≡ [] → RisesBy (length (sized_in pieces.now)) meter.old.coded meter.new.coded) }
+        ensures all { OnOk result (IsBare former.old → RisesBy (length (sized_in pieces.now)) meter.old.coded meter.new.coded) }
         ensures sized { meter.new.sized ≡ meter.old.sized }
     {
         for piece in pieces {
@@ -161,10 +161,10 @@ pub(crate) fn walk(
     meter: &mut Meter,
 ) -> Result<Making, AllocError>
     ensures done { IfOk result (λ made. (known others : List statements.Statement) → let whole = whole_of view.now known others in
-        IsWhole whole → AreBesideIfAny whole.deck.kind whole.cards [] 0 former.entry → IsDone whole made) }
+        IsWhole whole → IsBeside whole.deck.kind whole.cards [] (reverse known) 0 former.entry → IsDone whole made) }
     ensures coded { meter.new.coded ≤ meter.old.coded + length (sized_in view.now.deck.now.pieces) }
     ensures rises { meter.old.coded ≤ meter.new.coded }
-    ensures all { OnOk result (former.entry.left.now ≡ [] → RisesBy (length (sized_in view.now.deck.now.pieces)) meter.old.coded meter.new.coded) }
+    ensures all { OnOk result (IsBare former.entry → RisesBy (length (sized_in view.now.deck.now.pieces)) meter.old.coded meter.new.coded) }
     ensures sized { meter.new.sized ≡ meter.old.sized }
 {
     let mut made = Making::new(alloc, view)?;

@@ -1,12 +1,13 @@
 //! The lines of the object before an edit, as far as they are those of the statements in front of the
-//! edited card: they are taken over, unless a name is bound otherwise.
-ghost use Rattle.std.specs.Prelude.{◌≡◌, ◌≤◌, ◌+◌, [], true};
+//! edited card, or of the tail that stayed as it was sized: they are taken over, unless a name is bound
+//! otherwise.
+ghost use Rattle.std.specs.Prelude.{◌≡◌, ◌≤◌, ◌+◌, true};
 ghost use Rattle.definitions.specs.Rebound.{is_rebound};
 ghost use Rattle.definitions.specs.Settled.{Settled, defined};
 ghost use Rattle.definitions.specs.StatementItems.{Context};
 ghost use Rattle.statement_coder.specs.ReadOperands.{IsReadOperand};
 ghost use Rattle.deck_assembler.specs.FirstSymbols.{symbol_in};
-ghost use Rattle.deck_assembler.specs.FormerLines.{IsNextLine};
+ghost use Rattle.deck_assembler.specs.FormerLines.{IsBare, IsNextInFront, IsNextInTail, IsNextLine};
 ghost use Rattle.deck_assembler.specs.Rebindings.{AreBindings};
 
 use crate::deck_view::DeckView;
@@ -23,10 +24,20 @@ pub(crate) struct FormerLine<'a> {
     pub(crate) bindings: Bindings<'a>,
 }
 
-/// The lines that are left of the object before an edit, and how many cards stand unchanged.
+/// The lines that are left of a tail whose statements stayed as they were sized, and how many cards
+/// stand before the first of these.
+#[derive(Clone, Copy)]
+pub(crate) struct TailLines<'a> {
+    pub(crate) left: &'a [Line],
+    pub(crate) at: usize,
+}
+
+/// The lines that are left of the object before an edit, those of the tail once more, and how many
+/// cards stand unchanged.
 #[derive(Drop)]
 pub(crate) struct FormerLines<'a> {
     pub(crate) left: &'a [Line],
+    pub(crate) tail: TailLines<'a>,
     pub(crate) items: &'a [Item],
     pub(crate) before: usize,
     pub(crate) bindings: Bindings<'a>,
@@ -40,33 +51,13 @@ fn ends_within(stood: usize, count: u32, before: usize) -> bool
 }
 
 impl<'a> FormerLines<'a> {
-    /// Lines with their fields, as far as they are those of so many unchanged cards, and what names
-    /// meant there.
-    pub(crate) fn of(
-        left: &'a [Line],
-        items: &'a [Item],
-        before: usize,
-        bindings: Bindings<'a>,
-    ) -> FormerLines<'a>
-        ensures left { result.left.now ≡ left.now }
-        ensures items { result.items.now ≡ items.now }
-        ensures before { result.before ≡ before }
-        ensures bindings { result.bindings ≡ bindings.entry }
-    {
-        FormerLines {
-            left,
-            items,
-            before,
-            bindings,
-        }
-    }
-
     /// No lines: all statements of this deck are coded.
     pub(crate) fn none(view: &DeckView<'a>) -> FormerLines<'a>
-        ensures { result.left.now ≡ [] }
+        ensures { IsBare result }
     {
         FormerLines {
             left: &[],
+            tail: TailLines { left: &[], at: 0 },
             items: &[],
             before: 0,
             bindings: view.bindings(),
@@ -74,9 +65,20 @@ impl<'a> FormerLines<'a> {
     }
 
     /// The line of the next statement, which has so many cards behind so many others; where the object
-    /// has another statement there, none, and of those behind it none either.
+    /// has another statement there, none, and of those behind it none either before the tail.
     pub(crate) fn next(&mut self, stood: usize, count: u32) -> Option<FormerLine<'a>>
         ensures { IsNextLine self.old self.new stood count result }
+    {
+        if stood == self.tail.at {
+            self.next_in_tail(stood, count)
+        } else {
+            self.next_in_front(stood, count)
+        }
+    }
+
+    /// The same in front of the edited card, and behind it.
+    fn next_in_front(&mut self, stood: usize, count: u32) -> Option<FormerLine<'a>>
+        ensures { IsNextInFront self.old self.new stood count result }
     {
         let left = self.left;
         self.left = left.split_at(0).0;
@@ -86,6 +88,27 @@ impl<'a> FormerLines<'a> {
             return None;
         }
         self.left = others;
+        Some(FormerLine {
+            line,
+            coded,
+            items: self.items,
+            bindings: self.bindings,
+        })
+    }
+
+    /// The same in the tail.
+    fn next_in_tail(&mut self, stood: usize, count: u32) -> Option<FormerLine<'a>>
+        ensures { IsNextInTail self.old self.new stood count result }
+    {
+        self.left = self.left.split_at(0).0;
+        let tail = self.tail.left;
+        self.tail.left = tail.split_at(0).0;
+        let (line, others) = tail.split_first()?;
+        let coded = line.coded.as_ref()?;
+        self.tail = TailLines {
+            left: others,
+            at: stood.saturating_add(count as usize),
+        };
         Some(FormerLine {
             line,
             coded,

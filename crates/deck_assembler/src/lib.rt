@@ -9,8 +9,8 @@
 //! pieces and cards together and makes a `Line` of each; cards are read again only where what was
 //! read was not kept, or names are given or taken. Behind END a line has cards alone. Of an edited deck,
 //! `SizedDeck::edited` keeps the statements in front of the edited card, and all those from where the
-//! deck agrees again with the one before; `edited_parts` takes the lines of those in front over from the
-//! object before, but for those of which `Rebinding` finds a name bound otherwise.
+//! deck agrees again with the one before; `edited_parts` takes the lines of both over from the object
+//! before, but for those of which `Rebinding` finds a name bound otherwise.
 //!
 //! A line keeps its fields as one number where they are known and have at most 60 bits, else in the
 //! object's list. That need not be the definitions' list of fields: it is as wide, has the same

@@ -1,14 +1,15 @@
 //! The parts of the object of a deck whose statements are sized.
-ghost use Rattle.std.specs.Prelude.{ℕ, ◌≡◌, ◌≤◌, ◌+◌, [], List, IfOk, IfSome, None, OnOk, length, reverse, take};
+ghost use Rattle.std.specs.Prelude.{ℕ, ◌≡◌, ◌≤◌, ◌+◌, [], List, IfOk, IfSome, None, OnOk, length, reverse};
 ghost use Rattle.definitions.specs.DeckInput.{Deck};
 ghost use Rattle.definitions.specs.DeckKinds.{up_to_end};
 ghost use Rattle.definitions.specs.Objects.{object_of};
 ghost use Rattle.definitions.specs.Statements.{statements_of};
 ghost use Rattle.statement_coder.specs.Meters.{RisesBy};
-ghost use Rattle.deck_assembler.specs.FormerLines.{AreBesideIfAny};
-ghost use Rattle.deck_assembler.specs.Formers.{IsFormerOf};
+ghost use Rattle.deck_assembler.specs.FormerLines.{IsBare, IsBeside};
+ghost use Rattle.deck_assembler.specs.Formers.{IsFormerOf, known_in};
 ghost use Rattle.deck_assembler.specs.PartsOf.{ArePartsOf};
 ghost use Rattle.deck_assembler.specs.SizedDecks.{IsSizedDeck};
+ghost use Rattle.deck_assembler.specs.Tails.{IsEditedOf};
 
 use crate::deck_view::DeckView;
 use crate::deck_walk::walk;
@@ -23,7 +24,7 @@ use use_blocks::Bases;
 /// The lines of the object before, or none.
 fn lines_or_none<'a>(former: Option<FormerLines<'a>>, view: &DeckView<'a>) -> FormerLines<'a>
     ensures some { IfSome former.entry (λ lines. result ≡ lines) }
-    ensures none { former.entry ≡ None → result.left.now ≡ [] }
+    ensures none { former.entry ≡ None → IsBare result }
 {
     match former {
         Some(lines) => lines,
@@ -42,7 +43,7 @@ fn parts_beside<'a>(
 ) -> Result<ObjectParts, AllocError>
     requires deck { IsSizedDeck cards.now deck.now }
     requires few { length cards.now ≤ 20000 }
-    requires beside { IfSome former (λ lines. AreBesideIfAny deck.now.kind cards.now [] 0 lines) }
+    requires beside { IfSome former (λ lines. IsBeside deck.now.kind cards.now [] (reverse (known_in cards.now)) 0 lines) }
     ensures parts { IfOk result (λ parts. (name : List ℕ) → let given : Deck = record { name = name; cards = cards.now } in ArePartsOf cards.now parts (object_of given)) }
     ensures coded { meter.new.coded ≤ meter.old.coded + length (up_to_end (statements_of (reverse cards.now))) }
     ensures rises { meter.old.coded ≤ meter.new.coded }
@@ -92,7 +93,8 @@ pub fn object_parts<'a>(
 }
 
 /// The parts of the object of an edited deck, as `object_parts` makes them: a statement of the
-/// unchanged cards in front keeps its line in the object before, unless a name is bound otherwise.
+/// unchanged cards in front, or of the tail that stayed as it was sized, keeps its line in the object
+/// before, unless a name is bound otherwise.
 pub fn edited_parts<'a>(
     alloc: Global,
     cards: &'a [Card],
@@ -103,12 +105,17 @@ pub fn edited_parts<'a>(
     requires deck { IsSizedDeck cards.now edited.now.deck }
     requires few { length cards.now ≤ 20000 }
     requires former { IsFormerOf object.now.cards edited.now.former }
-    requires same { take edited.now.former.before object.now.cards ≡ take edited.now.former.before cards.now }
+    requires edited { IsEditedOf object.now.cards cards.now edited.now.former }
     ensures parts { IfOk result (λ parts. (name : List ℕ) → let given : Deck = record { name = name; cards = cards.now } in ArePartsOf cards.now parts (object_of given)) }
     ensures coded { meter.new.coded ≤ meter.old.coded + length (up_to_end (statements_of (reverse cards.now))) }
     ensures rises { meter.old.coded ≤ meter.new.coded }
     ensures sized { meter.new.sized ≡ meter.old.sized }
 {
-    let lines = edited.former.lines(edited.deck.kind(), object.parts());
+    let lines = edited.former.lines(
+        edited.deck.kind(),
+        object.parts(),
+        object.cards().len(),
+        cards.len(),
+    );
     parts_beside(alloc, cards, &edited.deck, Some(lines), meter)
 }

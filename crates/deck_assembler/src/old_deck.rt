@@ -301,12 +301,28 @@ impl<'a> OldDeck<'a> {
         ensures sized { IfSome result (λ sized. (cards : List deck_cards.Card) (sizer : sizers.Sizer) → IsThatOf cards span sizer self.old sized) }
         ensures due { (cards : List deck_cards.Card) (sizer : sizers.Sizer) → KeepsDue cards span sizer self.old self.new result }
     {
-        let sized = self.next()?;
+        let Some(sized) = self.next() else {
+            self.stage = Stage::Over;
+            return None;
+        };
         if sized.cards as usize == span.count {
             return Some(sized);
         }
         self.stage = Stage::Over;
         None
+    }
+
+    /// How many cards of both decks are left where they were found to agree, if all since stayed.
+    pub(crate) fn tail(&self) -> usize
+        ensures tail { self.now.stage ≡ stages.Tail → result ≡ length self.now.ahead.now }
+        ensures none { (result ≡ 0) ⊎ (self.now.stage ≡ stages.Tail) }
+    {
+        match self.stage {
+            Stage::Tail => self.ahead.len(),
+            Stage::Front => 0,
+            Stage::Between => 0,
+            Stage::Over => 0,
+        }
     }
 
     /// The next of its statements, if the decks agree where as many cards are left of it as a span and

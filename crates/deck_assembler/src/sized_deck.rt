@@ -13,6 +13,7 @@ ghost use Rattle.deck_assembler.specs.Formers.{IsFormerOf, known_in};
 ghost use Rattle.deck_assembler.specs.Meetings.{IsShort, StandApart, WillAgree};
 ghost use Rattle.deck_assembler.specs.OldDecks.{IsKeptOn, StandsInFront};
 ghost use Rattle.deck_assembler.specs.SizedDecks.{IsSizedDeck};
+ghost use Rattle.deck_assembler.specs.Tails.{HasTailIfAny};
 ghost use Rattle.deck_assembler.specs.declared.old_deck.Stage.TheVariants as stages;
 
 use crate::former::{EditedDeck, Former};
@@ -66,7 +67,8 @@ impl SizedDeck {
             behind: 0,
         };
         let old_deck = OldDeck::of(alloc, none, Vec::new(alloc), kind, Stage::Over)?;
-        made(alloc, kind, cards, list.as_slice(), old_deck, meter)
+        let all = made(alloc, kind, cards, list.as_slice(), old_deck, meter)?;
+        Ok(all.deck)
     }
 
     /// What these cards make, where so many of the first and of the last are those of the deck that this
@@ -86,6 +88,7 @@ impl SizedDeck {
         ensures deck { IfOk result (λ edited. IsSizedDeck cards.now edited.deck) }
         ensures former { IfOk result (λ edited. IsFormerOf old.entry.cards.now edited.former) }
         ensures before { IfOk result (λ edited. edited.former.before ≡ old.entry.before) }
+        ensures tail { IfOk result (λ edited. HasTailIfAny (kind_of_statements (known_in cards.now)) old.entry.cards.now cards.now edited.former.tail (known_in cards.now)) }
         ensures sized { meter.new.sized ≤ meter.old.sized + length (up_to_end (statements_of (reverse cards.now))) }
         ensures front { (decks : Edited) (front : List deck_statements.Statement) → decks.old ≡ known_in old.entry.cards.now → decks.new ≡ known_in cards.now → decks.before ≤ old.entry.before →
             kind_of_statements decks.old ≡ kind_of_statements decks.new → IsUntouched decks front → length front + meter.new.sized ≤ length decks.new + meter.old.sized }
@@ -97,10 +100,10 @@ impl SizedDeck {
         let list = statements(alloc, cards)?;
         let kind = kind_of(cards, list.as_slice());
         let parted = self.parted(alloc, kind, old)?;
-        let deck = made(alloc, kind, cards, list.as_slice(), parted.old_deck, meter)?;
+        let all = made(alloc, kind, cards, list.as_slice(), parted.old_deck, meter)?;
         Ok(EditedDeck {
-            deck,
-            former: parted.former,
+            deck: all.deck,
+            former: parted.former.with_tail(all.tail),
         })
     }
 
@@ -130,6 +133,7 @@ impl SizedDeck {
                 symbols: self.symbols,
                 literals: self.literals,
                 before: old.before,
+                tail: 0,
             },
         })
     }
@@ -180,6 +184,14 @@ struct Parted<'a> {
     former: Former,
 }
 
+/// A deck whose statements are sized, and how many cards are left of the old deck and of this one where
+/// a tail begins that stayed.
+#[derive(Drop)]
+struct TailedDeck {
+    deck: SizedDeck,
+    tail: usize,
+}
+
 /// Where an edited deck of a kind begins beside one of another: nothing stays unless the kinds are one.
 fn first_stage(old: DeckKind, kind: DeckKind) -> Stage
     ensures either { (result ≡ stages.Over) ⊎ ((result ≡ stages.Front) × (old ≡ kind)) }
@@ -200,12 +212,13 @@ fn made(
     spans: &[Span],
     old_deck: OldDeck<'_>,
     meter: &mut Meter,
-) -> Result<SizedDeck, AllocError>
+) -> Result<TailedDeck, AllocError>
     requires statements { statements_at cards.now spans.now ≡ reverse (statements_of (reverse cards.now)) }
     requires spans { All (IsSpan (length cards.now)) spans.now }
     requires kind { kind ≡ kind_of_statements (up_to_end (statements_of (reverse cards.now))) }
     requires old_deck { (of : List deck_cards.Card) × IsKeptOn kind of cards.now [] old_deck }
-    ensures deck { IfOk result (IsSizedDeck cards.now) }
+    ensures deck { IfOk result (λ made. IsSizedDeck cards.now made.deck) }
+    ensures tail { IfOk result (λ made. (of : List deck_cards.Card) → IsKeptOn kind of cards.now [] old_deck.entry → HasTailIfAny kind of cards.now made.tail (known_in cards.now)) }
     ensures sized { meter.new.sized ≤ meter.old.sized + length (up_to_end (statements_of (reverse cards.now))) }
     ensures front { (of : List deck_cards.Card) (front : List deck_statements.Statement) → IsKeptOn kind of cards.now [] old_deck.entry → StandsInFront of (known_in cards.now) front old_deck.entry →
         length front + meter.new.sized ≤ length (known_in cards.now) + meter.old.sized }
@@ -216,14 +229,18 @@ fn made(
     ensures coded { meter.new.coded ≡ meter.old.coded }
 {
     let mut sizer = Sizer::new(alloc)?;
-    let count = sizer.take_up_to_end(alloc, kind, cards, spans, old_deck, meter)?;
-    let behind = card_counts(alloc, spans.split_at(count).1)?;
-    Ok(SizedDeck {
+    let taken = sizer.take_up_to_end(alloc, kind, cards, spans, old_deck, meter)?;
+    let behind = card_counts(alloc, spans.split_at(taken.count).1)?;
+    let deck = SizedDeck {
         kind,
         pieces: sizer.pieces,
         behind,
         symbols: sizer.symbols,
         literals: sizer.literals,
         lengths: sizer.lengths,
+    };
+    Ok(TailedDeck {
+        deck,
+        tail: taken.tail,
     })
 }

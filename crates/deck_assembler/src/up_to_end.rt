@@ -18,6 +18,7 @@ ghost use Rattle.deck_assembler.specs.Meetings.{IsBounded, IsNextKnown, WillAgre
 ghost use Rattle.deck_assembler.specs.OldDecks.{GoesOn, IsKeptOn, IsOnSpan, StandsInFront};
 ghost use Rattle.deck_assembler.specs.SizedDecks.{IsSizedStatement};
 ghost use Rattle.deck_assembler.specs.Sizers.{stood, ahead, IsNext, IsSizer};
+ghost use Rattle.deck_assembler.specs.Tails.{HasTailIfAny};
 ghost use Rattle.deck_assembler.specs.declared.old_deck.Stage.TheVariants as stages;
 
 use crate::old_deck::OldDeck;
@@ -52,6 +53,14 @@ pub(crate) fn kind_of(cards: &[Card], spans: &[Span]) -> DeckKind
         read_kind(&mut search, span.of(cards), &mut room);
     }
     search.kind()
+}
+
+/// How many statements were taken up to END, and how many cards are left of the old deck and of the
+/// edited one where a tail begins that stayed.
+#[derive(Clone, Copy)]
+pub(crate) struct Taken {
+    pub(crate) count: usize,
+    pub(crate) tail: usize,
 }
 
 impl Sizer {
@@ -143,8 +152,9 @@ impl Sizer {
         }
     }
 
-    /// Takes the statements of these spans up to END, and tells how many they are: those that stay of
-    /// the old deck are as they were, the others are sized. Where memory runs out some of them are taken.
+    /// Takes the statements of these spans up to END, and tells how many they are, and where the tail
+    /// begins: those that stay of the old deck are as they were, the others are sized. Where memory runs
+    /// out some of them are taken.
     pub(crate) fn take_up_to_end(
         &mut self,
         alloc: Global,
@@ -153,13 +163,14 @@ impl Sizer {
         spans: &[Span],
         old_deck: OldDeck<'_>,
         meter: &mut Meter,
-    ) -> Result<usize, AllocError>
+    ) -> Result<Taken, AllocError>
         requires none { IsSizer kind cards.now [] self.old }
         requires spans { All (IsSpan (length cards.now)) spans.now }
         requires numbered { AreNumbered (all_statements cards.now spans.now) }
         requires old_deck { (of : List deck_cards.Card) × IsKeptOn kind of cards.now [] old_deck }
-        ensures ended { IfOk result (λ count. IsEnding cards.now spans.now count) }
-        ensures taken { IfOk result (λ count. IsSizer kind cards.now (first_statements cards.now spans.now count) self.new) }
+        ensures ended { IfOk result (λ taken. IsEnding cards.now spans.now taken.count) }
+        ensures taken { IfOk result (λ taken. IsSizer kind cards.now (first_statements cards.now spans.now taken.count) self.new) }
+        ensures tail { IfOk result (λ taken. (of : List deck_cards.Card) → IsKeptOn kind of cards.now [] old_deck.entry → HasTailIfAny kind of cards.now taken.tail (first_statements cards.now spans.now taken.count)) }
         ensures sized { meter.new.sized ≤ meter.old.sized + length (up_to_end (all_statements cards.now spans.now)) }
         ensures front { (of : List deck_cards.Card) (front : List statements.Statement) → IsKeptOn kind of cards.now [] old_deck.entry → StandsInFront of (up_to_end (all_statements cards.now spans.now)) front old_deck.entry →
             length front + meter.new.sized ≤ length (up_to_end (all_statements cards.now spans.now)) + meter.old.sized }
@@ -173,10 +184,16 @@ impl Sizer {
         let mut room = StatementRoom::new();
         for (k, span) in spans.iter().enumerate() {
             if self.take_next(alloc, kind, cards, *span, &mut kept, &mut room, meter)? {
-                return Ok(k + 1);
+                return Ok(Taken {
+                    count: k + 1,
+                    tail: kept.tail(),
+                });
             }
         }
-        Ok(spans.len())
+        Ok(Taken {
+            count: spans.len(),
+            tail: kept.tail(),
+        })
     }
 }
 

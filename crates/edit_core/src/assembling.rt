@@ -1,10 +1,11 @@
 //! A deck assembled.
-ghost use Rattle.std.specs.Prelude.{◌≡◌, ◌≤◌, ◌+◌, length, reverse, take, IfOk, OnOk};
+ghost use Rattle.std.specs.Prelude.{◌≡◌, ◌≤◌, ◌+◌, length, reverse, IfOk, OnOk};
 ghost use Rattle.definitions.specs.DeckKinds.{up_to_end};
 ghost use Rattle.definitions.specs.Statements.{statements_of};
 ghost use Rattle.statement_coder.specs.Meters.{RisesBy};
 ghost use Rattle.deck_assembler.specs.Formers.{IsFormerOf};
 ghost use Rattle.deck_assembler.specs.SizedDecks.{IsSizedDeck};
+ghost use Rattle.deck_assembler.specs.Tails.{IsEditedOf};
 
 use cards::{Card, DeckName};
 use deck_assembler::{EditedDeck, Object, SharedObject, SizedDeck, edited_parts, object_parts};
@@ -33,8 +34,8 @@ pub(crate) fn object_of(
 }
 
 /// The object of an edited deck with these cards, of which this one is the object before. Each
-/// statement up to END is coded once at most: one of the unchanged cards in front keeps its line,
-/// unless a name is bound otherwise.
+/// statement up to END is coded once at most: one of the unchanged cards in front, or of the tail that
+/// stayed as it was sized, keeps its line, unless a name is bound otherwise.
 pub(crate) fn edited_object(
     alloc: Global,
     object: &Object,
@@ -45,7 +46,7 @@ pub(crate) fn edited_object(
     requires few { length cards.items ≤ 20000 }
     requires deck { IsSizedDeck cards.items edited.now.deck }
     requires former { IsFormerOf object.now.cards edited.now.former }
-    requires same { take edited.now.former.before object.now.cards ≡ take edited.now.former.before cards.items }
+    requires edited { IsEditedOf object.now.cards cards.items edited.now.former }
     ensures object { IfOk result (λ made. made ≡ record { name = object.now.name; cards = cards.items }) }
     ensures sized { meter.new.sized ≡ meter.old.sized }
     ensures coded { meter.new.coded ≤ meter.old.coded + length (up_to_end (statements_of (reverse cards.items))) }

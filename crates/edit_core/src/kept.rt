@@ -99,8 +99,7 @@ impl Kept {
     /// Makes an edit. Where the record is spent, or else where the edit doesn't apply, it says so and
     /// changes nothing; where memory runs out it is spent. The statements in front of the edited card
     /// stay as they were sized, and keep their lines in the object unless a name is bound otherwise; and
-    /// from the first piece on behind which all is sized as before, the others stay as they were sized,
-    /// too. Where the kind of the deck changes, none does. The meter counts at most one statement sized, and
+    /// so do the others from the first piece on behind which all is sized as before. Where the kind of the deck changes, none does. The meter counts at most one statement sized, and
     /// one coded, for each up to END of the edited cards; and where the kind stays, none sized of those
     /// that stand untouched in front of both decks, and behind the first place where both decks agree
     /// again no more than the 128 of a piece.

@@ -4,9 +4,9 @@
 //! `assemble` makes the object of a deck and lets go of the rest; `Kept::new` keeps the sized deck
 //! beside it. `finish` gives the object, which is at hand. `edit_all` finds the fault of the first edit
 //! that does not apply, or makes the record of the edited cards, and is spent where memory runs out on
-//! the way: what was sized in front of the edited cards stays, and so do the lines of these statements
-//! unless a name is bound otherwise; the counted work is bounded by the whole deck. `edit` is the same
-//! with one edit.
+//! the way: what was sized in front of the edited cards stays, and behind them from where both decks
+//! agree again, and so do the lines of these statements unless a name is bound otherwise; the counted
+//! work is bounded by the whole deck. `edit` is the same with one edit.
 #![tactic(auto)]
 
 mod assembling;

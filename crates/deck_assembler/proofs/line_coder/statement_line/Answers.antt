@@ -34,6 +34,8 @@ returns-clause-line c =
       record {
         before = sym sized.before;
         cards = sized.cards;
+        some = sized.some;
+        within = sized.within;
         letters = subst (λ k. c.in_ok-coded.coded.letters ≡ in_order (letters_of (deck_with k whole.rows (all_settled whole) whole.deck.literals) settled)) same
             (c.in_ok-coded.ensures.letters view settled (all_settled whole) whole.deck.literals is.sized.symbols refl sized.sizing taken);
         stored = c.in_ok-line.ensures.line kind whole.rows view settled c.args.items.now.items (items_of context settled settled.read.operation) (sym taken.operation) named is_told;

@@ -67,5 +67,5 @@ returns-clause-parts c =
       entries = refl;
       externals = refl;
     } in
-    let beside = chosen-beside whole.deck.kind whole.cards c.args.former c.lines_or_none.result c.requires.beside c.lines_or_none.ensures.some c.lines_or_none.ensures.none in
+    let beside = chosen-beside whole.deck.kind whole.cards whole.known c.args.former c.lines_or_none.result c.requires.beside c.lines_or_none.ensures.some c.lines_or_none.ensures.none in
     parts-of name whole made parts is (c.in_ok-made.ensures.done (up_to_end all) (behind_end all) is beside) are refl refl

@@ -22,4 +22,4 @@ returns-clause-lined c =
     (lined-step whole (reverse (map (shown_of (context_in whole)) before)) (shown_of (context_in whole) settled)
     (record { cards = c.args.sized.now.cards; letters = c.copied.result; coded = Some c.in_ok-line.line }) self new c.in_ok-push.ensures.items c.copied_line.ensures.kept
     (c.saturating_add-self.ensures ∙ stood-step self.stood c.args.sized.now.cards whole.cards sized.some sized.within is.few)
-    (record { before = sym sized.before; cards = sized.cards; letters = c.copied.ensures ∙ letters; stored = stored }) lined)
+    (record { before = sym sized.before; cards = sized.cards; some = sized.some; within = sized.within; letters = c.copied.ensures ∙ letters; stored = stored }) lined)

@@ -12,4 +12,4 @@ returns-clause-lined c =
     (record { lines = c.push.new.self; items = self.items; stood = c.saturating_add-self.result; block = self.block })
     c.in_ok-push.ensures.items (kept_same self.items.items)
     (c.saturating_add-self.ensures ∙ stood-step self.stood c.args.count whole.cards listed.some listed.within is.few)
-    (record { before = sym listed.before; cards = listed.cards; letters = c.none.ensures; stored = tt }) lined
+    (record { before = sym listed.before; cards = listed.cards; some = listed.some; within = listed.within; letters = c.none.ensures; stored = tt }) lined

@@ -1,9 +1,9 @@
-use Rattle.std.proofs.Common.{◌≡◌, ◌≤◌, ◌+◌, ◌++◌, List, [], drop}
+use Rattle.std.proofs.Common.{◌≡◌, ◌≤◌, ◌+◌, ◌++◌, List, drop}
 use Rattle.definitions.specs.Statements.{Statement}
 use Rattle.statement_coder.specs.Meters.{RisesBy}
 use Rattle.deck_assembler.specs.declared.sized_statement.SizedStatement as code
 use Rattle.deck_assembler.specs.Walks.{IsWhole, whole_of}
-use Rattle.deck_assembler.specs.FormerLines.{IsWalkedBeside}
+use Rattle.deck_assembler.specs.FormerLines.{IsBare, IsWalkedBeside}
 use Rattle.deck_assembler.proofs.deck_walk.Making.add_all.Given as goal
 
 -- the statements so far are behind, each coded once at most
@@ -11,9 +11,9 @@ abbrev pub invariant-loop-sized : goal.invariant-loop-sized
 invariant-loop-sized l = record {
   walked : (known others : List Statement) (left : List code.SizedStatement) → IsWhole (whole_of l.view known others) → IsWalkedBeside (whole_of l.view known others) (l.piece ++ left) l.fn.self l.fn.former →
       IsWalkedBeside (whole_of l.view known others) (drop l.sized-index l.piece ++ left) l.self l.former;
-  ended : l.fn.former.left.now ≡ [] → l.former.left.now ≡ [];
+  ended : IsBare l.fn.former → IsBare l.former;
   coded : l.meter.coded ≤ l.fn.meter.coded + l.sized-index;
   rises : l.fn.meter.coded ≤ l.meter.coded;
-  all : l.fn.former.left.now ≡ [] → RisesBy l.sized-index l.fn.meter.coded l.meter.coded;
+  all : IsBare l.fn.former → RisesBy l.sized-index l.fn.meter.coded l.meter.coded;
   same : l.meter.sized ≡ l.fn.meter.sized;
 }

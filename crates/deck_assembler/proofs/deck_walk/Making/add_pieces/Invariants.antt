@@ -1,9 +1,9 @@
-use Rattle.std.proofs.Common.{◌≡◌, ◌≤◌, ◌+◌, List, [], take, drop, length}
+use Rattle.std.proofs.Common.{◌≡◌, ◌≤◌, ◌+◌, List, take, drop, length}
 use Rattle.definitions.specs.Statements.{Statement}
 use Rattle.statement_coder.specs.Meters.{RisesBy}
 use Rattle.deck_assembler.specs.DeckParts.{sized_in}
 use Rattle.deck_assembler.specs.Walks.{IsWhole, whole_of}
-use Rattle.deck_assembler.specs.FormerLines.{IsWalkedBeside}
+use Rattle.deck_assembler.specs.FormerLines.{IsBare, IsWalkedBeside}
 use Rattle.deck_assembler.proofs.deck_walk.Making.add_pieces.Given as goal
 
 -- the statements of the pieces so far are behind, each coded once at most
@@ -11,9 +11,9 @@ abbrev pub invariant-loop-piece : goal.invariant-loop-piece
 invariant-loop-piece l = record {
   walked : (known others : List Statement) → IsWhole (whole_of l.view known others) → IsWalkedBeside (whole_of l.view known others) (sized_in l.pieces) l.fn.self l.fn.former →
       IsWalkedBeside (whole_of l.view known others) (sized_in (drop l.piece-index l.pieces)) l.self l.former;
-  ended : l.fn.former.left.now ≡ [] → l.former.left.now ≡ [];
+  ended : IsBare l.fn.former → IsBare l.former;
   coded : l.meter.coded ≤ l.fn.meter.coded + length (sized_in (take l.piece-index l.pieces));
   rises : l.fn.meter.coded ≤ l.meter.coded;
-  all : l.fn.former.left.now ≡ [] → RisesBy (length (sized_in (take l.piece-index l.pieces))) l.fn.meter.coded l.meter.coded;
+  all : IsBare l.fn.former → RisesBy (length (sized_in (take l.piece-index l.pieces))) l.fn.meter.coded l.meter.coded;
   same : l.meter.sized ≡ l.fn.meter.sized;
 }

@@ -43,7 +43,7 @@ returns-clause-kept c = λ kind old earlier on.
     let has = c.in_ok-pass_to.ensures.front old (subst (IsAtStage kind old cards earlier c.args.self.now) c.requires.stage on.kept_on.standing) in
     let e = c.if-not-is_met.false in
     c.kept_in_tail.ensures.kept cards c.args.sizer.now kind old earlier
-    (on-tail kind old cards earlier c.args.span c.args.sizer.now c.args.self.now passed (at_stage stages.Tail c.is_met.new.self) on c.requires.span.within has c.pass_to.ensures.deck (same-at stages.Tail passed c.is_met.new.self c.is_met.ensures.same.deck) c.is_met.ensures.rest
+    (on-tail kind old cards earlier c.args.span c.args.sizer.now c.args.self.now passed (at_stage stages.Tail c.is_met.new.self) on c.requires.span.within has c.pass_to.ensures.deck (same-at stages.Tail passed c.is_met.new.self c.is_met.ensures.same.deck) c.is_met.ensures.rest c.is_met.ensures.same.ahead
     (c.is_met.ensures.place e) (c.is_met.ensures.behind e) (c.is_met.ensures.state e) (c.is_met.ensures.alike e) refl)
 
 pub returns-clause-sized : goal.returns-clause-sized
@@ -53,7 +53,7 @@ returns-clause-sized c = some-weaker c.kept_in_tail.result (λ sized step kind o
     let has = c.in_ok-pass_to.ensures.front old (subst (IsAtStage kind old cards earlier c.args.self.now) c.requires.stage on.kept_on.standing) in
     let e = c.if-not-is_met.false in
     step cards c.args.sizer.now kind old earlier
-    (on-tail kind old cards earlier c.args.span c.args.sizer.now c.args.self.now passed (at_stage stages.Tail c.is_met.new.self) on c.requires.span.within has c.pass_to.ensures.deck (same-at stages.Tail passed c.is_met.new.self c.is_met.ensures.same.deck) c.is_met.ensures.rest
+    (on-tail kind old cards earlier c.args.span c.args.sizer.now c.args.self.now passed (at_stage stages.Tail c.is_met.new.self) on c.requires.span.within has c.pass_to.ensures.deck (same-at stages.Tail passed c.is_met.new.self c.is_met.ensures.same.deck) c.is_met.ensures.rest c.is_met.ensures.same.ahead
     (c.is_met.ensures.place e) (c.is_met.ensures.behind e) (c.is_met.ensures.state e) (c.is_met.ensures.alike e) refl)) c.kept_in_tail.ensures.sized
 
 pub returns-then-not-is_met-clause-due : goal.returns-then-not-is_met-clause-due
@@ -106,5 +106,5 @@ returns-clause-due c = λ kind old earlier limit on next will.
     let cut = meet-cut old cards earlier span limit passed next has some (has.ahead ∙ there) in
     let here : IsCutAlike cards earlier tail = record { later = cut.later; all = cut.all; counts = ap (map (λ (sized : SizedStatement). sized.cards)) c.is_met.ensures.rest ∙ cut.counts } in
     c.kept_in_tail.ensures.due cards c.args.sizer.now kind old earlier limit
-    (on-tail kind old cards earlier span c.args.sizer.now deck passed tail on within has c.pass_to.ensures.deck (same-at stages.Tail passed c.is_met.new.self c.is_met.ensures.same.deck) c.is_met.ensures.rest
+    (on-tail kind old cards earlier span c.args.sizer.now deck passed tail on within has c.pass_to.ensures.deck (same-at stages.Tail passed c.is_met.new.self c.is_met.ensures.same.deck) c.is_met.ensures.rest c.is_met.ensures.same.ahead
     (c.is_met.ensures.place e) (c.is_met.ensures.behind e) (c.is_met.ensures.state e) (c.is_met.ensures.alike e) refl) next here

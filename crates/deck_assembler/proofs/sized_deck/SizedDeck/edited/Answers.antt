@@ -3,10 +3,16 @@ use Rattle.std.proofs.Common.{ℕ, ◌+◌, ◌≤◌, inl, inr, ◌∙◌, List
 use Rattle.std.proofs.lemmas.Bool.{cases_lt}
 use Rattle.cards.specs.declared.statement_list.Span.{Span}
 use Rattle.definitions.specs.DeckKinds.{kind_of_statements, up_to_end}
+use Rattle.definitions.specs.Literals.{literal_words}
+use Rattle.definitions.specs.Settled.{defined}
+use Rattle.definitions.specs.Settling.{View, settled_all}
 use Rattle.definitions.specs.Statements.{Statement}
+use Rattle.definitions.specs.declared.deck_kind.DeckKind.{DeckKind}
 use Rattle.deck_assembler.specs.FirstStatements.{all_statements}
+use Rattle.deck_assembler.specs.FirstSymbols.{symbol_in}
 use Rattle.deck_assembler.specs.Formers.{known_in}
 use Rattle.deck_assembler.specs.Meetings.{StandApart, WillAgreeAt}
+use Rattle.deck_assembler.specs.Tails.{HasTailIfAny}
 use Rattle.deck_assembler.proofs.AgreementLaws.{begins-due, untouched-before}
 use Rattle.deck_assembler.proofs.DeckLaws.{all-statements}
 use Rattle.deck_assembler.proofs.FrontLaws.{front-stands, front-still}
@@ -18,8 +24,8 @@ returns-in_err-list-clause-front c = λ decks front old new before kinds is. fro
 pub returns-in_err-parted-clause-front : goal.returns-in_err-parted-clause-front
 returns-in_err-parted-clause-front c = λ decks front old new before kinds is. front-still decks front _ is
 
-pub returns-in_err-deck-clause-front : goal.returns-in_err-deck-clause-front
-returns-in_err-deck-clause-front c = λ decks front old new before kinds is.
+pub returns-in_err-all-clause-front : goal.returns-in_err-all-clause-front
+returns-in_err-all-clause-front c = λ decks front old new before kinds is.
     let own = c.args.old.cards.now in
     let cards = c.args.cards.now in
     let deck = c.in_ok-parted.parted.old_deck in
@@ -48,8 +54,8 @@ pub returns-in_err-parted-clause-due : goal.returns-in_err-parted-clause-due
 returns-in_err-parted-clause-due c = λ decks front split apart before is agree.
     let few = untouched-before c.args.old.cards.now c.args.cards.now c.args.old.before c.args.old.behind decks front split apart before is agree in omega (arith, few)
 
-pub returns-in_err-deck-clause-due : goal.returns-in_err-deck-clause-due
-returns-in_err-deck-clause-due c = λ decks front split apart before is agree.
+pub returns-in_err-all-clause-due : goal.returns-in_err-all-clause-due
+returns-in_err-all-clause-due c = λ decks front split apart before is agree.
     let own = c.args.old.cards.now in
     let cards = c.args.cards.now in
     let deck = c.in_ok-parted.parted.old_deck in
@@ -95,3 +101,24 @@ returns-clause-due c = λ decks front split apart before is agree.
           let same = ap length apart.of_new in
           omega (arith, enough, there, same)
     ]
+
+pub returns-clause-tail : goal.returns-clause-tail
+returns-clause-tail c =
+    let own = c.args.old.cards.now in
+    let cards = c.args.cards.now in
+    let all = ap (λ (spans : List Span). all_statements cards spans) c.as_slice.ensures ∙ all-statements cards c.in_ok-list.list c.in_ok-list.ensures.statements in
+    let kind = c.kind_of-kind.ensures ∙ ap (λ (l : List Statement). kind_of_statements (up_to_end l)) all in
+    subst (λ k. HasTailIfAny k own cards c.with_tail.result.tail (known_in cards)) kind
+    (subst (λ n. HasTailIfAny c.kind_of-kind.result own cards n (known_in cards)) (sym c.with_tail.ensures.tail)
+    (c.in_ok-all.ensures.tail own (c.in_ok-parted.ensures.old_deck cards c.requires.before c.requires.behind)))
+
+pub returns-clause-former : goal.returns-clause-former
+returns-clause-former c =
+    let was = c.in_ok-parted.ensures.former in
+    let made = c.with_tail.ensures in
+    let known = known_in c.args.old.cards.now in
+    record {
+      kind = made.kind ∙ was.kind;
+      symbols = ap symbol_in made.symbols ∙ was.symbols ∙ ap {B = View} (λ (k : DeckKind). λ name. defined name (settled_all k known)) (sym made.kind);
+      literals = made.literals ∙ was.literals ∙ ap (λ (k : DeckKind). literal_words (settled_all k known)) (sym made.kind);
+    }

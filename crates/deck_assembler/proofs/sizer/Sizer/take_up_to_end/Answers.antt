@@ -10,6 +10,7 @@ use Rattle.deck_assembler.specs.Meetings.{WillAgree}
 use Rattle.deck_assembler.proofs.DueLaws.{due-bound, next-known}
 use Rattle.deck_assembler.proofs.EndLaws.{length-first, first-step, next-at, few-sized, ending-here, open-step, ending-none, ending-length, few-all}
 use Rattle.deck_assembler.proofs.FrontLaws.{front-bound, front-end, front-more, goes-at, stands-few}
+use Rattle.deck_assembler.proofs.MeetLaws.{tail-taken}
 use Rattle.deck_assembler.proofs.sizer.Sizer.take_up_to_end.Goals as goal
 
 -- what stands where there is no span
@@ -193,3 +194,22 @@ returns-then-branch-clause-due c = λ of front limit kept stands bounded will.
 
 pub returns-clause-due : goal.returns-clause-due
 returns-clause-due c = λ of front limit kept stands bounded will. (c.loop-k.invariant.due of front limit kept stands bounded will).1
+
+pub returns-then-branch-clause-tail : goal.returns-then-branch-clause-tail
+returns-then-branch-clause-tail c = λ of kept.
+    let cards = c.args.cards.now in
+    let spans = c.args.spans.now in
+    let one : suc c.loop-k.k ≡ c.loop-k.k + 1 = omega arith in
+    let step = sym (first-step cards spans c.loop-k.k other c.loop-k-test.true) ∙ ap (first_statements cards spans) one in
+    let next = next-at cards spans c.loop-k.k other c.loop-k-test.true c.requires.spans c.requires.numbered in
+    let now = (c.in_ok-take_next.ensures.taken of (first_statements cards spans c.loop-k.k) (record { sizer_is = c.loop-k.invariant.taken; next = next; kept_on = c.loop-k.invariant.kept of kept })).1 in
+    tail-taken c.args.kind of cards (first_statements cards spans (c.loop-k.k + 1)) c.take_next.new.old_deck c.tail.result
+    (subst (λ (statements : List Statement). IsKeptOn c.args.kind of cards statements c.take_next.new.old_deck) step now) c.tail.ensures.tail c.tail.ensures.none
+
+pub returns-clause-tail : goal.returns-clause-tail
+returns-clause-tail c = λ of kept.
+    let cards = c.args.cards.now in
+    let spans = c.args.spans.now in
+    let n : c.loop-k.k ≡ length spans = omega (arith, c.loop-k.auto.k-end, c.loop-k-test.false) in
+    tail-taken c.args.kind of cards (first_statements cards spans (length spans)) c.loop-k.kept c.tail-2.result
+    (subst (λ k. IsKeptOn c.args.kind of cards (first_statements cards spans k) c.loop-k.kept) n (c.loop-k.invariant.kept of kept)) c.tail-2.ensures.tail c.tail-2.ensures.none

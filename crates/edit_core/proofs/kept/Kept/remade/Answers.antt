@@ -3,9 +3,11 @@ use Rattle.std.proofs.Common.{◌≡◌, ◌≤◌, None, List, length, take, re
 use Rattle.cards.specs.Edits.{edited_by, first_fault}
 use Rattle.definitions.specs.Cards.{Card}
 use Rattle.definitions.specs.DeckInput.{Deck}
+use Rattle.definitions.specs.DeckKinds.{kind_of_statements}
 use Rattle.deck_assembler.specs.Agreements.{HaveSameEnd}
-use Rattle.deck_assembler.specs.Formers.{IsFormerOf}
+use Rattle.deck_assembler.specs.Formers.{IsFormerOf, known_in}
 use Rattle.deck_assembler.specs.SizedDecks.{IsSizedDeck}
+use Rattle.deck_assembler.specs.Tails.{HasTailIfAny}
 use Rattle.edit_core.specs.Edited.{RisesBehindFront, RisesToDue, StandBehind}
 use Rattle.edit_core.specs.Records.{Record}
 use Rattle.edit_core.proofs.DueLaws.{AreTaken, due-edited, due-still}
@@ -42,14 +44,19 @@ edited_object-requires-clause-former c =
     (c.cards-own.ensures.cards ∙ sym (ap (λ (r : Record). r.cards) c.self.view_is) ∙ sym (ap (λ (d : Deck). d.cards) c.object.ensures))
     c.in_ok-edited.ensures.former
 
-pub edited_object-requires-clause-same : goal.edited_object-requires-clause-same
-edited_object-requires-clause-same c =
-    let n = c.in_ok-edited.edited.former.before in
+pub edited_object-requires-clause-edited : goal.edited_object-requires-clause-edited
+edited_object-requires-clause-edited c =
+    let former = c.in_ok-edited.edited.former in
+    let n = former.before in
     let now = c.in_ok-cards.ensures ∙ ap (λ (cards : List Card). edited_by c.args.edits.now cards) c.cards-own.ensures.cards in
     let unchanged = front-all c.cards_before_all.result c.args.edits.now c.args.self.now.cards c.cards_before_all.ensures.all c.requires.apply in
-    ap (λ (d : Deck). take n d.cards) c.object.ensures
-    ∙ ap (λ (r : Record). take n r.cards) c.self.view_is
-    ∙ sym (ap (take n) now ∙ subst (λ m. take m (edited_by c.args.edits.now c.args.self.now.cards) ≡ take m c.args.self.now.cards) (sym c.in_ok-edited.ensures.before) unchanged)
+    let own = c.cards-own.ensures.cards ∙ sym (ap (λ (r : Record). r.cards) c.self.view_is) ∙ sym (ap (λ (d : Deck). d.cards) c.object.ensures) in
+    record {
+      same = ap (λ (d : Deck). take n d.cards) c.object.ensures
+          ∙ ap (λ (r : Record). take n r.cards) c.self.view_is
+          ∙ sym (ap (take n) now ∙ subst (λ m. take m (edited_by c.args.edits.now c.args.self.now.cards) ≡ take m c.args.self.now.cards) (sym c.in_ok-edited.ensures.before) unchanged);
+      tail = subst (λ (both : List Card × List Card). HasTailIfAny (kind_of_statements (known_in both.1)) both.0 both.1 former.tail (known_in both.1)) (λ i. (own i, c.deref.ensures.value i)) c.in_ok-edited.ensures.tail;
+    }
 
 pub of-requires-clause-few : goal.of-requires-clause-few
 of-requires-clause-few c =
