@@ -83,12 +83,12 @@ rest-of : {X : Type 0} (a b : X) (x y : List X) → a ∷ x ≡ b ∷ y → x �
 rest-of a b x y e = cc
 
 -- a deck split at two places: what stands between
-record IsBetween (first second front earlier : List Statement) : Type 0 where
-  middle : List Statement
-  of_first : first ≡ second ++ middle
-  of_earlier : earlier ≡ middle ++ front
+pub record IsBetween (first second front earlier : List Statement) : Type 0 where
+  pub middle : List Statement
+  pub of_first : first ≡ second ++ middle
+  pub of_earlier : earlier ≡ middle ++ front
 
-between : (first front second earlier : List Statement) → first ++ front ≡ second ++ earlier → length second ≤ length first → IsBetween first second front earlier
+pub between : (first front second earlier : List Statement) → first ++ front ≡ second ++ earlier → length second ≤ length first → IsBetween first second front earlier
 between first front [] earlier e few = record { middle = first; of_first = refl; of_earlier = sym e }
 between [] front (last ∷ second) earlier e few = absurd (omega (arith, few))
 between (one ∷ first) front (last ∷ second) earlier e few =

@@ -2,14 +2,14 @@
 use Rattle.std.proofs.Common.{◌≡◌, ◌∙◌, ℕ, ◌+◌, ◌-◌, ◌≤◌, ◌⊎◌, inl, inr, true, false, List, [], ◌∷◌, ◌++◌, Option, Some, None, zero, suc, ◌<◌, length, get_or, arith, map, take, drop, reverse, refl, ap, ap₂, sym, subst, append_assoc, length-append, length-take-le}
 use Rattle.std.specs.Prelude.{IfSome}
 use Rattle.std.proofs.lemmas.Bool.{cases_lt}
-use Rattle.std.proofs.lemmas.List.{drop-drop, reverse-append, reverse-reverse}
+use Rattle.std.proofs.lemmas.List.{drop-drop, length-reverse, reverse-append, reverse-reverse}
 use Rattle.definitions.specs.Cards.{Card}
 use Rattle.definitions.specs.DeckInput.{Deck}
 use Rattle.definitions.specs.DeckKinds.{behind_end, kind_of_statements}
 use Rattle.definitions.specs.Literals.{literal_words}
 use Rattle.definitions.specs.Letters.{in_order}
-use Rattle.definitions.specs.Objects.{Shown, shown_of, only_listed, coded_of, context_of, object_of}
-use Rattle.definitions.specs.Rebound.{is_rebound}
+use Rattle.definitions.specs.Objects.{Shown, shown_of, only_listed, coded_of, object_of}
+use Rattle.definitions.specs.Rebound.{context_from, is_rebound}
 use Rattle.definitions.specs.Settled.{Settled, defined}
 use Rattle.definitions.specs.Settling.{View, settle, settled_all}
 use Rattle.definitions.specs.StatementItems.{Context, Item, items_of}
@@ -24,15 +24,16 @@ use Rattle.statement_coder.specs.declared.items.Item as code
 use Rattle.deck_assembler.specs.CodedLines.{IsCoded, IsShown, IsStored, AreShown}
 use Rattle.deck_assembler.specs.DeckParts.{sized_in}
 use Rattle.deck_assembler.specs.DeckWalks.{IsWalked}
-use Rattle.deck_assembler.specs.FormerLines.{IsSameTail, IsOneOf, IsTaken, IsTakenOfTail, IsNextInFront, IsNextInTail, IsNextLine, IsBare, WasLine, WasLineIfAny, shown_from, AreBeside, AreOfTail, AreOfTailIfAny, IsBeside, IsWalkedBeside}
+use Rattle.deck_assembler.specs.FormerLines.{IsSameTail, IsOneOf, IsMissedInFront, IsMissedInTail, IsTaken, IsTakenOfTail, IsNextInFront, IsNextInTail, IsNextLine, IsBare, WasLine, WasLineIfAny, shown_from, AreBeside, AreOfTail, AreOfTailIfAny, IsBeside, AreChosen, IsWalkedBeside}
 use Rattle.deck_assembler.specs.FirstSymbols.{symbol_in}
+use Rattle.deck_assembler.specs.DueCodes.{CodePlan, HasNoTail, IsBesideTail, IsDueBeside, IsPlanOf}
 use Rattle.deck_assembler.specs.Formers.{known_in, IsFormerOf}
 use Rattle.deck_assembler.specs.PartsOf.{ArePartsOf}
 use Rattle.deck_assembler.specs.Rebindings.{AreBindings}
 use Rattle.deck_assembler.specs.SizedDecks.{IsSizedStatement, AreSizedFrom}
 use Rattle.deck_assembler.specs.Sizers.{stood}
 use Rattle.deck_assembler.specs.TailLines.{lines_behind, AreAlikeOn}
-use Rattle.deck_assembler.specs.Tails.{AreSettledAlike, HasTail, HasTailIfAny, IsEditedOf}
+use Rattle.deck_assembler.specs.Tails.{AreSettledAlike, HasTail, HasTailIfAny, IsEditedOf, StandBeforeTail}
 use Rattle.deck_assembler.specs.Walks.{Whole, IsWhole, has_row, AreLined, AreNoted}
 use Rattle.deck_assembler.specs.declared.deck_walk.Making.{Making}
 use Rattle.deck_assembler.specs.declared.former.Former.{Former}
@@ -45,7 +46,7 @@ use Rattle.deck_assembler.specs.declared.sized_statement.SizedStatement.{SizedSt
 use Rattle.deck_assembler.proofs.DeckWalkLaws.{IsStep, there}
 use Rattle.deck_assembler.proofs.HeadLaws.{same-between}
 use Rattle.deck_assembler.proofs.ForwardLaws.{stood-more}
-use Rattle.deck_assembler.proofs.OntoLaws.{append-none, drop-none, reverse-onto}
+use Rattle.deck_assembler.proofs.OntoLaws.{append-none, drop-none, first-of, rest-of, reverse-onto}
 use Rattle.deck_assembler.proofs.PartLaws.{shown-object}
 use Rattle.deck_assembler.proofs.WalkLaws.{stood-step}
 
@@ -98,7 +99,7 @@ was-line kind context other settled found old after stood ahead one same binding
       (was-coded context.kind context.rows old.items.now found.line.now.coded found.coded.now (coded_of context other) one.coded here.stored);
 }
 
-at-or-not : (a b : ℕ) → (a ≡ b) ⊎ (a ≡ b → ⊥)
+pub at-or-not : (a b : ℕ) → (a ≡ b) ⊎ (a ≡ b → ⊥)
 at-or-not a b = elim (cases_lt a b) [
   | inl less ↦ inr (λ e. omega (arith, less, e))
   | inr more ↦ elim (cases_lt b a) [
@@ -107,56 +108,51 @@ at-or-not a b = elim (cases_lt a b) [
   ]
 ]
 
--- what was found is the line of a statement, and the lines that are left go beside those behind it
-record Goes (kind : DeckKind) (found : FormerLine) (settled : Settled) (Beside : Type 0) : Type 0 where
-  was : WasLine kind found settled
-  beside : Beside
+-- what was found in front is the line of a statement, and the lines that are left go beside those behind it
+pub record GoesInFront (kind : DeckKind) (cards : List Card) (context : Context) (earlier coming : List Statement) (given : Statement) (stood count : ℕ) (found : FormerLine) (after : FormerLines) : Type 0 where
+  pub was : WasLine kind found (settle kind (settled_all kind earlier) given)
+  pub later : List Statement
+  pub all : coming ≡ given ∷ later
+  pub beside : AreBeside kind cards context (given ∷ earlier) later (stood + count) after
 
-next-line : (kind : DeckKind) (cards : List Card) (earlier : List Statement) (given : Statement) (stood : ℕ) (sized : SizedStatement) (found : FormerLine) (old after : FormerLines) →
-    AreBeside kind cards earlier stood old → IsTaken old after stood sized.cards found → IsSizedStatement kind earlier stood (drop stood cards) sized given →
-    Goes kind found (settle kind (settled_all kind earlier) given) (AreBeside kind cards (given ∷ earlier) (stood + sized.cards) after)
-next-line kind cards earlier given stood sized found old after is taken next = by is.coming is.listed shown
+pub next-line : (kind : DeckKind) (cards : List Card) (context : Context) (earlier coming : List Statement) (given : Statement) (stood : ℕ) (sized : SizedStatement) (found : FormerLine) (old after : FormerLines) →
+    AreBeside kind cards context earlier coming stood old → IsTaken old after stood sized.cards found → IsSizedStatement kind earlier stood (drop stood cards) sized given →
+    GoesInFront kind cards context earlier coming given stood sized.cards found after
+next-line kind cards context earlier coming given stood sized found old after is taken next = by coming is.listed shown
   where
     line : Line
     line = found.line.now
 
-    shown : AreShown is.context.kind is.context.rows old.items.now stood (drop stood is.old_cards) (line ∷ after.left.now) (shown_from is.context earlier is.coming is.listed)
-    shown = subst (λ (l : List Line). AreShown is.context.kind is.context.rows old.items.now stood (drop stood is.old_cards) l (shown_from is.context earlier is.coming is.listed)) taken.lines is.shown
+    shown : AreShown context.kind context.rows old.items.now stood (drop stood is.old_cards) (line ∷ after.left.now) (shown_from context earlier coming is.listed)
+    shown = subst (λ (l : List Line). AreShown context.kind context.rows old.items.now stood (drop stood is.old_cards) l (shown_from context earlier coming is.listed)) taken.lines is.shown
 
-    by : (coming listed : List Statement) → AreShown is.context.kind is.context.rows old.items.now stood (drop stood is.old_cards) (line ∷ after.left.now) (shown_from is.context earlier coming listed) →
-        Goes kind found (settle kind (settled_all kind earlier) given) (AreBeside kind cards (given ∷ earlier) (stood + sized.cards) after)
+    by : (ahead listed : List Statement) → AreShown context.kind context.rows old.items.now stood (drop stood is.old_cards) (line ∷ after.left.now) (shown_from context earlier ahead listed) →
+        GoesInFront kind cards context earlier ahead given stood sized.cards found after
     by [] [] h = absurd h
-    by [] (one ∷ listed) h = absurd (not-listed is.context.kind is.context.rows old.items.now line.coded found.coded.now taken.one.coded h.0.stored)
-    by (statement ∷ coming) listed h =
-        let k = is.context.kind in
+    by [] (one ∷ listed) h = absurd (not-listed context.kind context.rows old.items.now line.coded found.coded.now taken.one.coded h.0.stored)
+    by (statement ∷ later) listed h =
+        let k = context.kind in
         let here = h.0 in
         let between = same-between sized.cards stood old.before is.old_cards cards is.same taken.within in
         let own : take line.cards (drop stood is.old_cards) ≡ take sized.cards (drop stood is.old_cards) = ap (λ n. take n (drop stood is.old_cards)) taken.cards in
         let same : statement ≡ given = statement-same statement given (sym here.before ∙ sym next.before) (sym here.cards ∙ own ∙ between ∙ next.cards) in
         record {
-          was = was-line kind is.context (settle k (settled_all k earlier) statement) (settle kind (settled_all kind earlier) given) found old after stood (drop stood is.old_cards) taken.one is.same_kind is.bindings
+          was = was-line kind context (settle k (settled_all k earlier) statement) (settle kind (settled_all kind earlier) given) found old after stood (drop stood is.old_cards) taken.one is.same_kind is.bindings
               (ap₂ (λ (d : DeckKind) (s : Statement). unnumbered (settle d (settled_all d earlier) s)) is.same_kind same) here;
+          later = later;
+          all = ap (λ s. s ∷ later) same;
           beside = record {
-            context = is.context;
             old_cards = is.old_cards;
-            coming = coming;
             listed = listed;
             same_kind = is.same_kind;
-            bindings = subst (λ b. AreBindings b is.context) (sym taken.one.same_bindings) is.bindings;
+            bindings = subst (λ b. AreBindings b context) (sym taken.one.same_bindings) is.bindings;
             same = subst (λ n. take n is.old_cards ≡ take n cards) (sym taken.same_before) is.same;
-            shown = subst (λ (l : List code.Item). AreShown k is.context.rows l (stood + sized.cards) (drop (stood + sized.cards) is.old_cards) after.left.now (shown_from is.context (given ∷ earlier) coming listed)) (sym taken.one.same_items)
-                (subst (λ (s : Statement). AreShown k is.context.rows old.items.now (stood + sized.cards) (drop (stood + sized.cards) is.old_cards) after.left.now (shown_from is.context (s ∷ earlier) coming listed)) same
-                (subst (λ n. AreShown k is.context.rows old.items.now (stood + n) (drop (stood + n) is.old_cards) after.left.now (shown_from is.context (statement ∷ earlier) coming listed)) taken.cards
-                (subst (λ (a : List Card). AreShown k is.context.rows old.items.now (stood + line.cards) a after.left.now (shown_from is.context (statement ∷ earlier) coming listed)) (drop-drop line.cards stood is.old_cards) h.1)));
+            shown = subst (λ (l : List code.Item). AreShown k context.rows l (stood + sized.cards) (drop (stood + sized.cards) is.old_cards) after.left.now (shown_from context (given ∷ earlier) later listed)) (sym taken.one.same_items)
+                (subst (λ (s : Statement). AreShown k context.rows old.items.now (stood + sized.cards) (drop (stood + sized.cards) is.old_cards) after.left.now (shown_from context (s ∷ earlier) later listed)) same
+                (subst (λ n. AreShown k context.rows old.items.now (stood + n) (drop (stood + n) is.old_cards) after.left.now (shown_from context (statement ∷ earlier) later listed)) taken.cards
+                (subst (λ (a : List Card). AreShown k context.rows old.items.now (stood + line.cards) a after.left.now (shown_from context (statement ∷ earlier) later listed)) (drop-drop line.cards stood is.old_cards) h.1)));
           };
         }
-
--- the first statement of two lists, and the others
-first-of : (a b : Statement) (x y : List Statement) → a ∷ x ≡ b ∷ y → a ≡ b
-first-of a b x y e = cc
-
-rest-of : (a b : Statement) (x y : List Statement) → a ∷ x ≡ b ∷ y → x ≡ y
-rest-of a b x y e = cc
 
 -- more cards stand behind a statement than before it
 stood-longer : (between earlier : List Statement) (given : Statement) → 0 < length given.cards → stood earlier < stood (reverse between ++ given ∷ earlier)
@@ -166,71 +162,98 @@ stood-longer between earlier given some =
     omega (arith, parts, own, some)
 
 -- before the tail its lines are left as they are
-before-tail : (kind : DeckKind) (cards : List Card) (earlier coming : List Statement) (given : Statement) (standing : ℕ) (sized : SizedStatement) (old after : FormerLines) →
-    AreOfTailIfAny kind earlier (given ∷ coming) standing old → (standing ≡ old.tail.at → ⊥) → IsSameTail old after → IsSizedStatement kind earlier standing (drop standing cards) sized given →
-    AreOfTailIfAny kind (given ∷ earlier) coming (standing + sized.cards) after
-before-tail kind cards earlier coming given standing sized old after is other same next = elim is [
-  | inl none ↦ inl (ap (λ t. t.left.now) same.tail ∙ none)
-  | inr of ↦ inr (by of of.between of.all of.place of.alike)
-]
+pub record ComesToTail (kind : DeckKind) (context : Context) (earlier coming between : List Statement) (given : Statement) (standing count : ℕ) (after : FormerLines) : Type 0 where
+  pub rest : List Statement
+  pub all : between ≡ given ∷ rest
+  pub of : AreOfTail kind context (given ∷ earlier) coming rest (standing + count) after
+
+pub before-tail : (kind : DeckKind) (cards : List Card) (context : Context) (earlier coming between : List Statement) (given : Statement) (standing : ℕ) (sized : SizedStatement) (old after : FormerLines) →
+    AreOfTail kind context earlier (given ∷ coming) between standing old → (standing ≡ old.tail.at → ⊥) → IsSameTail old after → IsSizedStatement kind earlier standing (drop standing cards) sized given →
+    ComesToTail kind context earlier coming between given standing sized.cards after
+before-tail kind cards context earlier coming between given standing sized old after of other same next = by between of.all of.place of.alike
   where
-    by : (of : AreOfTail kind earlier (given ∷ coming) standing old) (between : List Statement) → given ∷ coming ≡ between ++ of.tail → stood (reverse between ++ earlier) ≡ old.tail.at →
-        AreAlikeOn kind of.passed of.later (reverse between ++ earlier) of.tail → AreOfTail kind (given ∷ earlier) coming (standing + sized.cards) after
-    by of [] all place alike = absurd (other (of.stands ∙ place))
-    by of (first ∷ between) all place alike =
-        let whole : reverse between ++ given ∷ earlier ≡ reverse (first ∷ between) ++ earlier =
-        ap (λ s. reverse between ++ s ∷ earlier) (first-of given first coming (between ++ of.tail) all) ∙ reverse-onto first between earlier in
+    by : (ahead : List Statement) → given ∷ coming ≡ ahead ++ of.tail → stood (reverse ahead ++ earlier) ≡ old.tail.at → AreAlikeOn kind of.passed of.later (reverse ahead ++ earlier) of.tail →
+        ComesToTail kind context earlier coming ahead given standing sized.cards after
+    by [] all place alike = absurd (other (of.stands ∙ place))
+    by (first ∷ rest) all place alike =
+        let one = first-of given first coming (rest ++ of.tail) all in
+        let whole : reverse rest ++ given ∷ earlier ≡ reverse (first ∷ rest) ++ earlier = ap (λ s. reverse rest ++ s ∷ earlier) one ∙ reverse-onto first rest earlier in
         record {
-          context = of.context;
-          same_kind = of.same_kind;
-          bindings = subst (λ b. AreBindings b of.context) (sym same.bindings) of.bindings;
-          between = between;
-          tail = of.tail;
-          all = rest-of given first coming (between ++ of.tail) all;
-          stands = ap (λ n. n + sized.cards) of.stands ∙ stood-more earlier given (drop standing cards) sized.cards next.cards next.within;
-          place = ap (λ l. stood l) whole ∙ place ∙ sym (ap (λ t. t.at) same.tail);
-          passed = of.passed;
-          later = of.later;
-          listed = of.listed;
-          old_stood = of.old_stood;
-          old_ahead = of.old_ahead;
-          shown = subst (λ (l : List Line). AreShown of.context.kind of.context.rows after.items.now of.old_stood of.old_ahead l (shown_from of.context of.passed of.later of.listed)) (sym (ap (λ t. t.left.now) same.tail))
-              (subst (λ (i : List code.Item). AreShown of.context.kind of.context.rows i of.old_stood of.old_ahead old.tail.left.now (shown_from of.context of.passed of.later of.listed)) (sym same.items) of.shown);
-          alike = subst (λ (l : List Statement). AreAlikeOn kind of.passed of.later l of.tail) (sym whole) alike;
+          rest = rest;
+          all = ap (λ s. s ∷ rest) (sym one);
+          of = record {
+            same_kind = of.same_kind;
+            bindings = subst (λ b. AreBindings b context) (sym same.bindings) of.bindings;
+            tail = of.tail;
+            all = rest-of given first coming (rest ++ of.tail) all;
+            stands = ap (λ n. n + sized.cards) of.stands ∙ stood-more earlier given (drop standing cards) sized.cards next.cards next.within;
+            place = ap (λ l. stood l) whole ∙ place ∙ sym (ap (λ t. t.at) same.tail);
+            passed = of.passed;
+            later = of.later;
+            listed = of.listed;
+            old_stood = of.old_stood;
+            old_ahead = of.old_ahead;
+            shown = subst (λ (l : List Line). AreShown context.kind context.rows after.items.now of.old_stood of.old_ahead l (shown_from context of.passed of.later of.listed)) (sym (ap (λ t. t.left.now) same.tail))
+                (subst (λ (i : List code.Item). AreShown context.kind context.rows i of.old_stood of.old_ahead old.tail.left.now (shown_from context of.passed of.later of.listed)) (sym same.items) of.shown);
+            alike = subst (λ (l : List Statement). AreAlikeOn kind of.passed of.later l of.tail) (sym whole) alike;
+          };
         }
 
+-- a statement that was sized has cards
+pub sized-cards : (kind : DeckKind) (earlier : List Statement) (standing : ℕ) (ahead : List Card) (sized : SizedStatement) (given : Statement) → IsSizedStatement kind earlier standing ahead sized given → length given.cards ≡ sized.cards
+sized-cards kind earlier standing ahead sized given next = ap length (sym next.cards) ∙ length-take-le sized.cards ahead next.within
+
+-- where the tail begins nothing is left before it
+pub at-tail : (kind : DeckKind) (context : Context) (earlier coming between : List Statement) (given : Statement) (standing : ℕ) (old : FormerLines) → AreOfTail kind context earlier (given ∷ coming) between standing old → standing ≡ old.tail.at →
+    0 < length given.cards → between ≡ []
+at-tail kind context earlier coming between given standing old of at_place some = by between of.all of.place
+  where
+    by : (ahead : List Statement) → given ∷ coming ≡ ahead ++ of.tail → stood (reverse ahead ++ earlier) ≡ old.tail.at → ahead ≡ []
+    by [] all place = refl
+    by (first ∷ rest) all place =
+        let whole = ap (λ s. reverse rest ++ s ∷ earlier) (first-of given first coming (rest ++ of.tail) all) ∙ reverse-onto first rest earlier in
+        let longer = subst (λ (l : List Statement). stood earlier < stood l) whole (stood-longer rest earlier given some) in
+        let stands = of.stands in
+        absurd (omega (arith, longer, place, at_place, stands))
+
+-- what is settled there
+tail-here : (kind : DeckKind) (context : Context) (earlier coming between : List Statement) (given : Statement) (standing : ℕ) (old : FormerLines) (of : AreOfTail kind context earlier (given ∷ coming) between standing old) → between ≡ [] →
+    AreAlikeOn kind of.passed of.later earlier (given ∷ coming)
+tail-here kind context earlier coming between given standing old of none =
+    let all : given ∷ coming ≡ of.tail = of.all ∙ ap (λ l. l ++ of.tail) none in
+    subst (AreAlikeOn kind of.passed of.later earlier) (sym all) (subst (λ (l : List Statement). AreAlikeOn kind of.passed of.later (reverse l ++ earlier) of.tail) none of.alike)
+
 -- the next line of the tail is that of the next statement
-next-of-tail : (kind : DeckKind) (cards : List Card) (earlier coming : List Statement) (given : Statement) (standing : ℕ) (sized : SizedStatement) (found : FormerLine) (old after : FormerLines) →
-    AreOfTail kind earlier (given ∷ coming) standing old → standing ≡ old.tail.at → IsTakenOfTail old after standing sized.cards found → IsSizedStatement kind earlier standing (drop standing cards) sized given → length cards ≤ 20000 →
-    Goes kind found (settle kind (settled_all kind earlier) given) (AreOfTail kind (given ∷ earlier) coming (standing + sized.cards) after)
-next-of-tail kind cards earlier coming given standing sized found old after is at_place taken next few = by is.between is.all is.place is.alike
+pub record GoesInTail (kind : DeckKind) (context : Context) (earlier coming : List Statement) (given : Statement) (standing count : ℕ) (found : FormerLine) (after : FormerLines) : Type 0 where
+  pub was : WasLine kind found (settle kind (settled_all kind earlier) given)
+  pub of : AreOfTail kind context (given ∷ earlier) coming [] (standing + count) after
+
+pub next-of-tail : (kind : DeckKind) (cards : List Card) (context : Context) (earlier coming between : List Statement) (given : Statement) (standing : ℕ) (sized : SizedStatement) (found : FormerLine) (old after : FormerLines) →
+    AreOfTail kind context earlier (given ∷ coming) between standing old → between ≡ [] → IsTakenOfTail old after standing sized.cards found → IsSizedStatement kind earlier standing (drop standing cards) sized given → length cards ≤ 20000 →
+    GoesInTail kind context earlier coming given standing sized.cards found after
+next-of-tail kind cards context earlier coming between given standing sized found old after is none taken next few = here is.later shown (tail-here kind context earlier coming between given standing old is none)
   where
     line : Line
     line = found.line.now
 
     rows : List BlockRow
-    rows = is.context.rows
+    rows = context.rows
 
-    some : 0 < length given.cards
-    some = let own = ap length (sym next.cards) ∙ length-take-le sized.cards (drop standing cards) next.within in let more = next.some in omega (arith, own, more)
+    shown : AreShown context.kind rows old.items.now is.old_stood is.old_ahead (line ∷ after.tail.left.now) (shown_from context is.passed is.later is.listed)
+    shown = subst (λ (l : List Line). AreShown context.kind rows old.items.now is.old_stood is.old_ahead l (shown_from context is.passed is.later is.listed)) taken.lines is.shown
 
-    shown : AreShown is.context.kind rows old.items.now is.old_stood is.old_ahead (line ∷ after.tail.left.now) (shown_from is.context is.passed is.later is.listed)
-    shown = subst (λ (l : List Line). AreShown is.context.kind rows old.items.now is.old_stood is.old_ahead l (shown_from is.context is.passed is.later is.listed)) taken.lines is.shown
-
-    here : (later : List Statement) → AreShown is.context.kind rows old.items.now is.old_stood is.old_ahead (line ∷ after.tail.left.now) (shown_from is.context is.passed later is.listed) →
-        AreAlikeOn kind is.passed later earlier (given ∷ coming) → Goes kind found (settle kind (settled_all kind earlier) given) (AreOfTail kind (given ∷ earlier) coming (standing + sized.cards) after)
+    here : (later : List Statement) → AreShown context.kind rows old.items.now is.old_stood is.old_ahead (line ∷ after.tail.left.now) (shown_from context is.passed later is.listed) →
+        AreAlikeOn kind is.passed later earlier (given ∷ coming) → GoesInTail kind context earlier coming given standing sized.cards found after
     here [] h alike = absurd alike
     here (other ∷ later) h alike =
-        let k = is.context.kind in
+        let k = context.kind in
         let stands = ap (λ n. n + sized.cards) is.stands ∙ stood-more earlier given (drop standing cards) sized.cards next.cards next.within in
         record {
-          was = was-line kind is.context (settle k (settled_all k is.passed) other) (settle kind (settled_all kind earlier) given) found old after is.old_stood is.old_ahead taken.one is.same_kind is.bindings
+          was = was-line kind context (settle k (settled_all k is.passed) other) (settle kind (settled_all kind earlier) given) found old after is.old_stood is.old_ahead taken.one is.same_kind is.bindings
               (ap (λ (d : DeckKind). unnumbered (settle d (settled_all d is.passed) other)) is.same_kind ∙ alike.0) h.0;
-          beside = record {
-            context = is.context;
+          of = record {
             same_kind = is.same_kind;
-            bindings = subst (λ b. AreBindings b is.context) (sym taken.one.same_bindings) is.bindings;
-            between = [];
+            bindings = subst (λ b. AreBindings b context) (sym taken.one.same_bindings) is.bindings;
             tail = coming;
             all = refl;
             stands = stands;
@@ -240,19 +263,37 @@ next-of-tail kind cards earlier coming given standing sized found old after is a
             listed = is.listed;
             old_stood = is.old_stood + line.cards;
             old_ahead = drop line.cards is.old_ahead;
-            shown = subst (λ (i : List code.Item). AreShown k rows i (is.old_stood + line.cards) (drop line.cards is.old_ahead) after.tail.left.now (shown_from is.context (other ∷ is.passed) later is.listed)) (sym taken.one.same_items) h.1;
+            shown = subst (λ (i : List code.Item). AreShown k rows i (is.old_stood + line.cards) (drop line.cards is.old_ahead) after.tail.left.now (shown_from context (other ∷ is.passed) later is.listed)) (sym taken.one.same_items) h.1;
             alike = alike.1;
           };
         }
 
-    by : (between : List Statement) → given ∷ coming ≡ between ++ is.tail → stood (reverse between ++ earlier) ≡ old.tail.at → AreAlikeOn kind is.passed is.later (reverse between ++ earlier) is.tail →
-        Goes kind found (settle kind (settled_all kind earlier) given) (AreOfTail kind (given ∷ earlier) coming (standing + sized.cards) after)
-    by [] all place alike = here is.later shown (subst (AreAlikeOn kind is.passed is.later earlier) (sym all) alike)
-    by (first ∷ between) all place alike =
-        let whole = ap (λ s. reverse between ++ s ∷ earlier) (first-of given first coming (between ++ is.tail) all) ∙ reverse-onto first between earlier in
-        let longer = subst (λ (l : List Statement). stood earlier < stood l) whole (stood-longer between earlier given some) in
-        let stands = is.stands in
-        absurd (omega (arith, longer, place, at_place, stands))
+-- in the tail there is a line to be taken
+pub missed-of-tail : (kind : DeckKind) (context : Context) (earlier coming between : List Statement) (given : Statement) (standing : ℕ) (old : FormerLines) → AreOfTail kind context earlier (given ∷ coming) between standing old → between ≡ [] →
+    IsMissedInTail old None → ⊥
+missed-of-tail kind context earlier coming between given standing old is none missed = here is.later old.tail.left.now refl is.shown (tail-here kind context earlier coming between given standing old is none)
+  where
+    here : (later : List Statement) (lines : List Line) → old.tail.left.now ≡ lines → AreShown context.kind context.rows old.items.now is.old_stood is.old_ahead lines (shown_from context is.passed later is.listed) →
+        AreAlikeOn kind is.passed later earlier (given ∷ coming) → ⊥
+    here [] lines e h alike = alike
+    here (other ∷ later) [] e h alike = h
+    here (other ∷ later) (line ∷ lines) e h alike =
+        let k = context.kind in
+        let one = coded_of context (settle k (settled_all k is.passed) other) in
+        subst (λ (l : Option CodedLine). IsStored k context.rows old.items.now l (Some one)) (missed line lines e) h.0.stored
+
+-- and in front one that is among the unchanged cards
+pub missed-in-front : (kind : DeckKind) (cards : List Card) (context : Context) (earlier later : List Statement) (given : Statement) (standing count : ℕ) (old : FormerLines) → AreBeside kind cards context earlier (given ∷ later) standing old →
+    length given.cards ≡ count → standing + count ≤ old.before → IsMissedInFront old standing count None → ⊥
+missed-in-front kind cards context earlier later given standing count old is own within missed = here old.left.now refl is.shown
+  where
+    here : (lines : List Line) → old.left.now ≡ lines → AreShown context.kind context.rows old.items.now standing (drop standing is.old_cards) lines (shown_from context earlier (given ∷ later) is.listed) → ⊥
+    here [] e h = h
+    here (line ∷ lines) e h =
+        let k = context.kind in
+        let one = coded_of context (settle k (settled_all k earlier) given) in
+        let its : line.cards ≡ count = sym (length-take-le line.cards (drop standing is.old_cards) h.0.within) ∙ ap length h.0.cards ∙ own in
+        subst (λ (l : Option CodedLine). IsStored k context.rows old.items.now l (Some one)) (missed line lines e its within) h.0.stored
 
 no-line : (line : Line) (lines : List Line) → line ∷ lines ≡ [] → ⊥
 no-line line lines e = cc
@@ -262,18 +303,31 @@ record Leaves (kind : DeckKind) (cards : List Card) (earlier coming : List State
   was : WasLineIfAny kind found (settle kind (settled_all kind earlier) given)
   beside : IsBeside kind cards (given ∷ earlier) coming (stood + count) after
 
+-- in front the tail stays
+pub same-tail : (old after : FormerLines) (stood count : ℕ) (found : Option FormerLine) → IsNextInFront old after stood count found → IsSameTail old after
+same-tail old after stood count None next = next.1
+same-tail old after stood count (Some found) next = record { tail = next.same_tail; items = next.one.same_items; bindings = next.one.same_bindings }
+
+tail-if-any : (kind : DeckKind) (cards : List Card) (earlier coming : List Statement) (given : Statement) (standing : ℕ) (sized : SizedStatement) (old after : FormerLines) →
+    AreOfTailIfAny kind earlier (given ∷ coming) standing old → (standing ≡ old.tail.at → ⊥) → IsSameTail old after → IsSizedStatement kind earlier standing (drop standing cards) sized given →
+    AreOfTailIfAny kind (given ∷ earlier) coming (standing + sized.cards) after
+tail-if-any kind cards earlier coming given standing sized old after is other same next = elim is [
+  | inl none ↦ inl (ap (λ t. t.left.now) same.tail ∙ none)
+  | inr of ↦ let comes = before-tail kind cards of.0 earlier coming of.1 given standing sized old after of.2 other same next in inr (of.0, comes.rest, comes.of)
+]
+
 -- in front, whether or not there is a line
 in-front-if-any : (kind : DeckKind) (cards : List Card) (earlier coming : List Statement) (given : Statement) (stood : ℕ) (sized : SizedStatement) (found : Option FormerLine) (old after : FormerLines) →
     IsBeside kind cards earlier (given ∷ coming) stood old → (stood ≡ old.tail.at → ⊥) → IsNextInFront old after stood sized.cards found → IsSizedStatement kind earlier stood (drop stood cards) sized given →
     Leaves kind cards earlier coming given stood sized.cards found after
 in-front-if-any kind cards earlier coming given stood sized None old after is other next statement =
-    record { was = tt; beside = record { front = inl next.0; tail = before-tail kind cards earlier coming given stood sized old after is.tail other next.1 statement } }
+    record { was = tt; beside = record { front = inl next.0; tail = tail-if-any kind cards earlier coming given stood sized old after is.tail other next.1 statement } }
 in-front-if-any kind cards earlier coming given stood sized (Some found) old after is other next statement = elim is.front [
   | inl none ↦ absurd (no-line found.line.now after.left.now (sym next.lines ∙ none))
   | inr beside ↦
-      let goes = next-line kind cards earlier given stood sized found old after beside next statement in
-      let same : IsSameTail old after = record { tail = next.same_tail; items = next.one.same_items; bindings = next.one.same_bindings } in
-      record { was = goes.was; beside = record { front = inr goes.beside; tail = before-tail kind cards earlier coming given stood sized old after is.tail other same statement } }
+      let goes = next-line kind cards beside.0 earlier beside.1 given stood sized found old after beside.2 next statement in
+      let same = same-tail old after stood sized.cards (Some found) next in
+      record { was = goes.was; beside = record { front = inr (beside.0, goes.later, goes.beside); tail = tail-if-any kind cards earlier coming given stood sized old after is.tail other same statement } }
 ]
 
 -- in the tail
@@ -284,8 +338,11 @@ in-tail-if-any kind cards earlier coming given stood sized None old after is pla
 in-tail-if-any kind cards earlier coming given stood sized (Some found) old after is place next statement few = elim is.tail [
   | inl none ↦ absurd (no-line found.line.now after.tail.left.now (sym next.lines ∙ none))
   | inr of ↦
-      let goes = next-of-tail kind cards earlier coming given stood sized found old after of place next statement few in
-      record { was = goes.was; beside = record { front = inl next.front; tail = inr goes.beside } }
+      let own = sized-cards kind earlier stood (drop stood cards) sized given statement in
+      let some = statement.some in
+      let none = at-tail kind of.0 earlier coming of.1 given stood old of.2 place (omega (arith, own, some)) in
+      let goes = next-of-tail kind cards of.0 earlier coming of.1 given stood sized found old after of.2 none next statement few in
+      record { was = goes.was; beside = record { front = inl next.front; tail = inr (of.0, [], goes.of) } }
 ]
 
 -- in either
@@ -344,40 +401,25 @@ shown-from context earlier (statement ∷ coming) listed =
     ∙ ap (λ (l : List Statement). reverse (map (shown_of context) (settled_all context.kind l)) ++ map only_listed listed)
     (sym (append_assoc (reverse coming) (statement ∷ []) earlier) ∙ ap (λ l. l ++ earlier) (sym (reverse-append (statement ∷ []) coming)))
 
--- what is known of the lines that were chosen
-pub record AreChosen (kind : DeckKind) (old cards : List Card) (former : Former) (parts : ObjectParts) (lines : FormerLines) : Type 0 where
-  pub items : lines.items.now ≡ parts.items.items
-  pub before : lines.before ≡ former.before
-  pub symbols : lines.bindings.symbols.now ≡ former.symbols
-  pub literals : lines.bindings.literals.now ≡ former.literals
-  pub bases : lines.bindings.bases.now ≡ parts.bases
-  pub alike : former.kind ≡ kind → lines.left.now ≡ parts.lines.items
-  pub other : (lines.left.now ≡ []) ⊎ (former.kind ≡ kind)
-  pub none : former.tail ≡ 0 → lines.tail.left.now ≡ []
-  pub tail : (former.tail ≡ 0) ⊎ (lines.tail.left.now ≡ lines_behind (length old - former.tail) lines.left.now)
-  pub place : lines.tail.at ≡ length cards - former.tail
-
 -- the deck before an edit, and its lines
-record HasLines (kind : DeckKind) (old : List Card) (parts : ObjectParts) (lines : FormerLines) : Type 0 where
-  context : Context
-  same_kind : context.kind ≡ kind
-  bindings : AreBindings lines.bindings context
-  listed : List Statement
-  shown : AreShown context.kind context.rows lines.items.now 0 old parts.lines.items (shown_from context [] (reverse (known_in old)) listed)
+pub record HasLines (kind : DeckKind) (old : List Card) (parts : ObjectParts) (lines : FormerLines) : Type 0 where
+  pub same_kind : (context_from (known_in old)).kind ≡ kind
+  pub bindings : AreBindings lines.bindings (context_from (known_in old))
+  pub listed : List Statement
+  pub shown : let context = context_from (known_in old) in AreShown context.kind context.rows lines.items.now 0 old parts.lines.items (shown_from context [] (reverse (known_in old)) listed)
 
-has-lines : (kind : DeckKind) (old cards : List Card) (name : List ℕ) (former : Former) (parts : ObjectParts) (lines : FormerLines) → IsFormerOf old former →
-    (let given : Deck = record { name = name; cards = old } in ArePartsOf old parts (object_of given)) → AreChosen kind old cards former parts lines → former.kind ≡ kind → HasLines kind old parts lines
+pub has-lines : (kind : DeckKind) (old cards : List Card) (name : List ℕ) (former : Former) (parts : ObjectParts) (lines : FormerLines) → IsFormerOf old former →
+    (let given : Deck = record { name = name; cards = old } in ArePartsOf old parts (object_of given)) → AreChosen kind (length old) (length cards) former parts lines → former.kind ≡ kind → HasLines kind old parts lines
 has-lines kind old cards name former parts lines is are chosen k =
     let known = known_in old in
     let others = behind_end (statements_of (reverse old)) in
-    let context = context_of (kind_of_statements known) (settled_all (kind_of_statements known) known) in
+    let context = context_from known in
     let seen : DeckKind → View = λ d name. defined name (settled_all d known) in
     let listing : reverse (map only_listed others ++ map (shown_of context) context.settled) ≡ shown_from context [] (reverse known) (reverse others) =
     shown-object context context.settled others
     ∙ ap (λ (l : List Statement). reverse (map (shown_of context) (settled_all context.kind l)) ++ map only_listed (reverse others)) (sym (append-none (reverse (reverse known)) ∙ reverse-reverse known))
     ∙ sym (shown-from context [] (reverse known) (reverse others)) in
     record {
-      context = context;
       same_kind = sym is.kind ∙ k;
       bindings = record {
         symbols = ap symbol_in chosen.symbols ∙ is.symbols ∙ ap seen is.kind;
@@ -433,74 +475,119 @@ alike-onward kind before (other ∷ others) earlier (statement ∷ statements) l
     (alike-onward kind before others earlier statements (other ∷ later) (statement ∷ coming) h.1 (h.0, rest))
 
 -- the lines of a tail
-tail-beside : (kind : DeckKind) (old cards : List Card) (former : Former) (parts : ObjectParts) (lines : FormerLines) → AreChosen kind old cards former parts lines → HasLines kind old parts lines →
-    lines.tail.left.now ≡ lines_behind (length old - former.tail) parts.lines.items → lines.tail.at ≡ length cards - former.tail → HasTail kind old cards former.tail (known_in cards) →
-    AreOfTail kind [] (reverse (known_in cards)) 0 lines
-tail-beside kind old cards former parts lines chosen has left place tail =
-    let split = tail.tail.split in
-    let old_place = tail.tail.old_place in
-    let new_place = tail.tail.new_place in
-    let back = reverse-reverse split.old_front in
-    let later = reverse split.old_tail ++ reverse tail.behind in
-    let all : reverse (known_in old) ≡ reverse split.old_front ++ later =
-    ap reverse (sym tail.all ∙ ap (λ l. tail.behind ++ l) tail.tail.of_old) ∙ reverse-append tail.behind (split.old_tail ++ split.old_front) ∙ ap (λ l. l ++ reverse tail.behind) (reverse-append split.old_tail split.old_front)
-    ∙ append_assoc (reverse split.old_front) (reverse split.old_tail) (reverse tail.behind) in
-    let whole : reverse (reverse split.old_front) ++ [] ≡ split.old_front = append-none (reverse (reverse split.old_front)) ∙ back in
-    let own = ap (λ l. stood l) whole in
-    let shown = show-behind has.context lines.items.now (reverse split.old_front) [] later has.listed (length old - former.tail) 0 old parts.lines.items
-    (subst (λ (l : List Statement). AreShown has.context.kind has.context.rows lines.items.now 0 old parts.lines.items (shown_from has.context [] l has.listed)) all has.shown) (omega (arith, old_place, own)) in
-    let there = subst (λ (both : List Line × List Statement). ShowBehind has.context lines.items.now both.0 both.1 later has.listed) (λ i. (sym left i, whole i)) shown in
-    let front : reverse (reverse split.new_front) ++ [] ≡ split.new_front = append-none (reverse (reverse split.new_front)) ∙ reverse-reverse split.new_front in
+pub tail-beside : (kind : DeckKind) (old cards : List Card) (former : Former) (parts : ObjectParts) (lines : FormerLines) → AreChosen kind (length old) (length cards) former parts lines → HasLines kind old parts lines → former.kind ≡ kind →
+    (tail : HasTail kind old cards former.tail (known_in cards)) → AreOfTail kind (context_from (known_in old)) [] (reverse (known_in cards)) (reverse tail.tail.split.new_front) 0 lines
+tail-beside kind old cards former parts lines chosen has k tail = by chosen.tail
+  where
+    by : (former.tail ≡ 0) ⊎ (lines.tail.left.now ≡ lines_behind (length old - former.tail) lines.left.now) → AreOfTail kind (context_from (known_in old)) [] (reverse (known_in cards)) (reverse tail.tail.split.new_front) 0 lines
+    by (inl none) = let some = tail.tail.some in absurd (omega (arith, none, some))
+    by (inr chosen_lines) =
+        let context = context_from (known_in old) in
+        let split = tail.tail.split in
+        let left = chosen_lines ∙ ap (lines_behind (length old - former.tail)) (chosen.alike k) in
+        let place = chosen.place in
+        let old_place = tail.tail.old_place in
+        let new_place = tail.tail.new_place in
+        let back = reverse-reverse split.old_front in
+        let later = reverse split.old_tail ++ reverse tail.behind in
+        let all : reverse (known_in old) ≡ reverse split.old_front ++ later =
+        ap reverse (sym tail.all ∙ ap (λ l. tail.behind ++ l) tail.tail.of_old) ∙ reverse-append tail.behind (split.old_tail ++ split.old_front) ∙ ap (λ l. l ++ reverse tail.behind) (reverse-append split.old_tail split.old_front)
+        ∙ append_assoc (reverse split.old_front) (reverse split.old_tail) (reverse tail.behind) in
+        let whole : reverse (reverse split.old_front) ++ [] ≡ split.old_front = append-none (reverse (reverse split.old_front)) ∙ back in
+        let own = ap (λ l. stood l) whole in
+        let shown = show-behind context lines.items.now (reverse split.old_front) [] later has.listed (length old - former.tail) 0 old parts.lines.items
+        (subst (λ (l : List Statement). AreShown context.kind context.rows lines.items.now 0 old parts.lines.items (shown_from context [] l has.listed)) all has.shown) (omega (arith, old_place, own)) in
+        let there = subst (λ (both : List Line × List Statement). ShowBehind context lines.items.now both.0 both.1 later has.listed) (λ i. (sym left i, whole i)) shown in
+        let front : reverse (reverse split.new_front) ++ [] ≡ split.new_front = append-none (reverse (reverse split.new_front)) ∙ reverse-reverse split.new_front in
+        record {
+          same_kind = has.same_kind;
+          bindings = has.bindings;
+          tail = reverse split.new_tail;
+          all = ap reverse tail.tail.of_new ∙ reverse-append split.new_tail split.new_front;
+          stands = refl;
+          place = ap (λ l. stood l) front ∙ (omega (arith, new_place, place));
+          passed = split.old_front;
+          later = later;
+          listed = has.listed;
+          old_stood = there.stood;
+          old_ahead = there.ahead;
+          shown = there.shown;
+          alike = subst (λ (both : List Statement × List Statement). AreAlikeOn kind split.old_front later both.0 both.1) (λ i. (sym front i, append-none (reverse split.new_tail) i))
+              (alike-onward kind split.old_front split.old_tail split.new_front split.new_tail (reverse tail.behind) [] tail.tail.alike tt);
+        }
+
+-- those in front
+pub front-beside : (kind : DeckKind) (old cards : List Card) (former : Former) (parts : ObjectParts) (lines : FormerLines) → AreChosen kind (length old) (length cards) former parts lines → HasLines kind old parts lines → former.kind ≡ kind →
+    take former.before old ≡ take former.before cards → AreBeside kind cards (context_from (known_in old)) [] (reverse (known_in old)) 0 lines
+front-beside kind old cards former parts lines chosen has k same =
+    let context = context_from (known_in old) in
     record {
-      context = has.context;
+      old_cards = old;
+      listed = has.listed;
       same_kind = has.same_kind;
       bindings = has.bindings;
-      between = reverse split.new_front;
-      tail = reverse split.new_tail;
-      all = ap reverse tail.tail.of_new ∙ reverse-append split.new_tail split.new_front;
-      stands = refl;
-      place = ap (λ l. stood l) front ∙ (omega (arith, new_place, place));
-      passed = split.old_front;
-      later = later;
-      listed = has.listed;
-      old_stood = there.stood;
-      old_ahead = there.ahead;
-      shown = there.shown;
-      alike = subst (λ (both : List Statement × List Statement). AreAlikeOn kind split.old_front later both.0 both.1) (λ i. (sym front i, append-none (reverse split.new_tail) i))
-          (alike-onward kind split.old_front split.old_tail split.new_front split.new_tail (reverse tail.behind) [] tail.tail.alike tt);
+      same = subst (λ n. take n old ≡ take n cards) (sym chosen.before) same;
+      shown = subst (λ (l : List Line). AreShown context.kind context.rows lines.items.now 0 old l (shown_from context [] (reverse (known_in old)) has.listed)) (sym (chosen.alike k)) has.shown;
     }
 
 -- what is kept of the deck before an edit goes beside a walk that begins
 pub begin-beside : (kind : DeckKind) (old cards : List Card) (name : List ℕ) (former : Former) (parts : ObjectParts) (lines : FormerLines) → IsFormerOf old former →
-    (let given : Deck = record { name = name; cards = old } in ArePartsOf old parts (object_of given)) → IsEditedOf old cards former → kind ≡ kind_of_statements (known_in cards) → AreChosen kind old cards former parts lines →
+    (let given : Deck = record { name = name; cards = old } in ArePartsOf old parts (object_of given)) → IsEditedOf old cards former → kind ≡ kind_of_statements (known_in cards) → AreChosen kind (length old) (length cards) former parts lines →
     IsBeside kind cards [] (reverse (known_in cards)) 0 lines
 begin-beside kind old cards name former parts lines is are edited kinds chosen = elim chosen.other [
   | inl none ↦ record { front = inl none; tail = inl (no-tail none chosen.tail) }
-  | inr k ↦ let has = has-lines kind old cards name former parts lines is are chosen k in record { front = inr (in-front has k); tail = by-tail has k edited.tail chosen.tail }
+  | inr k ↦
+      let has = has-lines kind old cards name former parts lines is are chosen k in
+      record { front = inr (context_from (known_in old), reverse (known_in old), front-beside kind old cards former parts lines chosen has k edited.same); tail = by-tail has k edited.tail }
 ]
   where
     no-tail : lines.left.now ≡ [] → (former.tail ≡ 0) ⊎ (lines.tail.left.now ≡ lines_behind (length old - former.tail) lines.left.now) → lines.tail.left.now ≡ []
     no-tail none (inl e) = chosen.none e
     no-tail none (inr e) = e ∙ ap (lines_behind (length old - former.tail)) none
 
-    in-front : HasLines kind old parts lines → former.kind ≡ kind → AreBeside kind cards [] 0 lines
-    in-front has k = record {
-      context = has.context;
-      old_cards = old;
-      coming = reverse (known_in old);
-      listed = has.listed;
-      same_kind = has.same_kind;
-      bindings = has.bindings;
-      same = subst (λ n. take n old ≡ take n cards) (sym chosen.before) edited.same;
-      shown = subst (λ (l : List Line). AreShown has.context.kind has.context.rows lines.items.now 0 old l (shown_from has.context [] (reverse (known_in old)) has.listed)) (sym (chosen.alike k)) has.shown;
-    }
+    by-tail : HasLines kind old parts lines → former.kind ≡ kind → HasTailIfAny (kind_of_statements (known_in cards)) old cards former.tail (known_in cards) → AreOfTailIfAny kind [] (reverse (known_in cards)) 0 lines
+    by-tail has k (inl e) = inl (chosen.none e)
+    by-tail has k (inr tail) =
+        let here = subst (λ (d : DeckKind). HasTail d old cards former.tail (known_in cards)) (sym kinds) tail in
+        inr (context_from (known_in old), reverse here.tail.split.new_front, tail-beside kind old cards former parts lines chosen has k here)
 
-    by-tail : HasLines kind old parts lines → former.kind ≡ kind → HasTailIfAny (kind_of_statements (known_in cards)) old cards former.tail (known_in cards) →
-        (former.tail ≡ 0) ⊎ (lines.tail.left.now ≡ lines_behind (length old - former.tail) lines.left.now) → AreOfTailIfAny kind [] (reverse (known_in cards)) 0 lines
-    by-tail has k (inl e) left = inl (chosen.none e)
-    by-tail has k (inr tail) (inl e) = inl (chosen.none e)
-    by-tail has k (inr tail) (inr left) =
-        inr (tail-beside kind old cards former parts lines chosen has (left ∙ ap (lines_behind (length old - former.tail)) (chosen.alike k)) chosen.place (subst (λ (d : DeckKind). HasTail d old cards former.tail (known_in cards)) (sym kinds) tail))
+-- each line that there is, in front and in the tail
+pub begin-due : (kind : DeckKind) (old cards : List Card) (name : List ℕ) (former : Former) (parts : ObjectParts) (lines : FormerLines) (plan : CodePlan) → IsFormerOf old former →
+    (let given : Deck = record { name = name; cards = old } in ArePartsOf old parts (object_of given)) → IsEditedOf old cards former → AreChosen kind (length old) (length cards) former parts lines → IsPlanOf kind old cards former plan →
+    IsDueBeside kind cards plan [] (reverse (known_in cards)) 0 lines
+begin-due kind old cards name former parts lines plan is are edited chosen of = record {
+  stands = refl;
+  front = λ first second. record {
+    coming = reverse (known_in old);
+    all = append-none (reverse (reverse (known_in old))) ∙ reverse-reverse (known_in old) ∙ sym of.of_old;
+    few = subst (λ n. plan.decks.before ≤ n) (sym chosen.before) of.few;
+    beside = subst (λ (context : Context). AreBeside kind cards context [] (reverse (known_in old)) 0 lines) (sym of.known) (front-beside kind old cards former parts lines chosen has of.same edited.same);
+  };
+  tail = by of.begins;
+}
+  where
+    has : HasLines kind old parts lines
+    has = has-lines kind old cards name former parts lines is are chosen of.same
+
+    turned : length (reverse (known_in cards)) ≡ length (known_in cards)
+    turned = length-reverse (known_in cards)
+
+    by : StandBeforeTail kind old cards former.tail (known_in cards) plan.from → HasNoTail cards plan [] (reverse (known_in cards)) lines ⊎ IsBesideTail kind plan [] (reverse (known_in cards)) 0 lines
+    by (inl none) =
+        let place = chosen.place in
+        let same = turned in
+        let empty = none.0 in
+        let from = none.1 in
+        inl (record { from = omega (arith, from, same); at_end = omega (arith, place, empty) })
+    by (inr tail) =
+        let front = tail.0.tail.split.new_front in
+        let same = length-reverse front in
+        let from = tail.1 in
+        inr (record {
+          between = reverse front;
+          of = subst (λ (context : Context). AreOfTail kind context [] (reverse (known_in cards)) (reverse front) 0 lines) (sym of.known) (tail-beside kind old cards former parts lines chosen has of.same tail.0);
+          place = inl (omega (arith, from, same));
+        })
 
 -- before the first statement
 pub beside-begin : (whole : Whole) (made : Making) (former : FormerLines) → IsWhole whole → made.lines.stood ≡ 0 → AreLined whole [] made.lines → AreNoted whole [] made.names →

@@ -59,7 +59,7 @@ same-statement (first ∷ middle) [] earlier a b e =
 same-statement (first ∷ middle) (last ∷ other) earlier a b e = same-statement middle other earlier a b (rest-same first last (middle ++ a ∷ earlier) (other ++ b ∷ earlier) e)
 
 -- where an untouched front has more statements than these, the next one of both decks is one of it, and ends before the edited card
-next-untouched : (decks : Edited) (front earlier later others : List Statement) (a b : Statement) → IsUntouched decks front → decks.old ≡ later ++ a ∷ earlier → decks.new ≡ others ++ b ∷ earlier →
+pub next-untouched : (decks : Edited) (front earlier later others : List Statement) (a b : Statement) → IsUntouched decks front → decks.old ≡ later ++ a ∷ earlier → decks.new ≡ others ++ b ∷ earlier →
     length earlier < length front → (a ≡ b) × (length (cards_in (a ∷ earlier)) ≤ decks.before)
 next-untouched decks front earlier later others a b is old new longer =
     let first = has-more later is.of_old.0 front earlier a (sym old ∙ is.of_old.1) longer in

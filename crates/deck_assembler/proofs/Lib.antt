@@ -56,6 +56,9 @@ pub mod RebindingLaws
 pub mod CopiedLaws
 -- The lines of the object before an edit.
 pub mod FormerLaws
+-- How many statements of an edited deck are coded.
+pub mod DueCodeLaws
+pub mod DueCodeCounts
 -- Where two views agree on what is left.
 pub mod AlikeLaws
 -- Where an old deck and an edited one are found to agree.

@@ -1,5 +1,5 @@
 -- Where an old deck and an edited one agree, all that is left of the old one stays.
-use Rattle.std.proofs.Common.{◌≡◌, ℕ, ◌+◌, ◌-◌, ◌≤◌, ◌⊎◌, inl, inr, List, [], ◌∷◌, ◌++◌, drop, length, refl, sym, ap, ◌∙◌, subst, arith}
+use Rattle.std.proofs.Common.{◌≡◌, ℕ, ◌+◌, ◌-◌, ◌<◌, ◌≤◌, ◌⊎◌, inl, inr, List, [], ◌∷◌, ◌++◌, drop, length, refl, sym, ap, ◌∙◌, subst, arith, length-append}
 use Rattle.std.specs.Prelude.{Option, Some, None, Result, Ok, Err, IfOk, IfSome, reverse}
 use Rattle.std.proofs.lemmas.List.{length-drop}
 use Rattle.cards.specs.Spans.{statement_at}
@@ -10,18 +10,20 @@ use Rattle.definitions.specs.Statements.{Statement}
 use Rattle.definitions.specs.declared.deck_kind.DeckKind.{DeckKind}
 use Rattle.deck_assembler.specs.Agreements.{left, AreAlikeFrom, HasFront, HaveSameEnd, IsAgreeing, IsOfSameDeck}
 use Rattle.deck_assembler.specs.Formers.{known_in}
+use Rattle.deck_assembler.specs.Meetings.{IsSoon, WillAgreeAt}
 use Rattle.deck_assembler.specs.OldDecks.{AreKeptFrom, IsAtStage, IsInTail, IsKeptOn, IsOnSpan}
 use Rattle.deck_assembler.specs.SizedDecks.{IsSizedStatement, AreSizedFrom}
 use Rattle.deck_assembler.specs.Sizers.{stood, ahead, IsNext, IsSizer}
-use Rattle.deck_assembler.specs.Tails.{AreKeptAlike, HasTailIfAny, HaveOneTail, IsSettledAlike}
+use Rattle.deck_assembler.specs.Tails.{AreKeptAlike, HasTailIfAny, HasTailWithin, HaveOneTail, IsSettledAlike}
 use Rattle.deck_assembler.specs.declared.old_deck.OldDeck.{OldDeck}
+use Rattle.deck_assembler.specs.declared.old_deck.Stage.{Stage}
 use Rattle.deck_assembler.specs.declared.old_deck.Stage.TheVariants as stages
 use Rattle.deck_assembler.specs.declared.sized_statement.SizedStatement.{SizedStatement}
 use Rattle.deck_assembler.specs.declared.sizer.Sizer.{Sizer}
 use Rattle.deck_assembler.proofs.AgreeLaws.{tail-kept}
 use Rattle.deck_assembler.proofs.ForwardLaws.{stood-more}
 use Rattle.deck_assembler.proofs.OldLaws.{same-ahead}
-use Rattle.deck_assembler.proofs.OntoLaws.{reverse-onto}
+use Rattle.deck_assembler.proofs.OntoLaws.{reverse-onto, rest-of}
 
 pub meet-kept : (kind : DeckKind) (old cards : List Card) (earlier : List Statement) (sizer : Sizer) (deck : OldDeck) →
     IsSizer kind cards earlier sizer → deck.kind ≡ kind → (has : HasFront old (left deck) deck) → HaveSameEnd deck.behind old cards → stood earlier ≤ length cards →
@@ -83,6 +85,7 @@ tail-next kind old cards earlier span deck new sized next is e same count = by i
               of_new = ap (λ l. given ∷ l) is.tail.of_new;
               old_place = ap (λ (l : List Card). stood split.old_front + length l) same ∙ is.tail.old_place;
               new_place = ap (λ (l : List Card). stood split.new_front + length l) same ∙ is.tail.new_place;
+              some = subst (λ (l : List Card). 0 < length l) (sym same) is.tail.some;
               alike = (subst (λ (both : List Statement × List Statement). IsSettledAlike kind both.0 other both.1 given) (λ i. (is.tail.of_old i, is.tail.of_new i)) moved.0, is.tail.alike);
             };
             alike = subst (λ n. AreKeptAlike kind cards (given ∷ earlier) n (other ∷ is.passed) (left new) later) more moved.1;
@@ -109,6 +112,7 @@ on-tail kind old cards earlier span sizer deck passed new on within has same the
     let own = ap length same_ahead ∙ ap length has.ahead ∙ length-drop has.stood old in
     let its = ap length same_ahead ∙ many in
     let place = has.place in
+    let some = on.next.some in
     let kept = meet-kept kind old cards earlier sizer passed on.sizer_is (same.kind ∙ on.kept_on.kinds) has (subst (λ n. HaveSameEnd n old cards) (sym same.behind) on.kept_on.same) (omega (arith, start, within))
     (many ∙ ap (λ n. length cards - n) start) (subst (λ n. length cards - n ≤ passed.behind) start few) state agrees in
     record {
@@ -126,6 +130,7 @@ on-tail kind old cards earlier span sizer deck passed new on within has same the
             of_new = refl;
             old_place = omega (arith, own, before, place);
             new_place = omega (arith, its, start, within);
+            some = omega (arith, its, within, some);
             alike = tt;
           };
           alike = subst (λ l. AreKeptAlike kind cards earlier (stood earlier) has.front l has.later) (sym rest) kept.1;
@@ -153,3 +158,62 @@ tail-taken kind old cards earlier deck count kept is either = elim either [
       let there = subst (IsAtStage kind old cards earlier deck) stage kept.standing in
       inr (record { passed = there.passed; behind = reverse there.later; all = there.all; tail = subst (λ n. HaveOneTail kind old cards n there.passed earlier) (sym (is stage)) there.tail })
 ]
+
+-- where the decks agree no more statements were taken than a limit
+pub soon-begins : (cards : List Card) (limit : ℕ) (earlier : List Statement) (deck : OldDeck) → length earlier ≤ limit → stood earlier + length deck.ahead.now ≡ length cards → IsSoon cards limit earlier deck
+soon-begins cards limit earlier deck few place = record {
+  reached = omega (arith, place);
+  soon = λ middle front e at. let whole = ap length e in let parts = length-append middle front in omega (arith, whole, parts, few);
+}
+
+pub soon-next : (cards : List Card) (limit : ℕ) (earlier : List Statement) (span : Span) (deck new : OldDeck) → IsNext cards earlier span.count (statement_at cards span) → new.ahead.now ≡ deck.ahead.now → IsSoon cards limit earlier deck →
+    IsSoon cards limit (statement_at cards span ∷ earlier) new
+soon-next cards limit earlier span deck new next same is =
+    let more = stood-more earlier (statement_at cards span) (ahead cards earlier) span.count next.cards next.within in
+    let some = next.some in
+    let own = ap length same in
+    let reached = is.reached in
+    record { reached = omega (arith, more, own, reached); soon = by own more some reached }
+  where
+    by : length new.ahead.now ≡ length deck.ahead.now → stood earlier + span.count ≡ stood (statement_at cards span ∷ earlier) → 0 < span.count → length cards ≤ stood earlier + length deck.ahead.now →
+        (middle front : List Statement) → statement_at cards span ∷ earlier ≡ middle ++ front → stood front + length new.ahead.now ≡ length cards → length front ≤ limit
+    by own more some reached [] front e place = let all = ap (λ l. stood l) e in absurd (omega (arith, all, own, more, some, reached, place))
+    by own more some reached (first ∷ middle) front e place = is.soon middle front (rest-of (statement_at cards span) first earlier (middle ++ front) e) (omega (arith, own, place))
+
+-- the tail that was kept, where the decks agree in time
+pub tail-within : (kind : DeckKind) (old cards : List Card) (earlier : List Statement) (deck : OldDeck) (count limit : ℕ) → IsKeptOn kind old cards earlier deck → deck.stage ≡ stages.Tail → count ≡ length deck.ahead.now →
+    IsSoon cards limit earlier deck → HasTailWithin kind old cards count earlier limit
+tail-within kind old cards earlier deck count limit kept stage is soon =
+    let there = subst (IsAtStage kind old cards earlier deck) stage kept.standing in
+    record {
+      tail = record {
+        passed = there.passed;
+        behind = reverse there.later;
+        all = there.all;
+        tail = record {
+          split = there.tail.split;
+          of_old = there.tail.of_old;
+          of_new = there.tail.of_new;
+          old_place = ap (λ n. stood there.tail.split.old_front + n) is ∙ there.tail.old_place;
+          new_place = ap (λ n. stood there.tail.split.new_front + n) is ∙ there.tail.new_place;
+          some = subst (λ n. 0 < n) (sym is) there.tail.some;
+          alike = there.tail.alike;
+        };
+      };
+      within = soon.soon there.tail.split.new_tail there.tail.split.new_front there.tail.of_new there.tail.new_place;
+    }
+
+-- at the end the decks were found to agree, where they are in time
+pub ends-in-tail : (kind : DeckKind) (old cards : List Card) (limit : ℕ) (earlier : List Statement) (deck : OldDeck) (stage : Stage) → earlier ≡ known_in cards → limit < length (known_in cards) → WillAgreeAt kind old cards limit earlier deck stage →
+    (stage ≡ stages.Tail) × IsSoon cards limit earlier deck
+ends-in-tail kind old cards limit earlier deck stages.Front all more will =
+    let few = will.agree.new_front [] earlier (sym all) will.within in
+    let is = will.limit_is in
+    absurd (omega (arith, few, is, more))
+ends-in-tail kind old cards limit earlier deck stages.Between all more will =
+    let whole = ap length all in
+    let reached = will.reached in
+    let due = will.due in
+    absurd (omega (arith, whole, reached, due, more))
+ends-in-tail kind old cards limit earlier deck stages.Tail all more will = (refl, will.1)
+ends-in-tail kind old cards limit earlier deck stages.Over all more will = absurd will

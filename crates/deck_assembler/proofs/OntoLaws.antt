@@ -40,3 +40,10 @@ drop-more n (suc m) (item ∷ items) = drop-more n m items ∙ ap (λ k. drop k 
 -- a list turned round in front of another, with its first item at the end of that
 pub reverse-onto : {A : Type 0} (item : A) (items others : List A) → reverse items ++ item ∷ others ≡ reverse (item ∷ items) ++ others
 reverse-onto item items others = sym (append_assoc (reverse items) (item ∷ []) others) ∙ ap (λ l. l ++ others) (sym (reverse-append (item ∷ []) items))
+
+-- the first item of two lists, and the others
+pub first-of : {A : Type 0} (a b : A) (x y : List A) → a ∷ x ≡ b ∷ y → a ≡ b
+first-of a b x y e = cc
+
+pub rest-of : {A : Type 0} (a b : A) (x y : List A) → a ∷ x ≡ b ∷ y → x ≡ y
+rest-of a b x y e = cc

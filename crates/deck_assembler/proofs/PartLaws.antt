@@ -115,7 +115,7 @@ done-shown whole lines listing = step listing.coming listing.all listing.listed
     step (given ∷ coming) all h = absurd h
 
 -- what the statements were coded with is what the definitions have
-context-same : (whole : Whole) → IsWhole whole → context_in whole ≡ context_of whole.deck.kind (all_settled whole)
+pub context-same : (whole : Whole) → IsWhole whole → context_in whole ≡ context_of whole.deck.kind (all_settled whole)
 context-same whole is =
     let settled = all_settled whole in
     ap₂ (λ (rows : List BlockRow) (literals : List ℕ). let context : Context = record { kind = whole.deck.kind; settled = settled; rows = rows; literals = literals } in context) is.rows is.sized.literals

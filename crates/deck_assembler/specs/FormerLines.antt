@@ -12,11 +12,14 @@ use Rattle.deck_assembler.specs.CodedLines.{IsCoded, AreShown}
 use Rattle.deck_assembler.specs.DeckWalks.{IsWalked}
 use Rattle.deck_assembler.specs.Rebindings.{AreBindings}
 use Rattle.deck_assembler.specs.Sizers.{stood}
-use Rattle.deck_assembler.specs.TailLines.{AreAlikeOn}
+use Rattle.deck_assembler.specs.TailLines.{AreAlikeOn, lines_behind}
 use Rattle.deck_assembler.specs.Walks.{Whole}
 use Rattle.deck_assembler.specs.declared.deck_walk.Making.{Making}
+use Rattle.deck_assembler.specs.declared.former.Former.{Former}
 use Rattle.deck_assembler.specs.declared.former_lines.FormerLine.{FormerLine}
 use Rattle.deck_assembler.specs.declared.former_lines.FormerLines.{FormerLines}
+use Rattle.deck_assembler.specs.declared.lines.Line.{Line}
+use Rattle.deck_assembler.specs.declared.object.ObjectParts.{ObjectParts}
 use Rattle.deck_assembler.specs.declared.sized_statement.SizedStatement.{SizedStatement}
 
 -- the same tail, fields and names
@@ -59,10 +62,22 @@ abbrev pub IsNextInTail : FormerLines → FormerLines → ℕ → ℕ → Option
 IsNextInTail old new stood count None = (new.left.now ≡ []) × (new.tail.left.now ≡ [])
 IsNextInTail old new stood count (Some found) = IsTakenOfTail old new stood count found
 
+-- where none was taken in front the first one is none of so many cards, which are among the unchanged ones
+abbrev pub IsMissedInFront : FormerLines → ℕ → ℕ → Option FormerLine → Type 0
+IsMissedInFront old stood count None = (line : Line) (lines : List Line) → old.left.now ≡ line ∷ lines → line.cards ≡ count → stood + count ≤ old.before → line.coded ≡ None
+IsMissedInFront old stood count (Some found) = ⊤
+
+-- where none was taken of the tail the first one is only listed
+abbrev pub IsMissedInTail : FormerLines → Option FormerLine → Type 0
+IsMissedInTail old None = (line : Line) (lines : List Line) → old.tail.left.now ≡ line ∷ lines → line.coded ≡ None
+IsMissedInTail old (Some found) = ⊤
+
 -- of the tail where that begins
 pub record IsNextLine (old new : FormerLines) (stood count : ℕ) (found : Option FormerLine) : Type 0 where
   pub front : (stood ≡ old.tail.at → ⊥) → IsNextInFront old new stood count found
   pub tail : stood ≡ old.tail.at → IsNextInTail old new stood count found
+  pub missed_front : (stood ≡ old.tail.at → ⊥) → IsMissedInFront old stood count found
+  pub missed_tail : stood ≡ old.tail.at → IsMissedInTail old found
 
 -- no line is left
 pub record IsBare (former : FormerLines) : Type 0 where
@@ -91,10 +106,8 @@ shown_from context earlier (statement ∷ coming) listed =
     shown_of context (settle context.kind (settled_all context.kind earlier) statement) ∷ shown_from context (statement ∷ earlier) coming listed
 
 -- the lines that are left are those of a deck of the same kind behind these statements, of which it has the first ones too
-pub record AreBeside (kind : DeckKind) (cards : List Card) (earlier : List Statement) (stood : ℕ) (former : FormerLines) : Type 0 where
-  pub context : Context
+pub record AreBeside (kind : DeckKind) (cards : List Card) (context : Context) (earlier coming : List Statement) (stood : ℕ) (former : FormerLines) : Type 0 where
   pub old_cards : List Card
-  pub coming : List Statement
   pub listed : List Statement
   pub same_kind : context.kind ≡ kind
   pub bindings : AreBindings former.bindings context
@@ -103,14 +116,12 @@ pub record AreBeside (kind : DeckKind) (cards : List Card) (earlier : List State
 
 -- or none is left
 abbrev pub AreBesideIfAny : DeckKind → List Card → List Statement → ℕ → FormerLines → Type 0
-AreBesideIfAny kind cards earlier stood former = (former.left.now ≡ []) ⊎ AreBeside kind cards earlier stood former
+AreBesideIfAny kind cards earlier stood former = (former.left.now ≡ []) ⊎ ((context : Context) × (coming : List Statement) × AreBeside kind cards context earlier coming stood former)
 
 -- those of the tail are lines of a deck of the same kind; the statements to come, behind these, come to the tail, and are settled there as those of the lines were
-pub record AreOfTail (kind : DeckKind) (earlier coming : List Statement) (standing : ℕ) (former : FormerLines) : Type 0 where
-  pub context : Context
+pub record AreOfTail (kind : DeckKind) (context : Context) (earlier coming between : List Statement) (standing : ℕ) (former : FormerLines) : Type 0 where
   pub same_kind : context.kind ≡ kind
   pub bindings : AreBindings former.bindings context
-  pub between : List Statement
   pub tail : List Statement
   pub all : coming ≡ between ++ tail
   pub stands : standing ≡ stood earlier
@@ -125,12 +136,25 @@ pub record AreOfTail (kind : DeckKind) (earlier coming : List Statement) (standi
 
 -- or there are none
 abbrev pub AreOfTailIfAny : DeckKind → List Statement → List Statement → ℕ → FormerLines → Type 0
-AreOfTailIfAny kind earlier coming standing former = (former.tail.left.now ≡ []) ⊎ AreOfTail kind earlier coming standing former
+AreOfTailIfAny kind earlier coming standing former = (former.tail.left.now ≡ []) ⊎ ((context : Context) × (between : List Statement) × AreOfTail kind context earlier coming between standing former)
 
 -- the lines of the object before, beside the statements so far and those to come
 pub record IsBeside (kind : DeckKind) (cards : List Card) (earlier coming : List Statement) (stood : ℕ) (former : FormerLines) : Type 0 where
   pub front : AreBesideIfAny kind cards earlier stood former
   pub tail : AreOfTailIfAny kind earlier coming stood former
+
+-- these lines were chosen of the object before an edit, beside a deck of this kind; so many cards has the old deck, and so many the edited one
+pub record AreChosen (kind : DeckKind) (old count : ℕ) (former : Former) (parts : ObjectParts) (lines : FormerLines) : Type 0 where
+  pub items : lines.items.now ≡ parts.items.items
+  pub before : lines.before ≡ former.before
+  pub symbols : lines.bindings.symbols.now ≡ former.symbols
+  pub literals : lines.bindings.literals.now ≡ former.literals
+  pub bases : lines.bindings.bases.now ≡ parts.bases
+  pub alike : former.kind ≡ kind → lines.left.now ≡ parts.lines.items
+  pub other : (lines.left.now ≡ []) ⊎ (former.kind ≡ kind)
+  pub none : former.tail ≡ 0 → lines.tail.left.now ≡ []
+  pub tail : (former.tail ≡ 0) ⊎ (lines.tail.left.now ≡ lines_behind (old - former.tail) lines.left.now)
+  pub place : lines.tail.at ≡ count - former.tail
 
 -- how far a walk has come, and beside it the lines of the object before
 pub record IsWalkedBeside (whole : Whole) (left : List SizedStatement) (made : Making) (former : FormerLines) : Type 0 where

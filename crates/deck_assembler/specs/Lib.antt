@@ -34,3 +34,5 @@ pub mod CopiedFields
 pub mod TailLines
 pub mod FormerLines
 pub mod Formers
+-- How many statements of an edited deck are coded.
+pub mod DueCodes

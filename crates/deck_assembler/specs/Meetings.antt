@@ -103,11 +103,16 @@ pub record IsCutAlike (cards : List Card) (earlier : List Statement) (deck : Old
   pub all : known_in cards ≡ reverse later ++ earlier
   pub counts : map (λ (sized : SizedStatement). sized.cards) (left deck) ≡ map (λ (statement : Statement). length statement.cards) later
 
+-- and no more statements than a limit were taken where that begins
+pub record IsSoon (cards : List Card) (limit : ℕ) (earlier : List Statement) (deck : OldDeck) : Type 0 where
+  pub reached : length cards ≤ stood earlier + length deck.ahead.now
+  pub soon : (middle front : List Statement) → earlier ≡ middle ++ front → stood front + length deck.ahead.now ≡ length cards → length front ≤ limit
+
 -- an edited deck of more statements than this limit is found to agree with the old one before so many of it are taken
 abbrev pub WillAgreeAt : DeckKind → List Card → List Card → ℕ → List Statement → OldDeck → Stage → Type 0
 WillAgreeAt kind old cards limit earlier deck stages.Front = WillAgreeLater kind old cards limit earlier deck
 WillAgreeAt kind old cards limit earlier deck stages.Between = WillMeet kind old cards limit earlier deck
-WillAgreeAt kind old cards limit earlier deck stages.Tail = IsCutAlike cards earlier deck
+WillAgreeAt kind old cards limit earlier deck stages.Tail = IsCutAlike cards earlier deck × IsSoon cards limit earlier deck
 WillAgreeAt kind old cards limit earlier deck stages.Over = ⊥
 
 abbrev pub WillAgree : DeckKind → List Card → List Card → ℕ → List Statement → OldDeck → Type 0

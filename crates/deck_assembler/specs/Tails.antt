@@ -1,5 +1,5 @@
 -- The statements behind an edited card that stay as they were sized, and those of the old deck that they are.
-use Rattle.std.specs.Prelude.{ℕ, ◌≡◌, ⊤, ◌+◌, ◌⊎◌, List, [], ◌∷◌, ◌++◌, length, take}
+use Rattle.std.specs.Prelude.{ℕ, ◌≡◌, ⊤, ◌+◌, ◌<◌, ◌≤◌, ◌⊎◌, List, [], ◌∷◌, ◌++◌, length, take}
 use Rattle.cards.specs.Spans.{statement_at}
 use Rattle.definitions.specs.Cards.{Card}
 use Rattle.definitions.specs.DeckKinds.{kind_of_statements}
@@ -39,6 +39,7 @@ pub record HaveOneTail (kind : DeckKind) (old cards : List Card) (count : ℕ) (
   pub of_new : earlier ≡ split.new_tail ++ split.new_front
   pub old_place : stood split.old_front + count ≡ length old
   pub new_place : stood split.new_front + count ≡ length cards
+  pub some : 0 < count
   pub alike : AreSettledAlike kind split.old_front split.old_tail split.new_front split.new_tail
 
 -- statements of an edited deck end as some of the old one do
@@ -48,9 +49,19 @@ pub record HasTail (kind : DeckKind) (old cards : List Card) (count : ℕ) (earl
   pub all : behind ++ passed ≡ known_in old
   pub tail : HaveOneTail kind old cards count passed earlier
 
+-- no more statements than a limit stand in front of the tail
+pub record HasTailWithin (kind : DeckKind) (old cards : List Card) (count : ℕ) (earlier : List Statement) (limit : ℕ) : Type 0 where
+  pub tail : HasTail kind old cards count earlier
+  pub within : length tail.tail.split.new_front ≤ limit
+
 -- or there is no such tail
 abbrev pub HasTailIfAny : DeckKind → List Card → List Card → ℕ → List Statement → Type 0
 HasTailIfAny kind old cards count earlier = (count ≡ 0) ⊎ HasTail kind old cards count earlier
+
+-- so many statements stand in front of the tail, or all where there is none
+abbrev pub StandBeforeTail : DeckKind → List Card → List Card → ℕ → List Statement → ℕ → Type 0
+StandBeforeTail kind old cards count earlier from =
+    ((count ≡ 0) × (from ≡ length earlier)) ⊎ ((tail : HasTail kind old cards count earlier) × (from ≡ length tail.tail.split.new_front))
 
 -- an edited deck begins with the unchanged cards of the one before, and ends with its tail
 pub record IsEditedOf (old cards : List Card) (former : Former) : Type 0 where

@@ -1,13 +1,16 @@
 //! The lines of the statements of a deck, one behind the other.
-ghost use Rattle.std.specs.Prelude.{ℕ, ◌≡◌, ◌+◌, ◌-◌, ◌^◌, ◌≤◌, ◌∷◌, ◌++◌, [], List, IfOk, None, OnOk, true, length, take, drop, min};
+ghost use Rattle.std.specs.Prelude.{ℕ, ◌≡◌, ◌+◌, ◌-◌, ◌^◌, ◌≤◌, ◌∷◌, ◌++◌, [], List, IfOk, None, Some, OnOk, true, false, length, take, drop, min};
 ghost use Rattle.definitions.specs.Objects.{Shown, coded_of, only_listed, shown_of};
 ghost use Rattle.definitions.specs.Lengths.{BlockRow};
+ghost use Rattle.definitions.specs.Rebound.{is_rebound};
 ghost use Rattle.definitions.specs.Settling.{settle, settled_all};
+ghost use Rattle.definitions.specs.StatementItems.{Context};
 ghost use Rattle.definitions.specs.Statements as statements;
 ghost use Rattle.statement_coder.specs.ReadOperands.{IsReadOperand};
 ghost use Rattle.statement_coder.specs.Meters.{RisesBy};
 ghost use Rattle.deck_assembler.specs.CodedLines.{IsCoded};
 ghost use Rattle.deck_assembler.specs.FormerLines.{WasLineIfAny};
+ghost use Rattle.deck_assembler.specs.Rebindings.{AreBindings};
 ghost use Rattle.deck_assembler.specs.SizedDecks.{IsListedStatement, IsSizedStatement};
 ghost use Rattle.deck_assembler.specs.Walks.{AreLined, AreLinedAs, IsWhole, Whole, context_in, has_row, whole_of};
 
@@ -139,6 +142,11 @@ impl DeckLines {
         ensures coded { meter.new.coded ≤ meter.old.coded + 1 }
         ensures rises { meter.old.coded ≤ meter.new.coded }
         ensures all { found.entry ≡ None → OnOk result (RisesBy 1 meter.old.coded meter.new.coded) }
+        ensures kept { (known others earlier : List statements.Statement) (given : statements.Statement) (old : Context) (one : FormerLine) →
+            let whole = whole_of view.now known others in
+            let settled = settle whole.deck.kind (settled_all whole.deck.kind earlier) given in
+            IsWhole whole → IsReadOperand read.now settled → IsSizedStatement whole.deck.kind earlier self.old.stood (drop self.old.stood whole.cards) sized.now given → found.entry ≡ Some one → AreBindings one.bindings old →
+            is_rebound old (context_in whole) settled ≡ false → meter.new.coded ≡ meter.old.coded }
         ensures sized { meter.new.sized ≡ meter.old.sized }
     {
         match found {

@@ -1,10 +1,16 @@
 //! All statements of a deck, one after the other: their lines and their names.
-ghost use Rattle.std.specs.Prelude.{◌≡◌, ◌≤◌, ◌+◌, ◌∷◌, ◌++◌, [], List, IfOk, None, OnOk, length, reverse};
+ghost use Rattle.std.specs.Prelude.{ℕ, ◌≡◌, ◌≤◌, ◌+◌, ◌-◌, ◌^◌, ◌∷◌, ◌++◌, [], List, IfOk, None, Some, OnOk, false, drop, length, min, reverse};
+ghost use Rattle.definitions.specs.Rebound.{is_rebound};
+ghost use Rattle.definitions.specs.Settling.{settle, settled_all};
+ghost use Rattle.definitions.specs.StatementItems.{Context};
 ghost use Rattle.definitions.specs.Statements as statements;
 ghost use Rattle.statement_coder.specs.Meters.{RisesBy};
 ghost use Rattle.deck_assembler.specs.DeckParts.{sized_in};
 ghost use Rattle.deck_assembler.specs.declared.sized_statement.SizedStatement as code;
-ghost use Rattle.deck_assembler.specs.Walks.{IsWhole, Whole, whole_of};
+ghost use Rattle.deck_assembler.specs.DueCodes.{CodePlan, IsDueBeside, IsPlanned, IsWalkedDue, code_due_in};
+ghost use Rattle.deck_assembler.specs.Rebindings.{AreBindings};
+ghost use Rattle.deck_assembler.specs.SizedDecks.{IsSizedStatement};
+ghost use Rattle.deck_assembler.specs.Walks.{IsWhole, Whole, context_in, whole_of};
 ghost use Rattle.deck_assembler.specs.DeckWalks.{IsDone, IsListing};
 ghost use Rattle.deck_assembler.specs.FormerLines.{IsBare, IsBeside, IsNextLine, IsWalkedBeside};
 
@@ -33,8 +39,9 @@ fn line_room(deck: &SizedDeck) -> usize {
 impl Making {
     /// Those of no statement, with memory for the lines of all of them.
     fn new(alloc: Global, view: &DeckView<'_>) -> Result<Making, AllocError>
-        ensures { IfOk result (λ made. (known others : List statements.Statement) (former : FormerLines) → let whole = whole_of view.now known others in
+        ensures made { IfOk result (λ made. (known others : List statements.Statement) (former : FormerLines) → let whole = whole_of view.now known others in
             IsWhole whole → IsBeside whole.deck.kind whole.cards [] (reverse known) 0 former → IsWalkedBeside whole (sized_in whole.deck.pieces) made former) }
+        ensures stood { IfOk result (λ made. made.lines.stood ≡ 0) }
     {
         Ok(Making {
             lines: DeckLines::new(alloc, line_room(view.deck))?,
@@ -56,6 +63,10 @@ impl Making {
         ensures coded { meter.new.coded ≤ meter.old.coded + 1 }
         ensures rises { meter.old.coded ≤ meter.new.coded }
         ensures all { found.entry ≡ None → OnOk result (RisesBy 1 meter.old.coded meter.new.coded) }
+        ensures kept { (known others earlier : List statements.Statement) (given : statements.Statement) (old : Context) (one : FormerLine) → let whole = whole_of view.now known others in
+            IsWhole whole → IsSizedStatement whole.deck.kind earlier self.old.lines.stood (drop self.old.lines.stood whole.cards) sized.now given → found.entry ≡ Some one → AreBindings one.bindings old →
+            is_rebound old (context_in whole) (settle whole.deck.kind (settled_all whole.deck.kind earlier) given) ≡ false → meter.new.coded ≡ meter.old.coded }
+        ensures stood { OnOk result (self.new.lines.stood ≡ min (self.old.lines.stood + sized.now.cards) (2 ^ 64 - 1)) }
         ensures sized { meter.new.sized ≡ meter.old.sized }
     {
         let cards = next_cards(view.cards, self.lines.stood, sized.cards);
@@ -80,6 +91,10 @@ impl Making {
         ensures coded { meter.new.coded ≤ meter.old.coded + 1 }
         ensures rises { meter.old.coded ≤ meter.new.coded }
         ensures all { found.entry ≡ None → OnOk result (RisesBy 1 meter.old.coded meter.new.coded) }
+        ensures kept { (known others earlier : List statements.Statement) (given : statements.Statement) (old : Context) (one : FormerLine) → let whole = whole_of view.now known others in
+            IsWhole whole → IsSizedStatement whole.deck.kind earlier self.old.lines.stood (drop self.old.lines.stood whole.cards) sized.now given → found.entry ≡ Some one → AreBindings one.bindings old →
+            is_rebound old (context_in whole) (settle whole.deck.kind (settled_all whole.deck.kind earlier) given) ≡ false → meter.new.coded ≡ meter.old.coded }
+        ensures stood { OnOk result (self.new.lines.stood ≡ min (self.old.lines.stood + sized.now.cards) (2 ^ 64 - 1)) }
         ensures sized { meter.new.sized ≡ meter.old.sized }
     {
         let kind = view.deck.kind();
@@ -110,6 +125,10 @@ impl Making {
         ensures rises { meter.old.coded ≤ meter.new.coded }
         ensures ended { IsBare former.old → IsBare former.new }
         ensures all { OnOk result (IsBare former.old → RisesBy (length piece.now) meter.old.coded meter.new.coded) }
+        ensures due_on { OnOk result ((known others : List statements.Statement) (left : List code.SizedStatement) (plan : CodePlan) (base : ℕ) → let whole = whole_of view.now known others in
+            IsWhole whole → IsPlanned known plan → IsWalkedDue whole plan base (piece.now ++ left) self.old.lines.stood former.old meter.old.coded → IsWalkedDue whole plan base left self.new.lines.stood former.new meter.new.coded) }
+        ensures due { (known others : List statements.Statement) (left : List code.SizedStatement) (plan : CodePlan) (base : ℕ) → let whole = whole_of view.now known others in
+            IsWhole whole → IsPlanned known plan → IsWalkedDue whole plan base (piece.now ++ left) self.old.lines.stood former.old meter.old.coded → meter.new.coded ≤ base + code_due_in whole plan known }
         ensures sized { meter.new.sized ≡ meter.old.sized }
     {
         for sized in piece {
@@ -133,6 +152,8 @@ impl Making {
         ensures coded { meter.new.coded ≤ meter.old.coded + length (sized_in pieces.now) }
         ensures rises { meter.old.coded ≤ meter.new.coded }
         ensures all { OnOk result (IsBare former.old → RisesBy (length (sized_in pieces.now)) meter.old.coded meter.new.coded) }
+        ensures due { (known others : List statements.Statement) (plan : CodePlan) (base : ℕ) → let whole = whole_of view.now known others in
+            IsWhole whole → IsPlanned known plan → IsWalkedDue whole plan base (sized_in pieces.now) self.old.lines.stood former.old meter.old.coded → meter.new.coded ≤ base + code_due_in whole plan known }
         ensures sized { meter.new.sized ≡ meter.old.sized }
     {
         for piece in pieces {
@@ -153,7 +174,8 @@ fn list_all(lines: &mut DeckLines, counts: &[u32]) -> Result<(), AllocError>
 }
 
 /// The lines and the names of a deck. The statements up to END are coded, each once, but for those
-/// whose lines are taken over from the object before; where memory runs out, some of them.
+/// whose lines are taken over from the object before, so that no more are coded than are due; where
+/// memory runs out, some of them.
 pub(crate) fn walk(
     alloc: Global,
     view: &DeckView<'_>,
@@ -165,6 +187,8 @@ pub(crate) fn walk(
     ensures coded { meter.new.coded ≤ meter.old.coded + length (sized_in view.now.deck.now.pieces) }
     ensures rises { meter.old.coded ≤ meter.new.coded }
     ensures all { OnOk result (IsBare former.entry → RisesBy (length (sized_in view.now.deck.now.pieces)) meter.old.coded meter.new.coded) }
+    ensures due { (known others : List statements.Statement) (plan : CodePlan) → let whole = whole_of view.now known others in
+        IsWhole whole → IsPlanned known plan → IsDueBeside whole.deck.kind whole.cards plan [] (reverse known) 0 former.entry → meter.new.coded ≤ meter.old.coded + code_due_in whole plan known }
     ensures sized { meter.new.sized ≡ meter.old.sized }
 {
     let mut made = Making::new(alloc, view)?;

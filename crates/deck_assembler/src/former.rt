@@ -1,14 +1,7 @@
 //! What coding an edited deck needs of the deck before the edit.
-ghost use Rattle.std.specs.Prelude.{ℕ, ◌≡◌, ◌-◌, ◌⊎◌, [], List, length, reverse};
-ghost use Rattle.definitions.specs.Cards as cards;
-ghost use Rattle.definitions.specs.DeckInput.{Deck};
-ghost use Rattle.definitions.specs.DeckKinds.{kind_of_statements};
-ghost use Rattle.definitions.specs.Objects.{object_of};
-ghost use Rattle.deck_assembler.specs.FormerLines.{IsBeside};
-ghost use Rattle.deck_assembler.specs.Formers.{IsFormerOf, known_in};
-ghost use Rattle.deck_assembler.specs.PartsOf.{ArePartsOf};
+ghost use Rattle.std.specs.Prelude.{◌≡◌, ◌-◌, ◌⊎◌, []};
+ghost use Rattle.deck_assembler.specs.FormerLines.{AreChosen};
 ghost use Rattle.deck_assembler.specs.TailLines.{lines_behind};
-ghost use Rattle.deck_assembler.specs.Tails.{IsEditedOf};
 
 use crate::Line;
 use crate::former_lines::{FormerLines, TailLines};
@@ -107,8 +100,7 @@ impl Former {
         old: usize,
         count: usize,
     ) -> FormerLines<'a>
-        ensures { (of cards : List cards.Card) (name : List ℕ) → IsFormerOf of self.now → (let given : Deck = record { name = name; cards = of } in ArePartsOf of parts.now (object_of given)) →
-            IsEditedOf of cards self.now → length of ≡ old → length cards ≡ count → kind ≡ kind_of_statements (known_in cards) → IsBeside kind cards [] (reverse (known_in cards)) 0 result }
+        ensures { AreChosen kind old count self.now parts.now result }
     {
         let lines = lines_alike(parts.lines.as_slice(), self.kind, kind);
         FormerLines {

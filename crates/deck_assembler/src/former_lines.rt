@@ -7,7 +7,7 @@ ghost use Rattle.definitions.specs.Settled.{Settled, defined};
 ghost use Rattle.definitions.specs.StatementItems.{Context};
 ghost use Rattle.statement_coder.specs.ReadOperands.{IsReadOperand};
 ghost use Rattle.deck_assembler.specs.FirstSymbols.{symbol_in};
-ghost use Rattle.deck_assembler.specs.FormerLines.{IsBare, IsNextInFront, IsNextInTail, IsNextLine};
+ghost use Rattle.deck_assembler.specs.FormerLines.{IsBare, IsMissedInFront, IsMissedInTail, IsNextInFront, IsNextInTail, IsNextLine};
 ghost use Rattle.deck_assembler.specs.Rebindings.{AreBindings};
 
 use crate::deck_view::DeckView;
@@ -45,7 +45,8 @@ pub(crate) struct FormerLines<'a> {
 
 /// Whether so many cards behind so many others are among the unchanged ones.
 fn ends_within(stood: usize, count: u32, before: usize) -> bool
-    ensures { result ≡ true → stood + count ≤ before }
+    ensures within { result ≡ true → stood + count ≤ before }
+    ensures all { stood + count ≤ before → result ≡ true }
 {
     count as usize <= before && stood <= before - count as usize
 }
@@ -78,7 +79,8 @@ impl<'a> FormerLines<'a> {
 
     /// The same in front of the edited card, and behind it.
     fn next_in_front(&mut self, stood: usize, count: u32) -> Option<FormerLine<'a>>
-        ensures { IsNextInFront self.old self.new stood count result }
+        ensures next { IsNextInFront self.old self.new stood count result }
+        ensures missed { IsMissedInFront self.old stood count result }
     {
         let left = self.left;
         self.left = left.split_at(0).0;
@@ -98,7 +100,8 @@ impl<'a> FormerLines<'a> {
 
     /// The same in the tail.
     fn next_in_tail(&mut self, stood: usize, count: u32) -> Option<FormerLine<'a>>
-        ensures { IsNextInTail self.old self.new stood count result }
+        ensures next { IsNextInTail self.old self.new stood count result }
+        ensures missed { IsMissedInTail self.old result }
     {
         self.left = self.left.split_at(0).0;
         let tail = self.tail.left;

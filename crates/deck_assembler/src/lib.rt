@@ -10,7 +10,8 @@
 //! read was not kept, or names are given or taken. Behind END a line has cards alone. Of an edited deck,
 //! `SizedDeck::edited` keeps the statements in front of the edited card, and all those from where the
 //! deck agrees again with the one before; `edited_parts` takes the lines of both over from the object
-//! before, but for those of which `Rebinding` finds a name bound otherwise.
+//! before, but for those of which `Rebinding` finds a name bound otherwise, and counts no more than those
+//! as coded beside what lies between (`code_due`).
 //!
 //! A line keeps its fields as one number where they are known and have at most 60 bits, else in the
 //! object's list. That need not be the definitions' list of fields: it is as wide, has the same

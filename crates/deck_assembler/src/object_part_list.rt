@@ -1,10 +1,11 @@
 //! The parts of the object of a deck whose statements are sized.
-ghost use Rattle.std.specs.Prelude.{ℕ, ◌≡◌, ◌≤◌, ◌+◌, [], List, IfOk, IfSome, None, OnOk, length, reverse};
+ghost use Rattle.std.specs.Prelude.{ℕ, ◌≡◌, ◌≤◌, ◌+◌, [], List, IfOk, IfSome, None, Some, OnOk, length, reverse};
 ghost use Rattle.definitions.specs.DeckInput.{Deck};
-ghost use Rattle.definitions.specs.DeckKinds.{up_to_end};
+ghost use Rattle.definitions.specs.DeckKinds.{kind_of_statements, up_to_end};
 ghost use Rattle.definitions.specs.Objects.{object_of};
 ghost use Rattle.definitions.specs.Statements.{statements_of};
 ghost use Rattle.statement_coder.specs.Meters.{RisesBy};
+ghost use Rattle.deck_assembler.specs.DueCodes.{CodePlan, IsDueBeside, IsPlanned, IsPlanOf, code_due_of};
 ghost use Rattle.deck_assembler.specs.FormerLines.{IsBare, IsBeside};
 ghost use Rattle.deck_assembler.specs.Formers.{IsFormerOf, known_in};
 ghost use Rattle.deck_assembler.specs.PartsOf.{ArePartsOf};
@@ -47,6 +48,8 @@ fn parts_beside<'a>(
     ensures parts { IfOk result (λ parts. (name : List ℕ) → let given : Deck = record { name = name; cards = cards.now } in ArePartsOf cards.now parts (object_of given)) }
     ensures coded { meter.new.coded ≤ meter.old.coded + length (up_to_end (statements_of (reverse cards.now))) }
     ensures rises { meter.old.coded ≤ meter.new.coded }
+    ensures due { (lines : FormerLines) (plan : CodePlan) → former.entry ≡ Some lines → IsPlanned (known_in cards.now) plan → IsDueBeside deck.now.kind cards.now plan [] (reverse (known_in cards.now)) 0 lines →
+        meter.new.coded ≤ meter.old.coded + code_due_of cards.now plan }
     ensures all { former.entry ≡ None → OnOk result (RisesBy (length (up_to_end (statements_of (reverse cards.now)))) meter.old.coded meter.new.coded) }
     ensures sized { meter.new.sized ≡ meter.old.sized }
 {
@@ -94,7 +97,7 @@ pub fn object_parts<'a>(
 
 /// The parts of the object of an edited deck, as `object_parts` makes them: a statement of the
 /// unchanged cards in front, or of the tail that stayed as it was sized, keeps its line in the object
-/// before, unless a name is bound otherwise.
+/// before, unless a name is bound otherwise; and no more are coded than are due (`code_due_of`).
 pub fn edited_parts<'a>(
     alloc: Global,
     cards: &'a [Card],
@@ -109,6 +112,7 @@ pub fn edited_parts<'a>(
     ensures parts { IfOk result (λ parts. (name : List ℕ) → let given : Deck = record { name = name; cards = cards.now } in ArePartsOf cards.now parts (object_of given)) }
     ensures coded { meter.new.coded ≤ meter.old.coded + length (up_to_end (statements_of (reverse cards.now))) }
     ensures rises { meter.old.coded ≤ meter.new.coded }
+    ensures due { (plan : CodePlan) → IsPlanOf (kind_of_statements (known_in cards.now)) object.now.cards cards.now edited.now.former plan → meter.new.coded ≤ meter.old.coded + code_due_of cards.now plan }
     ensures sized { meter.new.sized ≡ meter.old.sized }
 {
     let lines = edited.former.lines(

@@ -13,7 +13,7 @@ ghost use Rattle.deck_assembler.specs.Formers.{IsFormerOf, known_in};
 ghost use Rattle.deck_assembler.specs.Meetings.{IsShort, StandApart, WillAgree};
 ghost use Rattle.deck_assembler.specs.OldDecks.{IsKeptOn, StandsInFront};
 ghost use Rattle.deck_assembler.specs.SizedDecks.{IsSizedDeck};
-ghost use Rattle.deck_assembler.specs.Tails.{HasTailIfAny};
+ghost use Rattle.deck_assembler.specs.Tails.{HasTailIfAny, HasTailWithin};
 ghost use Rattle.deck_assembler.specs.declared.old_deck.Stage.TheVariants as stages;
 
 use crate::former::{EditedDeck, Former};
@@ -94,6 +94,9 @@ impl SizedDeck {
             kind_of_statements decks.old ≡ kind_of_statements decks.new → IsUntouched decks front → length front + meter.new.sized ≤ length decks.new + meter.old.sized }
         ensures due { (decks : Edited) (front : List deck_statements.Statement) (split : Split) → StandApart old.entry.cards.now cards.now old.entry.before old.entry.behind decks → decks.before ≤ old.entry.before →
             IsUntouched decks front → DoAgree decks split → length front + meter.new.sized ≤ (length split.new_front + 128) + meter.old.sized }
+        ensures within { IfOk result (λ edited. (decks : Edited) (front : List deck_statements.Statement) (split : Split) → StandApart old.entry.cards.now cards.now old.entry.before old.entry.behind decks → decks.before ≤ old.entry.before →
+            IsUntouched decks front → DoAgree decks split → length split.new_front + 128 < length (known_in cards.now) →
+            HasTailWithin (kind_of_statements (known_in cards.now)) old.entry.cards.now cards.now edited.former.tail (known_in cards.now) (length split.new_front + 128)) }
         ensures rises { meter.old.sized ≤ meter.new.sized }
         ensures coded { meter.new.coded ≡ meter.old.coded }
     {
@@ -224,6 +227,8 @@ fn made(
         length front + meter.new.sized ≤ length (known_in cards.now) + meter.old.sized }
     ensures due { (of : List deck_cards.Card) (front : List deck_statements.Statement) (limit : ℕ) → IsKeptOn kind of cards.now [] old_deck.entry → StandsInFront of (known_in cards.now) front old_deck.entry →
         length front ≤ limit → limit < length (known_in cards.now) → WillAgree kind of cards.now limit [] old_deck.entry → length front + meter.new.sized ≤ limit + meter.old.sized }
+    ensures within { IfOk result (λ made. (of : List deck_cards.Card) (front : List deck_statements.Statement) (limit : ℕ) → IsKeptOn kind of cards.now [] old_deck.entry → StandsInFront of (known_in cards.now) front old_deck.entry →
+        length front ≤ limit → limit < length (known_in cards.now) → WillAgree kind of cards.now limit [] old_deck.entry → HasTailWithin kind of cards.now made.tail (known_in cards.now) limit) }
     ensures rises { meter.old.sized ≤ meter.new.sized }
     ensures all { OnOk result (old_deck.entry.stage ≡ stages.Over → RisesBy (length (up_to_end (statements_of (reverse cards.now)))) meter.old.sized meter.new.sized) }
     ensures coded { meter.new.coded ≡ meter.old.coded }

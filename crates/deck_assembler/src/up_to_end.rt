@@ -18,7 +18,7 @@ ghost use Rattle.deck_assembler.specs.Meetings.{IsBounded, IsNextKnown, WillAgre
 ghost use Rattle.deck_assembler.specs.OldDecks.{GoesOn, IsKeptOn, IsOnSpan, StandsInFront};
 ghost use Rattle.deck_assembler.specs.SizedDecks.{IsSizedStatement};
 ghost use Rattle.deck_assembler.specs.Sizers.{stood, ahead, IsNext, IsSizer};
-ghost use Rattle.deck_assembler.specs.Tails.{HasTailIfAny};
+ghost use Rattle.deck_assembler.specs.Tails.{HasTailIfAny, HasTailWithin};
 ghost use Rattle.deck_assembler.specs.declared.old_deck.Stage.TheVariants as stages;
 
 use crate::old_deck::OldDeck;
@@ -176,6 +176,8 @@ impl Sizer {
             length front + meter.new.sized ≤ length (up_to_end (all_statements cards.now spans.now)) + meter.old.sized }
         ensures due { (of : List deck_cards.Card) (front : List statements.Statement) (limit : ℕ) → IsKeptOn kind of cards.now [] old_deck.entry → StandsInFront of (up_to_end (all_statements cards.now spans.now)) front old_deck.entry →
             IsBounded cards.now spans.now front limit → WillAgree kind of cards.now limit [] old_deck.entry → length front + meter.new.sized ≤ limit + meter.old.sized }
+        ensures within { IfOk result (λ taken. (of : List deck_cards.Card) (front : List statements.Statement) (limit : ℕ) → IsKeptOn kind of cards.now [] old_deck.entry → StandsInFront of (up_to_end (all_statements cards.now spans.now)) front old_deck.entry →
+            IsBounded cards.now spans.now front limit → WillAgree kind of cards.now limit [] old_deck.entry → HasTailWithin kind of cards.now taken.tail (first_statements cards.now spans.now taken.count) limit) }
         ensures rises { meter.old.sized ≤ meter.new.sized }
         ensures all { OnOk result (old_deck.entry.stage ≡ stages.Over → RisesBy (length (up_to_end (all_statements cards.now spans.now))) meter.old.sized meter.new.sized) }
         ensures coded { meter.new.coded ≡ meter.old.coded }

@@ -1,5 +1,5 @@
 -- What is sized for edits is within what is due.
-use Rattle.std.proofs.Common.{◌≡◌, ℕ, ◌+◌, ◌≤◌, ◌==◌, true, false, List, [], ◌∷◌, length, All, None, refl, sym, ap, ◌∙◌, arith}
+use Rattle.std.proofs.Common.{◌≡◌, ℕ, ◌+◌, ◌-◌, ◌<◌, ◌≤◌, ◌==◌, true, false, List, [], ◌∷◌, length, All, None, refl, sym, ap, ◌∙◌, arith}
 use Rattle.std.proofs.lemmas.Bool.{eqb-true}
 use Rattle.definitions.specs.Cards.{Card}
 use Rattle.definitions.specs.DeckKinds.{kind_of_statements}
@@ -7,11 +7,15 @@ use Rattle.definitions.specs.Edits.{DoAgree, Edited, IsUntouched, Split}
 use Rattle.definitions.specs.Statements.{Statement}
 use Rattle.cards.specs.declared.edits.Edit.{Edit}
 use Rattle.cards.specs.Edits.{edited_by, first_fault}
+use Rattle.deck_assembler.specs.DueCodes.{CodePlan, IsPlanOf, code_due_of}
 use Rattle.deck_assembler.specs.Formers.{known_in}
 use Rattle.deck_assembler.specs.Meetings.{StandApart}
+use Rattle.deck_assembler.specs.Tails.{HasTailIfAny, HasTailWithin}
+use Rattle.deck_assembler.specs.declared.former.Former.{Former}
 use Rattle.deck_assembler.proofs.AgreementLaws.{untouched-before}
+use Rattle.deck_assembler.proofs.DueCodeCounts.{due-code-weaker, within-due-code}
 use Rattle.deck_assembler.proofs.FrontLaws.{front-still as still}
-use Rattle.edit_core.specs.Edited.{front_of, AreDecksOf, RisesToDue, RisesWithinDue, StandBehind, StandUnchanged}
+use Rattle.edit_core.specs.Edited.{front_of, AreDecksOf, RisesToDue, RisesToDueCode, RisesWithinDue, RisesWithinDueCode, StandBehind, StandUnchanged}
 use Rattle.edit_core.proofs.EditLaws.{decks-before}
 use Rattle.edit_core.proofs.EndLaws.{apart-all}
 
@@ -71,3 +75,27 @@ due-some (edit ∷ edits) cards count now some due = due
 pub due-none : (edits : List Edit) (cards : List Card) (count : ℕ) → (length edits == 0) ≡ true → RisesWithinDue edits cards count count
 due-none [] cards count none = refl
 due-none (edit ∷ edits) cards count none = let zero = eqb-true (length (edit ∷ edits)) 0 none in absurd (omega (arith, zero))
+
+-- what is coded, where it is bounded by what is due of each plan
+pub due-code-edited : (edits : List Edit) (own cards made : List Card) (before behind : ℕ) (former : Former) (count now : ℕ) → own ≡ cards → made ≡ edited_by edits own → AreTaken edits cards before behind → count ≤ now →
+    former.before ≡ before → former.kind ≡ kind_of_statements (known_in own) → HasTailIfAny (kind_of_statements (known_in made)) own made former.tail (known_in made) →
+    ((decks : Edited) (front : List Statement) (split : Split) → StandApart own made before behind decks → decks.before ≤ before → IsUntouched decks front → DoAgree decks split → length split.new_front + 128 < length (known_in made) →
+    HasTailWithin (kind_of_statements (known_in made)) own made former.tail (known_in made) (length split.new_front + 128)) →
+    ((plan : CodePlan) → IsPlanOf (kind_of_statements (known_in made)) own made former plan → now ≤ count + code_due_of made plan) → RisesToDueCode edits cards count now
+due-code-edited edits own cards made before behind former count now same after taken rises same_before same_kind tail within due = λ decks are ends.
+    let apart = apart-of edits own cards made before behind decks same after taken are ends in
+    let few = decks-before edits cards before decks taken.most are taken.few in
+    within-due-code own made before behind former decks (now - count) apart few same_before same_kind are.kinds tail (λ front split is agree. within decks front split apart few is agree)
+    (λ plan of. let bound = due plan of in omega (arith, bound))
+
+-- where nothing is coded
+pub due-code-still : (edits : List Edit) (cards : List Card) (before behind count : ℕ) → AreTaken edits cards before behind → RisesToDueCode edits cards count count
+due-code-still edits cards before behind count taken = λ decks are ends. due-code-weaker decks 128 (count - count) (due-still edits cards before behind count taken decks are ends)
+
+pub due-code-some : (edits : List Edit) (cards : List Card) (count now : ℕ) → (length edits == 0) ≡ false → RisesToDueCode edits cards count now → RisesWithinDueCode edits cards count now
+due-code-some [] cards count now some due = cc
+due-code-some (edit ∷ edits) cards count now some due = due
+
+pub due-code-none : (edits : List Edit) (cards : List Card) (count : ℕ) → (length edits == 0) ≡ true → RisesWithinDueCode edits cards count count
+due-code-none [] cards count none = refl
+due-code-none (edit ∷ edits) cards count none = let zero = eqb-true (length (edit ∷ edits)) 0 none in absurd (omega (arith, zero))

@@ -3,6 +3,7 @@ use Rattle.std.specs.Prelude.{◌≡◌, ℕ, ⊤, ◌+◌, ◌-◌, ◌≤◌, 
 use Rattle.definitions.specs.Cards.{Card}
 use Rattle.definitions.specs.DeckKinds.{up_to_end, kind_of_statements}
 use Rattle.definitions.specs.Edits.{Edited, IsUntouched, IsWithinDue}
+use Rattle.definitions.specs.Rebound.{IsWithinDueCode}
 use Rattle.definitions.specs.Statements.{Statement, statements_of}
 use Rattle.cards.specs.declared.edits.Edit.{Edit}
 use Rattle.cards.specs.declared.edits.Edit.TheVariants.{Insert, Replace, Remove}
@@ -72,3 +73,11 @@ RisesToDue edits cards count now = (decks : Edited) → AreDecksOf edits cards d
 abbrev pub RisesWithinDue : List Edit → List Card → ℕ → ℕ → Type 0
 RisesWithinDue [] cards count now = now ≡ count
 RisesWithinDue (edit ∷ edits) cards count now = RisesToDue (edit ∷ edits) cards count now
+
+-- as due, where what is counted is coded: with the statements of the front and of the tail that are bound otherwise
+abbrev pub RisesToDueCode : List Edit → List Card → ℕ → ℕ → Type 0
+RisesToDueCode edits cards count now = (decks : Edited) → AreDecksOf edits cards decks → StandUnchanged edits cards decks → IsWithinDueCode decks 128 (now - count)
+
+abbrev pub RisesWithinDueCode : List Edit → List Card → ℕ → ℕ → Type 0
+RisesWithinDueCode [] cards count now = now ≡ count
+RisesWithinDueCode (edit ∷ edits) cards count now = RisesToDueCode (edit ∷ edits) cards count now

@@ -1,9 +1,10 @@
 //! A deck assembled.
 ghost use Rattle.std.specs.Prelude.{◌≡◌, ◌≤◌, ◌+◌, length, reverse, IfOk, OnOk};
-ghost use Rattle.definitions.specs.DeckKinds.{up_to_end};
+ghost use Rattle.definitions.specs.DeckKinds.{kind_of_statements, up_to_end};
 ghost use Rattle.definitions.specs.Statements.{statements_of};
 ghost use Rattle.statement_coder.specs.Meters.{RisesBy};
-ghost use Rattle.deck_assembler.specs.Formers.{IsFormerOf};
+ghost use Rattle.deck_assembler.specs.DueCodes.{CodePlan, IsPlanOf, code_due_of};
+ghost use Rattle.deck_assembler.specs.Formers.{IsFormerOf, known_in};
 ghost use Rattle.deck_assembler.specs.SizedDecks.{IsSizedDeck};
 ghost use Rattle.deck_assembler.specs.Tails.{IsEditedOf};
 
@@ -50,6 +51,7 @@ pub(crate) fn edited_object(
     ensures object { IfOk result (λ made. made ≡ record { name = object.now.name; cards = cards.items }) }
     ensures sized { meter.new.sized ≡ meter.old.sized }
     ensures coded { meter.new.coded ≤ meter.old.coded + length (up_to_end (statements_of (reverse cards.items))) }
+    ensures coded_due { (plan : CodePlan) → IsPlanOf (kind_of_statements (known_in cards.items)) object.now.cards cards.items edited.now.former plan → meter.new.coded ≤ meter.old.coded + code_due_of cards.items plan }
     ensures coded_rises { meter.old.coded ≤ meter.new.coded }
 {
     let parts = edited_parts(alloc, &cards, edited, object, meter)?;

@@ -7,7 +7,7 @@ ghost use Rattle.definitions.specs.Statements.{statements_of};
 ghost use Rattle.cards.specs.Edits.{edited, edited_by, first_fault};
 ghost use Rattle.statement_coder.specs.Meters.{RisesBy};
 ghost use Rattle.deck_assembler.specs.SizedDecks.{IsSizedDeck};
-ghost use Rattle.edit_core.specs.Edited.{edits_bound, statement_count, IsRecordOf, RisesBehindFront, RisesToDue, RisesWithinDue};
+ghost use Rattle.edit_core.specs.Edited.{edits_bound, statement_count, IsRecordOf, RisesBehindFront, RisesToDue, RisesToDueCode, RisesWithinDue, RisesWithinDueCode};
 ghost use Rattle.edit_core.specs.Faults.{against, against_all};
 ghost use Rattle.edit_core.specs.Records.{ArePieces};
 
@@ -99,10 +99,11 @@ impl Kept {
     /// Makes an edit. Where the record is spent, or else where the edit doesn't apply, it says so and
     /// changes nothing; where memory runs out it is spent. The statements in front of the edited card
     /// stay as they were sized, and keep their lines in the object unless a name is bound otherwise; and
-    /// so do the others from the first piece on behind which all is sized as before. Where the kind of the deck changes, none does. The meter counts at most one statement sized, and
-    /// one coded, for each up to END of the edited cards; and where the kind stays, none sized of those
-    /// that stand untouched in front of both decks, and behind the first place where both decks agree
-    /// again no more than the 128 of a piece.
+    /// so do the others from the first piece on behind which all is sized as before. Where the kind of
+    /// the deck changes, none does. The meter counts at most one statement sized, and one coded, for each
+    /// up to END of the edited cards; and where the kind stays, none of those that stand untouched in
+    /// front of both decks, and behind the first place where both decks agree again no more than the 128
+    /// of a piece, but for those coded that are bound otherwise.
     pub fn edit(&mut self, alloc: Global, edit: &Edit, meter: &mut Meter) -> Result<(), RecordFault>
         ensures refused { ForSome (against edit.now self.old.is_spent self.old.cards) (λ fault. (result ≡ Err fault) × (self.new ≡ self.old) × (meter.new ≡ meter.old)) }
         ensures accepted { against edit.now self.old.is_spent self.old.cards ≡ None → IfErr result (λ fault. fault ≡ RecordFault.OutOfMemory) }
@@ -111,6 +112,7 @@ impl Kept {
         ensures sized { meter.new.sized ≤ meter.old.sized + statement_count (edited self.old.cards edit.now) }
         ensures sized_front { RisesBehindFront (edit.now ∷ []) self.old.cards meter.old.sized meter.new.sized }
         ensures sized_due { against edit.now self.old.is_spent self.old.cards ≡ None → RisesWithinDue (edit.now ∷ []) self.old.cards meter.old.sized meter.new.sized }
+        ensures coded_due { against edit.now self.old.is_spent self.old.cards ≡ None → RisesWithinDueCode (edit.now ∷ []) self.old.cards meter.old.coded meter.new.coded }
         ensures sized_rises { meter.old.sized ≤ meter.new.sized }
         ensures coded { meter.new.coded ≤ meter.old.coded + statement_count (edited self.old.cards edit.now) }
         ensures coded_rises { meter.old.coded ≤ meter.new.coded }
@@ -124,9 +126,9 @@ impl Kept {
     /// Where the record is spent, or else at the first edit that doesn't apply to what the ones before
     /// it leave, it says so and changes nothing; where memory runs out it is spent. The meter counts at
     /// most one statement sized, and one coded, for each up to END of the cards that all of them leave,
-    /// and none where there are no edits; and where the kind stays, none sized of those that stand
-    /// untouched in front of both decks, and behind the first place where both decks agree again no
-    /// more than the 128 of a piece.
+    /// and none where there are no edits; and where the kind stays, none of those that stand untouched
+    /// in front of both decks, and behind the first place where both decks agree again no more than the
+    /// 128 of a piece, but for those coded that are bound otherwise.
     pub fn edit_all(
         &mut self,
         alloc: Global,
@@ -140,6 +142,7 @@ impl Kept {
         ensures sized { meter.new.sized ≤ meter.old.sized + edits_bound edits.now self.old.cards }
         ensures sized_front { RisesBehindFront edits.now self.old.cards meter.old.sized meter.new.sized }
         ensures sized_due { against_all edits.now self.old.is_spent self.old.cards ≡ None → RisesWithinDue edits.now self.old.cards meter.old.sized meter.new.sized }
+        ensures coded_due { against_all edits.now self.old.is_spent self.old.cards ≡ None → RisesWithinDueCode edits.now self.old.cards meter.old.coded meter.new.coded }
         ensures sized_rises { meter.old.sized ≤ meter.new.sized }
         ensures coded { meter.new.coded ≤ meter.old.coded + edits_bound edits.now self.old.cards }
         ensures coded_rises { meter.old.coded ≤ meter.new.coded }
@@ -164,6 +167,7 @@ impl Kept {
         ensures sized { meter.new.sized ≤ meter.old.sized + edits_bound edits.now self.old.cards }
         ensures sized_front { RisesBehindFront edits.now self.old.cards meter.old.sized meter.new.sized }
         ensures sized_due { RisesWithinDue edits.now self.old.cards meter.old.sized meter.new.sized }
+        ensures coded_due { RisesWithinDueCode edits.now self.old.cards meter.old.coded meter.new.coded }
         ensures sized_rises { meter.old.sized ≤ meter.new.sized }
         ensures coded { meter.new.coded ≤ meter.old.coded + edits_bound edits.now self.old.cards }
         ensures coded_rises { meter.old.coded ≤ meter.new.coded }
@@ -219,6 +223,7 @@ impl Kept {
         ensures sized { meter.new.sized ≤ meter.old.sized + statement_count (edited_by edits.now self.now.cards) }
         ensures sized_front { RisesBehindFront edits.now self.now.cards meter.old.sized meter.new.sized }
         ensures sized_due { RisesToDue edits.now self.now.cards meter.old.sized meter.new.sized }
+        ensures coded_due { RisesToDueCode edits.now self.now.cards meter.old.coded meter.new.coded }
         ensures sized_rises { meter.old.sized ≤ meter.new.sized }
         ensures coded { meter.new.coded ≤ meter.old.coded + statement_count (edited_by edits.now self.now.cards) }
         ensures coded_rises { meter.old.coded ≤ meter.new.coded }

@@ -6,7 +6,7 @@
 //! that does not apply, or makes the record of the edited cards, and is spent where memory runs out on
 //! the way: what was sized in front of the edited cards stays, and behind them from where both decks
 //! agree again, and so do the lines of these statements unless a name is bound otherwise; the counted
-//! work is bounded by the whole deck. `edit` is the same with one edit.
+//! work is within what is due. `edit` is the same with one edit.
 #![tactic(auto)]
 
 mod assembling;

@@ -1,12 +1,27 @@
-use Rattle.std.proofs.Common.{◌∙◌, [], refl, ap, sym, subst}
-use Rattle.std.specs.Prelude.{length, reverse}
-use Rattle.deck_assembler.specs.FormerLines.{IsBeside}
+use Rattle.std.proofs.Common.{◌∙◌, [], length, reverse, refl, ap, sym, subst}
+use Rattle.deck_assembler.specs.DueCodes.{IsDueBeside}
+use Rattle.deck_assembler.specs.FormerLines.{AreChosen, IsBeside}
 use Rattle.deck_assembler.specs.Formers.{known_in}
+use Rattle.deck_assembler.proofs.FormerLaws.{begin-beside, begin-due}
 use Rattle.deck_assembler.proofs.object_part_list.edited_parts.Goals as goal
 
 pub parts_beside-requires-clause-beside : goal.parts_beside-requires-clause-beside
 parts_beside-requires-clause-beside c =
     let cards = c.args.cards.now in
+    let old = c.args.object.now.cards in
+    let former = c.args.edited.now.former in
+    let chosen = subst (λ n. AreChosen c.kind.result n (length cards) former c.parts.result.now c.lines-lines.result) (ap length c.cards.ensures) c.lines-lines.ensures in
     subst (λ kind. IsBeside kind cards [] (reverse (known_in cards)) 0 c.lines-lines.result) c.kind.ensures
-    (c.lines-lines.ensures c.args.object.now.cards cards c.args.object.now.name c.requires.former c.parts.ensures c.requires.edited
-    (ap length (sym c.cards.ensures)) refl (c.kind.ensures ∙ c.requires.deck.kind))
+    (begin-beside c.kind.result old cards c.args.object.now.name former c.parts.result.now c.lines-lines.result c.requires.former c.parts.ensures c.requires.edited (c.kind.ensures ∙ c.requires.deck.kind) chosen)
+
+pub returns-clause-due : goal.returns-clause-due
+returns-clause-due c = λ plan of.
+    let cards = c.args.cards.now in
+    let old = c.args.object.now.cards in
+    let former = c.args.edited.now.former in
+    let lines = c.lines-lines.result in
+    let kind = c.kind.ensures ∙ c.requires.deck.kind in
+    let chosen = subst (λ n. AreChosen c.kind.result n (length cards) former c.parts.result.now lines) (ap length c.cards.ensures) c.lines-lines.ensures in
+    let here = subst (λ k. AreChosen k (length old) (length cards) former c.parts.result.now lines) kind chosen in
+    let beside = begin-due _ old cards c.args.object.now.name former c.parts.result.now lines plan c.requires.former c.parts.ensures c.requires.edited here of in
+    c.parts_beside.ensures.due lines plan refl of.of_new (subst (λ k. IsDueBeside k cards plan [] (reverse (known_in cards)) 0 lines) (sym c.requires.deck.kind) beside)

@@ -1,10 +1,14 @@
-use Rattle.std.proofs.Common.{◌∙◌, reverse, refl, ap₂, arith}
+use Rattle.std.proofs.Common.{◌≡◌, ◌∙◌, ◌+◌, ◌≤◌, [], Option, reverse, refl, ap₂, sym, subst, arith}
+use Rattle.std.specs.Prelude.{IfSome}
 use Rattle.std.proofs.lemmas.List.{length-reverse}
 use Rattle.definitions.specs.DeckKinds.{up_to_end, behind_end}
 use Rattle.definitions.specs.Lengths.{rows_of}
 use Rattle.definitions.specs.Statements.{statements_of}
 use Rattle.deck_assembler.specs.declared.object.ObjectParts.{ObjectParts}
 use Rattle.deck_assembler.specs.DeckParts.{sized_in}
+use Rattle.deck_assembler.specs.DueCodes.{IsDueBeside}
+use Rattle.deck_assembler.specs.declared.former_lines.FormerLines.{FormerLines}
+use Rattle.deck_assembler.proofs.DueCodeCounts.{due-of-deck}
 use Rattle.deck_assembler.specs.Walks.{Whole, IsWhole}
 use Rattle.deck_assembler.proofs.FormerLaws.{chosen-beside}
 use Rattle.deck_assembler.proofs.PartLaws.{AreMade, parts-of}
@@ -69,3 +73,29 @@ returns-clause-parts c =
     } in
     let beside = chosen-beside whole.deck.kind whole.cards whole.known c.args.former c.lines_or_none.result c.requires.beside c.lines_or_none.ensures.some c.lines_or_none.ensures.none in
     parts-of name whole made parts is (c.in_ok-made.ensures.done (up_to_end all) (behind_end all) is beside) are refl refl
+
+pub returns-in_err-made-clause-due : goal.returns-in_err-made-clause-due
+returns-in_err-made-clause-due c = λ lines plan given planned beside.
+    let all = statements_of (reverse c.args.cards.now) in
+    let whole : Whole = record { cards = c.args.cards.now; deck = c.args.deck.now; rows = c.in_ok-bases.bases; known = up_to_end all; others = behind_end all } in
+    let is : IsWhole whole = record {
+      sized = c.requires.deck;
+      rows = c.in_ok-bases.ensures.rows ∙ ap₂ rows_of (c.lengths.ensures ∙ c.requires.deck.lengths) (c.literals-2.ensures ∙ c.requires.deck.literals);
+      few = c.requires.few;
+    } in
+    let chosen = subst (λ (former : Option FormerLines). IfSome former (λ l. c.lines_or_none.result ≡ l)) given c.lines_or_none.ensures.some in
+    let due = c.in_err-made.ensures.due (up_to_end all) (behind_end all) plan is planned (subst (λ l. IsDueBeside whole.deck.kind whole.cards plan [] (reverse whole.known) 0 l) (sym chosen) beside) in
+    subst (λ n. c.walk.new.meter.coded ≤ c.args.meter.now.coded + n) (due-of-deck whole plan is refl) due
+
+pub returns-clause-due : goal.returns-clause-due
+returns-clause-due c = λ lines plan given planned beside.
+    let all = statements_of (reverse c.args.cards.now) in
+    let whole : Whole = record { cards = c.args.cards.now; deck = c.args.deck.now; rows = c.in_ok-bases.bases; known = up_to_end all; others = behind_end all } in
+    let is : IsWhole whole = record {
+      sized = c.requires.deck;
+      rows = c.in_ok-bases.ensures.rows ∙ ap₂ rows_of (c.lengths.ensures ∙ c.requires.deck.lengths) (c.literals-2.ensures ∙ c.requires.deck.literals);
+      few = c.requires.few;
+    } in
+    let chosen = subst (λ (former : Option FormerLines). IfSome former (λ l. c.lines_or_none.result ≡ l)) given c.lines_or_none.ensures.some in
+    let due = c.in_ok-made.ensures.due (up_to_end all) (behind_end all) plan is planned (subst (λ l. IsDueBeside whole.deck.kind whole.cards plan [] (reverse whole.known) 0 l) (sym chosen) beside) in
+    subst (λ n. c.walk.new.meter.coded ≤ c.args.meter.now.coded + n) (due-of-deck whole plan is refl) due

@@ -4,7 +4,7 @@ use Rattle.cards.specs.Spans.{IsSpan}
 use Rattle.definitions.specs.DeckKinds.{up_to_end, kind_of_statements}
 use Rattle.definitions.specs.Statements.{Statement}
 use Rattle.deck_assembler.specs.OldDecks.{StandsInFront}
-use Rattle.deck_assembler.specs.Tails.{HasTailIfAny}
+use Rattle.deck_assembler.specs.Tails.{HasTailIfAny, HasTailWithin}
 use Rattle.deck_assembler.proofs.DeckLaws.{all-statements, all-numbered, all-behind, deck-made, counts_of}
 use Rattle.deck_assembler.proofs.FrontLaws.{front-in, stands-still}
 use Rattle.deck_assembler.proofs.sized_deck.made.Goals as goal
@@ -72,3 +72,12 @@ returns-clause-tail c = λ of kept.
     let spans = c.args.spans.now in
     let all = ap up_to_end (sym (all-statements cards spans c.requires.statements)) ∙ c.in_ok-taken.ensures.ended.front in
     subst (HasTailIfAny c.args.kind of cards c.in_ok-taken.taken.tail) (sym all) (c.in_ok-taken.ensures.tail of kept)
+
+pub returns-clause-within : goal.returns-clause-within
+returns-clause-within c = λ of front limit kept stands few more will.
+    let cards = c.args.cards.now in
+    let spans = c.args.spans.now in
+    let all = all-statements cards spans c.requires.statements in
+    let known = ap up_to_end (sym all) ∙ c.in_ok-taken.ensures.ended.front in
+    subst (λ (l : List Statement). HasTailWithin c.args.kind of cards c.in_ok-taken.taken.tail l limit) (sym known)
+    (c.in_ok-taken.ensures.within of front limit kept (subst (λ (l : List Statement). StandsInFront of (up_to_end l) front c.args.old_deck) (sym all) stands) (record { all = all; few = few; more = more }) will)

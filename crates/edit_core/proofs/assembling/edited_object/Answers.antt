@@ -1,7 +1,10 @@
-use Rattle.std.proofs.Common.{List, subst}
+use Rattle.std.proofs.Common.{◌≤◌, ◌+◌, List, sym, subst}
 use Rattle.definitions.specs.Cards.{Card}
 use Rattle.definitions.specs.DeckInput.{Deck}
+use Rattle.definitions.specs.DeckKinds.{kind_of_statements}
 use Rattle.definitions.specs.Objects.{object_of}
+use Rattle.deck_assembler.specs.DueCodes.{IsPlanOf, code_due_of}
+use Rattle.deck_assembler.specs.Formers.{known_in}
 use Rattle.deck_assembler.specs.PartsOf.{ArePartsOf}
 use Rattle.edit_core.proofs.assembling.edited_object.Goals as goal
 
@@ -9,3 +12,15 @@ pub new-requires : goal.new-requires
 new-requires c =
     subst (λ (cards : List Card). let deck : Deck = record { name = c.copied.result; cards = cards } in ArePartsOf cards c.in_ok-parts.parts (object_of deck))
     c.deref.ensures.value (c.in_ok-parts.ensures.parts c.copied.result)
+
+pub returns-in_err-parts-clause-coded_due : goal.returns-in_err-parts-clause-coded_due
+returns-in_err-parts-clause-coded_due c = λ plan of.
+    let same = c.deref.ensures.value in
+    let moved = subst (λ (l : List Card). IsPlanOf (kind_of_statements (known_in l)) c.args.object.now.cards l c.args.edited.now.former plan) (sym same) of in
+    subst (λ (l : List Card). c.edited_parts.new.meter.coded ≤ c.args.meter.now.coded + code_due_of l plan) same (c.in_err-parts.ensures.due plan moved)
+
+pub returns-clause-coded_due : goal.returns-clause-coded_due
+returns-clause-coded_due c = λ plan of.
+    let same = c.deref.ensures.value in
+    let moved = subst (λ (l : List Card). IsPlanOf (kind_of_statements (known_in l)) c.args.object.now.cards l c.args.edited.now.former plan) (sym same) of in
+    subst (λ (l : List Card). c.edited_parts.new.meter.coded ≤ c.args.meter.now.coded + code_due_of l plan) same (c.in_ok-parts.ensures.due plan moved)

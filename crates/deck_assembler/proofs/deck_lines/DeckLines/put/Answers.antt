@@ -1,9 +1,10 @@
-use Rattle.std.proofs.Common.{◌∙◌, Option, refl, sym, subst}
+use Rattle.std.proofs.Common.{◌≡◌, ◌∙◌, Option, Some, true≢false, refl, sym, subst}
 use Rattle.std.proofs.lemmas.Result.{on_ok_weaker}
 use Rattle.definitions.specs.Settled.{Settled}
 use Rattle.definitions.specs.Settling.{settle, settled_all}
 use Rattle.definitions.specs.StatementItems.{Context}
 use Rattle.deck_assembler.specs.FormerLines.{WasLine, WasLineIfAny}
+use Rattle.deck_assembler.specs.Rebindings.{AreBindings}
 use Rattle.deck_assembler.specs.Walks.{context_in, whole_of}
 use Rattle.deck_assembler.specs.declared.former_lines.FormerLine.{FormerLine}
 use Rattle.deck_assembler.proofs.FormerLaws.{still-letters, still-coded}
@@ -28,3 +29,15 @@ returns-else-is_rebound-clause-lined c =
     let tested = c.is_rebound.ensures there.context new settled there.bindings is.sized.symbols refl refl taken sized.sizing.location sized.sizing.origin in
     let not_rebound = sym tested ∙ c.if-is_rebound.false in
     lined known others earlier given there.context.rows is sized has (still-letters whole.deck.kind found settled new there refl not_rebound) (still-coded whole.deck.kind found settled new there refl not_rebound)) c.copy.ensures.lined
+
+some-same : (a b : FormerLine) → Some a ≡ Some b → a ≡ b
+some-same a b e = cc
+
+-- what is not bound otherwise is copied
+pub returns-then-is_rebound-clause-kept : goal.returns-then-is_rebound-clause-kept
+returns-then-is_rebound-clause-kept c = λ known others earlier given old one is taken sized found bound rebound.
+    let whole = whole_of c.args.view.now known others in
+    let settled : Settled = settle whole.deck.kind (settled_all whole.deck.kind earlier) given in
+    let same : c.in-Some.found ≡ one = some-same c.in-Some.found one (sym c.in-Some.is ∙ found) in
+    let tested = c.is_rebound.ensures old (context_in whole) settled (subst (λ (f : FormerLine). AreBindings f.bindings old) (sym same) bound) is.sized.symbols refl refl taken sized.sizing.location sized.sizing.origin in
+    absurd (true≢false (sym c.if-is_rebound.true ∙ tested ∙ rebound))

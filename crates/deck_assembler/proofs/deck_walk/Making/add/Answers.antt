@@ -31,3 +31,9 @@ returns-else-branch-clause-walked c =
     walked known others left before after is next_line
     (subst (λ (names : DeckNames). let made : Making = record { lines = c.args.self.now.lines; names = names } in IsWalkedBeside whole (c.args.sized.now ∷ left) made before)
     (sym (c.in_ok-note_kept-in-Some.ensures.untold c.if-branch.false)) beside)) c.add_again-else-branch.ensures.walked
+
+pub returns-then-branch-clause-kept : goal.returns-then-branch-clause-kept
+returns-then-branch-clause-kept c = λ known others earlier given old one is next found bound rebound.
+    let whole = whole_of c.args.view.now known others in
+    let settled = settle whole.deck.kind (settled_all whole.deck.kind earlier) given in
+    c.put.ensures.kept known others earlier given old one is (c.in-Some.ensures.read settled next.operation next.kept) next found bound rebound

@@ -27,3 +27,14 @@ returns-clause-walked c =
       noted = c.in_ok-note.ensures known others earlier given is read next.number_base next.sizing noted;
       stood = stood ∙ stood-step old.lines.stood sized.cards whole.cards next.some next.within is.few;
     })) c.put.ensures.lined c.put.ensures.stood
+
+pub returns-clause-kept : goal.returns-clause-kept
+returns-clause-kept c = λ known others earlier given old one is next found bound rebound.
+    let whole = whole_of c.args.view.now known others in
+    let sized = c.args.sized.now in
+    let read : IsRead whole.deck.kind given.cards c.read-statement.result =
+    subst (λ (cards : List Card). IsRead whole.deck.kind cards c.read-statement.result) (c.next_cards-cards.ensures.cards next.few next.within ∙ next.cards)
+    (subst (λ (kind : DeckKind). IsRead kind c.next_cards-cards.result.now c.read-statement.result) c.kind.ensures c.read-statement.ensures) in
+    let codes = settle-codable whole.deck.kind (settled_all whole.deck.kind earlier) given c.read-statement.result sized.sizing read next.number_base in
+    let again = read_again c.read-statement.result sized.sizing (settle whole.deck.kind (settled_all whole.deck.kind earlier) given) c.read_operand-read.result codes c.read_operand-read.ensures.operation c.read_operand-read.ensures.reading in
+    c.put.ensures.kept known others earlier given old one is again next found bound rebound

@@ -1,7 +1,10 @@
-use Rattle.std.proofs.Common.{◌∙◌, ◌+◌, List, ◌++◌, drop, subst, arith}
+use Rattle.std.proofs.Common.{◌∙◌, ◌+◌, List, ◌++◌, drop, refl, subst, arith}
 use Rattle.deck_assembler.specs.FormerLines.{IsWalkedBeside}
 use Rattle.deck_assembler.specs.Walks.{whole_of}
 use Rattle.deck_assembler.specs.declared.sized_statement.SizedStatement.{SizedStatement}
+use Rattle.deck_assembler.specs.DueCodes.{IsWalkedDue}
+use Rattle.deck_assembler.proofs.DueCodeLaws.{due-all, due-step}
+use Rattle.deck_assembler.proofs.WalkLaws.{stood-step}
 use Rattle.deck_assembler.proofs.FormerLaws.{none-left, item-split, all-dropped}
 use Rattle.deck_assembler.proofs.deck_walk.Making.add_all.Goals as goal
 
@@ -30,6 +33,13 @@ loop-sized-preserved c =
           let one = added.all (none (c.loop-sized.invariant.ended e)).0 (omega (arith, room, there)) in
           omega (arith, there, one);
       same = added.sized ∙ c.loop-sized.invariant.same;
+      due = λ known others left plan base is planned start.
+          let whole = whole_of c.args.view.now known others in
+          due-step whole plan base (drop (i + 1) piece ++ left) sized c.loop-sized.self.lines.stood c.add.new.self.lines.stood c.next-found.result c.loop-sized.former c.next-found.new.self _ _ is planned
+          (subst (λ (l : List SizedStatement). IsWalkedDue whole plan base (l ++ left) c.loop-sized.self.lines.stood c.loop-sized.former c.loop-sized.meter.coded) (item-split piece i sized c.loop-sized-test.true c.sized-item.is)
+          (c.loop-sized.invariant.due known others left plan base is planned start)) c.next-found.ensures added.coded
+          (λ earlier given one next found bound rebound. added.kept known others earlier given plan.old one is next found bound rebound)
+          (λ some within. added.stood ∙ stood-step c.loop-sized.self.lines.stood sized.cards whole.cards some within is.few);
     }
 
 pub returns-clause-walked : goal.returns-clause-walked
@@ -38,3 +48,27 @@ returns-clause-walked c =
     let whole = whole_of c.args.view.now known others in
     subst (λ (l : List SizedStatement). IsWalkedBeside whole (l ++ left) c.loop-sized.self c.loop-sized.former) (all-dropped c.args.piece.now c.loop-sized.sized-index c.loop-sized-test.false)
     (c.loop-sized.invariant.walked known others left is start)
+
+pub returns-in_err-add-clause-due : goal.returns-in_err-add-clause-due
+returns-in_err-add-clause-due c = λ known others left plan base is planned start.
+    let whole = whole_of c.args.view.now known others in
+    let i = c.loop-sized.sized-index in
+    let piece = c.args.piece.now in
+    let sized = c.sized-item.result in
+    let here = c.in_err-add.ensures in
+    let stood = c.loop-sized.self.lines.stood in
+    let step = due-step whole plan base (drop (i + 1) piece ++ left) sized stood (stood + sized.cards) c.next-found.result c.loop-sized.former c.next-found.new.self _ _ is planned
+    (subst (λ (l : List SizedStatement). IsWalkedDue whole plan base (l ++ left) stood c.loop-sized.former c.loop-sized.meter.coded) (item-split piece i sized c.loop-sized-test.true c.sized-item.is)
+    (c.loop-sized.invariant.due known others left plan base is planned start)) c.next-found.ensures here.coded
+    (λ earlier given one next found bound rebound. here.kept known others earlier given plan.old one is next found bound rebound) (λ some within. refl) in
+    due-all whole plan base (drop (i + 1) piece ++ left) (stood + sized.cards) c.next-found.new.self _ step
+
+pub returns-clause-due_on : goal.returns-clause-due_on
+returns-clause-due_on c = λ known others left plan base is planned start.
+    let whole = whole_of c.args.view.now known others in
+    subst (λ (l : List SizedStatement). IsWalkedDue whole plan base (l ++ left) c.loop-sized.self.lines.stood c.loop-sized.former c.loop-sized.meter.coded) (all-dropped c.args.piece.now c.loop-sized.sized-index c.loop-sized-test.false)
+    (c.loop-sized.invariant.due known others left plan base is planned start)
+
+pub returns-clause-due : goal.returns-clause-due
+returns-clause-due c = λ known others left plan base is planned start.
+    due-all (whole_of c.args.view.now known others) plan base left c.loop-sized.self.lines.stood c.loop-sized.former _ (returns-clause-due_on c known others left plan base is planned start)

@@ -1,8 +1,9 @@
-use Rattle.std.proofs.Common.{◌≡◌, ◌≤◌, ◌+◌, ◌++◌, List, drop}
+use Rattle.std.proofs.Common.{◌≡◌, ℕ, ◌≤◌, ◌+◌, ◌++◌, List, drop}
 use Rattle.definitions.specs.Statements.{Statement}
 use Rattle.statement_coder.specs.Meters.{RisesBy}
 use Rattle.deck_assembler.specs.declared.sized_statement.SizedStatement as code
 use Rattle.deck_assembler.specs.Walks.{IsWhole, whole_of}
+use Rattle.deck_assembler.specs.DueCodes.{CodePlan, IsPlanned, IsWalkedDue}
 use Rattle.deck_assembler.specs.FormerLines.{IsBare, IsWalkedBeside}
 use Rattle.deck_assembler.proofs.deck_walk.Making.add_all.Given as goal
 
@@ -16,4 +17,7 @@ invariant-loop-sized l = record {
   rises : l.fn.meter.coded ≤ l.meter.coded;
   all : IsBare l.fn.former → RisesBy l.sized-index l.fn.meter.coded l.meter.coded;
   same : l.meter.sized ≡ l.fn.meter.sized;
+  due : (known others : List Statement) (left : List code.SizedStatement) (plan : CodePlan) (base : ℕ) → IsWhole (whole_of l.view known others) → IsPlanned known plan →
+      IsWalkedDue (whole_of l.view known others) plan base (l.piece ++ left) l.fn.self.lines.stood l.fn.former l.fn.meter.coded →
+      IsWalkedDue (whole_of l.view known others) plan base (drop l.sized-index l.piece ++ left) l.self.lines.stood l.former l.meter.coded;
 }

@@ -1,8 +1,10 @@
-use Rattle.std.proofs.Common.{◌∙◌, ◌+◌, List, ◌++◌, length, drop, ap, sym, subst, arith}
+use Rattle.std.proofs.Common.{◌∙◌, ◌+◌, List, [], ◌++◌, length, drop, ap, sym, subst, arith}
 use Rattle.deck_assembler.specs.DeckParts.{DeckPiece, sized_in}
 use Rattle.deck_assembler.specs.FormerLines.{IsWalkedBeside}
 use Rattle.deck_assembler.specs.Walks.{whole_of}
 use Rattle.deck_assembler.specs.declared.sized_statement.SizedStatement.{SizedStatement}
+use Rattle.deck_assembler.specs.DueCodes.{IsWalkedDue}
+use Rattle.deck_assembler.proofs.DueCodeLaws.{due-all}
 use Rattle.deck_assembler.proofs.FormerLaws.{item-split, all-dropped}
 use Rattle.deck_assembler.proofs.PieceCounts.{pieces-within, pieces-more}
 use Rattle.deck_assembler.proofs.deck_walk.Making.add_pieces.Goals as goal
@@ -43,6 +45,14 @@ loop-piece-preserved c =
           let one = added.all (c.loop-piece.invariant.ended e) (omega (arith, room, more, size, there)) in
           omega (arith, there, one, more, size);
       same = added.sized ∙ c.loop-piece.invariant.same;
+      due = λ known others plan base is planned start.
+          let whole = whole_of c.args.view.now known others in
+          let stood = c.loop-piece.self.lines.stood in
+          let coded = c.loop-piece.meter.coded in
+          added.due_on known others (sized_in (drop (i + 1) pieces)) plan base is planned
+          (subst (λ (l : List SizedStatement). IsWalkedDue whole plan base (l ++ sized_in (drop (i + 1) pieces)) stood c.loop-piece.former coded) (sym c.statements.ensures.statements)
+          (subst (λ (l : List DeckPiece). IsWalkedDue whole plan base (sized_in l) stood c.loop-piece.former coded) (item-split pieces i piece c.loop-piece-test.true c.piece-item.is)
+          (c.loop-piece.invariant.due known others plan base is planned start)));
     }
 
 pub returns-clause-walked : goal.returns-clause-walked
@@ -51,3 +61,24 @@ returns-clause-walked c =
     let whole = whole_of c.args.view.now known others in
     subst (λ (l : List DeckPiece). IsWalkedBeside whole (sized_in l) c.loop-piece.self c.loop-piece.former) (all-dropped c.args.pieces.now c.loop-piece.piece-index c.loop-piece-test.false)
     (c.loop-piece.invariant.walked known others is start)
+
+pub returns-in_err-add_all-clause-due : goal.returns-in_err-add_all-clause-due
+returns-in_err-add_all-clause-due c = λ known others plan base is planned start.
+    let whole = whole_of c.args.view.now known others in
+    let i = c.loop-piece.piece-index in
+    let pieces = c.args.pieces.now in
+    let stood = c.loop-piece.self.lines.stood in
+    let coded = c.loop-piece.meter.coded in
+    c.in_err-add_all.ensures.due known others (sized_in (drop (i + 1) pieces)) plan base is planned
+    (subst (λ (l : List SizedStatement). IsWalkedDue whole plan base (l ++ sized_in (drop (i + 1) pieces)) stood c.loop-piece.former coded) (sym c.statements.ensures.statements)
+    (subst (λ (l : List DeckPiece). IsWalkedDue whole plan base (sized_in l) stood c.loop-piece.former coded) (item-split pieces i c.piece-item.result c.loop-piece-test.true c.piece-item.is)
+    (c.loop-piece.invariant.due known others plan base is planned start)))
+
+pub returns-clause-due : goal.returns-clause-due
+returns-clause-due c = λ known others plan base is planned start.
+    let whole = whole_of c.args.view.now known others in
+    let stood = c.loop-piece.self.lines.stood in
+    let coded = c.loop-piece.meter.coded in
+    due-all whole plan base [] stood c.loop-piece.former coded
+    (subst (λ (l : List DeckPiece). IsWalkedDue whole plan base (sized_in l) stood c.loop-piece.former coded) (all-dropped c.args.pieces.now c.loop-piece.piece-index c.loop-piece-test.false)
+    (c.loop-piece.invariant.due known others plan base is planned start))

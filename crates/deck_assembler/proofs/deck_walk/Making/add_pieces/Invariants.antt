@@ -1,8 +1,9 @@
-use Rattle.std.proofs.Common.{◌≡◌, ◌≤◌, ◌+◌, List, take, drop, length}
+use Rattle.std.proofs.Common.{◌≡◌, ℕ, ◌≤◌, ◌+◌, List, take, drop, length}
 use Rattle.definitions.specs.Statements.{Statement}
 use Rattle.statement_coder.specs.Meters.{RisesBy}
 use Rattle.deck_assembler.specs.DeckParts.{sized_in}
 use Rattle.deck_assembler.specs.Walks.{IsWhole, whole_of}
+use Rattle.deck_assembler.specs.DueCodes.{CodePlan, IsPlanned, IsWalkedDue}
 use Rattle.deck_assembler.specs.FormerLines.{IsBare, IsWalkedBeside}
 use Rattle.deck_assembler.proofs.deck_walk.Making.add_pieces.Given as goal
 
@@ -16,4 +17,7 @@ invariant-loop-piece l = record {
   rises : l.fn.meter.coded ≤ l.meter.coded;
   all : IsBare l.fn.former → RisesBy (length (sized_in (take l.piece-index l.pieces))) l.fn.meter.coded l.meter.coded;
   same : l.meter.sized ≡ l.fn.meter.sized;
+  due : (known others : List Statement) (plan : CodePlan) (base : ℕ) → IsWhole (whole_of l.view known others) → IsPlanned known plan →
+      IsWalkedDue (whole_of l.view known others) plan base (sized_in l.pieces) l.fn.self.lines.stood l.fn.former l.fn.meter.coded →
+      IsWalkedDue (whole_of l.view known others) plan base (sized_in (drop l.piece-index l.pieces)) l.self.lines.stood l.former l.meter.coded;
 }

@@ -12,7 +12,7 @@ use Rattle.deck_assembler.specs.Sizers.{stood}
 use Rattle.deck_assembler.specs.declared.old_deck.Stage.TheVariants as stages
 use Rattle.deck_assembler.specs.declared.sized_statement.SizedStatement.{SizedStatement}
 use Rattle.deck_assembler.proofs.DueLaws.{meet-cut, meet-still, meeting-ahead, meeting-left, met-here}
-use Rattle.deck_assembler.proofs.MeetLaws.{some-weaker, goes-on, on-tail}
+use Rattle.deck_assembler.proofs.MeetLaws.{some-weaker, goes-on, on-tail, soon-begins}
 use Rattle.deck_assembler.proofs.OldLaws.{at_stage, front-same, same-again, same-ahead, same-at}
 use Rattle.deck_assembler.proofs.PieceMeetings.{piece-same}
 use Rattle.deck_assembler.proofs.old_deck.OldDeck.kept_between.Goals as goal
@@ -105,6 +105,11 @@ returns-clause-due c = λ kind old earlier limit on next will.
     (sym (length-drop has.stood old) ∙ ap length (sym has.ahead) ∙ c.is_met.ensures.place e ∙ count) (subst (λ n. n ≤ passed.behind) count (c.is_met.ensures.behind e)) in
     let cut = meet-cut old cards earlier span limit passed next has some (has.ahead ∙ there) in
     let here : IsCutAlike cards earlier tail = record { later = cut.later; all = cut.all; counts = ap (map (λ (sized : SizedStatement). sized.cards)) c.is_met.ensures.rest ∙ cut.counts } in
+    let reached = later.reached in
+    let due = later.due in
+    let place = c.is_met.ensures.place e in
+    let same = ap length c.is_met.ensures.same.ahead in
+    let soon = soon-begins cards limit earlier tail (omega (arith, reached, due)) (omega (arith, start, within, place, same)) in
     c.kept_in_tail.ensures.due cards c.args.sizer.now kind old earlier limit
     (on-tail kind old cards earlier span c.args.sizer.now deck passed tail on within has c.pass_to.ensures.deck (same-at stages.Tail passed c.is_met.new.self c.is_met.ensures.same.deck) c.is_met.ensures.rest c.is_met.ensures.same.ahead
-    (c.is_met.ensures.place e) (c.is_met.ensures.behind e) (c.is_met.ensures.state e) (c.is_met.ensures.alike e) refl) next here
+    (c.is_met.ensures.place e) (c.is_met.ensures.behind e) (c.is_met.ensures.state e) (c.is_met.ensures.alike e) refl) next (here, soon)

@@ -7,7 +7,7 @@ use Rattle.deck_assembler.specs.OldDecks.{IsAtStage}
 use Rattle.deck_assembler.specs.Sizers.{ahead}
 use Rattle.deck_assembler.specs.declared.old_deck.Stage.TheVariants as stages
 use Rattle.deck_assembler.proofs.DueLaws.{IsNextAlike, next-cut, next-same, next-some}
-use Rattle.deck_assembler.proofs.MeetLaws.{goes-on, tail-next}
+use Rattle.deck_assembler.proofs.MeetLaws.{goes-on, soon-next, tail-next}
 use Rattle.deck_assembler.proofs.OldLaws.{at_stage, same-at}
 use Rattle.deck_assembler.proofs.old_deck.OldDeck.kept_in_tail.Goals as goal
 
@@ -41,7 +41,7 @@ pub returns-in_default-clause-due : goal.returns-in_default-clause-due
 returns-in_default-clause-due c = λ cards sizer kind old earlier limit on next will.
     let deck = c.args.self.now in
     let cut = subst (WillAgreeAt kind old cards limit earlier deck) c.requires will in
-    absurd (next-some cards earlier c.args.span (subst (IsNextAlike cards earlier c.args.span) (c.in_default.ensures.next ∙ c.in_default.ensures.last refl) (next-cut cards earlier c.args.span limit deck next cut)))
+    absurd (next-some cards earlier c.args.span (subst (IsNextAlike cards earlier c.args.span) (c.in_default.ensures.next ∙ c.in_default.ensures.last refl) (next-cut cards earlier c.args.span limit deck next cut.0)))
 
 pub returns-then-sized-span-clause-due : goal.returns-then-sized-span-clause-due
 returns-then-sized-span-clause-due c = λ cards sizer kind old earlier limit on next will.
@@ -49,10 +49,10 @@ returns-then-sized-span-clause-due c = λ cards sizer kind old earlier limit on 
     let new = c.next.new.self in
     let span = c.args.span in
     let cut = subst (WillAgreeAt kind old cards limit earlier deck) c.requires will in
-    let alike = subst (IsNextAlike cards earlier span) c.in-Some.ensures.next (next-cut cards earlier span limit deck next cut) in
+    let alike = subst (IsNextAlike cards earlier span) c.in-Some.ensures.next (next-cut cards earlier span limit deck next cut.0) in
     record {
       sized = λ none. absurd cc;
-      will = subst (WillAgreeAt kind old cards limit (statement_at cards span ∷ earlier) new) (sym (c.next.ensures.same.stage ∙ c.requires)) (next-same cards earlier span c.in-Some.sized new alike).1;
+      will = subst (WillAgreeAt kind old cards limit (statement_at cards span ∷ earlier) new) (sym (c.next.ensures.same.stage ∙ c.requires)) ((next-same cards earlier span c.in-Some.sized new alike).1, soon-next cards limit earlier span deck new on.next c.next.ensures.same.ahead cut.1);
     }
 
 pub returns-clause-due : goal.returns-clause-due
@@ -61,7 +61,7 @@ returns-clause-due c = λ cards sizer kind old earlier limit on next will.
     let new = c.next.new.self in
     let span = c.args.span in
     let cut = subst (WillAgreeAt kind old cards limit earlier deck) c.requires will in
-    let alike = subst (IsNextAlike cards earlier span) c.in-Some.ensures.next (next-cut cards earlier span limit deck next cut) in
+    let alike = subst (IsNextAlike cards earlier span) c.in-Some.ensures.next (next-cut cards earlier span limit deck next cut.0) in
     let count = (next-same cards earlier span c.in-Some.sized new alike).0 in
     let own = ap length (sym on.next.cards) ∙ length-take-le span.count (ahead cards earlier) on.next.within in
     absurd (c.if-sized-span.false (count ∙ own))

@@ -8,11 +8,12 @@ use Rattle.definitions.specs.Settled.{defined}
 use Rattle.definitions.specs.Settling.{View, settled_all}
 use Rattle.definitions.specs.Statements.{Statement}
 use Rattle.definitions.specs.declared.deck_kind.DeckKind.{DeckKind}
+use Rattle.definitions.specs.declared.deck_kind.DeckKind.{DeckKind}
 use Rattle.deck_assembler.specs.FirstStatements.{all_statements}
 use Rattle.deck_assembler.specs.FirstSymbols.{symbol_in}
 use Rattle.deck_assembler.specs.Formers.{known_in}
 use Rattle.deck_assembler.specs.Meetings.{StandApart, WillAgreeAt}
-use Rattle.deck_assembler.specs.Tails.{HasTailIfAny}
+use Rattle.deck_assembler.specs.Tails.{HasTailIfAny, HasTailWithin}
 use Rattle.deck_assembler.proofs.AgreementLaws.{begins-due, untouched-before}
 use Rattle.deck_assembler.proofs.DeckLaws.{all-statements}
 use Rattle.deck_assembler.proofs.FrontLaws.{front-stands, front-still}
@@ -122,3 +123,20 @@ returns-clause-former c =
       symbols = ap symbol_in made.symbols ∙ was.symbols ∙ ap {B = View} (λ (k : DeckKind). λ name. defined name (settled_all k known)) (sym made.kind);
       literals = made.literals ∙ was.literals ∙ ap (λ (k : DeckKind). literal_words (settled_all k known)) (sym made.kind);
     }
+
+pub returns-clause-within : goal.returns-clause-within
+returns-clause-within c = λ decks front split apart before is agree more.
+    let own = c.args.old.cards.now in
+    let cards = c.args.cards.now in
+    let deck = c.in_ok-parted.parted.old_deck in
+    let limit = length split.new_front + 128 in
+    let all = ap (λ (spans : List Span). all_statements cards spans) c.as_slice.ensures ∙ all-statements cards c.in_ok-list.list c.in_ok-list.ensures.statements in
+    let kind = c.kind_of-kind.ensures ∙ ap (λ (l : List Statement). kind_of_statements (up_to_end l)) all in
+    let two = c.in_ok-parted.ensures.front (sym (ap kind_of_statements apart.of_old) ∙ agree.kinds ∙ ap kind_of_statements apart.of_new ∙ sym kind) in
+    let few = untouched-before own cards c.args.old.before c.args.old.behind decks front split apart before is agree in
+    let here = subst (λ (both : ℕ × ℕ). StandApart own cards both.0 both.1 decks) (λ i. (sym two.1 i, sym c.in_ok-parted.ensures.behind i)) apart in
+    let will = subst (WillAgreeAt c.kind_of-kind.result own cards limit [] deck) (sym two.0)
+    (begins-due c.kind_of-kind.result own cards decks split deck here (kind ∙ ap kind_of_statements (sym apart.of_new)) agree c.in_ok-parted.ensures.begun c.in_ok-parted.ensures.short) in
+    subst (λ (both : DeckKind × ℕ). HasTailWithin both.0 own cards both.1 (known_in cards) limit) (λ i. (kind i, sym c.with_tail.ensures.tail i))
+    (c.in_ok-all.ensures.within own front limit (c.in_ok-parted.ensures.old_deck cards c.requires.before c.requires.behind)
+    (record { decks = decks; untouched = is; of_old = apart.of_old; of_new = apart.of_new; before = subst (λ n. decks.before ≤ n) (sym two.1) before; stage = two.0 }) (omega (arith, few)) more will)

@@ -1,7 +1,7 @@
 -- The statements are sized one behind the other, up to the first END.
 use Rattle.std.proofs.Common.{◌≡◌, ◌+◌, suc, List, get_or, length, sym, ap, ◌∙◌, subst, arith}
 use Rattle.cards.specs.declared.statement_list.Span.{Span}
-use Rattle.definitions.specs.DeckKinds.{has_end}
+use Rattle.definitions.specs.DeckKinds.{has_end, up_to_end}
 use Rattle.definitions.specs.Statements.{Statement}
 use Rattle.deck_assembler.specs.FirstStatements.{first_statements, IsEnding}
 use Rattle.deck_assembler.specs.OldDecks.{IsKeptOn, IsOnSpan}
@@ -10,7 +10,7 @@ use Rattle.deck_assembler.specs.Meetings.{WillAgree}
 use Rattle.deck_assembler.proofs.DueLaws.{due-bound, next-known}
 use Rattle.deck_assembler.proofs.EndLaws.{length-first, first-step, next-at, few-sized, ending-here, open-step, ending-none, ending-length, few-all}
 use Rattle.deck_assembler.proofs.FrontLaws.{front-bound, front-end, front-more, goes-at, stands-few}
-use Rattle.deck_assembler.proofs.MeetLaws.{tail-taken}
+use Rattle.deck_assembler.proofs.MeetLaws.{ends-in-tail, tail-taken, tail-within}
 use Rattle.deck_assembler.proofs.sizer.Sizer.take_up_to_end.Goals as goal
 
 -- what stands where there is no span
@@ -213,3 +213,34 @@ returns-clause-tail c = λ of kept.
     let n : c.loop-k.k ≡ length spans = omega (arith, c.loop-k.auto.k-end, c.loop-k-test.false) in
     tail-taken c.args.kind of cards (first_statements cards spans (length spans)) c.loop-k.kept c.tail-2.result
     (subst (λ k. IsKeptOn c.args.kind of cards (first_statements cards spans k) c.loop-k.kept) n (c.loop-k.invariant.kept of kept)) c.tail-2.ensures.tail c.tail-2.ensures.none
+
+-- the tail begins in time
+pub returns-then-branch-clause-within : goal.returns-then-branch-clause-within
+returns-then-branch-clause-within c = λ of front limit kept stands bounded will.
+    let cards = c.args.cards.now in
+    let spans = c.args.spans.now in
+    let k = c.loop-k.k in
+    let so_far = c.loop-k.invariant in
+    let first = first_statements cards spans k in
+    let one : suc k ≡ k + 1 = omega arith in
+    let step = sym (first-step cards spans k other c.loop-k-test.true) ∙ ap (first_statements cards spans) one in
+    let next = next-at cards spans k other c.loop-k-test.true c.requires.spans c.requires.numbered in
+    let on : IsOnSpan c.args.kind of cards first (get_or spans k other) c.loop-k.self c.loop-k.kept = record { sizer_is = so_far.taken; next = next; kept_on = so_far.kept of kept } in
+    let known = next-known cards spans k other limit front c.loop-k-test.true so_far.open' bounded in
+    let now = subst (λ (l : List Statement). WillAgree c.args.kind of cards limit l c.take_next.new.old_deck) step (c.in_ok-take_next.ensures.due of first limit on known (so_far.due of front limit kept stands bounded will).0) in
+    let there = subst (λ (l : List Statement). IsKeptOn c.args.kind of cards l c.take_next.new.old_deck) step (c.in_ok-take_next.ensures.taken of first on).1 in
+    let all = sym (returns-then-branch-clause-ended c).front ∙ ap up_to_end bounded.all in
+    let ends = ends-in-tail c.args.kind of cards limit (first_statements cards spans (k + 1)) c.take_next.new.old_deck c.take_next.new.old_deck.stage all bounded.more now in
+    tail-within c.args.kind of cards (first_statements cards spans (k + 1)) c.take_next.new.old_deck c.tail.result limit there ends.0 (c.tail.ensures.tail ends.0) ends.1
+
+pub returns-clause-within : goal.returns-clause-within
+returns-clause-within c = λ of front limit kept stands bounded will.
+    let cards = c.args.cards.now in
+    let spans = c.args.spans.now in
+    let so_far = c.loop-k.invariant in
+    let n : c.loop-k.k ≡ length spans = omega (arith, c.loop-k.auto.k-end, c.loop-k-test.false) in
+    let now = subst (λ k. WillAgree c.args.kind of cards limit (first_statements cards spans k) c.loop-k.kept) n (so_far.due of front limit kept stands bounded will).0 in
+    let there = subst (λ k. IsKeptOn c.args.kind of cards (first_statements cards spans k) c.loop-k.kept) n (so_far.kept of kept) in
+    let all = sym (returns-clause-ended c).front ∙ ap up_to_end bounded.all in
+    let ends = ends-in-tail c.args.kind of cards limit (first_statements cards spans (length spans)) c.loop-k.kept c.loop-k.kept.stage all bounded.more now in
+    tail-within c.args.kind of cards (first_statements cards spans (length spans)) c.loop-k.kept c.tail-2.result limit there ends.0 (c.tail-2.ensures.tail ends.0) ends.1

@@ -1,8 +1,8 @@
 use Rattle.std.proofs.Common.{◌∙◌, ap, arith, subst, sym}
 use Rattle.cards.specs.Edits.{edited_by}
-use Rattle.edit_core.specs.Edited.{statement_count, RisesBehindFront, RisesToDue}
+use Rattle.edit_core.specs.Edited.{statement_count, RisesBehindFront, RisesToDue, RisesToDueCode}
 use Rattle.edit_core.specs.Records.{Record}
-use Rattle.edit_core.proofs.DueLaws.{due-none, due-some}
+use Rattle.edit_core.proofs.DueLaws.{due-code-none, due-code-some, due-none, due-some}
 use Rattle.edit_core.proofs.EditLaws.{bound-some, front-still, none-made, not-spent}
 use Rattle.edit_core.proofs.kept.Kept.edit_soundly.Goals as goal
 
@@ -53,3 +53,16 @@ pub returns-in-Err-clause-sized_due : goal.returns-in-Err-clause-sized_due
 returns-in-Err-clause-sized_due c =
     due-some c.args.edits.now c.args.self.now.cards _ _ (sym c.is_empty.ensures ∙ c.if-is_empty.false)
     (subst (λ (r : Record). RisesToDue c.args.edits.now r.cards c.args.meter.now.sized c.remade.new.meter.sized) c.self.view_is c.remade.ensures.sized_due)
+
+pub returns-then-is_empty-clause-coded_due : goal.returns-then-is_empty-clause-coded_due
+returns-then-is_empty-clause-coded_due c = due-code-none c.args.edits.now c.args.self.now.cards c.args.meter.now.coded (sym c.is_empty.ensures ∙ c.if-is_empty.true)
+
+pub returns-in-Ok-clause-coded_due : goal.returns-in-Ok-clause-coded_due
+returns-in-Ok-clause-coded_due c =
+    due-code-some c.args.edits.now c.args.self.now.cards _ _ (sym c.is_empty.ensures ∙ c.if-is_empty.false)
+    (subst (λ (r : Record). RisesToDueCode c.args.edits.now r.cards c.args.meter.now.coded c.remade.new.meter.coded) c.self.view_is c.remade.ensures.coded_due)
+
+pub returns-in-Err-clause-coded_due : goal.returns-in-Err-clause-coded_due
+returns-in-Err-clause-coded_due c =
+    due-code-some c.args.edits.now c.args.self.now.cards _ _ (sym c.is_empty.ensures ∙ c.if-is_empty.false)
+    (subst (λ (r : Record). RisesToDueCode c.args.edits.now r.cards c.args.meter.now.coded c.remade.new.meter.coded) c.self.view_is c.remade.ensures.coded_due)

@@ -5,12 +5,13 @@ use Rattle.definitions.specs.Cards.{Card}
 use Rattle.definitions.specs.DeckInput.{Deck}
 use Rattle.definitions.specs.DeckKinds.{kind_of_statements}
 use Rattle.deck_assembler.specs.Agreements.{HaveSameEnd}
+use Rattle.deck_assembler.specs.DueCodes.{IsPlanOf, code_due_of}
 use Rattle.deck_assembler.specs.Formers.{IsFormerOf, known_in}
 use Rattle.deck_assembler.specs.SizedDecks.{IsSizedDeck}
 use Rattle.deck_assembler.specs.Tails.{HasTailIfAny}
-use Rattle.edit_core.specs.Edited.{RisesBehindFront, RisesToDue, StandBehind}
+use Rattle.edit_core.specs.Edited.{RisesBehindFront, RisesToDue, RisesToDueCode, StandBehind}
 use Rattle.edit_core.specs.Records.{Record}
-use Rattle.edit_core.proofs.DueLaws.{AreTaken, due-edited, due-still}
+use Rattle.edit_core.proofs.DueLaws.{AreTaken, due-code-edited, due-code-still, due-edited, due-still}
 use Rattle.edit_core.proofs.EditLaws.{few-all, front-all, front-edited, front-still}
 use Rattle.edit_core.proofs.kept.Kept.remade.Goals as goal
 
@@ -157,3 +158,101 @@ returns-in_err-cards-clause-sized_due c =
       most_behind = λ n within stand. c.cards_behind_all.ensures.most cards n (sym count) (omega (arith, few, count)) c.requires.apply (omega (arith, within, count)) (subst (StandBehind n edits) (sym count) stand);
     } in
     due-still edits cards c.cards_before_all.result c.cards_behind_all.result c.args.meter.now.sized taken
+
+pub returns-in_err-cards-clause-coded_due : goal.returns-in_err-cards-clause-coded_due
+returns-in_err-cards-clause-coded_due c =
+    let edits = c.args.edits.now in
+    let own = c.cards-own.result.now in
+    let cards = c.args.self.now.cards in
+    let same = c.cards-own.ensures.cards in
+    let few = c.cards-own.ensures.few in
+    let count = ap length same in
+    let taken : AreTaken edits cards c.cards_before_all.result c.cards_behind_all.result = record {
+      some = c.requires.some;
+      apply = c.requires.apply;
+      few = few;
+      all = c.cards_before_all.ensures.all;
+      most = c.cards_before_all.ensures.most;
+      most_behind = λ n within stand. c.cards_behind_all.ensures.most cards n (sym count) (omega (arith, few, count)) c.requires.apply (omega (arith, within, count)) (subst (StandBehind n edits) (sym count) stand);
+    } in
+    due-code-still edits cards c.cards_before_all.result c.cards_behind_all.result c.args.meter.now.coded taken
+
+pub returns-in_err-edited-clause-coded_due : goal.returns-in_err-edited-clause-coded_due
+returns-in_err-edited-clause-coded_due c =
+    let edits = c.args.edits.now in
+    let own = c.cards-own.result.now in
+    let cards = c.args.self.now.cards in
+    let same = c.cards-own.ensures.cards in
+    let few = c.cards-own.ensures.few in
+    let count = ap length same in
+    let taken : AreTaken edits cards c.cards_before_all.result c.cards_behind_all.result = record {
+      some = c.requires.some;
+      apply = c.requires.apply;
+      few = few;
+      all = c.cards_before_all.ensures.all;
+      most = c.cards_before_all.ensures.most;
+      most_behind = λ n within stand. c.cards_behind_all.ensures.most cards n (sym count) (omega (arith, few, count)) c.requires.apply (omega (arith, within, count)) (subst (StandBehind n edits) (sym count) stand);
+    } in
+    subst (RisesToDueCode edits cards c.args.meter.now.coded) (sym c.edited.ensures.coded) (due-code-still edits cards c.cards_before_all.result c.cards_behind_all.result c.args.meter.now.coded taken)
+
+pub returns-in_err-object-clause-coded_due : goal.returns-in_err-object-clause-coded_due
+returns-in_err-object-clause-coded_due c =
+    let edits = c.args.edits.now in
+    let own = c.cards-own.result.now in
+    let cards = c.args.self.now.cards in
+    let same = c.cards-own.ensures.cards in
+    let few = c.cards-own.ensures.few in
+    let count = ap length same in
+    let taken : AreTaken edits cards c.cards_before_all.result c.cards_behind_all.result = record {
+      some = c.requires.some;
+      apply = c.requires.apply;
+      few = few;
+      all = c.cards_before_all.ensures.all;
+      most = c.cards_before_all.ensures.most;
+      most_behind = λ n within stand. c.cards_behind_all.ensures.most cards n (sym count) (omega (arith, few, count)) c.requires.apply (omega (arith, within, count)) (subst (StandBehind n edits) (sym count) stand);
+    } in
+    let made = c.deref.result.now in
+    let after = c.deref.ensures.value ∙ c.in_ok-cards.ensures in
+    let edited = c.in_ok-edited.ensures in
+    let former = c.in_ok-edited.edited.former in
+    let object = same ∙ sym (ap (λ (r : Record). r.cards) c.self.view_is) ∙ sym (ap (λ (d : Deck). d.cards) c.object.ensures) in
+    let start = c.edited.ensures.coded in
+    let rises = c.edited_object.ensures.coded_rises in
+    due-code-edited edits own cards made c.cards_before_all.result c.cards_behind_all.result former c.args.meter.now.coded c.edited_object.new.meter.coded same after taken (omega (arith, start, rises))
+    edited.before edited.former.kind edited.tail edited.within
+    (λ plan of.
+    let bound = c.edited_object.ensures.coded_due plan
+    (subst (λ (both : List Card × List Card). IsPlanOf (kind_of_statements (known_in both.1)) both.0 both.1 former plan) (λ i. (object i, c.deref.ensures.value i)) of) in
+    let due = ap (λ (l : List Card). code_due_of l plan) c.deref.ensures.value in
+    omega (arith, bound, due, start))
+
+pub returns-clause-coded_due : goal.returns-clause-coded_due
+returns-clause-coded_due c =
+    let edits = c.args.edits.now in
+    let own = c.cards-own.result.now in
+    let cards = c.args.self.now.cards in
+    let same = c.cards-own.ensures.cards in
+    let few = c.cards-own.ensures.few in
+    let count = ap length same in
+    let taken : AreTaken edits cards c.cards_before_all.result c.cards_behind_all.result = record {
+      some = c.requires.some;
+      apply = c.requires.apply;
+      few = few;
+      all = c.cards_before_all.ensures.all;
+      most = c.cards_before_all.ensures.most;
+      most_behind = λ n within stand. c.cards_behind_all.ensures.most cards n (sym count) (omega (arith, few, count)) c.requires.apply (omega (arith, within, count)) (subst (StandBehind n edits) (sym count) stand);
+    } in
+    let made = c.deref.result.now in
+    let after = c.deref.ensures.value ∙ c.in_ok-cards.ensures in
+    let edited = c.in_ok-edited.ensures in
+    let former = c.in_ok-edited.edited.former in
+    let object = same ∙ sym (ap (λ (r : Record). r.cards) c.self.view_is) ∙ sym (ap (λ (d : Deck). d.cards) c.object.ensures) in
+    let start = c.edited.ensures.coded in
+    let rises = c.edited_object.ensures.coded_rises in
+    due-code-edited edits own cards made c.cards_before_all.result c.cards_behind_all.result former c.args.meter.now.coded c.edited_object.new.meter.coded same after taken (omega (arith, start, rises))
+    edited.before edited.former.kind edited.tail edited.within
+    (λ plan of.
+    let bound = c.edited_object.ensures.coded_due plan
+    (subst (λ (both : List Card × List Card). IsPlanOf (kind_of_statements (known_in both.1)) both.0 both.1 former plan) (λ i. (object i, c.deref.ensures.value i)) of) in
+    let due = ap (λ (l : List Card). code_due_of l plan) c.deref.ensures.value in
+    omega (arith, bound, due, start))
