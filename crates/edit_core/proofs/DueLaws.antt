@@ -1,5 +1,5 @@
 -- What is sized for edits is within what is due.
-use Rattle.std.proofs.Common.{◌≡◌, ℕ, ◌+◌, ◌-◌, ◌<◌, ◌≤◌, ◌==◌, true, false, List, [], ◌∷◌, length, All, None, refl, sym, ap, ◌∙◌, arith}
+use Rattle.std.proofs.Common.{◌≡◌, ℕ, ◌+◌, ◌-◌, ◌<◌, ◌≤◌, ◌==◌, true, false, List, [], ◌∷◌, length, All, None, refl, sym, ap, ◌∙◌, subst, arith}
 use Rattle.std.proofs.lemmas.Bool.{eqb-true}
 use Rattle.definitions.specs.Cards.{Card}
 use Rattle.definitions.specs.DeckKinds.{kind_of_statements}
@@ -27,6 +27,21 @@ pub record AreTaken (edits : List Edit) (cards : List Card) (before behind : ℕ
   pub all : All (λ edit. before ≤ front_of edit) edits
   pub most : (count : ℕ) → count ≤ 20000 → All (λ edit. count ≤ front_of edit) edits → count ≤ before
   pub most_behind : (count : ℕ) → count ≤ length cards → StandBehind count edits (length cards) → count ≤ behind
+
+-- those of the own cards, which are these
+pub are-taken : (edits : List Edit) (own cards : List Card) (before behind : ℕ) → own ≡ cards → (length edits == 0) ≡ false → first_fault edits cards ≡ None → length cards ≤ 20000 →
+    All (λ edit. before ≤ front_of edit) edits → ((count : ℕ) → count ≤ 20000 → All (λ edit. count ≤ front_of edit) edits → count ≤ before) →
+    ((of : List Card) (count : ℕ) → length of ≡ length own → length own ≤ 20000 → first_fault edits of ≡ None → count ≤ length own → StandBehind count edits (length own) → count ≤ behind) → AreTaken edits cards before behind
+are-taken edits own cards before behind same some apply few all most most_behind =
+    let count = ap length same in
+    record {
+      some = some;
+      apply = apply;
+      few = few;
+      all = all;
+      most = most;
+      most_behind = λ n within stand. most_behind cards n (sym count) (omega (arith, few, count)) apply (omega (arith, within, count)) (subst (StandBehind n edits) (sym count) stand);
+    }
 
 -- the decks of an edit
 apart-of : (edits : List Edit) (own cards made : List Card) (before behind : ℕ) (decks : Edited) → own ≡ cards → made ≡ edited_by edits own → AreTaken edits cards before behind → AreDecksOf edits cards decks → StandUnchanged edits cards decks →

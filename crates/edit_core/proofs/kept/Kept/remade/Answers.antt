@@ -9,9 +9,9 @@ use Rattle.deck_assembler.specs.DueCodes.{IsPlanOf, code_due_of}
 use Rattle.deck_assembler.specs.Formers.{IsFormerOf, known_in}
 use Rattle.deck_assembler.specs.SizedDecks.{IsSizedDeck}
 use Rattle.deck_assembler.specs.Tails.{HasTailIfAny}
-use Rattle.edit_core.specs.Edited.{RisesBehindFront, RisesToDue, RisesToDueCode, StandBehind}
+use Rattle.edit_core.specs.Edited.{RisesBehindFront, RisesToDue, RisesToDueCode}
 use Rattle.edit_core.specs.Records.{Record}
-use Rattle.edit_core.proofs.DueLaws.{AreTaken, due-code-edited, due-code-still, due-edited, due-still}
+use Rattle.edit_core.proofs.DueLaws.{are-taken, due-code-edited, due-code-still, due-edited, due-still}
 use Rattle.edit_core.proofs.EditLaws.{few-all, front-all, front-edited, front-still}
 use Rattle.edit_core.proofs.kept.Kept.remade.Goals as goal
 
@@ -92,15 +92,8 @@ returns-in_err-edited-clause-sized_due c =
     let cards = c.args.self.now.cards in
     let same = c.cards-own.ensures.cards in
     let few = c.cards-own.ensures.few in
-    let count = ap length same in
-    let taken : AreTaken edits cards c.cards_before_all.result c.cards_behind_all.result = record {
-      some = c.requires.some;
-      apply = c.requires.apply;
-      few = few;
-      all = c.cards_before_all.ensures.all;
-      most = c.cards_before_all.ensures.most;
-      most_behind = λ n within stand. c.cards_behind_all.ensures.most cards n (sym count) (omega (arith, few, count)) c.requires.apply (omega (arith, within, count)) (subst (StandBehind n edits) (sym count) stand);
-    } in
+    let taken = are-taken edits own cards c.cards_before_all.result c.cards_behind_all.result same c.requires.some c.requires.apply few c.cards_before_all.ensures.all c.cards_before_all.ensures.most
+    c.cards_behind_all.ensures.most in
     due-edited edits c.cards-own.result.now c.args.self.now.cards _ c.cards_before_all.result c.cards_behind_all.result _ _ c.cards-own.ensures.cards (c.deref.ensures.value ∙ c.in_ok-cards.ensures) taken c.edited.ensures.rises c.edited.ensures.front c.edited.ensures.due
 
 pub returns-in_err-object-clause-sized_due : goal.returns-in_err-object-clause-sized_due
@@ -110,15 +103,8 @@ returns-in_err-object-clause-sized_due c =
     let cards = c.args.self.now.cards in
     let same = c.cards-own.ensures.cards in
     let few = c.cards-own.ensures.few in
-    let count = ap length same in
-    let taken : AreTaken edits cards c.cards_before_all.result c.cards_behind_all.result = record {
-      some = c.requires.some;
-      apply = c.requires.apply;
-      few = few;
-      all = c.cards_before_all.ensures.all;
-      most = c.cards_before_all.ensures.most;
-      most_behind = λ n within stand. c.cards_behind_all.ensures.most cards n (sym count) (omega (arith, few, count)) c.requires.apply (omega (arith, within, count)) (subst (StandBehind n edits) (sym count) stand);
-    } in
+    let taken = are-taken edits own cards c.cards_before_all.result c.cards_behind_all.result same c.requires.some c.requires.apply few c.cards_before_all.ensures.all c.cards_before_all.ensures.most
+    c.cards_behind_all.ensures.most in
     subst (RisesToDue edits c.args.self.now.cards c.args.meter.now.sized) (sym c.edited_object.ensures.sized)
     (due-edited edits c.cards-own.result.now c.args.self.now.cards _ c.cards_before_all.result c.cards_behind_all.result _ _ c.cards-own.ensures.cards (c.deref.ensures.value ∙ c.in_ok-cards.ensures) taken c.edited.ensures.rises c.edited.ensures.front c.edited.ensures.due)
 
@@ -129,15 +115,8 @@ returns-clause-sized_due c =
     let cards = c.args.self.now.cards in
     let same = c.cards-own.ensures.cards in
     let few = c.cards-own.ensures.few in
-    let count = ap length same in
-    let taken : AreTaken edits cards c.cards_before_all.result c.cards_behind_all.result = record {
-      some = c.requires.some;
-      apply = c.requires.apply;
-      few = few;
-      all = c.cards_before_all.ensures.all;
-      most = c.cards_before_all.ensures.most;
-      most_behind = λ n within stand. c.cards_behind_all.ensures.most cards n (sym count) (omega (arith, few, count)) c.requires.apply (omega (arith, within, count)) (subst (StandBehind n edits) (sym count) stand);
-    } in
+    let taken = are-taken edits own cards c.cards_before_all.result c.cards_behind_all.result same c.requires.some c.requires.apply few c.cards_before_all.ensures.all c.cards_before_all.ensures.most
+    c.cards_behind_all.ensures.most in
     subst (RisesToDue edits c.args.self.now.cards c.args.meter.now.sized) (sym c.edited_object.ensures.sized)
     (due-edited edits c.cards-own.result.now c.args.self.now.cards _ c.cards_before_all.result c.cards_behind_all.result _ _ c.cards-own.ensures.cards (c.deref.ensures.value ∙ c.in_ok-cards.ensures) taken c.edited.ensures.rises c.edited.ensures.front c.edited.ensures.due)
 
@@ -148,15 +127,8 @@ returns-in_err-cards-clause-sized_due c =
     let cards = c.args.self.now.cards in
     let same = c.cards-own.ensures.cards in
     let few = c.cards-own.ensures.few in
-    let count = ap length same in
-    let taken : AreTaken edits cards c.cards_before_all.result c.cards_behind_all.result = record {
-      some = c.requires.some;
-      apply = c.requires.apply;
-      few = few;
-      all = c.cards_before_all.ensures.all;
-      most = c.cards_before_all.ensures.most;
-      most_behind = λ n within stand. c.cards_behind_all.ensures.most cards n (sym count) (omega (arith, few, count)) c.requires.apply (omega (arith, within, count)) (subst (StandBehind n edits) (sym count) stand);
-    } in
+    let taken = are-taken edits own cards c.cards_before_all.result c.cards_behind_all.result same c.requires.some c.requires.apply few c.cards_before_all.ensures.all c.cards_before_all.ensures.most
+    c.cards_behind_all.ensures.most in
     due-still edits cards c.cards_before_all.result c.cards_behind_all.result c.args.meter.now.sized taken
 
 pub returns-in_err-cards-clause-coded_due : goal.returns-in_err-cards-clause-coded_due
@@ -166,15 +138,8 @@ returns-in_err-cards-clause-coded_due c =
     let cards = c.args.self.now.cards in
     let same = c.cards-own.ensures.cards in
     let few = c.cards-own.ensures.few in
-    let count = ap length same in
-    let taken : AreTaken edits cards c.cards_before_all.result c.cards_behind_all.result = record {
-      some = c.requires.some;
-      apply = c.requires.apply;
-      few = few;
-      all = c.cards_before_all.ensures.all;
-      most = c.cards_before_all.ensures.most;
-      most_behind = λ n within stand. c.cards_behind_all.ensures.most cards n (sym count) (omega (arith, few, count)) c.requires.apply (omega (arith, within, count)) (subst (StandBehind n edits) (sym count) stand);
-    } in
+    let taken = are-taken edits own cards c.cards_before_all.result c.cards_behind_all.result same c.requires.some c.requires.apply few c.cards_before_all.ensures.all c.cards_before_all.ensures.most
+    c.cards_behind_all.ensures.most in
     due-code-still edits cards c.cards_before_all.result c.cards_behind_all.result c.args.meter.now.coded taken
 
 pub returns-in_err-edited-clause-coded_due : goal.returns-in_err-edited-clause-coded_due
@@ -184,15 +149,8 @@ returns-in_err-edited-clause-coded_due c =
     let cards = c.args.self.now.cards in
     let same = c.cards-own.ensures.cards in
     let few = c.cards-own.ensures.few in
-    let count = ap length same in
-    let taken : AreTaken edits cards c.cards_before_all.result c.cards_behind_all.result = record {
-      some = c.requires.some;
-      apply = c.requires.apply;
-      few = few;
-      all = c.cards_before_all.ensures.all;
-      most = c.cards_before_all.ensures.most;
-      most_behind = λ n within stand. c.cards_behind_all.ensures.most cards n (sym count) (omega (arith, few, count)) c.requires.apply (omega (arith, within, count)) (subst (StandBehind n edits) (sym count) stand);
-    } in
+    let taken = are-taken edits own cards c.cards_before_all.result c.cards_behind_all.result same c.requires.some c.requires.apply few c.cards_before_all.ensures.all c.cards_before_all.ensures.most
+    c.cards_behind_all.ensures.most in
     subst (RisesToDueCode edits cards c.args.meter.now.coded) (sym c.edited.ensures.coded) (due-code-still edits cards c.cards_before_all.result c.cards_behind_all.result c.args.meter.now.coded taken)
 
 pub returns-in_err-object-clause-coded_due : goal.returns-in_err-object-clause-coded_due
@@ -202,15 +160,8 @@ returns-in_err-object-clause-coded_due c =
     let cards = c.args.self.now.cards in
     let same = c.cards-own.ensures.cards in
     let few = c.cards-own.ensures.few in
-    let count = ap length same in
-    let taken : AreTaken edits cards c.cards_before_all.result c.cards_behind_all.result = record {
-      some = c.requires.some;
-      apply = c.requires.apply;
-      few = few;
-      all = c.cards_before_all.ensures.all;
-      most = c.cards_before_all.ensures.most;
-      most_behind = λ n within stand. c.cards_behind_all.ensures.most cards n (sym count) (omega (arith, few, count)) c.requires.apply (omega (arith, within, count)) (subst (StandBehind n edits) (sym count) stand);
-    } in
+    let taken = are-taken edits own cards c.cards_before_all.result c.cards_behind_all.result same c.requires.some c.requires.apply few c.cards_before_all.ensures.all c.cards_before_all.ensures.most
+    c.cards_behind_all.ensures.most in
     let made = c.deref.result.now in
     let after = c.deref.ensures.value ∙ c.in_ok-cards.ensures in
     let edited = c.in_ok-edited.ensures in
@@ -233,15 +184,8 @@ returns-clause-coded_due c =
     let cards = c.args.self.now.cards in
     let same = c.cards-own.ensures.cards in
     let few = c.cards-own.ensures.few in
-    let count = ap length same in
-    let taken : AreTaken edits cards c.cards_before_all.result c.cards_behind_all.result = record {
-      some = c.requires.some;
-      apply = c.requires.apply;
-      few = few;
-      all = c.cards_before_all.ensures.all;
-      most = c.cards_before_all.ensures.most;
-      most_behind = λ n within stand. c.cards_behind_all.ensures.most cards n (sym count) (omega (arith, few, count)) c.requires.apply (omega (arith, within, count)) (subst (StandBehind n edits) (sym count) stand);
-    } in
+    let taken = are-taken edits own cards c.cards_before_all.result c.cards_behind_all.result same c.requires.some c.requires.apply few c.cards_before_all.ensures.all c.cards_before_all.ensures.most
+    c.cards_behind_all.ensures.most in
     let made = c.deref.result.now in
     let after = c.deref.ensures.value ∙ c.in_ok-cards.ensures in
     let edited = c.in_ok-edited.ensures in
