@@ -6,7 +6,7 @@ _compass() {
     --image|--journal|--listing|--map|-o) mapfile -t COMPREPLY < <(compgen -f -- "$word"); return ;;
   esac
   case ${COMP_WORDS[1]} in
-    asm) options='--fold-case --tabs --last-line --journal --version --listing --map -o --image --quiet -h --help' ;;
+    asm) options='--fold-case --tabs --last-line --journal --version --listing --map -o --image --symbols --quiet -h --help' ;;
     log) options='-h --help' ;;
     serve) options='--root --port --workers --sessions --idle --journal --compact --once -h --help' ;;
     stop) options='--root -h --help' ;;

@@ -4,6 +4,7 @@ use crate::flagged::tell_flagged;
 use crate::input_files::{InputFault, input_of, standard_input};
 use crate::journal_files::{DecksFault, decks_at};
 use crate::run_faults::{RunFault, placed, tell_run};
+use crate::symbols::symbol_tables;
 use asm_main::{
     AsmFault, Chained, Chosen, Deck, Filter, Remembering, Tally, asm_publish, asm_publish_with,
     asm_run, publish, tally_of, write_chosen,
@@ -12,10 +13,10 @@ use clap::{Arg, ArgAction, ArgMatches, Command};
 use deck_files::write_whole;
 use deck_linker::Publication;
 use std::alloc::{AllocError, Global};
-use std::io::{self, BufReader, Read};
+use std::io::{self, BufReader, Read, Write};
 use std::process::ExitCode;
 use std::rt::Files;
-use text_ports::{Counted, LineBuf};
+use text_ports::{Broken, Counted, LineBuf, Text, put_all};
 
 /// How many decks are linked at most.
 const MOST_DECKS: usize = 64;
@@ -37,6 +38,7 @@ struct Named<'w, 'a> {
     listing: Option<&'a str>,
     map: Option<&'a str>,
     image: Option<&'a str>,
+    symbols: bool,
     quiet: bool,
 }
 
@@ -86,6 +88,10 @@ fn with_journal<'a>(alloc: Global, command: Command<'a>) -> Result<Command<'a>, 
 
 /// The command with the words of where the output goes.
 fn with_outputs<'a>(alloc: Global, command: Command<'a>) -> Result<Command<'a>, AllocError> {
+    let symbols = Arg::new(alloc, "symbols")
+        .long("symbols")
+        .help("Puts a table of the symbols of each deck behind the listings")
+        .action(ArgAction::SetTrue);
     let quiet = Arg::new(alloc, "quiet")
         .long("quiet")
         .help("Tells no flagged statements and no LINK lines of files on standard error")
@@ -94,6 +100,7 @@ fn with_outputs<'a>(alloc: Global, command: Command<'a>) -> Result<Command<'a>, 
         .arg(output_word(alloc, "listing", "Where the listings go"))?
         .arg(output_word(alloc, "map", "Where the link map goes"))?
         .arg(output_word(alloc, "image", "Where the octal image goes").short('o'))?
+        .arg(symbols)?
         .arg(quiet)
 }
 
@@ -164,6 +171,7 @@ where
         listing: words.get_str("listing"),
         map: words.get_str("map"),
         image: words.get_str("image"),
+        symbols: words.get_flag("symbols"),
         quiet: words.get_flag("quiet"),
     };
     let outcome = match named.journal {
@@ -186,7 +194,7 @@ where
         return Err(RunFault::Asm(AsmFault::OutOfMemory));
     };
     let mut input = Counted::new(reader);
-    if !named.has_outputs() {
+    if !named.has_outputs() && !named.symbols {
         let mut output = Counted::new(io::writer(rt));
         return Ok(asm_run(rt.alloc(), &mut input, &mut output)?);
     }
@@ -267,6 +275,21 @@ where
     }
 }
 
+/// The listings with the tables of symbols behind them, where these are asked for.
+fn with_symbols(
+    alloc: Global,
+    named: &Named<'_, '_>,
+    publication: &Publication,
+) -> Result<Option<Text>, AllocError> {
+    if !named.symbols {
+        return Ok(None);
+    }
+    let mut text = Text::new(alloc);
+    text.push_bytes(publication.listings())?;
+    text.append(symbol_tables(alloc, publication.objects())?)?;
+    Ok(Some(text))
+}
+
 /// Writes the parts of a publication to the files that are named, and the others to standard output.
 fn write_parts<'a, R>(
     rt: &R,
@@ -276,11 +299,18 @@ fn write_parts<'a, R>(
 where
     R: AllocGlobal + Print + Files,
 {
-    write_file(rt, named.listing, publication.listings())?;
+    let Ok(symbols) = with_symbols(rt.alloc(), named, publication) else {
+        return Err(RunFault::Asm(AsmFault::OutOfMemory));
+    };
+    let listings = match &symbols {
+        Some(text) => text.as_slice(),
+        None => publication.listings(),
+    };
+    write_file(rt, named.listing, listings)?;
     write_file(rt, named.map, publication.map())?;
     write_file(rt, named.image, publication.image())?;
     let mut output = Counted::new(Remembering::new(io::writer(rt)));
-    match write_chosen(&mut output, publication, named.others()) {
+    match write_others(&mut output, publication, symbols.as_ref(), named.others()) {
         Ok(()) => Ok(tally_of(publication)),
         Err(broken) => {
             let fault = AsmFault::WriteFault { sent: broken.sent };
@@ -290,6 +320,27 @@ where
             })
         }
     }
+}
+
+/// Writes what has no file of its own: the listings, which may be these with symbols, the map, the image.
+fn write_others<W: Write>(
+    output: &mut Counted<W>,
+    publication: &Publication,
+    symbols: Option<&Text>,
+    others: Chosen,
+) -> Result<(), Broken> {
+    let Some(text) = symbols else {
+        return write_chosen(output, publication, others);
+    };
+    let front = if others.listing { text.as_slice() } else { b"" };
+    put_all(output, front)?;
+    let behind = Chosen {
+        listing: false,
+        ..others
+    };
+    write_chosen(output, publication, behind).map_err(|broken| Broken {
+        sent: broken.sent.saturating_add(front.len()),
+    })
 }
 
 /// Makes the file of a part of the output anew, if it has one.

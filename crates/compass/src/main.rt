@@ -9,6 +9,7 @@ mod journal_files;
 mod run_faults;
 mod serving;
 mod stopping;
+mod symbols;
 
 ghost use Rattle.std.specs.Prelude.{◌≡◌, ◌≢◌, ℕ, ◌<◌, pos};
 
