@@ -4,6 +4,7 @@ mod RiseLaws
 mod GatherLaws
 mod ZeroLaws
 mod MergeLaws
+mod NothingLaws
 mod FillLaws
 pub mod OverLaws
 mod RunSteps

@@ -1,5 +1,6 @@
 -- How the code keeps a run: parcels of equal bits one behind the other, as one span (ours).
-use Rattle.std.specs.Prelude.{ℕ, ◌≡◌, ◌+◌, ◌*◌, ◌^◌, ◌<◌, ◌≤◌, List, [], ◌∷◌, ◌++◌, replicate, Vec}
+use Rattle.std.specs.Prelude.{ℕ, ◌≡◌, ◌+◌, ◌*◌, ◌^◌, ◌<◌, ◌≤◌, List, [], ◌∷◌, ◌++◌, Bool, nat_lt, replicate, Vec}
+use Rattle.std.specs.List.{list_any}
 use Rattle.definitions.specs.Kinds.{unit_bits}
 use Rattle.definitions.specs.Words.{Parcel, parcels_from}
 use Rattle.definitions.specs.declared.deck_kind.DeckKind.{DeckKind}
@@ -16,6 +17,14 @@ span_parcels span = parcels_from span.is_instruction span.place (replicate span.
 abbrev pub parcels_in : List Span → List Parcel
 parcels_in [] = []
 parcels_in (span ∷ spans) = span_parcels span ++ parcels_in spans
+
+-- whether a span has a parcel
+abbrev pub has_parcel : Span → Bool
+has_parcel span = nat_lt 0 span.count
+
+-- whether a run has one
+abbrev pub lies_in : {Z : Type 0} → Vec Span Z → Bool
+lies_in run = list_any has_parcel run.items
 
 -- a run as the code keeps it
 abbrev pub run_of : List Span → OpenParcel → OpenRun

@@ -11,6 +11,7 @@ mod filling;
 mod gathering;
 mod laws;
 mod merging;
+mod nothing;
 mod spans;
 mod word_spans;
 mod words;

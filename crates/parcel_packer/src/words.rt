@@ -1,5 +1,5 @@
 //! What the words of one block hold: fields put run by run, and the words that they fill.
-ghost use Rattle.std.specs.Prelude.{◌≡◌, ◌+◌, ◌*◌, ◌^◌, ◌<◌, ◌≤◌, ◌∷◌, [], IfOk, OnOk, OnErr, false};
+ghost use Rattle.std.specs.Prelude.{◌≡◌, ◌≢◌, ◌+◌, ◌*◌, ◌^◌, ◌<◌, ◌≤◌, ◌∷◌, [], IfOk, OnOk, OnErr, not, true, false};
 ghost use Rattle.definitions.specs.Kinds.{units, unit_bits, word_bits};
 ghost use Rattle.definitions.specs.Kinds.{most_words};
 ghost use Rattle.definitions.specs.Words.{stored, words_in};
@@ -11,6 +11,7 @@ use crate::fields::{Field, moved_to, parcel_bits, put_field};
 use crate::filling::runs_words;
 use crate::gathering::{run_words, units_of};
 use crate::merging::merged;
+use crate::nothing::{lies_in, lies_in_any};
 use crate::spans::{OpenParcel, Span};
 use crate::word_spans::WordSpan;
 use definitions::DeckKind;
@@ -152,8 +153,30 @@ impl Words {
     /// The words in which something lies, by increasing offset: the sum of what the latest run has
     /// there, and the pass instruction in each parcel that it leaves open in a central word with an
     /// instruction. Each parcel that was begun is whole. Zeros are one span, however many they are,
-    /// and are never made where a later run lies over them.
+    /// and are never made where a later run lies over them. Memory is asked for only where there is a
+    /// word.
     pub fn fill(&self, alloc: Global) -> Result<Vec<WordSpan>, AllocError>
+        requires { self.now.run.filled ≡ 0 }
+        ensures words { IfOk result (λ spans. as_stored spans.items ≡ stored self.now.kind (runs_in self.now) (words_in self.now.kind (runs_in self.now))) }
+        ensures rise { IfOk result (λ spans. DoSpansRise 0 spans.items (2 ^ 20)) }
+        ensures memory { OnErr result (words_in self.now.kind (runs_in self.now) ≢ []) }
+    {
+        if self.is_empty() {
+            return Ok(Vec::new(alloc));
+        }
+        self.filled(alloc)
+    }
+
+    /// Whether no run has a parcel.
+    fn is_empty(&self) -> bool
+        ensures none { result ≡ true → words_in self.now.kind (runs_in self.now) ≡ [] }
+        ensures some { result ≡ false → words_in self.now.kind (runs_in self.now) ≢ [] }
+    {
+        !lies_in(self.run.as_slice()) && !lies_in_any(self.earlier.as_slice())
+    }
+
+    /// The words of the runs, one of which has a parcel.
+    fn filled(&self, alloc: Global) -> Result<Vec<WordSpan>, AllocError>
         requires { self.now.run.filled ≡ 0 }
         ensures words { IfOk result (λ spans. as_stored spans.items ≡ stored self.now.kind (runs_in self.now) (words_in self.now.kind (runs_in self.now))) }
         ensures rise { IfOk result (λ spans. DoSpansRise 0 spans.items (2 ^ 20)) }

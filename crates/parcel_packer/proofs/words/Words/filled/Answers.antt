@@ -4,7 +4,7 @@ use Rattle.parcel_packer.specs.declared.spans.Span.{Span}
 use Rattle.parcel_packer.proofs.MergeLaws.{if_ok}
 use Rattle.parcel_packer.proofs.PutLaws.{whole_rise}
 use Rattle.parcel_packer.proofs.WordLaws.{fill_view}
-use Rattle.parcel_packer.proofs.words.Words.fill.Goals as goal
+use Rattle.parcel_packer.proofs.words.Words.filled.Goals as goal
 
 pub run_words-requires : goal.run_words-requires
 run_words-requires c =
