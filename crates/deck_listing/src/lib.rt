@@ -12,6 +12,7 @@
 // The listing.
 mod field_lines;
 mod lines;
+mod listed_object;
 mod statements;
 mod whole;
 
@@ -28,5 +29,6 @@ mod sections;
 
 pub use blocks::words_of_blocks;
 pub use image_lines::push_image_line;
+pub use listed_object::ListedObject;
 pub use sections::{image, push_section};
 pub use whole::{errors, listing, push_listing};
