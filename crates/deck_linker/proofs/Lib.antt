@@ -16,5 +16,6 @@ pub mod MapLaws
 pub mod TextLaws
 pub mod ImageLaws
 pub mod PublishLaws
+pub mod ListedLaws
 pub mod ElsewhereLaws
 pub mod CommonSteps

@@ -7,7 +7,8 @@
 //! from the ends of its lines. `DeckLinking` is the link of a deck in a layout; what does not fit
 //! its field is 0. A common block's words are each the last deck's. A `Publication` is seen by
 //! contracts as its version and decks: that its texts and counts are those of the build of these
-//! decks is the invariant of its type.
+//! decks is the invariant of its type. A `ListedPublication` is the same of decks that have their
+//! listings with them: it holds map and image, and shares the listings.
 #![tactic(auto)]
 
 // Where decks and common blocks stand.
@@ -39,11 +40,13 @@ mod common_words;
 mod image;
 
 // All of them.
+mod listed_publication;
 mod publication;
 
 pub use based::Based;
 pub use commons::Common;
 pub use layout::Layout;
 pub use linking::DeckLinking;
+pub use listed_publication::{ListedPublication, publish};
 pub use name_key::NameKey;
 pub use publication::{Publication, link};

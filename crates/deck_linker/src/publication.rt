@@ -129,7 +129,7 @@ fn errors_in(objects: &[SharedObject]) -> Result<u64, AllocError>
 }
 
 /// The sum of two counts, where it fits.
-fn sum(count: u64, more: u64) -> Result<u64, AllocError>
+pub(crate) fn sum(count: u64, more: u64) -> Result<u64, AllocError>
     ensures { IfOk result (λ sum. sum ≡ count + more) }
 {
     match count.checked_add(more) {
