@@ -5,8 +5,8 @@ ghost use Rattle.deck_workers.specs.Language.{edited_by, edits_bound, edits_faul
 ghost use Rattle.deck_workers.specs.Jobs.{start_deck, start_cards, start_bound, CountsWithin};
 
 use cards::{DeckName, Edit, first_fault};
-use deck_assembler::SharedObject;
-use deck_linker::link;
+use deck_linker::publish;
+use deck_listing::ListedObject;
 use desk_core::{Held, SharedPublication, Start};
 use edit_core::{Kept, RecordFault, record_fault};
 use statement_coder::Meter;
@@ -32,15 +32,15 @@ fn edits_fault(start: &Start, edits: &[Edit]) -> Option<RecordFault>
     }
 }
 
-/// Record and object of the deck of a job, its edits made at once. An edit that does not apply is
-/// told before anything takes memory.
+/// Record and object of the deck of a job, its edits made at once; the object with its listing, which
+/// is made here and nowhere else. An edit that does not apply is told before anything takes memory.
 pub(crate) fn assembled(
     alloc: Global,
     name: DeckName,
     start: Start,
     edits: &[Edit],
     meter: &mut Meter,
-) -> Result<(Held, SharedObject), RecordFault>
+) -> Result<(Held, ListedObject), RecordFault>
     ensures record { IfOk result (λ made. made.0 ≡ record { deck = record { name = (start_deck name start).name; cards = edited_by edits.now (start_deck name start).cards } }) }
     ensures object { IfOk result (λ made. made.1 ≡ record { name = (start_deck name start).name; cards = edited_by edits.now (start_deck name start).cards }) }
     ensures applied { IfOk result (λ made. edits_fault edits.now (start_cards start) ≡ None) }
@@ -53,7 +53,7 @@ pub(crate) fn assembled(
     }
     let mut kept = begun(alloc, name, start, meter)?;
     kept.edit_all(alloc, edits, meter)?;
-    finished(kept)
+    finished(alloc, kept)
 }
 
 /// The record that a job begins with.
@@ -79,16 +79,29 @@ fn begun(
     }
 }
 
-/// A record that is not spent, with its object.
-fn finished(kept: Kept) -> Result<(Held, SharedObject), RecordFault>
-    requires { kept.is_spent ≡ false }
-    ensures record { IfOk result (λ made. made.0 ≡ record { deck = record { name = kept.name; cards = kept.cards } }) }
-    ensures object { IfOk result (λ made. made.1 ≡ record { name = kept.name; cards = kept.cards }) }
+/// The object of a record that is not spent, with its listing.
+fn listed(alloc: Global, kept: &Kept) -> Result<ListedObject, RecordFault>
+    requires { kept.now.is_spent ≡ false }
+    ensures object { IfOk result (λ object. object ≡ record { name = kept.now.name; cards = kept.now.cards }) }
     ensures fault { IfErr result (λ fault. fault ≡ RecordFault.OutOfMemory) }
 {
     let Ok(object) = kept.finish() else {
         return Err(RecordFault::OutOfMemory);
     };
+    match ListedObject::new(alloc, object) {
+        Ok(listed) => Ok(listed),
+        Err(_) => Err(RecordFault::OutOfMemory),
+    }
+}
+
+/// A record that is not spent, with its object and the listing of that.
+fn finished(alloc: Global, kept: Kept) -> Result<(Held, ListedObject), RecordFault>
+    requires { kept.is_spent ≡ false }
+    ensures record { IfOk result (λ made. made.0 ≡ record { deck = record { name = kept.name; cards = kept.cards } }) }
+    ensures object { IfOk result (λ made. made.1 ≡ record { name = kept.name; cards = kept.cards }) }
+    ensures fault { IfErr result (λ fault. fault ≡ RecordFault.OutOfMemory) }
+{
+    let object = listed(alloc, &kept)?;
     match Held::new(kept) {
         Some(held) => Ok((held, object)),
         None => unreachable!(),
@@ -98,10 +111,10 @@ fn finished(kept: Kept) -> Result<(Held, SharedObject), RecordFault>
 /// The publication of objects under a version.
 pub(crate) fn published(
     alloc: Global,
-    objects: Vec<SharedObject>,
+    objects: Vec<ListedObject>,
     version: u64,
 ) -> Result<SharedPublication, AllocError>
     ensures { IfOk result (λ publication. publication ≡ record { version = version; decks = objects.items }) }
 {
-    SharedPublication::new(alloc, link(alloc, objects, version)?)
+    SharedPublication::new(alloc, publish(alloc, objects, version)?)
 }

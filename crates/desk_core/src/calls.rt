@@ -5,7 +5,7 @@ use crate::listed::Listed;
 use crate::new_deck::NewDeck;
 use crate::shared_publication::SharedPublication;
 use cards::{DeckName, Edit};
-use deck_assembler::SharedObject;
+use deck_listing::ListedObject;
 
 /// The result of a deck job: the lease, the deck's identity and version as the job had them; the
 /// record, none where it is spent; and the object.
@@ -15,7 +15,7 @@ pub struct Done {
     pub deck: u64,
     pub version: u64,
     pub kept: Option<Held>,
-    pub object: SharedObject,
+    pub object: ListedObject,
 }
 
 /// What may be asked of a desk. Who changes a deck tells its name and the version of it that was seen.

@@ -15,7 +15,7 @@ use crate::leases::{Lease, is_leased_at};
 use crate::listed::Listed;
 use crate::replies::{Refusal, Reply};
 use crate::stored_deck::StoredDeck;
-use deck_assembler::SharedObject;
+use deck_listing::ListedObject;
 use std::alloc::{AllocError, Global};
 
 impl Desk {
@@ -120,7 +120,7 @@ impl Desk {
 }
 
 /// The objects of decks that all have one, in order.
-fn objects(alloc: Global, decks: &[StoredDeck]) -> Result<Vec<SharedObject>, AllocError>
+fn objects(alloc: Global, decks: &[StoredDeck]) -> Result<Vec<ListedObject>, AllocError>
     requires { list_any is_behind decks.now ≡ false }
     ensures { IfOk result (λ objects. objects.items ≡ map deck_of decks.now) }
 {

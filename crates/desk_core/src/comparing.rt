@@ -6,7 +6,7 @@ ghost use Rattle.desk_core.specs.Delivering.{same_cards, same_decks};
 
 use crate::stored_deck::StoredDeck;
 use cards::{Card, DeckName};
-use deck_assembler::SharedObject;
+use deck_listing::ListedObject;
 
 pub(crate) fn same_name(name: &DeckName, other: &DeckName) -> bool
     ensures { result ≡ same_text name.now other.now }
@@ -46,13 +46,13 @@ fn all_cards_same(cards: &[Card], others: &[Card]) -> bool
 }
 
 /// Whether objects are of these decks, in the same order.
-pub(crate) fn same_decks(objects: &[SharedObject], decks: &[StoredDeck]) -> bool
+pub(crate) fn same_decks(objects: &[ListedObject], decks: &[StoredDeck]) -> bool
     ensures { result ≡ same_decks objects.now (map deck_of decks.now) }
 {
     objects.len() == decks.len() && all_decks_same(objects, decks)
 }
 
-fn all_decks_same(objects: &[SharedObject], decks: &[StoredDeck]) -> bool
+fn all_decks_same(objects: &[ListedObject], decks: &[StoredDeck]) -> bool
     requires { length objects.now ≡ length decks.now }
     ensures { result ≡ same_decks objects.now (map deck_of decks.now) }
 {

@@ -13,7 +13,7 @@ use crate::held::Held;
 use crate::jobs::DeckWork;
 use crate::stored_deck::StoredDeck;
 use cards::{Card, DeckName, Edit};
-use deck_assembler::SharedObject;
+use deck_listing::ListedObject;
 use std::alloc::{AllocError, Global};
 use std::marker::Model;
 
@@ -179,7 +179,7 @@ impl DeckList {
     }
 
     /// The deck at a place gets its record and its object.
-    pub(crate) fn store_at(&mut self, place: usize, kept: Held, object: SharedObject)
+    pub(crate) fn store_at(&mut self, place: usize, kept: Held, object: ListedObject)
         requires within { place < length self.old }
         requires object { ForSome (slice_get self.old place) (λ deck. object ≡ deck_of deck) }
         ensures { self.new ≡ with_at place (stored (Some kept)) self.old }

@@ -16,7 +16,7 @@ use crate::held::Held;
 use crate::leases::{is_leased, is_leased_at};
 use crate::replies::{Refusal, Reply};
 use crate::shared_publication::SharedPublication;
-use deck_assembler::SharedObject;
+use deck_listing::ListedObject;
 
 impl Desk {
     /// The result of a deck job. A stale one gives its record back; one that is not the deck's loses it.
@@ -54,7 +54,7 @@ impl Desk {
         }
     }
 
-    fn take_record(&mut self, place: usize, version: u64, kept: Held, object: SharedObject) -> Reply
+    fn take_record(&mut self, place: usize, version: u64, kept: Held, object: ListedObject) -> Reply
         requires { place < length self.old.decks }
         ensures { ForSome (slice_get self.old.decks place) (λ deck. IsAnswer (record_at place version kept object self.old deck) result self.new) }
     {
@@ -71,7 +71,7 @@ impl Desk {
     }
 
     /// Whether record and object are of the deck at a place.
-    fn is_sound(&self, place: usize, kept: &Held, object: &SharedObject) -> bool
+    fn is_sound(&self, place: usize, kept: &Held, object: &ListedObject) -> bool
         requires { place < length self.now.decks }
         ensures { ForSome (slice_get self.now.decks place) (λ deck. result ≡ (same_deck kept.now.deck (deck_of deck) && same_deck object.now (deck_of deck))) }
     {

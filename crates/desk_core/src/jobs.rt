@@ -4,7 +4,7 @@ use crate::deck_cards::DeckCards;
 use crate::held::Held;
 use crate::listed::Listed;
 use cards::{DeckName, Edit};
-use deck_assembler::SharedObject;
+use deck_listing::ListedObject;
 
 /// What a deck job begins with.
 #[derive(Drop)]
@@ -32,5 +32,5 @@ pub struct DeckWork {
 pub struct LinkWork {
     pub lease: u64,
     pub version: u64,
-    pub objects: Listed<SharedObject>,
+    pub objects: Listed<ListedObject>,
 }

@@ -1,7 +1,7 @@
 //! A publication that several hold.
 ghost use Rattle.std.specs.Prelude.{◌≡◌, IfOk};
 
-use deck_linker::Publication;
+use deck_linker::ListedPublication;
 use std::alloc::{AllocError, Global};
 use std::marker::Model;
 use std::sync::Arc;
@@ -9,7 +9,7 @@ use std::sync::Arc;
 /// A publication that several hold, each as its own. Contracts see its version and its decks.
 #[derive(Drop)]
 pub struct SharedPublication {
-    publication: Arc<Publication>,
+    publication: Arc<ListedPublication>,
 }
 
 impl Model for SharedPublication {
@@ -23,7 +23,10 @@ impl Model for SharedPublication {
 
 impl SharedPublication {
     /// The publication, to be shared.
-    pub fn new(alloc: Global, publication: Publication) -> Result<SharedPublication, AllocError>
+    pub fn new(
+        alloc: Global,
+        publication: ListedPublication,
+    ) -> Result<SharedPublication, AllocError>
         ensures { IfOk result (λ shared. shared ≡ record { version = publication.version; decks = publication.decks }) }
     {
         Ok(SharedPublication {
@@ -41,7 +44,7 @@ impl SharedPublication {
     }
 
     /// The publication, to look at.
-    pub fn publication(&self) -> &Publication
+    pub fn publication(&self) -> &ListedPublication
         ensures { self.now ≡ record { version = result.now.version; decks = result.now.decks } }
     {
         &self.publication

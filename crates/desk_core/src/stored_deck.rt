@@ -18,7 +18,7 @@ use crate::listed::Listed;
 use crate::new_deck::NewDeck;
 use crate::replies::{Row, State};
 use cards::{Card, DeckName, Edit, apply, copied_cards};
-use deck_assembler::SharedObject;
+use deck_listing::ListedObject;
 use std::alloc::{AllocError, Global};
 use std::marker::Model;
 use std::mem::replace;
@@ -33,7 +33,7 @@ pub struct StoredDeck {
     cards: Vec<Card>,
     identity: u64,
     version: u64,
-    object: Option<SharedObject>,
+    object: Option<ListedObject>,
     kept: Option<Held>,
     waiting: Vec<Edit>,
     lease: Option<Lease>,
@@ -192,7 +192,7 @@ impl StoredDeck {
     }
 
     /// Whether an object is of it, by name and cards.
-    pub(crate) fn is_of_object(&self, object: &SharedObject) -> bool
+    pub(crate) fn is_of_object(&self, object: &ListedObject) -> bool
         ensures { result ≡ same_deck object.now (deck_of self.now) }
     {
         let object = object.object();
@@ -224,7 +224,7 @@ impl StoredDeck {
     }
 
     /// Its object once more.
-    pub(crate) fn share_object(&self) -> Result<SharedObject, AllocError>
+    pub(crate) fn share_object(&self) -> Result<ListedObject, AllocError>
         requires { self.now.built ≡ true }
         ensures { IfOk result (λ object. object ≡ deck_of self.now) }
     {
@@ -288,7 +288,7 @@ impl StoredDeck {
     }
 
     /// Record and object come in; the lease ends.
-    pub(crate) fn store(&mut self, kept: Held, object: SharedObject)
+    pub(crate) fn store(&mut self, kept: Held, object: ListedObject)
         requires { object ≡ deck_of self.old }
         ensures { self.new ≡ stored (Some kept) self.old }
     {

@@ -7,8 +7,8 @@
 //! and the last 32 bytes of its image.
 use crate::texts::{card, cards_of, cut, name, number, one_line};
 use cards::{Card, Edit};
-use deck_assembler::SharedObject;
-use deck_linker::link;
+use deck_linker::publish;
+use deck_listing::ListedObject;
 use deck_workers::{Job, Runs, job_in, settle};
 use desk_core::{Call, DeckWork, Desk, Done, Held, Listed, Reply, SharedPublication, Start};
 use edit_core::{Kept, assemble};
@@ -196,11 +196,12 @@ fn record_of(rt: &impl Abort, alloc: Global, text: &str) -> Option<Held> {
 }
 
 /// The object of M with this one card.
-fn object_of(rt: &impl Abort, alloc: Global, line: &str) -> SharedObject {
+fn object_of(rt: &impl Abort, alloc: Global, line: &str) -> ListedObject {
     let cards = cards_of(rt, alloc, line);
     assert!(rt; cards.len() <= 20_000);
     let mut meter = Meter { sized: 0, coded: 0 };
-    assemble(alloc, name(rt, b"M"), cards, &mut meter).expect(rt, "memory")
+    let object = assemble(alloc, name(rt, b"M"), cards, &mut meter).expect(rt, "memory");
+    ListedObject::new(alloc, object).expect(rt, "memory")
 }
 
 fn result_of(rt: &impl Abort, alloc: Global, text: &str) -> Call {
@@ -226,7 +227,7 @@ fn link_of(rt: &impl Abort, alloc: Global, text: &str) -> Call {
             .push(object_of(rt, alloc, line))
             .expect(rt, "memory");
     }
-    let publication = link(alloc, objects, number(rt, version)).expect(rt, "memory");
+    let publication = publish(alloc, objects, number(rt, version)).expect(rt, "memory");
     Call::DeliverLink {
         lease: number(rt, lease),
         publication: SharedPublication::new(alloc, publication).expect(rt, "memory"),

@@ -193,7 +193,8 @@ fn reply_is(rt: &impl Abort, alloc: Global, reply: &Reply<'_>, wanted: &[u8]) {
         Reply::Cards { cards, .. } => assert!(rt; cards.len() <= 20_000),
         Reply::Found { cards, .. } => assert!(rt; cards.len() <= 20_000),
         Reply::Status { decks, .. } => assert!(rt; decks.len() <= 64),
-        Reply::Done { .. } | Reply::Text { .. } | Reply::Bye | Reply::Refused(_) => {}
+        Reply::Done { .. } | Reply::Text { .. } | Reply::Listing(_) => {}
+        Reply::Bye | Reply::Refused(_) => {}
     }
     let text = reply_text(alloc, reply).expect(rt, "memory");
     bytes_are(rt, text.as_slice(), wanted);

@@ -1,7 +1,7 @@
 -- What a command is answered, and the text of that (ours).
 use Rattle.std.specs.Prelude.{ℕ, ◌+◌, ◌≤◌, ⊤, Bool, true, false, nat_le, List, [], ◌++◌, Option, Some, None, length, codes, if◌then◌else◌}
 use Rattle.definitions.specs.Cards.{Card}
-use Rattle.deck_linker.specs.Publishing.{map_of}
+use Rattle.deck_linker.specs.Publishing.{listing_named, map_of}
 use Rattle.desk_core.specs.Language.{listing_of, image_of}
 use Rattle.desk_core.specs.Desks.{Publication}
 use Rattle.desk_core.specs.declared.replies.Reply.{Reply}
@@ -77,6 +77,11 @@ shown_text Map publication = map_of publication.decks
 abbrev pub lines_text : ℕ → List ℕ → List ℕ
 lines_text version lines = with_body (counted_text version (line_count lines)) lines
 
+-- the part of a deck that is shown: its listing, or its part of another text, where there is one
+abbrev pub shown_part : List ℕ → PublishedText → Publication → Option (List ℕ)
+shown_part name Listing publication = listing_named name publication.decks
+shown_part name text publication = part_of name (shown_text text publication)
+
 -- the text of a part that is shown; without one there is no such deck
 abbrev pub part_text : ℕ → Option (List ℕ) → List ℕ
 part_text version (Some lines) = lines_text version lines
@@ -97,7 +102,7 @@ abbrev pub told_text : Told → List ℕ
 told_text (told.Done version) = with_body (ok_text version) []
 told_text (told.Cards version cards view) = view_text version view cards
 told_text (told.Published publication text) = lines_text publication.version (shown_text text publication)
-told_text (told.Part publication text name) = part_text publication.version (part_of name (shown_text text publication))
+told_text (told.Part publication text name) = part_text publication.version (shown_part name text publication)
 told_text (told.Status version published rows) = with_body (counted_text version (length rows + 1)) (line_of (published_text published) ++ rows_text rows)
 told_text (told.Refused reason) = refused_text reason
 told_text told.Bye = with_body (codes "BYE") []

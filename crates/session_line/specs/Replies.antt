@@ -1,5 +1,6 @@
 -- The texts of replies (ours): a first line, and for some commands as many lines more as it tells.
 use Rattle.std.specs.Prelude.{ℕ, ◌+◌, ◌≤◌, ◌==◌, ⊤, List, [], ◌∷◌, ◌++◌, Option, Some, None, length, filter, flat_map, codes, decimal}
+use Rattle.definitions.specs.Build.{listing_of}
 use Rattle.definitions.specs.Characters.{line_feed}
 use Rattle.deck_files.specs.DeckFiles.{file_of}
 use Rattle.session_line.specs.Refusals.{refusal_text}
@@ -47,6 +48,7 @@ head_text (reply.Done version) = ok_text version
 head_text (reply.Cards version cards) = counted_text version (length cards.now)
 head_text (reply.Found version cards text) = counted_text version (length (numbers_of text.now cards.now))
 head_text (reply.Text version text) = counted_text version (line_count text.now)
+head_text (reply.Listing publication) = counted_text publication.now.version (line_count (listing_of publication.now.decks))
 head_text (reply.Status version published decks) = counted_text version (length decks.now + 1)
 head_text reply.Bye = codes "BYE"
 head_text (reply.Refused refusal) = codes "NO " ++ refusal_text refusal
@@ -65,6 +67,7 @@ body_text (reply.Done version) = []
 body_text (reply.Cards version cards) = file_of cards.now
 body_text (reply.Found version cards text) = numbers_text (numbers_of text.now cards.now)
 body_text (reply.Text version text) = text.now
+body_text (reply.Listing publication) = listing_of publication.now.decks
 body_text (reply.Status version published decks) = line_of (published_text published) ++ rows_text decks.now
 body_text reply.Bye = []
 body_text (reply.Refused refusal) = []
@@ -79,6 +82,7 @@ IsWithinLimits (reply.Done version) = ⊤
 IsWithinLimits (reply.Cards version cards) = length cards.now ≤ 20000
 IsWithinLimits (reply.Found version cards text) = length cards.now ≤ 20000
 IsWithinLimits (reply.Text version text) = ⊤
+IsWithinLimits (reply.Listing publication) = ⊤
 IsWithinLimits (reply.Status version published decks) = length decks.now ≤ 64
 IsWithinLimits reply.Bye = ⊤
 IsWithinLimits (reply.Refused refusal) = ⊤

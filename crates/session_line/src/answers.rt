@@ -1,8 +1,7 @@
 //! What a command is answered, and how the session is told.
-ghost use Rattle.std.specs.Prelude.{◌≡◌, ◌≤◌, length};
+ghost use Rattle.std.specs.Prelude.{◌≡◌, ◌≤◌, length, option_map};
 ghost use Rattle.session_line.specs.Replies.{text_of_reply, IsWithinLimits};
-ghost use Rattle.session_line.specs.Parts.{part_of};
-ghost use Rattle.session_line.specs.Answers.{foreign, told_of_call, told_of_cards, told_of_part, told_of_publication, part_text, shown_text, view_text, told_text, is_bye, IsTellable};
+ghost use Rattle.session_line.specs.Answers.{foreign, told_of_call, told_of_cards, told_of_part, told_of_publication, lines_text, part_text, shown_part, shown_text, view_text, told_text, is_bye, IsTellable};
 
 use crate::Refusal;
 use crate::parts::part_of;
@@ -10,7 +9,7 @@ use crate::reasons::desk_reason;
 use crate::tasks::PublishedText;
 use crate::views::{CardsView, cards_from};
 use cards::{Card, DeckName, MOST_CARDS};
-use deck_linker::Publication;
+use deck_linker::ListedPublication;
 use desk_core::{Listed, Reply, Row, SharedPublication};
 
 /// How many decks a desk has at most.
@@ -111,32 +110,56 @@ pub(crate) fn told_of_part(text: PublishedText, name: DeckName, reply: Reply) ->
     }
 }
 
-/// The text of a publication that is shown.
-fn shown_text(publication: &Publication, text: PublishedText) -> &[u8]
-    ensures { result.now ≡ shown_text text (record { version = publication.now.version; decks = publication.now.decks }) }
+/// The reply with a text of its own of a publication.
+fn text_reply<'a>(publication: &'a ListedPublication, text: &'a [u8]) -> crate::Reply<'a>
+    ensures text { text_of_reply result ≡ lines_text publication.now.version text.now }
+    ensures limits { IsWithinLimits result }
+{
+    crate::Reply::Text {
+        version: publication.version(),
+        text,
+    }
+}
+
+/// The reply with this text of a publication.
+fn published_reply<'a>(publication: &'a ListedPublication, text: PublishedText) -> crate::Reply<'a>
+    ensures text { text_of_reply result ≡ lines_text publication.now.version (shown_text text (record { version = publication.now.version; decks = publication.now.decks })) }
+    ensures limits { IsWithinLimits result }
 {
     match text {
-        PublishedText::Image => publication.image(),
-        PublishedText::Listing => publication.listing(),
-        PublishedText::Map => publication.map(),
+        PublishedText::Image => text_reply(publication, publication.image()),
+        PublishedText::Listing => crate::Reply::Listing(publication),
+        PublishedText::Map => text_reply(publication, publication.map()),
+    }
+}
+
+/// The part of a deck in this text of a publication, where there is one.
+fn shown_part<'a>(
+    publication: &'a ListedPublication,
+    text: PublishedText,
+    name: &DeckName,
+) -> Option<&'a [u8]>
+    ensures { option_map (λ part. part.now) result ≡ shown_part name.now text (record { version = publication.now.version; decks = publication.now.decks }) }
+{
+    match text {
+        PublishedText::Image => part_of(name, publication.image()),
+        PublishedText::Listing => publication.listing_named(name.as_slice()),
+        PublishedText::Map => part_of(name, publication.map()),
     }
 }
 
 /// The reply with the part that is a deck's in this text of a publication. Without one there is no such
 /// deck.
 fn part_reply<'a>(
-    publication: &'a Publication,
+    publication: &'a ListedPublication,
     text: PublishedText,
     name: &DeckName,
 ) -> crate::Reply<'a>
-    ensures text { text_of_reply result ≡ part_text publication.now.version (part_of name.now (shown_text text (record { version = publication.now.version; decks = publication.now.decks }))) }
+    ensures text { text_of_reply result ≡ part_text publication.now.version (shown_part name.now text (record { version = publication.now.version; decks = publication.now.decks })) }
     ensures limits { IsWithinLimits result }
 {
-    match part_of(name, shown_text(publication, text)) {
-        Some(lines) => crate::Reply::Text {
-            version: publication.version(),
-            text: lines,
-        },
+    match shown_part(publication, text, name) {
+        Some(lines) => text_reply(publication, lines),
         None => crate::Reply::Refused(Refusal::NoDeck),
     }
 }
@@ -171,10 +194,7 @@ impl Told {
         match self {
             Told::Done(version) => crate::Reply::Done { version: *version },
             Told::Cards(version, cards, view) => view_reply(*version, view, cards.as_slice()),
-            Told::Published(shared, text) => crate::Reply::Text {
-                version: shared.publication().version(),
-                text: shown_text(shared.publication(), *text),
-            },
+            Told::Published(shared, text) => published_reply(shared.publication(), *text),
             Told::Part(shared, text, name) => part_reply(shared.publication(), *text, name),
             Told::Status(version, published, rows) => crate::Reply::Status {
                 version: *version,

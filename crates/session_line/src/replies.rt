@@ -2,6 +2,7 @@
 
 use crate::refusals::Refusal;
 use cards::Card;
+use deck_linker::ListedPublication;
 use desk_core::Row;
 
 /// The reply to one command.
@@ -27,6 +28,8 @@ pub enum Reply<'a> {
         version: u64,
         text: &'a [u8],
     },
+    /// `OK version n`, then the `n` lines of the listings of what is published, and of its map.
+    Listing(&'a ListedPublication),
     /// `OK version n`, then `PUBLISHED version` or `PUBLISHED NONE`, and a line for each deck.
     Status {
         version: u64,

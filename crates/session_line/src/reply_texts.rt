@@ -1,5 +1,6 @@
 //! The lines of replies.
 ghost use Rattle.std.specs.Prelude.{◌≡◌, ◌+◌, ◌≤◌, ◌++◌, length};
+ghost use Rattle.definitions.specs.Build.{listing_of};
 ghost use Rattle.session_line.specs.Replies.{line_of, line_count, counted_text, ok_text, head_text, numbers_text, published_text, row_text, state_text};
 ghost use Rattle.session_line.specs.Views.{has_text, number_where};
 
@@ -9,6 +10,7 @@ use crate::replies::Reply;
 use crate::reply_line::ReplyLine;
 use crate::views::{count_with, has_text};
 use cards::Card;
+use deck_linker::ListedPublication;
 use desk_core::{Row, State};
 
 /// `OK version`
@@ -63,6 +65,13 @@ fn line_count(text: &[u8]) -> usize
     text.iter().filter(|c| **c == b'\n').count()
 }
 
+/// `OK version n`, where the listings of what is published, and its map, have `n` lines.
+fn listing_line(publication: &ListedPublication) -> ReplyLine
+    ensures { result ≡ line_of (counted_text publication.now.version (line_count (listing_of publication.now.decks))) }
+{
+    counted_line(publication.version(), publication.listing_lines())
+}
+
 /// The first line of a reply.
 pub(crate) fn head_line(reply: &Reply<'_>) -> ReplyLine
     ensures { result ≡ line_of (head_text reply.now) }
@@ -76,6 +85,7 @@ pub(crate) fn head_line(reply: &Reply<'_>) -> ReplyLine
             text,
         } => counted_line(*version, count_with(text, cards)),
         Reply::Text { version, text } => counted_line(*version, line_count(text)),
+        Reply::Listing(publication) => listing_line(publication),
         Reply::Status { version, decks, .. } => counted_line(*version, decks.len() + 1),
         Reply::Bye => bye_line(),
         Reply::Refused(refusal) => refusal_line(refusal),

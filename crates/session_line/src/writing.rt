@@ -89,6 +89,7 @@ fn write_body<W: Write>(output: &mut Counted<W>, reply: &Reply<'_>) -> Result<()
         Reply::Cards { cards, .. } => save(output, cards),
         Reply::Found { cards, text, .. } => write_found(output, cards, text),
         Reply::Text { text, .. } => put_all(output, text),
+        Reply::Listing(publication) => publication.write_listing(output),
         Reply::Status {
             published,
             decks,

@@ -5,6 +5,7 @@ use crate::decks::{asm_answer, is_both};
 use crate::journal::{Called, Journal, twice};
 use cards::{DeckName, MOST_CARDS};
 use deck_files::save;
+use deck_linker::ListedPublication;
 use deck_workers::{Settled, settle};
 use desk_core::{Call, Desk, Listed, Reply, Row};
 use session_line::{Calls, reply_text};
@@ -95,16 +96,30 @@ pub fn state_of<C: Calls>(alloc: Global, desk: &mut C) -> Result<Vec<u8>, AllocE
     texts_for_sure(alloc, desk, Text::State)
 }
 
-/// Whether a desk shows what `asm_run` writes for its decks.
-fn shows(desk: &mut Desk, wanted: &[u8]) -> bool {
-    match desk.step(Call::Show) {
-        Reply::Shown(shown) => is_both(
-            wanted,
-            shown.publication().listing(),
-            shown.publication().image(),
-        ),
-        _ => false,
+/// The listing of a publication.
+fn listing_of(alloc: Global, publication: &ListedPublication) -> Result<Vec<u8>, AllocError> {
+    let mut output = Counted::new(Vec::new(alloc));
+    match publication.write_listing(&mut output) {
+        Ok(()) => Ok(output.into_inner()),
+        Err(_) => Err(AllocError),
     }
+}
+
+/// The same, once more where there is no memory.
+fn listing_for_sure(alloc: Global, publication: &ListedPublication) -> Result<Vec<u8>, AllocError> {
+    match listing_of(alloc, publication) {
+        Ok(text) => Ok(text),
+        Err(_) => listing_of(alloc, publication),
+    }
+}
+
+/// Whether a desk shows what `asm_run` writes for its decks.
+fn shows(alloc: Global, desk: &mut Desk, wanted: &[u8]) -> Result<bool, AllocError> {
+    let Reply::Shown(shown) = desk.step(Call::Show) else {
+        return Ok(false);
+    };
+    let listing = listing_for_sure(alloc, shown.publication())?;
+    Ok(is_both(wanted, &listing, shown.publication().image()))
 }
 
 /// Settles a desk in so many turns, once more where that finds no memory: then cards and versions are
@@ -138,7 +153,7 @@ pub fn settle_as_asm(
     settle_all(alloc, journal, desk, turns)?;
     let input = texts_for_sure(alloc, desk, Text::File)?;
     let wanted = twice(journal, Called::AsmRun, || asm_answer(alloc, &input))?;
-    let found = shows(desk, &wanted);
+    let found = shows(alloc, desk, &wanted)?;
     journal.made(Called::Show, found);
     Ok(())
 }

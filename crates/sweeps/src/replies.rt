@@ -38,7 +38,8 @@ fn is_within(reply: &Reply<'_>) -> bool
         Reply::Cards { cards, .. } => cards.len() <= MOST_CARDS,
         Reply::Found { cards, .. } => cards.len() <= MOST_CARDS,
         Reply::Status { decks, .. } => decks.len() <= 64,
-        Reply::Done { .. } | Reply::Text { .. } | Reply::Bye | Reply::Refused(_) => true,
+        Reply::Done { .. } | Reply::Text { .. } | Reply::Listing(_) => true,
+        Reply::Bye | Reply::Refused(_) => true,
     }
 }
 
