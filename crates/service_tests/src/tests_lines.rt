@@ -4,7 +4,8 @@ use crate::texts::{bytes_are, card, name, one_line, text_is};
 use cards::{CardFault, Edit, EditFault};
 use desk_core::{Row, State};
 use session_line::{
-    CardsView, Command, Refusal, Reply, read_batch_line, read_command, reply_text, write_reply,
+    CardsView, Command, ErrorsView, Refusal, Reply, read_batch_line, read_command, reply_text,
+    write_reply,
 };
 use std::alloc::Global;
 use std::process::Abort;
@@ -79,6 +80,11 @@ fn command_text(rt: &impl Abort, alloc: Global, command: &Command) -> String {
             "list of {}",
             one_line(rt, alloc, name.as_slice())
         ),
+        Command::Errors(ErrorsView::Every) => format!(in alloc; "errors"),
+        Command::Errors(ErrorsView::Of(name)) => format!(in alloc;
+            "errors of {}",
+            one_line(rt, alloc, name.as_slice())
+        ),
         Command::Status => format!(in alloc; "status"),
         Command::Batch(head) => {
             let fault = head.name.as_ref().err();
@@ -148,6 +154,9 @@ fn lines(rt: HostRuntime) {
         ("LIST M", "list of M"),
         ("LIST M ", "BadCommand"),
         ("LIST M+", "BadName"),
+        ("ERRORS", "errors"),
+        ("ERRORS M", "errors of M"),
+        ("ERRORS M+", "BadName"),
         ("MAP", "map"),
         ("MAP M", "BadCommand"),
         ("STATUS", "status"),
@@ -192,6 +201,7 @@ fn reply_is(rt: &impl Abort, alloc: Global, reply: &Reply<'_>, wanted: &[u8]) {
     match reply {
         Reply::Cards { cards, .. } => assert!(rt; cards.len() <= 20_000),
         Reply::Found { cards, .. } => assert!(rt; cards.len() <= 20_000),
+        Reply::Errors { decks, .. } => assert!(rt; decks.len() <= 64),
         Reply::Status { decks, .. } => assert!(rt; decks.len() <= 64),
         Reply::Done { .. } | Reply::Text { .. } | Reply::Listing(_) => {}
         Reply::Bye | Reply::Refused(_) => {}

@@ -6,3 +6,6 @@ pub mod TakingSteps
 pub mod SessionKinds
 pub mod WorkedSessions
 pub mod FoundSteps
+pub mod SentSoFar
+pub mod FlagSteps
+pub mod LinkSteps

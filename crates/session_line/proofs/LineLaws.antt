@@ -12,6 +12,7 @@ use Rattle.deck_files.specs.declared.deck_shelf.SaveOver.{SaveOver}
 use Rattle.deck_files.specs.declared.deck_shelf.SaveOver.TheVariants.{Known, Any}
 use Rattle.session_line.specs.declared.commands.Command.{Command}
 use Rattle.session_line.specs.declared.commands.Command.TheVariants as command
+use Rattle.session_line.specs.declared.errors.ErrorsView.TheVariants.{Every, Of}
 use Rattle.session_line.specs.declared.commands.LinesHead.{LinesHead}
 use Rattle.session_line.specs.declared.refusals.Refusal.{Refusal}
 use Rattle.session_line.specs.declared.views.CardsView.{CardsView}
@@ -101,7 +102,7 @@ find-back name text is card size =
     ∙ ap (λ (b : Bool). needs (if b then Some text else None) (λ t. made_of (λ m. command.Cards m (With t)) (name_in name))) size
     ∙ ap (λ (r : Result (List ℕ) Refusal). made_of (λ m. command.Cards m (With text)) r) (name-is name is)
 
--- IMAGE and LIST with a name
+-- IMAGE, LIST and ERRORS with a name
 part-back : (all : Command) (part : List ℕ → Command) (name : List ℕ) → is_deck_name name ≡ true →
     (if is_end (32 ∷ (name ++ [])) then Ok all else made_of part (only_name (32 ∷ (name ++ [])))) ≡ Ok (part name)
 part-back all part name is =
@@ -190,6 +191,8 @@ line-back command.List _ = refl
 line-back command.Map _ = refl
 line-back (command.ImageOf name) is = part-back command.Image command.ImageOf name is
 line-back (command.ListOf name) is = part-back command.List command.ListOf name is
+line-back (command.Errors Every) _ = refl
+line-back (command.Errors (Of name)) is = part-back (command.Errors Every) (λ n. command.Errors (Of n)) name is
 line-back command.Status _ = refl
 line-back (command.Batch head) lawful = batch-back head.name head.version head.count lawful.0 lawful.1 lawful.2
 line-back (command.Put head) lawful = put-back head.name head.version head.count lawful.0 lawful.1 lawful.2

@@ -4,6 +4,7 @@ use Rattle.cards.specs.declared.card.CardFault.TheVariants as card
 use Rattle.cards.specs.declared.edits.Edit.TheVariants.{Insert, Replace, Remove}
 use Rattle.deck_files.specs.declared.deck_shelf.SaveOver.TheVariants.{Known, Any}
 use Rattle.session_line.specs.declared.commands.Command.TheVariants as command
+use Rattle.session_line.specs.declared.errors.ErrorsView.TheVariants.{Every, Of}
 use Rattle.session_line.specs.declared.views.CardsView.TheVariants.{All, From, With}
 use Rattle.session_line.specs.declared.refusals.Refusal.TheVariants.{BadCommand, BadName, BadCard}
 use Rattle.session_line.specs.Edits.{edit_in_batch}
@@ -118,6 +119,21 @@ list_of_two = refl
 -- a map is that of all decks
 pub map_of_one : command_of (codes "MAP M") ≡ Err BadCommand
 map_of_one = refl
+
+pub errors : command_of (codes "ERRORS") ≡ Ok (command.Errors Every)
+errors = refl
+
+pub errors_of : command_of (codes "ERRORS M") ≡ Ok (command.Errors (Of (codes "M")))
+errors_of = refl
+
+pub errors_of_nobody : command_of (codes "ERRORS M+") ≡ Err BadName
+errors_of_nobody = refl
+
+pub errors_of_two : command_of (codes "ERRORS M N") ≡ Err BadCommand
+errors_of_two = refl
+
+pub blank_behind_errors : command_of (codes "ERRORS ") ≡ Err BadCommand
+blank_behind_errors = refl
 
 pub status : command_of (codes "STATUS") ≡ Ok command.Status
 status = refl

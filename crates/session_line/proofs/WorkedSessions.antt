@@ -10,12 +10,14 @@ use Rattle.desk_core.specs.declared.replies.State.TheVariants.{Behind}
 use Rattle.desk_core.specs.declared.replies.Refusal.TheVariants as desk
 use Rattle.deck_files.specs.declared.deck_shelf.SaveOver.TheVariants.{Known}
 use Rattle.session_line.specs.declared.refusals.Refusal.TheVariants.{BadCommand, BadName, BadCard, BadLine}
+use Rattle.definitions.specs.DeckInput.{Deck}
 use Rattle.session_line.specs.Commands.{command_of}
+use Rattle.session_line.specs.declared.errors.ErrorsView.TheVariants.{Every, Of}
 use Rattle.session_line.specs.declared.views.CardsView.TheVariants.{All, From, With}
 use Rattle.session_line.specs.declared.tasks.PublishedText.TheVariants.{Image, Listing, Map}
-use Rattle.session_line.specs.declared.tasks.Task.TheVariants.{Ask, ShowCards, ShowText, ShowPart, LoadDeck, SaveDeck, Leave, Refuse}
+use Rattle.session_line.specs.declared.tasks.Task.TheVariants.{Ask, ShowCards, ShowText, ShowPart, ShowErrors, LoadDeck, SaveDeck, Leave, Refuse}
 use Rattle.session_line.specs.Tasks.{lines_due, task_of}
-use Rattle.session_line.specs.Answers.{told_of_call, told_of_cards, told_of_publication, told_of_part, told_text}
+use Rattle.session_line.specs.Answers.{told_of_call, told_of_cards, told_of_publication, told_of_part, told_of_errors, told_text}
 use Rattle.session_line.specs.Parts.{part_of}
 
 -- which call of the desk a line is
@@ -45,6 +47,12 @@ image_of = refl
 
 pub list_of : task_of (codes "LIST M") [] ≡ ShowPart Listing (codes "M")
 list_of = refl
+
+pub errors : task_of (codes "ERRORS") [] ≡ ShowErrors Every
+errors = refl
+
+pub errors_of : task_of (codes "ERRORS M") [] ≡ ShowErrors (Of (codes "M"))
+errors_of = refl
 
 pub bye : task_of (codes "BYE") [] ≡ Leave
 bye = refl
@@ -147,6 +155,24 @@ last_found = unfold digits in refl
 
 pub none_found : told_text (told_of_cards (With (codes "*AB")) (reply.CardsAre 5 four)) ≡ codes "OK 5 0\n"
 none_found = unfold digits in refl
+
+-- two decks: one with a flagged statement and an external that no deck has, and one where nothing is flagged
+abbrev pub two_decks : List Deck
+two_decks =
+    record { name = codes "T"; cards = codes "          IDENT  T" ∷ codes "          EXT    GO" ∷ codes "          SA1    X" ∷ codes "          RJ     GO" ∷ codes "          END" ∷ [] }
+    ∷ record { name = codes "U"; cards = codes "          IDENT  U" ∷ codes "          END" ∷ [] } ∷ []
+
+pub all_errors : told_text (told_of_errors Every (reply.Shown (record { version = 2; decks = two_decks }))) ≡ codes "OK 2 3\nERR T 3 U           SA1    X\nLINK U T GO\nEND\n"
+all_errors = unfold digits in refl
+
+pub errors_of_one : told_text (told_of_errors (Of (codes "T")) (reply.Shown (record { version = 2; decks = two_decks }))) ≡ codes "OK 2 2\nERR T 3 U           SA1    X\nLINK U T GO\n"
+errors_of_one = unfold digits in refl
+
+pub no_errors : told_text (told_of_errors (Of (codes "U")) (reply.Shown (record { version = 2; decks = two_decks }))) ≡ codes "OK 2 0\n"
+no_errors = unfold digits in refl
+
+pub errors_of_none : told_text (told_of_errors (Of (codes "V")) (reply.Shown (record { version = 2; decks = two_decks }))) ≡ codes "NO NoDeck\n"
+errors_of_none = refl
 
 pub status : told_text (told_of_call (reply.StatusIs 1 None (record { name = codes "M"; version = 1; cards = 0; state = Behind } ∷ []))) ≡ codes "OK 1 2\nPUBLISHED NONE\nM 1 0 BEHIND\n"
 status = unfold digits in refl

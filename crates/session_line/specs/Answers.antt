@@ -1,6 +1,7 @@
 -- What a command is answered, and the text of that (ours).
 use Rattle.std.specs.Prelude.{ℕ, ◌+◌, ◌≤◌, ⊤, Bool, true, false, nat_le, List, [], ◌++◌, Option, Some, None, length, codes, if◌then◌else◌}
 use Rattle.definitions.specs.Cards.{Card}
+use Rattle.definitions.specs.DeckInput.{Deck}
 use Rattle.deck_linker.specs.Publishing.{listing_named, map_of}
 use Rattle.desk_core.specs.Language.{listing_of, image_of}
 use Rattle.desk_core.specs.Desks.{Publication}
@@ -10,12 +11,14 @@ use Rattle.deck_files.specs.DeckFiles.{file_of}
 use Rattle.session_line.specs.declared.refusals.Refusal.{Refusal}
 use Rattle.session_line.specs.declared.refusals.Refusal.TheVariants as refusal
 use Rattle.session_line.specs.Refusals.{refusal_text}
-use Rattle.session_line.specs.Replies.{line_of, line_count, ok_text, counted_text, published_text, rows_text, numbers_text}
+use Rattle.session_line.specs.Replies.{line_of, line_count, ok_text, counted_text, published_text, rows_text, numbers_text, text_of_lines}
 use Rattle.session_line.specs.Reasons.{desk_reason}
 use Rattle.session_line.specs.declared.views.CardsView.{CardsView}
 use Rattle.session_line.specs.declared.views.CardsView.TheVariants.{All, From, With}
 use Rattle.session_line.specs.Views.{cards_from, numbers_of}
 use Rattle.session_line.specs.Parts.{part_of}
+use Rattle.session_line.specs.declared.errors.ErrorsView.{ErrorsView}
+use Rattle.session_line.specs.Errors.{error_lines, shows_any}
 use Rattle.session_line.specs.declared.tasks.PublishedText.{PublishedText}
 use Rattle.session_line.specs.declared.tasks.PublishedText.TheVariants.{Image, Listing, Map}
 use Rattle.session_line.specs.declared.answers.Told.{Told}
@@ -59,6 +62,12 @@ told_of_part text name (Shown publication) = told.Part publication text name
 told_of_part text name (Refused reason) = told.Refused (desk_reason reason)
 told_of_part text name _ = foreign
 
+-- what is told of the reply to a call for the publication, of which the flagged statements and LINK lines are shown; no more decks than a desk may have
+abbrev pub told_of_errors : ErrorsView → Reply → Told
+told_of_errors view (Shown publication) = if nat_le (length publication.decks) most_decks then told.Errors publication view else foreign
+told_of_errors view (Refused reason) = told.Refused (desk_reason reason)
+told_of_errors view _ = foreign
+
 -- a first line, and what follows it
 abbrev pub with_body : List ℕ → List ℕ → List ℕ
 with_body head body = line_of head ++ body
@@ -87,6 +96,12 @@ abbrev pub part_text : ℕ → Option (List ℕ) → List ℕ
 part_text version (Some lines) = lines_text version lines
 part_text version None = refused_text refusal.NoDeck
 
+-- the text of what is flagged; where none of the decks is the one that is asked for, there is no such deck
+abbrev pub errors_text : ℕ → ErrorsView → List Deck → List ℕ → List ℕ
+errors_text version view decks map =
+    if shows_any view decks then with_body (counted_text version (length (error_lines view decks map))) (text_of_lines (error_lines view decks map))
+    else refused_text refusal.NoDeck
+
 -- the text of cards that are shown
 abbrev pub cards_text : ℕ → List Card → List ℕ
 cards_text version cards = with_body (counted_text version (length cards)) (file_of cards)
@@ -103,6 +118,7 @@ told_text (told.Done version) = with_body (ok_text version) []
 told_text (told.Cards version cards view) = view_text version view cards
 told_text (told.Published publication text) = lines_text publication.version (shown_text text publication)
 told_text (told.Part publication text name) = part_text publication.version (shown_part name text publication)
+told_text (told.Errors publication view) = errors_text publication.version view publication.decks (map_of publication.decks)
 told_text (told.Status version published rows) = with_body (counted_text version (length rows + 1)) (line_of (published_text published) ++ rows_text rows)
 told_text (told.Refused reason) = refused_text reason
 told_text told.Bye = with_body (codes "BYE") []
@@ -115,6 +131,7 @@ is_bye _ = false
 -- what is told has no more cards and decks than may be
 abbrev pub IsTellable : Told → Type 0
 IsTellable (told.Cards version cards view) = length cards ≤ most_cards
+IsTellable (told.Errors publication view) = length publication.decks ≤ most_decks
 IsTellable (told.Status version published rows) = length rows ≤ most_decks
 IsTellable _ = ⊤
 

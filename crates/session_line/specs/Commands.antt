@@ -15,6 +15,7 @@ use Rattle.session_line.specs.declared.commands.LinesHead.{LinesHead}
 use Rattle.session_line.specs.declared.views.CardsView.{CardsView}
 use Rattle.session_line.specs.declared.views.CardsView.TheVariants.{All, From, With}
 use Rattle.session_line.specs.declared.commands.Command.TheVariants as command
+use Rattle.session_line.specs.declared.errors.ErrorsView.TheVariants.{Every, Of}
 use Rattle.session_line.specs.declared.refusals.Refusal.{Refusal}
 use Rattle.session_line.specs.declared.refusals.Refusal.TheVariants.{BadName}
 use Rattle.session_line.specs.Words.{from_blank, first_word, first_number, behind_word}
@@ -85,6 +86,10 @@ image_in rest = if is_end rest then Ok command.Image else made_of command.ImageO
 abbrev pub list_in : List ℕ → Result Command Refusal
 list_in rest = if is_end rest then Ok command.List else made_of command.ListOf (only_name rest)
 
+-- nothing, or name, behind ERRORS
+abbrev pub errors_in : List ℕ → Result Command Refusal
+errors_in rest = if is_end rest then Ok (command.Errors Every) else made_of (λ name. command.Errors (Of name)) (only_name rest)
+
 -- name version
 abbrev pub drop_in : List ℕ → Result Command Refusal
 drop_in rest =
@@ -148,6 +153,7 @@ command_by verb.Save rest = save_in rest
 command_by verb.Image rest = image_in rest
 command_by verb.List rest = list_in rest
 command_by verb.Map rest = alone command.Map rest
+command_by verb.Errors rest = errors_in rest
 command_by verb.Status rest = alone command.Status rest
 command_by verb.Batch rest = sized is_batch_size command.Batch (head_in rest)
 command_by verb.Put rest = sized is_put_size command.Put (head_in rest)

@@ -10,12 +10,12 @@ use Rattle.desk_core.specs.declared.replies.Reply.{Reply}
 use Rattle.desk_core.specs.declared.calls.Call.TheVariants.{AddDeck, Cards, Show}
 use Rattle.session_line.specs.declared.views.CardsView.TheVariants.{All}
 use Rattle.session_line.specs.declared.tasks.Task.{Task}
-use Rattle.session_line.specs.declared.tasks.Task.TheVariants.{Ask, ShowCards, ShowText, ShowPart, LoadDeck, SaveDeck, Leave, Refuse}
+use Rattle.session_line.specs.declared.tasks.Task.TheVariants.{Ask, ShowCards, ShowText, ShowPart, ShowErrors, LoadDeck, SaveDeck, Leave, Refuse}
 use Rattle.session_line.specs.declared.answers.Told.{Told}
 use Rattle.session_line.specs.declared.answers.Told.TheVariants as told
 use Rattle.session_line.specs.declared.answers.Answer.{Answer}
 use Rattle.session_line.specs.Reasons.{load_reason, save_reason}
-use Rattle.session_line.specs.Answers.{told_of_call, told_of_cards, told_of_publication, told_of_part, called, uncalled}
+use Rattle.session_line.specs.Answers.{told_of_call, told_of_cards, told_of_publication, told_of_part, told_of_errors, called, uncalled}
 
 module _ {C : Type 0} (makes : C → Call → Reply → C → Type 0) where
   -- one call of the desk, and what is told of its reply
@@ -72,6 +72,7 @@ module _ {C S : Type 0} (makes : C → Call → Reply → C → Type 0) (loads :
   Executes (ShowCards name view) desk next shelf after answer = Asks makes (Cards name) (told_of_cards view) desk next answer × (after ≡ shelf)
   Executes (ShowText text) desk next shelf after answer = Asks makes Show (told_of_publication text) desk next answer × (after ≡ shelf)
   Executes (ShowPart text name) desk next shelf after answer = Asks makes Show (told_of_part text name) desk next answer × (after ≡ shelf)
+  Executes (ShowErrors view) desk next shelf after answer = Asks makes Show (told_of_errors view) desk next answer × (after ≡ shelf)
   Executes (LoadDeck name) desk next shelf after answer = LoadsDeck makes loads refuses_to_load name desk next shelf after answer
   Executes (SaveDeck name over) desk next shelf after answer = SavesDeck makes saves refuses_to_save name over desk next shelf after answer
   Executes Leave desk next shelf after answer = OnlyTells (uncalled told.Bye) desk next shelf after answer

@@ -2,11 +2,13 @@ pub mod Words
 pub mod Verbs
 pub mod Views
 pub mod Parts
+pub mod Errors
 pub mod Edits
 pub mod Commands
 pub mod Lines
 pub mod Refusals
 pub mod Replies
+pub mod FlagWalks
 pub mod Tasks
 pub mod Taking
 pub mod LineItems

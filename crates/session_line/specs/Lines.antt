@@ -7,6 +7,7 @@ use Rattle.cards.specs.declared.edits.Edit.TheVariants.{Insert, Replace, Remove}
 use Rattle.deck_files.specs.declared.deck_shelf.SaveOver.TheVariants.{Known, Any}
 use Rattle.session_line.specs.declared.commands.Command.{Command}
 use Rattle.session_line.specs.declared.commands.Command.TheVariants as command
+use Rattle.session_line.specs.declared.errors.ErrorsView.TheVariants.{Every, Of}
 use Rattle.session_line.specs.declared.refusals.Refusal.{Refusal}
 use Rattle.session_line.specs.declared.views.CardsView.{CardsView}
 use Rattle.session_line.specs.declared.views.CardsView.TheVariants.{All, From, With}
@@ -59,6 +60,8 @@ line_of_command command.List = codes "LIST"
 line_of_command command.Map = codes "MAP"
 line_of_command (command.ImageOf name) = codes "IMAGE" ++ behind_a_blank (name ++ [])
 line_of_command (command.ListOf name) = codes "LIST" ++ behind_a_blank (name ++ [])
+line_of_command (command.Errors Every) = codes "ERRORS"
+line_of_command (command.Errors (Of name)) = codes "ERRORS" ++ behind_a_blank (name ++ [])
 line_of_command command.Status = codes "STATUS"
 line_of_command (command.Batch head) = line_of_head (codes "BATCH") head.name head.version head.count
 line_of_command (command.Put head) = line_of_head (codes "PUT") head.name head.version head.count
@@ -94,6 +97,8 @@ IsLawful command.List = ⊤
 IsLawful command.Map = ⊤
 IsLawful (command.ImageOf name) = IsTrue (is_deck_name name)
 IsLawful (command.ListOf name) = IsTrue (is_deck_name name)
+IsLawful (command.Errors Every) = ⊤
+IsLawful (command.Errors (Of name)) = IsTrue (is_deck_name name)
 IsLawful command.Status = ⊤
 IsLawful (command.Batch head) = IsLawfulName head.name × (head.version ≤ greatest_number) × IsTrue (is_batch_size head.count)
 IsLawful (command.Put head) = IsLawfulName head.name × (head.version ≤ greatest_number) × IsTrue (is_put_size head.count)

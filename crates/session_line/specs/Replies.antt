@@ -4,6 +4,7 @@ use Rattle.definitions.specs.Build.{listing_of}
 use Rattle.definitions.specs.Characters.{line_feed}
 use Rattle.deck_files.specs.DeckFiles.{file_of}
 use Rattle.session_line.specs.Refusals.{refusal_text}
+use Rattle.session_line.specs.Errors.{error_lines}
 use Rattle.session_line.specs.Views.{numbers_of}
 use Rattle.desk_core.specs.declared.replies.Row.{Row}
 use Rattle.desk_core.specs.declared.replies.State.{State}
@@ -49,6 +50,7 @@ head_text (reply.Cards version cards) = counted_text version (length cards.now)
 head_text (reply.Found version cards text) = counted_text version (length (numbers_of text.now cards.now))
 head_text (reply.Text version text) = counted_text version (line_count text.now)
 head_text (reply.Listing publication) = counted_text publication.now.version (line_count (listing_of publication.now.decks))
+head_text (reply.Errors version view decks map) = counted_text version (length (error_lines view.now decks.now map.now))
 head_text (reply.Status version published decks) = counted_text version (length decks.now + 1)
 head_text reply.Bye = codes "BYE"
 head_text (reply.Refused refusal) = codes "NO " ++ refusal_text refusal
@@ -61,6 +63,10 @@ rows_text rows = flat_map (λ row. line_of (row_text row)) rows
 abbrev pub numbers_text : List ℕ → List ℕ
 numbers_text numbers = flat_map (λ number. line_of (decimal number)) numbers
 
+-- lines, one behind the other
+abbrev pub text_of_lines : List (List ℕ) → List ℕ
+text_of_lines lines = flat_map line_of lines
+
 -- the lines that follow the first
 abbrev pub body_text : Reply → List ℕ
 body_text (reply.Done version) = []
@@ -68,6 +74,7 @@ body_text (reply.Cards version cards) = file_of cards.now
 body_text (reply.Found version cards text) = numbers_text (numbers_of text.now cards.now)
 body_text (reply.Text version text) = text.now
 body_text (reply.Listing publication) = listing_of publication.now.decks
+body_text (reply.Errors version view decks map) = text_of_lines (error_lines view.now decks.now map.now)
 body_text (reply.Status version published decks) = line_of (published_text published) ++ rows_text decks.now
 body_text reply.Bye = []
 body_text (reply.Refused refusal) = []
@@ -83,6 +90,7 @@ IsWithinLimits (reply.Cards version cards) = length cards.now ≤ 20000
 IsWithinLimits (reply.Found version cards text) = length cards.now ≤ 20000
 IsWithinLimits (reply.Text version text) = ⊤
 IsWithinLimits (reply.Listing publication) = ⊤
+IsWithinLimits (reply.Errors version view decks map) = length decks.now ≤ 64
 IsWithinLimits (reply.Status version published decks) = length decks.now ≤ 64
 IsWithinLimits reply.Bye = ⊤
 IsWithinLimits (reply.Refused refusal) = ⊤

@@ -26,6 +26,7 @@ other_verb_of word =
     else if same_text word (codes "IMAGE") then Some verb.Image
     else if same_text word (codes "LIST") then Some verb.List
     else if same_text word (codes "MAP") then Some verb.Map
+    else if same_text word (codes "ERRORS") then Some verb.Errors
     else if same_text word (codes "STATUS") then Some verb.Status
     else if same_text word (codes "BATCH") then Some verb.Batch
     else if same_text word (codes "PUT") then Some verb.Put

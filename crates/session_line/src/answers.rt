@@ -1,9 +1,11 @@
 //! What a command is answered, and how the session is told.
 ghost use Rattle.std.specs.Prelude.{◌≡◌, ◌≤◌, length, option_map};
 ghost use Rattle.session_line.specs.Replies.{text_of_reply, IsWithinLimits};
-ghost use Rattle.session_line.specs.Answers.{foreign, told_of_call, told_of_cards, told_of_part, told_of_publication, lines_text, part_text, shown_part, shown_text, view_text, told_text, is_bye, IsTellable};
+ghost use Rattle.deck_linker.specs.Publishing.{map_of};
+ghost use Rattle.session_line.specs.Answers.{foreign, told_of_call, told_of_cards, told_of_part, told_of_errors, told_of_publication, lines_text, part_text, errors_text, shown_part, shown_text, view_text, told_text, is_bye, IsTellable};
 
 use crate::Refusal;
+use crate::errors::{ErrorsView, shows_any};
 use crate::parts::part_of;
 use crate::reasons::desk_reason;
 use crate::tasks::PublishedText;
@@ -26,6 +28,8 @@ pub(crate) enum Told {
     Published(SharedPublication, PublishedText),
     /// Of the publication, the part of this text that is this deck's.
     Part(SharedPublication, PublishedText, DeckName),
+    /// Of the publication, the flagged statements and LINK lines, those of all decks or of one.
+    Errors(SharedPublication, ErrorsView),
     /// The desk's version, the published one, and a row for each deck.
     Status(u64, Option<u64>, Listed<Row>),
     /// Why nothing was done.
@@ -110,6 +114,25 @@ pub(crate) fn told_of_part(text: PublishedText, name: DeckName, reply: Reply) ->
     }
 }
 
+/// What is told of the reply to a call for the publication, of which the flagged statements and LINK lines
+/// are shown.
+pub(crate) fn told_of_errors(view: ErrorsView, reply: Reply) -> Told
+    ensures told { result ≡ told_of_errors view reply }
+    ensures fits { IsTellable result }
+{
+    match reply {
+        Reply::Shown(publication) => {
+            if publication.publication().objects().len() <= MOST_DECKS {
+                Told::Errors(publication, view)
+            } else {
+                foreign()
+            }
+        }
+        Reply::Refused(refusal) => Told::Refused(desk_reason(refusal)),
+        _ => foreign(),
+    }
+}
+
 /// The reply with a text of its own of a publication.
 fn text_reply<'a>(publication: &'a ListedPublication, text: &'a [u8]) -> crate::Reply<'a>
     ensures text { text_of_reply result ≡ lines_text publication.now.version text.now }
@@ -164,6 +187,25 @@ fn part_reply<'a>(
     }
 }
 
+/// The reply with what is flagged in a publication. Without the deck that is asked for there is no such
+/// deck.
+fn errors_reply<'a>(publication: &'a ListedPublication, view: &'a ErrorsView) -> crate::Reply<'a>
+    requires { length publication.now.decks ≤ 64 }
+    ensures text { text_of_reply result ≡ errors_text publication.now.version view.now publication.now.decks (map_of publication.now.decks) }
+    ensures limits { IsWithinLimits result }
+{
+    let decks = publication.objects();
+    if !shows_any(view, decks) {
+        return crate::Reply::Refused(Refusal::NoDeck);
+    }
+    crate::Reply::Errors {
+        version: publication.version(),
+        view,
+        decks,
+        map: publication.map(),
+    }
+}
+
 /// The reply with what is shown of a deck's cards.
 fn view_reply<'a>(version: u64, view: &'a CardsView, cards: &'a [Card]) -> crate::Reply<'a>
     requires { length cards.now ≤ 20000 }
@@ -196,6 +238,7 @@ impl Told {
             Told::Cards(version, cards, view) => view_reply(*version, view, cards.as_slice()),
             Told::Published(shared, text) => published_reply(shared.publication(), *text),
             Told::Part(shared, text, name) => part_reply(shared.publication(), *text, name),
+            Told::Errors(shared, view) => errors_reply(shared.publication(), view),
             Told::Status(version, published, rows) => crate::Reply::Status {
                 version: *version,
                 published: *published,

@@ -1,9 +1,10 @@
 //! The commands of a session.
 ghost use Rattle.std.specs.Prelude.{◌≡◌};
 ghost use Rattle.session_line.specs.declared.commands.Command.TheVariants as command;
-ghost use Rattle.session_line.specs.Commands.{name_in, alone, only_name, save_over_in, save_in, view_in, cards_in, sought_in, find_in, image_in, list_in, drop_in, edit_in, head_in, sized, command_by, command_of, is_batch_size, is_put_size};
+ghost use Rattle.session_line.specs.Commands.{name_in, alone, only_name, save_over_in, save_in, view_in, cards_in, sought_in, find_in, image_in, list_in, errors_in, drop_in, edit_in, head_in, sized, command_by, command_of, is_batch_size, is_put_size};
 
 use crate::edits::{edit_at, fits_edit};
+use crate::errors::ErrorsView;
 use crate::refusals::Refusal;
 use crate::verbs::{EditKind, Verb, verb_of};
 use crate::views::{CardsView, is_sought_size};
@@ -64,6 +65,8 @@ pub enum Command {
     ListOf {
         name: DeckName,
     },
+    /// The flagged statements and the LINK lines of the publication, those of all decks or of one.
+    Errors(ErrorsView),
     /// The versions and states of all decks.
     Status,
     /// Edits of one deck, all or none, each on a line of its own behind this one.
@@ -234,6 +237,17 @@ fn list_in(rest: &[u8]) -> Result<Command, Refusal>
     })
 }
 
+/// Nothing, or `name`, behind `ERRORS`.
+fn errors_in(rest: &[u8]) -> Result<Command, Refusal>
+    ensures { result ≡ errors_in rest.now }
+{
+    if rest.is_empty() {
+        return Ok(Command::Errors(ErrorsView::Every));
+    }
+    let name = only_name(rest)?;
+    Ok(Command::Errors(ErrorsView::Of(name)))
+}
+
 /// `name version`
 fn drop_in(rest: &[u8]) -> Result<Command, Refusal>
     ensures { result ≡ drop_in rest.now }
@@ -373,6 +387,7 @@ fn command_by(verb: Verb, rest: &[u8]) -> Result<Command, Refusal>
         Verb::Image => image_in(rest),
         Verb::List => list_in(rest),
         Verb::Map => alone(Command::Map, rest),
+        Verb::Errors => errors_in(rest),
         Verb::Status => alone(Command::Status, rest),
         Verb::Batch => batch_in(rest),
         Verb::Put => put_in(rest),

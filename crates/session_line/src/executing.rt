@@ -1,13 +1,14 @@
 //! Executes a task once.
 ghost use Rattle.std.specs.Prelude.{◌≡◌, ◌≤◌, length};
-ghost use Rattle.session_line.specs.Answers.{IsTellable, called, most_cards, told_of_call, told_of_cards, told_of_part, told_of_publication, uncalled};
+ghost use Rattle.session_line.specs.Answers.{IsTellable, called, most_cards, told_of_call, told_of_cards, told_of_errors, told_of_part, told_of_publication, uncalled};
 ghost use Rattle.session_line.specs.Executing.{Asks, Executes, LoadsDeck, SavesCards, SavesDeck};
 ghost use Rattle.desk_core.specs.declared.calls.Call.TheVariants.{Cards, Show};
 
 use crate::answers::{
-    Answer, Told, told_of_call, told_of_cards, told_of_part, told_of_publication,
+    Answer, Told, told_of_call, told_of_cards, told_of_errors, told_of_part, told_of_publication,
 };
 use crate::calls::Calls;
+use crate::errors::ErrorsView;
 use crate::reasons::{load_reason, save_reason};
 use crate::tasks::{PublishedText, Task};
 use crate::views::CardsView;
@@ -67,6 +68,14 @@ fn show_part<C: Calls>(desk: &mut C, text: PublishedText, name: DeckName) -> Ans
     called(told_of_part(text, name, desk.call(Call::Show)))
 }
 
+/// The desk is asked for the publication, and what is flagged in it is shown.
+fn show_errors<C: Calls>(desk: &mut C, view: ErrorsView) -> Answer
+    ensures asks { Asks C.makes Show (told_of_errors view) desk.old desk.new result }
+    ensures fits { IsTellable result.told }
+{
+    called(told_of_errors(view, desk.call(Call::Show)))
+}
+
 /// One load of the shelf, and then the addition of its cards to the desk.
 fn load_deck<C: Calls, S: Shelf>(desk: &mut C, shelf: &mut S, name: DeckName) -> Answer
     ensures loads { LoadsDeck C.makes S.loads S.refuses_to_load name desk.old desk.new shelf.old shelf.new result }
@@ -124,6 +133,7 @@ pub(crate) fn execute<C: Calls, S: Shelf>(desk: &mut C, shelf: &mut S, task: Tas
         Task::ShowCards(name, view) => show_cards(desk, name, view),
         Task::ShowText(text) => show_text(desk, text),
         Task::ShowPart(text, name) => show_part(desk, text, name),
+        Task::ShowErrors(view) => show_errors(desk, view),
         Task::LoadDeck(name) => load_deck(desk, shelf, name),
         Task::SaveDeck(name, over) => save_deck(desk, shelf, &name, over),
         Task::Leave => uncalled(Told::Bye),

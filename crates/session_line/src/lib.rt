@@ -18,10 +18,12 @@ mod words;
 // Lines that ask for something.
 mod commands;
 mod edits;
+mod errors;
 mod refusals;
 mod views;
 
 // Replies.
+mod error_writing;
 mod parts;
 mod refusal_texts;
 mod replies;
@@ -54,6 +56,7 @@ pub use commands::{Command, LinesHead, only_name, read_command};
 pub use desk_core::{Row, State};
 pub use desk_laws::a_desk_answers_sessions;
 pub use edits::read_batch_line;
+pub use errors::ErrorsView;
 pub use laws::lines_read_back;
 pub use refusals::Refusal;
 pub use replies::Reply;

@@ -1,8 +1,10 @@
 //! The replies of a session.
 
+use crate::errors::ErrorsView;
 use crate::refusals::Refusal;
 use cards::Card;
 use deck_linker::ListedPublication;
+use deck_listing::ListedObject;
 use desk_core::Row;
 
 /// The reply to one command.
@@ -30,6 +32,14 @@ pub enum Reply<'a> {
     },
     /// `OK version n`, then the `n` lines of the listings of what is published, and of its map.
     Listing(&'a ListedPublication),
+    /// `OK version n`, then a line for each flagged statement of these decks, and those LINK lines of the
+    /// map, that are shown.
+    Errors {
+        version: u64,
+        view: &'a ErrorsView,
+        decks: &'a [ListedObject],
+        map: &'a [u8],
+    },
     /// `OK version n`, then `PUBLISHED version` or `PUBLISHED NONE`, and a line for each deck.
     Status {
         version: u64,

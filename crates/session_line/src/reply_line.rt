@@ -5,11 +5,11 @@ ghost use Rattle.definitions.specs.Characters.{line_feed};
 use itoa::Buffer;
 use std::marker::Model;
 
-/// How many bytes a line has at most that is no card's. The longest is a bad line of a file with a
-/// bad character.
-const MOST_BYTES: usize = 80;
+/// How many bytes a line has at most that is no card's. The longest is that of a flagged statement, with
+/// its card.
+const MOST_BYTES: usize = 128;
 
-/// The bytes of one line, at most 80. Contracts see it as their list.
+/// The bytes of one line, at most 128. Contracts see it as their list.
 #[derive(Drop)]
 pub(crate) struct ReplyLine {
     bytes: [u8; MOST_BYTES],
@@ -23,7 +23,7 @@ impl Model for ReplyLine {
 
     ghost view = { λ l. take l.len l.bytes };
 
-    ghost invariant = { λ l. l.len ≤ 80 };
+    ghost invariant = { λ l. l.len ≤ 128 };
 }
 
 impl ReplyLine {
@@ -38,13 +38,13 @@ impl ReplyLine {
 
     pub(crate) fn as_slice(&self) -> &[u8]
         ensures value { result.now ≡ self.now }
-        ensures short { length self.now ≤ 80 }
+        ensures short { length self.now ≤ 128 }
     {
         self.bytes.split_at(self.len).0
     }
 
     fn push(&mut self, byte: u8)
-        requires { length self.old < 80 }
+        requires { length self.old < 128 }
         ensures text { self.new ≡ self.old ++ byte ∷ [] }
         ensures len { length self.new ≡ length self.old + 1 }
     {
@@ -53,7 +53,7 @@ impl ReplyLine {
     }
 
     pub(crate) fn put(&mut self, text: &[u8])
-        requires { length self.old + length text.now ≤ 80 }
+        requires { length self.old + length text.now ≤ 128 }
         ensures text { self.new ≡ self.old ++ text.now }
         ensures len { length self.new ≡ length self.old + length text.now }
     {
@@ -72,7 +72,7 @@ impl ReplyLine {
     }
 
     pub(crate) fn end(&mut self)
-        requires { length self.old < 80 }
+        requires { length self.old < 128 }
         ensures { self.new ≡ self.old ++ line_feed ∷ [] }
     {
         self.push(b'\n');

@@ -1,9 +1,10 @@
 //! The lines of replies.
 ghost use Rattle.std.specs.Prelude.{◌≡◌, ◌+◌, ◌≤◌, ◌++◌, length};
 ghost use Rattle.definitions.specs.Build.{listing_of};
-ghost use Rattle.session_line.specs.Replies.{line_of, line_count, counted_text, ok_text, head_text, numbers_text, published_text, row_text, state_text};
+ghost use Rattle.session_line.specs.Replies.{IsWithinLimits, line_of, line_count, counted_text, ok_text, head_text, numbers_text, published_text, row_text, state_text};
 ghost use Rattle.session_line.specs.Views.{has_text, number_where};
 
+use crate::errors::error_count;
 use crate::refusal_texts::put_refusal;
 use crate::refusals::Refusal;
 use crate::replies::Reply;
@@ -74,6 +75,7 @@ fn listing_line(publication: &ListedPublication) -> ReplyLine
 
 /// The first line of a reply.
 pub(crate) fn head_line(reply: &Reply<'_>) -> ReplyLine
+    requires { IsWithinLimits reply.now }
     ensures { result ≡ line_of (head_text reply.now) }
 {
     match reply {
@@ -86,6 +88,12 @@ pub(crate) fn head_line(reply: &Reply<'_>) -> ReplyLine
         } => counted_line(*version, count_with(text, cards)),
         Reply::Text { version, text } => counted_line(*version, line_count(text)),
         Reply::Listing(publication) => listing_line(publication),
+        Reply::Errors {
+            version,
+            view,
+            decks,
+            map,
+        } => counted_line(*version, error_count(view, decks, map)),
         Reply::Status { version, decks, .. } => counted_line(*version, decks.len() + 1),
         Reply::Bye => bye_line(),
         Reply::Refused(refusal) => refusal_line(refusal),

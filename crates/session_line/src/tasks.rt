@@ -7,6 +7,7 @@ ghost use Rattle.session_line.specs.Tasks.{batch_named, cards_of, edits_of, is_p
 ghost use Rattle.session_line.specs.Taking.{IsTaskFor};
 ghost use Rattle.session_line.specs.LineItems.{IsRead, is_lacking};
 
+use crate::errors::ErrorsView;
 use crate::line_items::ItemsRead;
 use crate::{CardsView, Command, LinesHead, Refusal};
 use cards::{Card, DeckName, Edit};
@@ -33,6 +34,8 @@ pub(crate) enum Task {
     ShowText(PublishedText),
     /// The part of this text that is this deck's is shown.
     ShowPart(PublishedText, DeckName),
+    /// The flagged statements and LINK lines of the publication are shown, those of all decks or of one.
+    ShowErrors(ErrorsView),
     /// The shelf's deck of this name is added.
     LoadDeck(DeckName),
     /// The cards of the deck of this name go to the shelf, over what may be written over.
@@ -52,7 +55,7 @@ fn lines_behind(command: &Command) -> u64
         Command::Add { .. } | Command::Load { .. } | Command::Drop { .. } => 0,
         Command::Edit { .. } | Command::Cards { .. } | Command::Save { .. } => 0,
         Command::Image | Command::List | Command::Map => 0,
-        Command::ImageOf { .. } | Command::ListOf { .. } => 0,
+        Command::ImageOf { .. } | Command::ListOf { .. } | Command::Errors(_) => 0,
         Command::Status | Command::Bye => 0,
     }
 }
@@ -156,6 +159,7 @@ fn task_of_command(alloc: Global, command: Command, edits: ItemsRead<Edit>) -> T
         Command::Map => Task::ShowText(PublishedText::Map),
         Command::ImageOf { name } => Task::ShowPart(PublishedText::Image, name),
         Command::ListOf { name } => Task::ShowPart(PublishedText::Listing, name),
+        Command::Errors(view) => Task::ShowErrors(view),
         Command::Status => Task::Ask(Call::Status),
         Command::Batch(head) => batch_named(head, edits),
         Command::Put(_) => unreachable!(),

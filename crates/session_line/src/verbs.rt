@@ -26,6 +26,7 @@ pub(crate) enum Verb {
     Image,
     List,
     Map,
+    Errors,
     Status,
     Batch,
     Put,
@@ -68,6 +69,8 @@ fn other_verb_of(word: &[u8]) -> Option<Verb>
         Some(Verb::List)
     } else if is_same_text(word, b"MAP") {
         Some(Verb::Map)
+    } else if is_same_text(word, b"ERRORS") {
+        Some(Verb::Errors)
     } else if is_same_text(word, b"STATUS") {
         Some(Verb::Status)
     } else if is_same_text(word, b"BATCH") {

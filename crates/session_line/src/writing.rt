@@ -1,9 +1,10 @@
 //! Replies as bytes: to a writer, or in memory.
-ghost use Rattle.std.specs.Prelude.{◌≡◌, ◌≤◌, ◌<◌, ◌*◌, ◌^◌, ◌++◌, length, IfOk, IfErr};
+ghost use Rattle.std.specs.Prelude.{◌≡◌, ◌≤◌, ◌<◌, ◌+◌, ◌*◌, ◌^◌, ◌++◌, length, IfOk, IfErr};
 ghost use Rattle.session_line.specs.Replies.{line_of, published_text, row_text, rows_text, numbers_text, body_text, text_of_reply, IsWithinLimits};
 ghost use Rattle.session_line.specs.Views.{numbers_of};
 ghost use Rattle.text_ports.specs.Sending.{Sends, count_after_sending};
 
+use crate::error_writing::write_errors;
 use crate::replies::Reply;
 use crate::reply_texts::{found_line, head_line, published_line, row_line};
 use cards::Card;
@@ -18,7 +19,7 @@ fn write_rows<W: Write>(output: &mut Counted<W>, decks: &[Row]) -> Result<(), Br
     requires { length decks.now ≤ 64 }
     ensures sends { Sends (W.contents output.old.0) (W.contents output.new.0) (rows_text decks.now) result }
     ensures count { output.new.1 ≡ count_after_sending result output.old.1 }
-    ensures few { IfErr result (λ broken. broken.sent ≤ 80 * 65) }
+    ensures few { IfErr result (λ broken. broken.sent ≤ 128 * 65) }
 {
     let mut sent = 0;
     for deck in decks {
@@ -43,7 +44,7 @@ fn write_status<W: Write>(
     requires { length decks.now ≤ 64 }
     ensures sends { Sends (W.contents output.old.0) (W.contents output.new.0) (line_of (published_text published) ++ rows_text decks.now) result }
     ensures count { output.new.1 ≡ count_after_sending result output.old.1 }
-    ensures few { IfErr result (λ broken. broken.sent ≤ 80 * 66) }
+    ensures few { IfErr result (λ broken. broken.sent ≤ 128 * 66) }
 {
     let line = published_line(published);
     let bytes = line.as_slice();
@@ -61,7 +62,7 @@ fn write_found<W: Write>(output: &mut Counted<W>, cards: &[Card], text: &[u8]) -
     requires { length cards.now ≤ 20000 }
     ensures sends { Sends (W.contents output.old.0) (W.contents output.new.0) (numbers_text (numbers_of text.now cards.now)) result }
     ensures count { output.new.1 ≡ count_after_sending result output.old.1 }
-    ensures few { IfErr result (λ broken. broken.sent ≤ 80 * 20001) }
+    ensures few { IfErr result (λ broken. broken.sent ≤ 128 * 20001) }
 {
     let mut sent = 0;
     for (place, card) in cards.iter().enumerate() {
@@ -82,7 +83,7 @@ fn write_body<W: Write>(output: &mut Counted<W>, reply: &Reply<'_>) -> Result<()
     requires { IsWithinLimits reply.now }
     ensures sends { Sends (W.contents output.old.0) (W.contents output.new.0) (body_text reply.now) result }
     ensures count { output.new.1 ≡ count_after_sending result output.old.1 }
-    ensures few { IfErr result (λ broken. broken.sent < 2 ^ 63) }
+    ensures few { IfErr result (λ broken. broken.sent < 2 ^ 63 + 2 ^ 32) }
 {
     match reply {
         Reply::Done { .. } | Reply::Bye | Reply::Refused(_) => Ok(()),
@@ -90,6 +91,12 @@ fn write_body<W: Write>(output: &mut Counted<W>, reply: &Reply<'_>) -> Result<()
         Reply::Found { cards, text, .. } => write_found(output, cards, text),
         Reply::Text { text, .. } => put_all(output, text),
         Reply::Listing(publication) => publication.write_listing(output),
+        Reply::Errors {
+            view,
+            decks,
+            map,
+            ..
+        } => write_errors(output, view, decks, map),
         Reply::Status {
             published,
             decks,

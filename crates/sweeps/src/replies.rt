@@ -37,6 +37,7 @@ fn is_within(reply: &Reply<'_>) -> bool
     match reply {
         Reply::Cards { cards, .. } => cards.len() <= MOST_CARDS,
         Reply::Found { cards, .. } => cards.len() <= MOST_CARDS,
+        Reply::Errors { decks, .. } => decks.len() <= 64,
         Reply::Status { decks, .. } => decks.len() <= 64,
         Reply::Done { .. } | Reply::Text { .. } | Reply::Listing(_) => true,
         Reply::Bye | Reply::Refused(_) => true,

@@ -9,6 +9,6 @@ abbrev pub invariant-loop-place : goal.invariant-loop-place
 invariant-loop-place g l = record {
   lines : Appends (g.W.Write.contents l.fn.output.0) (g.W.Write.contents l.output.0) (numbers_text (numbers_of l.text (take l.place l.cards)));
   count : l.sent ≡ length (numbers_text (numbers_of l.text (take l.place l.cards)));
-  few : l.sent ≤ 80 * l.place;
+  few : l.sent ≤ 128 * l.place;
   sound : l.output.1 ≡ l.fn.output.1;
 }

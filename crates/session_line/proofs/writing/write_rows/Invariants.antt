@@ -8,6 +8,6 @@ abbrev pub invariant-loop-deck : goal.invariant-loop-deck
 invariant-loop-deck g l = record {
   lines : Appends (g.W.Write.contents l.fn.output.0) (g.W.Write.contents l.output.0) (rows_text (take l.deck-index l.decks));
   count : l.sent ≡ length (rows_text (take l.deck-index l.decks));
-  few : l.sent ≤ 80 * l.deck-index;
+  few : l.sent ≤ 128 * l.deck-index;
   sound : l.output.1 ≡ l.fn.output.1;
 }

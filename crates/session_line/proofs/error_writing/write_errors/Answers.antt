@@ -1,0 +1,11 @@
+use Rattle.std.specs.Prelude.{filter, flat_map}
+use Rattle.std.proofs.lemmas.Grind.{flat_map-append}
+use Rattle.session_line.specs.Errors.{errors_where, lines_in, shows_line}
+use Rattle.session_line.specs.Replies.{line_of}
+use Rattle.session_line.proofs.SentSoFar.{part-both}
+use Rattle.session_line.proofs.error_writing.write_errors.Goals as goal
+
+pub returns-in-Err-clause-sends : goal.returns-in-Err-clause-sends
+returns-in-Err-clause-sends g c =
+    let split = flat_map-append line_of (flat_map (errors_where c.args.view.now) c.args.objects.now) (filter (shows_line c.args.view.now) (lines_in c.args.map.now)) in
+    part-both _ _ _ _ _ _ c.in_ok-sent.sent c.in-Err.broken.sent split c.in_ok-sent.ensures.size c.in_ok-sent.ensures.sends c.in-Err.ensures.sends
