@@ -1,3 +1,4 @@
 pub mod ConnectionSteps
 pub mod SessionSteps
 pub mod PlaceSteps
+pub mod KeptChanges

@@ -1,5 +1,5 @@
 pub mod Bells
-pub mod Keeping
+pub mod SessionKeepers
 pub mod FaultTexts
 pub mod Sessions
 pub mod Services

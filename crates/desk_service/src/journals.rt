@@ -5,48 +5,64 @@
 //! | a session whose change was made | puts its record into the queue; writes where the next record is there and nobody writes, and else sleeps |
 //! | who writes | takes a copy of all records that may go out, leaves the queue to others, writes and syncs once, and tells those who wait |
 //! | a session that wants to change | is refused where a record was given up, unless that can be written now |
-ghost use Rattle.std.specs.Prelude.{◌≡◌};
+ghost use Rattle.std.specs.Prelude.{◌≡◌, is_some, true, None};
+ghost use Rattle.journal.specs.JournalFiles.{IsKept};
+ghost use Rattle.desk_service.specs.SessionKeepers.{IsMadeUp};
 
-use crate::journal_file::JournalFile;
-use crate::keeping::Keep;
 use desk_core::Refusal;
-use journal::{Batch, Change, Draft, Moment, Queue, draft_change};
+use journal::{
+    Batch, Change, Draft, JournalFile, Keep, KeptRecords, Moment, Queue, RecordsFile, draft_change,
+};
 use std::alloc::{AllocError, Global};
-use std::fs::OpenFile;
-use std::io::Write;
+use std::marker::Model;
 use std::sync::{Condvar, Mutex, MutexGuard, Wait};
 use std::time::{Clock, SystemTime, UNIX_EPOCH};
 
 /// What the sessions share.
 #[derive(Drop)]
-struct Shared {
-    queue: Queue,
+struct Shared<F: RecordsFile> {
+    queue: Queue<F>,
     /// Somebody writes.
     writing: bool,
 }
 
+impl<F: RecordsFile> Shared<F> {
+    /// Whether a change may be made: no record was given up, and that of this version is kept, if there is
+    /// one.
+    fn may_change(&self, missed: Option<u64>) -> bool
+        ensures { result ≡ true → IsMadeUp F.has_done missed }
+    {
+        if self.queue.has_given_up() {
+            return false;
+        }
+        match missed {
+            Some(version) => self.queue.is_kept(version),
+            None => true,
+        }
+    }
+}
+
 /// The journal of a service.
 #[derive(Drop)]
-pub struct Journal<F> {
+pub struct Journal<F: RecordsFile> {
     alloc: Global,
-    shared: Mutex<Shared>,
+    shared: Mutex<Shared<F>>,
     file: Mutex<JournalFile<F>>,
     /// Something was written, or could not be.
     told: Condvar,
 }
 
-impl<F: Write + OpenFile + Drop> Journal<F> {
-    /// A journal for so many sessions, whose next record is of this version.
+impl<F: RecordsFile + Drop> Journal<F> {
+    /// A journal for so many sessions, which goes on in this file.
     pub fn new(
         alloc: Global,
         file: JournalFile<F>,
         sessions: usize,
-        next: u64,
     ) -> Result<Journal<F>, AllocError> {
         Ok(Journal {
             alloc,
             shared: Mutex::new(Shared {
-                queue: Queue::new(alloc, sessions, next)?,
+                queue: Queue::new(alloc, sessions, file.kept())?,
                 writing: false,
             }),
             file: Mutex::new(file),
@@ -54,27 +70,27 @@ impl<F: Write + OpenFile + Drop> Journal<F> {
         })
     }
 
-    /// Appends what may go out: whether all of it is kept.
-    fn append<R: Wait>(&self, rt: &R, batch: &Batch) -> bool {
-        batch.text.as_slice().is_empty() || self.file.lock(rt).append(batch.text.as_slice())
+    /// Appends what may go out: what is kept then, or nothing where it is not.
+    fn append<R: Wait>(&self, rt: &R, batch: &Batch) -> Option<KeptRecords<F>> {
+        self.file.lock(rt).append(batch)
     }
 
     /// Writes what may go out of the queue, and tells those who wait.
     fn write<'a, R: Wait>(
         &'a self,
         rt: &R,
-        mut shared: MutexGuard<'a, Shared>,
-    ) -> MutexGuard<'a, Shared> {
+        mut shared: MutexGuard<'a, Shared<F>>,
+    ) -> MutexGuard<'a, Shared<F>> {
         shared.writing = true;
         let batch = shared.queue.batch(self.alloc);
         drop(shared);
         let kept = match &batch {
-            Ok(batch) if self.append(rt, batch) => Some(batch.next),
-            _ => None,
+            Ok(batch) => self.append(rt, batch),
+            Err(_) => None,
         };
         let mut shared = self.shared.lock(rt);
         match kept {
-            Some(next) => shared.queue.settle(next),
+            Some(kept) => shared.queue.settle(kept),
             None => shared.queue.give_up(),
         }
         shared.writing = false;
@@ -82,28 +98,33 @@ impl<F: Write + OpenFile + Drop> Journal<F> {
         shared
     }
 
-    /// Whether a change may be made: no record was given up, or all such are written now.
-    fn may_change<R: Wait>(&self, rt: &R) -> bool {
+    /// Whether a change may be made: no record was given up, or all such are kept now, that of this version
+    /// among them.
+    fn may_change<R: Wait>(&self, rt: &R, missed: Option<u64>) -> bool
+        ensures { result ≡ true → IsMadeUp F.has_done missed }
+    {
         let mut shared = self.shared.lock(rt);
         for _ in rt.forever() {
-            if !shared.queue.has_given_up() {
+            if shared.may_change(missed) {
                 return true;
             }
             if !shared.writing {
                 shared = self.write(rt, shared);
-                return !shared.queue.has_given_up();
+                return shared.may_change(missed);
             }
             shared = self.told.wait(rt, shared);
         }
         false
     }
 
-    /// Keeps the record of a session: whether it is written, with all before it.
-    fn keep<R: Wait>(&self, rt: &R, session: usize, version: u64, draft: Draft) -> bool {
+    /// Keeps the record of a session: whether it is kept, with all before it.
+    fn keep<R: Wait>(&self, rt: &R, session: usize, version: u64, draft: Draft) -> bool
+        ensures { result ≡ true → IsKept F.has_done version }
+    {
         let mut shared = self.shared.lock(rt);
         shared.queue.put(session, version, draft);
         for _ in rt.forever() {
-            if shared.queue.is_written(version) {
+            if shared.queue.is_kept(version) {
                 return true;
             }
             if shared.queue.is_given_up(version) {
@@ -132,44 +153,59 @@ pub(crate) fn moment_now<R: Clock>(rt: &R) -> Moment {
 }
 
 /// The end of the journal that a session has; without a journal all changes pass, and none is kept.
+/// Contracts see whether there is a journal, the number of the session, and the version of its latest change
+/// that was told as not kept: until that record is kept, it makes no other.
 #[derive(Drop)]
-pub struct SessionKeeper<'a, R, F> {
+pub struct SessionKeeper<'a, R, F: RecordsFile> {
     rt: &'a R,
     alloc: Global,
     journal: Option<&'a Journal<F>>,
     session: usize,
+    missed: Option<u64>,
 }
 
-impl<'a, R, F> SessionKeeper<'a, R, F> {
+impl<'a, R, F: RecordsFile> Model for SessionKeeper<'a, R, F> {
+    ghost use Rattle.std.specs.Prelude.{is_some};
+    ghost use Rattle.desk_service.specs.SessionKeepers as keepers;
+
+    ghost Value = { keepers.SessionKeeper };
+
+    ghost view = { λ k. record { journaled = is_some k.journal; session = k.session; missed = k.missed } };
+}
+
+impl<'a, R, F: RecordsFile> SessionKeeper<'a, R, F> {
     pub fn new(
         rt: &'a R,
         alloc: Global,
         journal: Option<&'a Journal<F>>,
         session: usize,
     ) -> SessionKeeper<'a, R, F>
-        ensures { result.session ≡ session }
+        ensures journaled { result.journaled ≡ is_some journal.entry }
+        ensures session { result.session ≡ session }
+        ensures missed { result.missed ≡ None }
     {
         SessionKeeper {
             rt,
             alloc,
             journal,
             session,
+            missed: None,
         }
     }
 }
 
-impl<R: Wait + Clock, F: Write + OpenFile + Drop> Keep for SessionKeeper<'_, R, F> {
-    ghost use Rattle.std.specs.Prelude.{⊤};
+impl<R: Wait + Clock, F: RecordsFile + Drop> Keep for SessionKeeper<'_, R, F> {
+    ghost use Rattle.desk_service.specs.SessionKeepers.{BeginsRecord, KeepsRecord};
 
-    ghost begins = { λ old change told new. ⊤ };
+    ghost begins = { BeginsRecord F.has_done };
 
-    ghost keeps = { λ old version draft kept new. ⊤ };
+    ghost keeps = { KeepsRecord F.has_done };
 
     fn begin(&mut self, change: &Change) -> Result<Draft, Refusal> {
         let Some(journal) = self.journal else {
             return Ok(Draft::empty(self.alloc));
         };
-        if !journal.may_change(self.rt) {
+        if !journal.may_change(self.rt, self.missed) {
             return Err(Refusal::NotKept);
         }
         let moment = moment_now(self.rt);
@@ -180,9 +216,13 @@ impl<R: Wait + Clock, F: Write + OpenFile + Drop> Keep for SessionKeeper<'_, R, 
     }
 
     fn keep(&mut self, version: u64, draft: Draft) -> bool {
-        match self.journal {
-            Some(journal) => journal.keep(self.rt, self.session, version, draft),
-            None => true,
+        let Some(journal) = self.journal else {
+            return true;
+        };
+        if journal.keep(self.rt, self.session, version, draft) {
+            return true;
         }
+        self.missed = Some(version);
+        false
     }
 }

@@ -35,17 +35,19 @@
 
 // One session, over any ports.
 mod bells;
-mod keeping;
 mod sessions;
 
 // What a service begins with, and keeps.
 mod faults;
-mod journal_file;
 mod journals;
 mod opening;
 mod root;
 mod settings;
+mod system_file;
 mod versions;
+
+// What a client may rest on.
+mod laws;
 
 // Threads and sockets.
 mod arrivals;
@@ -59,9 +61,9 @@ mod service_end;
 pub use bells::{Ring, Ringing};
 pub use control::stop;
 pub use faults::ServeFault;
-pub use journal_file::JournalFile;
 pub use journals::{Journal, SessionKeeper};
-pub use keeping::{Keep, Keeping};
+pub use laws::told_changes_are_kept;
 pub use running::{serve, serve_on};
 pub use sessions::{Ending, serve_session};
 pub use settings::{Journaling, Settings};
+pub use system_file::SystemFile;

@@ -1,14 +1,14 @@
 //! The desk of a service at its start: new, or as its journal leaves it.
 
 use crate::faults::ServeFault;
-use crate::journal_file::JournalFile;
 use crate::journals::{Journal, moment_now};
 use crate::root::path_in;
 use crate::settings::{Journaling, Settings};
+use crate::system_file::SystemFile;
 use crate::versions::Seen;
 use deck_files::{folder_of, sync_folder, write_whole};
 use desk_core::Desk;
-use journal::{Ending, ReplayFault, compacted_text, replay};
+use journal::{Ending, JournalFile, RecordsFile, ReplayFault, compacted_text, replay};
 use std::alloc::Global;
 use std::fs;
 use std::fs::OpenOptions;
@@ -19,7 +19,7 @@ use text_ports::Counted;
 
 /// What a service begins with: its desk, and the journal that goes on behind it, if it has one.
 #[derive(Drop)]
-pub(crate) struct Opened<F> {
+pub(crate) struct Opened<F: RecordsFile> {
     pub(crate) desk: Desk,
     pub(crate) journal: Option<Journal<F>>,
 }
@@ -94,19 +94,21 @@ fn begin_anew<R: Files + Eprint + Clock>(
     replay_file(rt, alloc, path)
 }
 
-/// Opens a journal to go on behind so many bytes, which the system has kept when this is done.
+/// Opens a journal to go on behind so many bytes, which the system has kept when this is done, with the
+/// record of a version.
 fn open_behind<R: Files>(
     rt: &R,
     path: &str,
     length: u64,
-) -> Result<JournalFile<R::File>, ServeFault> {
+    next: u64,
+) -> Result<JournalFile<SystemFile<R::File>>, ServeFault> {
     let mut how = OpenOptions::new();
     how.append(true).create(true);
     let Ok(file) = how.open(rt, path) else {
         return Err(ServeFault::NoJournal);
     };
-    let mut file = JournalFile::new(file, length);
-    if sync_folder(rt, folder_of(path)).is_ok() && file.append(b"") {
+    let mut file = JournalFile::new(SystemFile::new(file), length, next);
+    if sync_folder(rt, folder_of(path)).is_ok() && file.begin() {
         Ok(file)
     } else {
         Err(ServeFault::NoJournal)
@@ -121,18 +123,18 @@ fn open_at<R: Files + Eprint + Clock>(
     settings: &Settings<'_>,
     path: &str,
     seen: &Seen,
-) -> Result<Opened<R::File>, ServeFault> {
+) -> Result<Opened<SystemFile<R::File>>, ServeFault> {
     let mut found = replay_file(rt, alloc, path)?;
     let begun = seen.begun(settings.journal, found.desk.version());
     if settings.compact || begun > found.desk.version() {
         found = begin_anew(rt, alloc, path, begun, &found.desk)?;
     }
     let Found { desk, length } = found;
-    let file = open_behind(rt, path, length)?;
     let next = desk.version().saturating_add(1);
+    let file = open_behind(rt, path, length, next)?;
     Ok(Opened {
         desk,
-        journal: Some(Journal::new(alloc, file, settings.sessions, next)?),
+        journal: Some(Journal::new(alloc, file, settings.sessions)?),
     })
 }
 
@@ -142,7 +144,7 @@ pub(crate) fn open<R: Files + Eprint + Clock>(
     alloc: Global,
     settings: &Settings<'_>,
     seen: &Seen,
-) -> Result<Opened<R::File>, ServeFault> {
+) -> Result<Opened<SystemFile<R::File>>, ServeFault> {
     match settings.journal {
         Journaling::Off => Ok(Opened {
             desk: Desk::behind(alloc, seen.begun(settings.journal, 0)),

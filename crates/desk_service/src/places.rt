@@ -6,17 +6,15 @@ ghost use Rattle.turn_office.specs.Seats.{AreOf};
 use crate::bells::{Ringing, WorkBell};
 use crate::connections::{Serving, serve_connections};
 use crate::journals::{Journal, SessionKeeper};
-use crate::keeping::Keeping;
 use crate::service_end::ServiceEnd;
 use crate::settings::Settings;
 use crossbeam_channel::{Receiver, Sender};
 use deck_files::{FolderShelf, KnownFiles};
 use deck_workers::{Bell, OpenGate, worker};
 use desk_core::Desk;
+use journal::{Keeping, RecordsFile};
 use session_line::SeatCalls;
 use std::alloc::{AllocError, Global};
-use std::fs::OpenFile;
-use std::io::Write;
 use std::net::TcpStream;
 use std::rt::Files;
 use std::sync::{Mutex, Wait};
@@ -56,7 +54,7 @@ impl<R: Wait + Clock> Serve for WorkerPlace<'_, R> {
 
 /// What a session thread works with: a desk whose changes are kept, and a shelf.
 #[derive(Drop)]
-pub(crate) struct SessionPlace<'a, R, F> {
+pub(crate) struct SessionPlace<'a, R, F: RecordsFile> {
     rt: &'a R,
     alloc: Global,
     arrivals: Receiver<TcpStream>,
@@ -66,7 +64,7 @@ pub(crate) struct SessionPlace<'a, R, F> {
 }
 
 /// A session thread serves connections until none can come any more.
-impl<R: Wait + Clock + Files, F: Write + OpenFile + Drop> Serve for SessionPlace<'_, R, F> {
+impl<R: Wait + Clock + Files, F: RecordsFile + Drop> Serve for SessionPlace<'_, R, F> {
     fn serve(self) {
         let SessionPlace {
             rt,
@@ -126,7 +124,7 @@ pub(crate) fn worker_places<'a, R>(
 /// Places for the sessions of a service, with seats from the list; each has an end of the bell, waits for
 /// connections, keeps its changes in the journal, if there is one, and has a shelf of a number of its own
 /// over the folder; all note what they loaded and saved at one place.
-pub(crate) fn session_places<'a, R, F>(
+pub(crate) fn session_places<'a, R, F: RecordsFile>(
     rt: &'a R,
     alloc: Global,
     office: &'a Office<Desk>,

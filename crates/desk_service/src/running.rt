@@ -9,6 +9,7 @@ use crate::places::{Serve, SessionPlace, WorkerPlace, session_places, worker_pla
 use crate::root::take_folder;
 use crate::service_end::ServiceEnd;
 use crate::settings::{JOURNAL, Settings};
+use crate::system_file::SystemFile;
 use crate::versions::{Seen, VERSIONS};
 use crossbeam_channel::{Sender, bounded, unbounded};
 use deck_files::{KnownFiles, clear_folder};
@@ -236,7 +237,7 @@ fn run_sessions<R, H>(
     rt: &R,
     alloc: Global,
     workers: Vec<WorkerPlace<'_, R>>,
-    sessions: Vec<SessionPlace<'_, R, R::File>>,
+    sessions: Vec<SessionPlace<'_, R, SystemFile<R::File>>>,
     receiving: Receiving<'_, R>,
     hearing: H,
 ) -> Result<(), AllocError>
@@ -254,7 +255,7 @@ fn run_hearing<R>(
     rt: &R,
     alloc: Global,
     workers: Vec<WorkerPlace<'_, R>>,
-    sessions: Vec<SessionPlace<'_, R, R::File>>,
+    sessions: Vec<SessionPlace<'_, R, SystemFile<R::File>>>,
     receiving: Receiving<'_, R>,
     hearing: Hearing<'_, R>,
 ) -> Result<(), AllocError>
@@ -275,7 +276,7 @@ fn serve_opened<'a, R>(
     listener: &'a TcpListener,
     control: Option<&'a Control>,
     settings: &'a Settings<'a>,
-    opened: Opened<R::File>,
+    opened: Opened<SystemFile<R::File>>,
 ) -> Result<(), ServeFault>
 where
     R: Threads + Wait + Sync + Files + Drop + Clock + Eprint + Net,
@@ -348,7 +349,7 @@ fn open_in_folder<R: Files + Eprint + Clock>(
     rt: &R,
     alloc: Global,
     settings: &Settings<'_>,
-) -> Result<Opened<R::File>, ServeFault> {
+) -> Result<Opened<SystemFile<R::File>>, ServeFault> {
     let seen = Seen::read(rt, alloc, settings.root)?;
     let opened = open(rt, alloc, settings, &seen)?;
     let begun = opened.desk.version();

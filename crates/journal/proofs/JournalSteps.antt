@@ -1,14 +1,12 @@
 -- The journal of bytes that begin with a line, or with none.
-use Rattle.std.proofs.Common.{ℕ, ◌≡◌, ◌≢◌, ◌+◌, ◌<◌, ◌≤◌, ◌==◌, List, [], ◌∷◌, ◌++◌, Bool, true, false, if◌then◌else◌, Option, None, Some, length, refl, sym, ap, ◌∙◌, inl, inr, arith, length-append, append_assoc, le-ltb, lt-ltb}
-use Rattle.std.specs.Prelude.{nat_lt}
-use Rattle.std.specs.List.{slice_split, onto_first}
+use Rattle.std.proofs.Common.{ℕ, ◌≡◌, ◌+◌, ◌<◌, ◌≤◌, ◌==◌, List, [], ◌∷◌, ◌++◌, Bool, true, false, if◌then◌else◌, Option, None, Some, length, refl, ap, ◌∙◌, inl, inr, arith, length-append, le-ltb, lt-ltb}
+use Rattle.std.specs.List.{onto_first}
 use Rattle.std.proofs.lemmas.Bool.Decides.{eqb_tells}
 use Rattle.std.proofs.lemmas.List.Splits.{slice_split_none, slice_split_at, slice_split-cons_no, slice_split-cons_yes}
 use Rattle.text_ports.specs.Lines.{line_feed, IsUnbroken}
 use Rattle.text_ports.proofs.LineLaws.{pieces_of, passed_over, some_piece, first_piece, pieces_of-behind}
 use Rattle.journal.specs.declared.beginning.Open.{Open}
 use Rattle.journal.specs.declared.places.Place.{Place}
-use Rattle.journal.specs.declared.places.Ending.{Ending}
 use Rattle.journal.specs.declared.places.Ending.TheVariants.{Whole}
 use Rattle.journal.specs.declared.steps.Step.{Step}
 use Rattle.journal.specs.declared.steps.Step.TheVariants.{Goes, Ends, Wrong, Bad}

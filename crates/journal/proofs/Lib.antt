@@ -9,3 +9,4 @@ pub mod RecordLaws
 pub mod ReplaySteps
 pub mod QueueSteps
 pub mod QueueOrder
+pub mod FileSteps

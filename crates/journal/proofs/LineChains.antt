@@ -1,5 +1,5 @@
 -- Lines that lead from one open record to the next: their journal, and that of a text that ends among them.
-use Rattle.std.proofs.Common.{ℕ, zero, suc, ◌≡◌, ◌≢◌, ◌+◌, ◌-◌, ◌<◌, ◌≤◌, List, [], ◌∷◌, ◌++◌, Option, None, Some, length, take, drop, refl, sym, ap, subst, ◌∙◌, inl, inr, arith, length-append, append_assoc, append-nil}
+use Rattle.std.proofs.Common.{ℕ, ◌≡◌, ◌≢◌, ◌+◌, ◌-◌, ◌<◌, ◌≤◌, List, [], ◌∷◌, ◌++◌, Option, None, Some, length, take, drop, refl, sym, ap, subst, ◌∙◌, inl, inr, arith, length-append, append_assoc, append-nil}
 use Rattle.std.proofs.lemmas.Bool.Decides.{leb_tells}
 use Rattle.std.proofs.lemmas.List.{length-take-le, take-append-le}
 use Rattle.std.proofs.lemmas.List.Elements.{All-take}
@@ -14,7 +14,7 @@ use Rattle.journal.specs.declared.steps.Step.TheVariants.{Goes}
 use Rattle.journal.specs.Places.{advanced, capped}
 use Rattle.journal.specs.Records.{ended, text_of_lines}
 use Rattle.journal.specs.Steps.{line_step}
-use Rattle.journal.specs.Journals.{Journal, ends, cut_at, journal_from}
+use Rattle.journal.specs.Journals.{ends, cut_at, journal_from}
 use Rattle.journal.proofs.JournalSteps.{stepped, journal-line, journal-open, journal-cut}
 
 -- a line: no line feed is among its bytes, which are at most 256

@@ -1,6 +1,6 @@
 -- The lines of a record have no line feed, and at most 256 bytes.
-use Rattle.std.proofs.Common.{ℕ, ◌≡◌, ◌+◌, ◌≤◌, List, [], ◌∷◌, ◌++◌, true, length, refl, arith, length-append, codes}
-use Rattle.std.specs.Prelude.{decimal, IsTrue, All}
+use Rattle.std.proofs.Common.{ℕ, ◌≡◌, ◌+◌, ◌≤◌, List, [], ◌++◌, true, length, refl, arith, length-append, codes}
+use Rattle.std.specs.Prelude.{decimal}
 use Rattle.definitions.specs.Cards.{Card, IsCard, card_of}
 use Rattle.definitions.specs.DeckInput.{is_deck_name}
 use Rattle.cards.specs.declared.edits.Edit.{Edit}

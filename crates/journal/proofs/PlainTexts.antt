@@ -1,9 +1,9 @@
 -- Texts without line feeds, and how long they are.
-use Rattle.std.proofs.Common.{ℕ, zero, suc, ◌≡◌, ◌≢◌, ◌+◌, ◌<◌, ◌≤◌, ◌==◌, inl, inr, Bool, true, false, not, ◌&&◌, List, [], ◌∷◌, ◌++◌, Option, None, Some, position, length, get_or, refl, sym, ap, subst, ◌∙◌, arith, if◌then◌else◌, cond, eqb-true, true≢false, le-ltb, lt-ltb}
-use Rattle.std.specs.Prelude.{nat_le, nat_lt, decimal, is_none, ◌||◌, All}
-use Rattle.std.specs.List.{list_all, zip, position_or_len}
+use Rattle.std.proofs.Common.{ℕ, zero, suc, ◌≡◌, ◌≢◌, ◌<◌, ◌≤◌, ◌==◌, inl, inr, Bool, true, false, ◌&&◌, List, [], ◌∷◌, ◌++◌, Option, None, Some, position, length, get_or, refl, sym, ap, subst, ◌∙◌, arith, if◌then◌else◌, cond, eqb-true, true≢false, le-ltb, lt-ltb}
+use Rattle.std.specs.Prelude.{nat_le, decimal, is_none, ◌||◌}
+use Rattle.std.specs.List.{list_all, position_or_len}
 use Rattle.std.proofs.lemmas.List.Sums.{fails_before_first}
-use Rattle.std.proofs.lemmas.Bool.{and_parts, and_from, le-leb, leb-true, or_cases, ne_eqb}
+use Rattle.std.proofs.lemmas.Bool.{and_parts, and_from, le-leb, leb-true, or_cases}
 use Rattle.std.proofs.lemmas.Bool.Decides.{leb_tells}
 use Rattle.std.proofs.lemmas.List.Elements.{All-nil, All-cons}
 use Rattle.std.proofs.lemmas.Fmt.{length-decimal-le}

@@ -1,5 +1,5 @@
 -- The steps of reading a record: the lines so far leave the journal of what is left.
-use Rattle.std.proofs.Common.{ℕ, ◌≡◌, ◌+◌, ◌<◌, ◌≤◌, List, [], ◌∷◌, ◌++◌, Option, None, Some, length, refl, sym, ap, subst, ◌∙◌, arith, append_assoc, append-nil, length-append}
+use Rattle.std.proofs.Common.{ℕ, ◌≡◌, ◌+◌, ◌<◌, List, [], ◌∷◌, ◌++◌, Option, None, Some, length, refl, sym, ap, subst, ◌∙◌, arith, append_assoc, length-append}
 use Rattle.std.specs.Io.KnownBytes.{Consumes}
 use Rattle.std.proofs.KnownBytes.{Consumes-nil, Consumes-trans}
 use Rattle.text_ports.specs.Lines.{line_feed, ReadsWholeLine}
@@ -15,8 +15,8 @@ use Rattle.journal.specs.declared.steps.Step.{Step}
 use Rattle.journal.specs.declared.steps.Step.TheVariants as step
 use Rattle.journal.specs.Places.{advanced, behind_record}
 use Rattle.journal.specs.Steps.{line_step}
-use Rattle.journal.specs.Journals.{Journal, ends, in_front, cut_at, faulty_at, wrong_ending, journal_from}
-use Rattle.journal.specs.Reading.{TellsEnd, ReadsNext, EndsIn, EndsWrong, nothing, something}
+use Rattle.journal.specs.Journals.{ends, cut_at, faulty_at, journal_from}
+use Rattle.journal.specs.Reading.{ReadsNext, EndsIn, EndsWrong, nothing, something}
 use Rattle.journal.proofs.JournalSteps.{stepped, journal-line, journal-nothing, journal-open, journal-cut, journal-long, wrong-something, wrong-nothing}
 
 -- how the journal ends where no line is left, or it is too long

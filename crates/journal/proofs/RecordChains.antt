@@ -1,6 +1,6 @@
 -- The lines of a lawful record lead to that record.
-use Rattle.std.proofs.Common.{ℕ, ◌≡◌, ◌+◌, ◌*◌, ◌%◌, ◌<◌, ◌≤◌, ◌==◌, Bool, true, false, ◌&&◌, List, [], ◌∷◌, ◌++◌, Option, None, Some, Result, Ok, Err, length, map, drop, refl, sym, ap, subst, ◌∙◌, arith, append_assoc, append-nil, if◌then◌else◌, codes}
-use Rattle.std.specs.Prelude.{decimal, option_map, option_and_then, IsTrue, All}
+use Rattle.std.proofs.Common.{ℕ, ◌≡◌, ◌*◌, ◌%◌, ◌<◌, ◌≤◌, ◌==◌, Bool, true, List, [], ◌∷◌, ◌++◌, Option, None, Some, Result, Ok, length, map, drop, refl, sym, ap, subst, ◌∙◌, arith, append_assoc, append-nil, if◌then◌else◌}
+use Rattle.std.specs.Prelude.{decimal, option_map, option_and_then, All}
 use Rattle.std.specs.Int.Bits.{bit_xor}
 use Rattle.std.proofs.lemmas.List.{map-id}
 use Rattle.std.proofs.lemmas.List.Sums.{fold-append}
@@ -10,30 +10,26 @@ use Rattle.definitions.specs.Cards.{Card, CardRead, IsCard, card_of}
 use Rattle.definitions.specs.DeckInput.{Deck, is_deck_name}
 use Rattle.cards.specs.declared.edits.Edit.{Edit}
 use Rattle.cards.specs.declared.edits.Edit.TheVariants.{Insert, Replace, Remove}
-use Rattle.session_line.specs.declared.commands.Command.{Command}
 use Rattle.session_line.specs.declared.commands.Command.TheVariants as command
 use Rattle.session_line.specs.declared.refusals.Refusal.{Refusal}
 use Rattle.session_line.specs.Words.{first_word, first_number, behind_word, greatest_number}
-use Rattle.session_line.specs.Edits.{is_end, edit_in_batch}
-use Rattle.session_line.specs.Commands.{only_name, command_of}
+use Rattle.session_line.specs.Edits.{is_end}
 use Rattle.session_line.specs.Lines.{behind_a_blank, line_of_edit, line_in_batch, IsLawfulEdit}
 use Rattle.session_line.proofs.ReadBack.{word-decimal, first-word, behind-word, first-number}
 use Rattle.session_line.proofs.LineLaws.{line-back, batch_line-back}
-use Rattle.journal.specs.declared.changes.Change.{Change}
 use Rattle.journal.specs.declared.changes.Change.TheVariants.{Added, Put, Dropped, Edited, Batch}
 use Rattle.journal.specs.declared.records.Entry.{Entry}
 use Rattle.journal.specs.declared.records.Entry.TheVariants as entry
 use Rattle.journal.specs.declared.records.Record.{Record}
 use Rattle.journal.specs.declared.beginning.Begun.{Begun}
 use Rattle.journal.specs.declared.beginning.Open.{Open}
-use Rattle.journal.specs.declared.steps.Step.{Step}
-use Rattle.journal.specs.declared.steps.Step.TheVariants.{Goes, Ends, Wrong}
+use Rattle.journal.specs.declared.steps.Step.TheVariants.{Ends, Wrong}
 use Rattle.journal.specs.CheckSums.{first_sum, sum_after, sum_over, check_sum}
-use Rattle.journal.specs.Moments.{is_moment, moment_of}
+use Rattle.journal.specs.Moments.{moment_of}
 use Rattle.journal.specs.Records.{ended, text_of_lines, line_of_entry, lines_behind, first_line, lines_of_record, sum_line}
-use Rattle.journal.specs.Begun.{given, alone, begun_by, begun_of, open_with, opened_by, opened}
+use Rattle.journal.specs.Begun.{given, begun_by, begun_of, open_with, opened}
 use Rattle.journal.specs.Steps.{deck_with_card, deck_with, edits_with, entry_with, inner_step, has_all, sum_in, end_step, first_step, line_step}
-use Rattle.journal.specs.Lawful.{IsLawfulDeck, IsLawfulChange, IsLawfulEntry, IsLawful}
+use Rattle.journal.specs.Lawful.{IsLawfulEntry, IsLawful}
 use Rattle.journal.proofs.LineChains.{IsLine, IsChain}
 use Rattle.journal.proofs.LineSizes.{first-line, card-line, edit-line}
 use Rattle.journal.proofs.PlainTexts.{moment-word}

@@ -1,5 +1,5 @@
 -- How a record begins (ours): its first line tells the version, when it was made, the session, and what was done.
-use Rattle.std.specs.Prelude.{ℕ, ◌==◌, List, [], Option, Some, None, Result, Ok, Err, codes, length, drop, option_and_then, option_map, if◌then◌else◌}
+use Rattle.std.specs.Prelude.{ℕ, List, [], Option, Some, None, Result, Ok, Err, codes, drop, option_and_then, option_map, if◌then◌else◌}
 use Rattle.definitions.specs.Characters.{same_text}
 use Rattle.definitions.specs.Fields.{unbroken_front}
 use Rattle.session_line.specs.declared.commands.Command.{Command}
@@ -7,7 +7,6 @@ use Rattle.session_line.specs.declared.commands.Command.TheVariants as command
 use Rattle.session_line.specs.declared.refusals.Refusal.{Refusal}
 use Rattle.session_line.specs.Words.{from_blank, first_word, first_number, behind_word}
 use Rattle.session_line.specs.Commands.{command_of}
-use Rattle.journal.specs.declared.changes.Change.{Change}
 use Rattle.journal.specs.declared.changes.Change.TheVariants.{Added, Put, Dropped, Edited, Batch}
 use Rattle.journal.specs.declared.records.Entry.{Entry}
 use Rattle.journal.specs.declared.records.Entry.TheVariants as entry

@@ -1,5 +1,5 @@
 -- Records whose text reads back (ours): a name, numbers that can be told, cards, and where it is a batch or a put as many edits or cards as it may have.
-use Rattle.std.specs.Prelude.{ℕ, ◌≡◌, ◌≤◌, ⊤, List, IsTrue, length, All}
+use Rattle.std.specs.Prelude.{◌≡◌, ◌≤◌, ⊤, IsTrue, length, All}
 use Rattle.definitions.specs.Cards.{Card, IsCard, card_of}
 use Rattle.definitions.specs.DeckInput.{Deck, is_deck_name}
 use Rattle.session_line.specs.Words.{greatest_number}

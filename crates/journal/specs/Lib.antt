@@ -3,6 +3,8 @@ pub mod Moments
 pub mod Records
 pub mod Asking
 pub mod Queues
+pub mod JournalFiles
+pub mod Keeping
 pub mod Places
 pub mod Begun
 pub mod Steps

@@ -3,12 +3,19 @@ use Rattle.std.specs.Prelude.{ℕ, ◌≡◌, ⊤, ◌+◌, ◌==◌, List, [], 
 use Rattle.journal.specs.declared.queue.Unwritten.{Unwritten}
 use Rattle.journal.specs.Records.{text_with_version}
 
--- the version that is to be written next, the one below which all that is not written was given up, one above all versions that were put here, and the places of the sessions
+-- the version of the first record that is kept, the one that is to be written next, the one below which all that is not kept was given up, one above all versions that were put here, and the places of the sessions
 pub record Queue : Type 0 where
+  pub first : ℕ
   pub next : ℕ
   pub told : ℕ
   pub behind : ℕ
   pub places : List (Option Unwritten)
+
+-- what goes out: a text, the version of its first record, and the one behind its last
+pub record Batch : Type 0 where
+  pub text : List ℕ
+  pub first : ℕ
+  pub next : ℕ
 
 -- a record that is not written yet
 abbrev pub unwritten : ℕ → List ℕ → Unwritten

@@ -13,7 +13,6 @@ use Rattle.journal.specs.declared.changes.Change.TheVariants as change
 use Rattle.journal.specs.declared.records.Entry.{Entry}
 use Rattle.journal.specs.declared.records.Entry.TheVariants.{Begun, Made}
 use Rattle.journal.specs.declared.records.Record.{Record}
-use Rattle.journal.specs.declared.places.Place.{Place}
 use Rattle.journal.specs.declared.places.Ending.{Ending}
 use Rattle.journal.specs.declared.places.Ending.TheVariants.{Whole, Cut, Faulty}
 use Rattle.journal.specs.declared.reading.JournalFault.{JournalFault}

@@ -1,7 +1,7 @@
 -- What a line makes of the record that is open (ours).
 use Rattle.std.specs.Prelude.{ℕ, ◌==◌, List, [], ◌∷◌, ◌++◌, Option, Some, None, Result, Ok, Err, Bool, true, ◌&&◌, codes, length, drop, option_map, if◌then◌else◌}
 use Rattle.definitions.specs.Characters.{blank, same_text}
-use Rattle.definitions.specs.Cards.{Card, CardRead, IsCard, TooWide, BadCharacter, card_of, begins_with}
+use Rattle.definitions.specs.Cards.{CardRead, IsCard, TooWide, BadCharacter, card_of, begins_with}
 use Rattle.definitions.specs.DeckInput.{Deck}
 use Rattle.definitions.specs.Fields.{unbroken_front}
 use Rattle.cards.specs.declared.edits.Edit.{Edit}
@@ -17,7 +17,7 @@ use Rattle.journal.specs.declared.steps.Step.{Step}
 use Rattle.journal.specs.declared.steps.Step.TheVariants.{Goes, Ends, Wrong, Bad}
 use Rattle.journal.specs.CheckSums.{sum_over}
 use Rattle.journal.specs.Records.{ended}
-use Rattle.journal.specs.Begun.{given, opened}
+use Rattle.journal.specs.Begun.{opened}
 
 -- a deck with a card more, if it is one
 abbrev pub deck_with_card : Deck → CardRead → Option Deck

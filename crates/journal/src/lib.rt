@@ -26,8 +26,14 @@ mod records;
 
 // Records as text.
 mod drafts;
-mod queue;
 mod writing;
+
+// Changes that are kept: their records go out to a file.
+mod journal_file;
+mod keeping;
+mod kept_records;
+mod queue;
+mod records_file;
 
 // Records of a text.
 mod beginning;
@@ -45,11 +51,15 @@ mod laws;
 pub use changes::{Asked, Change, asked_of};
 pub use compacting::compacted_text;
 pub use drafts::{Draft, draft_change};
+pub use journal_file::JournalFile;
+pub use keeping::{Keep, Keeping};
+pub use kept_records::KeptRecords;
 pub use laws::{cut_records_are_left_out, records_read_back};
 pub use moments::Moment;
 pub use places::{Ending, Place};
 pub use queue::{Batch, Queue};
 pub use reading::{JournalFault, Next, next_record};
 pub use records::{Entry, Record};
+pub use records_file::RecordsFile;
 pub use replaying::{ReplayFault, Replayed, replay};
 pub use writing::{log_line, record_text};

@@ -1,4 +1,4 @@
-use Rattle.std.proofs.Common.{◌≡◌, ◌++◌, ◌+◌, drop, map}
+use Rattle.std.proofs.Common.{◌≡◌, ◌++◌, drop, map}
 use Rattle.desk_core.specs.Desks.{deck_of}
 use Rattle.journal.specs.Records.{text_of_records}
 use Rattle.journal.specs.Compacting.{added_records, compacted}

@@ -1,6 +1,6 @@
 use Rattle.std.proofs.Common.{refl}
-use Rattle.desk_service.specs.Keeping.{refused, called}
-use Rattle.desk_service.proofs.keeping.make_change.Goals as goal
+use Rattle.journal.specs.Keeping.{refused, called}
+use Rattle.journal.proofs.keeping.make_change.Goals as goal
 
 pub returns-in-Ok : goal.returns-in-Ok
 returns-in-Ok g c = called _ _ _ (rw c.in-Ok.is at c.begin.ensures) (rw c.into_call.ensures at c.call-reply.ensures) c.kept_reply.ensures

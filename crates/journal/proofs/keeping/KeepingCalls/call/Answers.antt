@@ -1,5 +1,5 @@
 use Rattle.std.proofs.Common.{sym, ◌∙◌}
-use Rattle.desk_service.proofs.keeping.KeepingCalls.call.Goals as goal
+use Rattle.journal.proofs.keeping.KeepingCalls.call.Goals as goal
 
 pub returns-in-Change : goal.returns-in-Change
 returns-in-Change g c = rw (sym c.asked_of.ensures ∙ c.in-Change.is) (rw (sym c.self.view_is) c.make_change.ensures)

@@ -1,9 +1,10 @@
 //! A desk whose changes are kept: none is told as made before its record is.
 ghost use Rattle.std.specs.Prelude.{◌≡◌};
-ghost use Rattle.desk_service.specs.Keeping.{MakesChange, TellsKept};
+ghost use Rattle.journal.specs.Keeping.{MakesChange, TellsKept};
 
+use crate::changes::{Asked, Change, asked_of};
+use crate::drafts::Draft;
 use desk_core::{Call, Refusal, Reply};
-use journal::{Asked, Change, Draft, asked_of};
 use session_line::Calls;
 use std::marker::Model;
 
@@ -83,7 +84,7 @@ fn make_change<C: Calls, K: Keep>(desk: &mut C, keeper: &mut K, change: Change) 
 /// The calls are the desk's, but for changes that are refused, or not kept.
 impl<C: Calls, K: Keep> Calls for Keeping<C, K> {
     ghost use Rattle.journal.specs.Asking.{asked_of};
-    ghost use Rattle.desk_service.specs.Keeping.{MakesKept};
+    ghost use Rattle.journal.specs.Keeping.{MakesKept};
 
     ghost makes = { λ old call reply new. MakesKept C.makes K.begins K.keeps old (asked_of call) reply new };
 

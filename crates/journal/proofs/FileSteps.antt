@@ -1,0 +1,105 @@
+-- Steps of the file of a journal: what it has kept goes on.
+use Rattle.std.proofs.Common.{ℕ, ◌≡◌, ◌+◌, ◌≤◌, ◌<◌, inl, inr, List, [], ◌∷◌, ◌++◌, length, Bool, true, false, refl, sym, ap, subst, ◌∙◌, arith, append_assoc, length-append}
+use Rattle.journal.specs.Queues.{InOrder, texts_from}
+use Rattle.journal.specs.Records.{text_with_version}
+use Rattle.journal.specs.JournalFiles.{Append, Sync, CutTo, Step, HasKept, at_opening, cut_back, synced, not_synced, not_written, IsRun, JournalFile, TakesStep, WritesAndSyncs, HasRecords, AreKept, IsKept}
+
+-- ---- runs of records
+
+texts_from-append : (version : ℕ) (drafts more : List (List ℕ)) → texts_from version (drafts ++ more) ≡ texts_from version drafts ++ texts_from (version + length drafts) more
+texts_from-append version [] more =
+    let same : version ≡ version + 0 = omega arith in
+    ap (λ (n : ℕ). texts_from n more) same
+texts_from-append version (draft ∷ drafts) more =
+    let same : version + 1 + length drafts ≡ version + length (draft ∷ drafts) = omega arith in
+    ap (λ (t : List ℕ). text_with_version version draft ++ t) (texts_from-append (version + 1) drafts more ∙ ap (λ (n : ℕ). texts_from (version + 1) drafts ++ texts_from n more) same)
+    ∙ sym (append_assoc (text_with_version version draft) (texts_from (version + 1) drafts) (texts_from (version + length (draft ∷ drafts)) more))
+
+pub run-none : (first : ℕ) → IsRun first [] first
+run-none first = record { drafts = []; text_is = refl; next_is = omega arith }
+
+pub run-join : (first middle next : ℕ) (text more : List ℕ) → IsRun first text middle → IsRun middle more next → IsRun first (text ++ more) next
+run-join first middle next text more one two =
+    let more_is : more ≡ texts_from (first + length one.drafts) two.drafts = two.text_is ∙ ap (λ (n : ℕ). texts_from n two.drafts) one.next_is in
+    let a : middle ≡ first + length one.drafts = one.next_is in
+    let b : next ≡ middle + length two.drafts = two.next_is in
+    let both : length (one.drafts ++ two.drafts) ≡ length one.drafts + length two.drafts = length-append one.drafts two.drafts in
+    record {
+      drafts = one.drafts ++ two.drafts;
+      text_is = ap (λ (t : List ℕ). t ++ more) one.text_is ∙ (ap (λ (t : List ℕ). texts_from first one.drafts ++ t) more_is ∙ sym (texts_from-append first one.drafts two.drafts));
+      next_is = omega (arith, a, b, both);
+    }
+
+-- what goes out in order is such a run
+pub run-in-order : {places : _} (first : ℕ) (text : List ℕ) (next : ℕ) → InOrder places first text next → IsRun first text next
+run-in-order first text next out = record { drafts = out.drafts; text_is = out.text_is; next_is = out.next_is }
+
+-- ---- the file
+
+module _ {F : Type 0} (has_done : F → List Step → Type 0) where
+  pub has-opened : (file : F) (bytes next : ℕ) → HasRecords has_done (record { file = file; begun = bytes; bytes = bytes; first = next; next = next; clean = false })
+  has-opened file bytes next =
+      record { opened = file; steps = []; text = []; taken = λ before had. had; kept = at_opening; run = run-none next; bytes_is = omega arith }
+
+  -- what stands behind the whole records is cut off, or is not
+  pub has-cut : (journal : JournalFile F) (done : Bool) (file : F) → HasRecords has_done journal → TakesStep has_done journal.file (CutTo journal.bytes, done) file → HasRecords has_done (record journal { file = file; clean = done })
+  has-cut journal done file has step =
+      record {
+        opened = has.opened;
+        steps = (CutTo journal.bytes, done) ∷ has.steps;
+        text = has.text;
+        taken = λ before had. step (has.steps ++ before) (has.taken before had);
+        kept = subst (λ (n : ℕ). HasKept journal.begun ((CutTo n, done) ∷ has.steps) has.text done) (sym has.bytes_is) (cut_back has.steps has.text journal.clean done has.kept);
+        run = has.run;
+        bytes_is = has.bytes_is;
+      }
+
+  -- a text is kept
+  pub has-written : (journal : JournalFile F) (more : List ℕ) (bytes next : ℕ) (file : F) → HasRecords has_done journal → journal.clean ≡ true → IsRun journal.next more next → bytes ≡ journal.bytes + length more →
+      WritesAndSyncs has_done more true journal.file file → HasRecords has_done (record journal { file = file; bytes = bytes; next = next })
+  has-written journal more bytes next file has clean run sum (inl steps) =
+      let a : journal.bytes ≡ journal.begun + length has.text = has.bytes_is in
+      let both : length (has.text ++ more) ≡ length has.text + length more = length-append has.text more in
+      record {
+        opened = has.opened;
+        steps = (Sync, true) ∷ (Append more, true) ∷ has.steps;
+        text = has.text ++ more;
+        taken = λ before had. steps (has.steps ++ before) (has.taken before had);
+        kept =
+            subst (λ (c : Bool). HasKept journal.begun ((Sync, true) ∷ (Append more, true) ∷ has.steps) (has.text ++ more) c) (sym clean)
+            (synced has.steps has.text more (subst (λ (c : Bool). HasKept journal.begun has.steps has.text c) clean has.kept));
+        run = run-join journal.first journal.next next has.text more has.run run;
+        bytes_is = omega (arith, a, both, sum);
+      }
+  has-written journal more bytes next file has clean run sum (inr none) = cc
+
+  -- a text is not kept
+  pub has-not-written : (journal : JournalFile F) (more : List ℕ) (file : F) → HasRecords has_done journal → journal.clean ≡ true → WritesAndSyncs has_done more false journal.file file →
+      HasRecords has_done (record journal { file = file; clean = false })
+  has-not-written journal more file has clean (inl steps) =
+      record {
+        opened = has.opened;
+        steps = (Sync, false) ∷ (Append more, true) ∷ has.steps;
+        text = has.text;
+        taken = λ before had. steps (has.steps ++ before) (has.taken before had);
+        kept = not_synced has.steps has.text more (subst (λ (c : Bool). HasKept journal.begun has.steps has.text c) clean has.kept);
+        run = has.run;
+        bytes_is = has.bytes_is;
+      }
+  has-not-written journal more file has clean (inr none) =
+      record {
+        opened = has.opened;
+        steps = (Append more, false) ∷ has.steps;
+        text = has.text;
+        taken = λ before had. none.1 (has.steps ++ before) (has.taken before had);
+        kept = not_written has.steps has.text more (subst (λ (c : Bool). HasKept journal.begun has.steps has.text c) clean has.kept);
+        run = has.run;
+        bytes_is = has.bytes_is;
+      }
+
+  -- what it has kept
+  pub are-kept : (journal : JournalFile F) → HasRecords has_done journal → AreKept has_done journal.first journal.next
+  are-kept journal has = record { journal = journal; records = has; first_is = refl; next_is = refl }
+
+  pub is-kept : (first next version : ℕ) → AreKept has_done first next → first ≤ version → version < next → IsKept has_done version
+  is-kept first next version are from below = record { first = first; next = next; records = are; from = from; below = below }

@@ -1,0 +1,166 @@
+//! The file of a journal: records are appended in the order of their versions, all of a text or none.
+ghost use Rattle.std.specs.Prelude.{◌≡◌, true, false, IfNone, IfSome, if◌then◌else◌};
+ghost use Rattle.journal.specs.JournalFiles.{IsRun, WritesAndSyncs};
+
+use crate::kept_records::KeptRecords;
+use crate::queue::Batch;
+use crate::records_file::RecordsFile;
+use std::marker::Model;
+
+/// The file of a journal, which is written at its end alone: with how many bytes of whole records it was
+/// opened, and how many it has; the version of its first record behind these, and of the one that comes
+/// next; and whether it has no other bytes. By the steps that it took since it was opened, it has kept the
+/// records of these versions.
+#[derive(Drop)]
+pub struct JournalFile<F: RecordsFile> {
+    file: F,
+    begun: u64,
+    bytes: u64,
+    first: u64,
+    next: u64,
+    clean: bool,
+}
+
+impl<F: RecordsFile> Model for JournalFile<F> {
+    ghost use Rattle.journal.specs.JournalFiles as files;
+
+    ghost Value = { files.JournalFile F };
+
+    ghost view = { λ j. record { file = j.file; begun = j.begun; bytes = j.bytes; first = j.first; next = j.next; clean = j.clean } };
+
+    ghost invariant = { λ j. files.HasRecords F.has_done (record { file = j.file; begun = j.begun; bytes = j.bytes; first = j.first; next = j.next; clean = j.clean }) };
+}
+
+/// Writes bytes, and waits until the file has kept them: whether it has.
+fn write_and_sync<F: RecordsFile>(file: &mut F, bytes: &[u8]) -> bool
+    ensures { WritesAndSyncs F.has_done bytes.now result file.old file.new }
+{
+    if !file.append(bytes) {
+        return false;
+    }
+    file.sync()
+}
+
+impl<F: RecordsFile> JournalFile<F> {
+    /// A file that has so many bytes of whole records, and maybe others behind them; the record of this
+    /// version comes next.
+    pub fn new(file: F, bytes: u64, next: u64) -> JournalFile<F>
+        ensures { result ≡ record { file = file; begun = bytes; bytes = bytes; first = next; next = next; clean = false } }
+    {
+        JournalFile {
+            file,
+            begun: bytes,
+            bytes,
+            first: next,
+            next,
+            clean: false,
+        }
+    }
+
+    /// Which records it has kept since it was opened.
+    pub fn kept(&self) -> KeptRecords<F>
+        ensures { result ≡ record { first = self.now.first; next = self.now.next } }
+    {
+        KeptRecords::new(self.first, self.next)
+    }
+
+    /// Cuts off what stands behind the whole records: whether nothing does.
+    fn cut_back(&mut self) -> bool
+        ensures { self.new ≡ record self.old { file = self.new.file; clean = result } }
+    {
+        self.clean = self.file.cut_to(self.bytes);
+        self.clean
+    }
+
+    /// Cuts off what stands behind the whole records, where anything may: whether nothing does.
+    fn make_clean(&mut self) -> bool
+        ensures { self.new ≡ record self.old { file = self.new.file; clean = result } }
+    {
+        if self.clean {
+            return true;
+        }
+        self.cut_back()
+    }
+
+    /// Writes the text of records behind the whole ones, where nothing else stands: whether it is kept.
+    fn write(&mut self, text: &[u8], next: u64) -> bool
+        requires clean { self.old.clean ≡ true }
+        requires run { IsRun self.old.next text.now next }
+        ensures begun { self.new.begun ≡ self.old.begun }
+        ensures first { self.new.first ≡ self.old.first }
+        ensures next { self.new.next ≡ (if result then next else self.old.next) }
+        ensures clean { result ≡ true → self.new.clean ≡ true }
+    {
+        let Some(bytes) = self.bytes.checked_add(text.len() as u64) else {
+            return false;
+        };
+        if !write_and_sync(&mut self.file, text) {
+            self.clean = false;
+            return false;
+        }
+        self.bytes = bytes;
+        self.next = next;
+        true
+    }
+
+    /// Writes the text of records behind the whole ones: whether it is kept. Where it is not, what was
+    /// written of it is cut off again, now or before the next text.
+    fn put(&mut self, text: &[u8], next: u64) -> bool
+        requires { IsRun self.old.next text.now next }
+        ensures begun { self.new.begun ≡ self.old.begun }
+        ensures first { self.new.first ≡ self.old.first }
+        ensures next { self.new.next ≡ (if result then next else self.old.next) }
+        ensures clean { result ≡ true → self.new.clean ≡ true }
+    {
+        if !self.make_clean() {
+            return false;
+        }
+        if self.write(text, next) {
+            return true;
+        }
+        self.cut_back();
+        false
+    }
+
+    /// Cuts off what stands behind the whole records, and waits until these are kept: whether they are.
+    pub fn begin(&mut self) -> bool
+        ensures begun { self.new.begun ≡ self.old.begun }
+        ensures first { self.new.first ≡ self.old.first }
+        ensures next { self.new.next ≡ self.old.next }
+        ensures clean { result ≡ true → self.new.clean ≡ true }
+    {
+        let next = self.next;
+        self.put(b"", next)
+    }
+
+    /// Appends records that begin with the one that comes next; where there are none, that is all.
+    fn put_batch(&mut self, batch: &Batch) -> bool
+        requires { batch.now.first ≡ self.old.next }
+        ensures begun { self.new.begun ≡ self.old.begun }
+        ensures first { self.new.first ≡ self.old.first }
+        ensures next { self.new.next ≡ (if result then batch.now.next else self.old.next) }
+    {
+        if batch.next == batch.first {
+            return true;
+        }
+        self.put(batch.text.as_slice(), batch.next)
+    }
+
+    /// Appends records, where they begin with the one that comes next: what is kept then, or nothing where
+    /// they are not kept.
+    pub fn append(&mut self, batch: &Batch) -> Option<KeptRecords<F>>
+        ensures begun { self.new.begun ≡ self.old.begun }
+        ensures first { self.new.first ≡ self.old.first }
+        ensures kept { IfSome result (λ kept. (kept ≡ record { first = self.old.first; next = batch.now.next }) × (self.new.next ≡ batch.now.next)) }
+        ensures none { IfNone result (self.new.next ≡ self.old.next) }
+    {
+        if batch.first != self.next {
+            return None;
+        }
+        if self.put_batch(batch) {
+            Some(self.kept())
+        } else {
+            None
+        }
+    }
+}
