@@ -103,6 +103,19 @@ due-code-edited edits own cards made before behind former count now same after t
     within-due-code own made before behind former decks (now - count) apart few same_before same_kind are.kinds tail (λ front split is agree. within decks front split apart few is agree)
     (λ plan of. let bound = due plan of in omega (arith, bound))
 
+-- the same, where the bound is told of other lists that are these cards, and from another count that is this one
+pub due-code-object : (edits : List Edit) (own cards made shown items : List Card) (before behind : ℕ) (former : Former) (count start now : ℕ) → own ≡ cards → made ≡ edited_by edits own → AreTaken edits cards before behind →
+    own ≡ shown → made ≡ items → start ≡ count → start ≤ now → former.before ≡ before → former.kind ≡ kind_of_statements (known_in own) → HasTailIfAny (kind_of_statements (known_in made)) own made former.tail (known_in made) →
+    ((decks : Edited) (front : List Statement) (split : Split) → StandApart own made before behind decks → decks.before ≤ before → IsUntouched decks front → DoAgree decks split → length split.new_front + 128 < length (known_in made) →
+    HasTailWithin (kind_of_statements (known_in made)) own made former.tail (known_in made) (length split.new_front + 128)) →
+    ((plan : CodePlan) → IsPlanOf (kind_of_statements (known_in items)) shown items former plan → now ≤ start + code_due_of items plan) → RisesToDueCode edits cards count now
+due-code-object edits own cards made shown items before behind former count start now same after taken object copied at rises same_before same_kind tail within due =
+    due-code-edited edits own cards made before behind former count now same after taken (omega (arith, at, rises)) same_before same_kind tail within
+    (λ plan of.
+    let bound = due plan (subst (λ (both : List Card × List Card). IsPlanOf (kind_of_statements (known_in both.1)) both.0 both.1 former plan) (λ i. (object i, copied i)) of) in
+    let same_due = ap (λ (l : List Card). code_due_of l plan) copied in
+    omega (arith, bound, same_due, at))
+
 -- where nothing is coded
 pub due-code-still : (edits : List Edit) (cards : List Card) (before behind count : ℕ) → AreTaken edits cards before behind → RisesToDueCode edits cards count count
 due-code-still edits cards before behind count taken = λ decks are ends. due-code-weaker decks 128 (count - count) (due-still edits cards before behind count taken decks are ends)

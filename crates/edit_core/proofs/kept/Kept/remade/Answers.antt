@@ -11,7 +11,7 @@ use Rattle.deck_assembler.specs.SizedDecks.{IsSizedDeck}
 use Rattle.deck_assembler.specs.Tails.{HasTailIfAny}
 use Rattle.edit_core.specs.Edited.{RisesBehindFront, RisesToDue, RisesToDueCode}
 use Rattle.edit_core.specs.Records.{Record}
-use Rattle.edit_core.proofs.DueLaws.{are-taken, due-code-edited, due-code-still, due-edited, due-still}
+use Rattle.edit_core.proofs.DueLaws.{are-taken, due-code-object, due-code-still, due-edited, due-still}
 use Rattle.edit_core.proofs.EditLaws.{few-all, front-all, front-edited, front-still}
 use Rattle.edit_core.proofs.kept.Kept.remade.Goals as goal
 
@@ -162,20 +162,10 @@ returns-in_err-object-clause-coded_due c =
     let few = c.cards-own.ensures.few in
     let taken = are-taken edits own cards c.cards_before_all.result c.cards_behind_all.result same c.requires.some c.requires.apply few c.cards_before_all.ensures.all c.cards_before_all.ensures.most
     c.cards_behind_all.ensures.most in
-    let made = c.deref.result.now in
-    let after = c.deref.ensures.value ∙ c.in_ok-cards.ensures in
     let edited = c.in_ok-edited.ensures in
-    let former = c.in_ok-edited.edited.former in
     let object = same ∙ sym (ap (λ (r : Record). r.cards) c.self.view_is) ∙ sym (ap (λ (d : Deck). d.cards) c.object.ensures) in
-    let start = c.edited.ensures.coded in
-    let rises = c.edited_object.ensures.coded_rises in
-    due-code-edited edits own cards made c.cards_before_all.result c.cards_behind_all.result former c.args.meter.now.coded c.edited_object.new.meter.coded same after taken (omega (arith, start, rises))
-    edited.before edited.former.kind edited.tail edited.within
-    (λ plan of.
-    let bound = c.edited_object.ensures.coded_due plan
-    (subst (λ (both : List Card × List Card). IsPlanOf (kind_of_statements (known_in both.1)) both.0 both.1 former plan) (λ i. (object i, c.deref.ensures.value i)) of) in
-    let due = ap (λ (l : List Card). code_due_of l plan) c.deref.ensures.value in
-    omega (arith, bound, due, start))
+    due-code-object edits own cards c.deref.result.now _ _ c.cards_before_all.result c.cards_behind_all.result c.in_ok-edited.edited.former c.args.meter.now.coded _ _ same (c.deref.ensures.value ∙ c.in_ok-cards.ensures)
+    taken object c.deref.ensures.value c.edited.ensures.coded c.edited_object.ensures.coded_rises edited.before edited.former.kind edited.tail edited.within c.edited_object.ensures.coded_due
 
 pub returns-clause-coded_due : goal.returns-clause-coded_due
 returns-clause-coded_due c =
@@ -186,17 +176,7 @@ returns-clause-coded_due c =
     let few = c.cards-own.ensures.few in
     let taken = are-taken edits own cards c.cards_before_all.result c.cards_behind_all.result same c.requires.some c.requires.apply few c.cards_before_all.ensures.all c.cards_before_all.ensures.most
     c.cards_behind_all.ensures.most in
-    let made = c.deref.result.now in
-    let after = c.deref.ensures.value ∙ c.in_ok-cards.ensures in
     let edited = c.in_ok-edited.ensures in
-    let former = c.in_ok-edited.edited.former in
     let object = same ∙ sym (ap (λ (r : Record). r.cards) c.self.view_is) ∙ sym (ap (λ (d : Deck). d.cards) c.object.ensures) in
-    let start = c.edited.ensures.coded in
-    let rises = c.edited_object.ensures.coded_rises in
-    due-code-edited edits own cards made c.cards_before_all.result c.cards_behind_all.result former c.args.meter.now.coded c.edited_object.new.meter.coded same after taken (omega (arith, start, rises))
-    edited.before edited.former.kind edited.tail edited.within
-    (λ plan of.
-    let bound = c.edited_object.ensures.coded_due plan
-    (subst (λ (both : List Card × List Card). IsPlanOf (kind_of_statements (known_in both.1)) both.0 both.1 former plan) (λ i. (object i, c.deref.ensures.value i)) of) in
-    let due = ap (λ (l : List Card). code_due_of l plan) c.deref.ensures.value in
-    omega (arith, bound, due, start))
+    due-code-object edits own cards c.deref.result.now _ _ c.cards_before_all.result c.cards_behind_all.result c.in_ok-edited.edited.former c.args.meter.now.coded _ _ same (c.deref.ensures.value ∙ c.in_ok-cards.ensures)
+    taken object c.deref.ensures.value c.edited.ensures.coded c.edited_object.ensures.coded_rises edited.before edited.former.kind edited.tail edited.within c.edited_object.ensures.coded_due
