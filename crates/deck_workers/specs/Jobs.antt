@@ -2,7 +2,7 @@
 use Rattle.std.specs.Prelude.{◌≡◌, ◌⊎◌, ℕ, ◌+◌, ◌^◌, ◌<◌, ◌≤◌, Bool, true, false, List, [], ◌∷◌, Option, Some, None}
 use Rattle.statement_coder.specs.Meters.{CountsAtMost}
 use Rattle.statement_coder.specs.declared.meter.Meter.{Meter}
-use Rattle.deck_workers.specs.Language.{edits_bound, statement_count, edits_fault, RecordFault, OutOfMemory, DeckWork, LinkWork, Start, FromRecord, FromCards}
+use Rattle.deck_workers.specs.Language.{Card, Edit, edits_bound, statement_count, RisesWithinDue, RisesWithinDueCode, edits_fault, RecordFault, OutOfMemory, DeckWork, LinkWork, Start, FromRecord, FromCards}
 pub use Rattle.desk_core.specs.Making.{start_deck, start_cards, begun_deck, done_of}
 use Rattle.deck_workers.specs.declared.jobs.Job.{Job}
 use Rattle.deck_workers.specs.declared.jobs.Job.TheVariants as job
@@ -63,6 +63,21 @@ pub record CountsWithin (least most : ℕ) (old new : Meter) : Type 0 where
   pub few : CountsAtMost most old new
   pub sized_all : old.sized + most < 2 ^ 64 → old.sized + least ≤ new.sized
   pub coded_all : old.coded + most < 2 ^ 64 → old.coded + least ≤ new.coded
+
+-- the counts of a job rise by those of its beginning alone, where that or an edit fails; else, behind these, by what is due for its edits, taken as one, and no more
+abbrev pub CountsDue : Start → List Edit → List Card → Meter → Meter → Type 0
+CountsDue start edits cards old new =
+    CountsAtMost (start_bound start) old new
+    ⊎ ((begun : Meter) × CountsAtMost (start_bound start) old begun × RisesWithinDue edits cards begun.sized new.sized × RisesWithinDueCode edits cards begun.coded new.coded)
+
+-- what a deck job counts
+abbrev pub DeckCounts : DeckWork → Meter → Meter → Type 0
+DeckCounts work old new = CountsDue work.start work.edits (begun_deck work).cards old new
+
+-- what a job counts: a link job nothing
+abbrev pub JobCounts : Job → Meter → Meter → Type 0
+JobCounts (job.Deck work) old new = DeckCounts work old new
+JobCounts (job.Link work) old new = new ≡ old
 
 -- whether something was made
 abbrev pub is_result : Made → Bool

@@ -2,7 +2,7 @@
 ghost use Rattle.std.specs.Prelude.{◌≡◌, ◌+◌, ◌⊎◌, false, None, Some, length, IfOk, IfErr, OnOk};
 ghost use Rattle.statement_coder.specs.Meters.{CountsAtMost, RisesBy};
 ghost use Rattle.deck_workers.specs.Language.{edited_by, edits_bound, edits_fault};
-ghost use Rattle.deck_workers.specs.Jobs.{start_deck, start_cards, start_bound, CountsWithin};
+ghost use Rattle.deck_workers.specs.Jobs.{start_deck, start_cards, start_bound, CountsDue, CountsWithin};
 
 use cards::{DeckName, Edit, first_fault};
 use deck_linker::publish;
@@ -47,6 +47,7 @@ pub(crate) fn assembled(
     ensures fault { IfErr result (λ fault. ((fault ≡ RecordFault.OutOfMemory) × (edits_fault edits.now (start_cards start) ≡ None)) ⊎ (edits_fault edits.now (start_cards start) ≡ Some fault)) }
     ensures meter { CountsAtMost (start_bound start + edits_bound edits.now (start_deck name start).cards) meter.old meter.new }
     ensures all { OnOk result (CountsWithin (start_bound start) (start_bound start + edits_bound edits.now (start_deck name start).cards) meter.old meter.new) }
+    ensures due { CountsDue start edits.now (start_deck name start).cards meter.old meter.new }
 {
     if let Some(fault) = edits_fault(&start, edits) {
         return Err(fault);

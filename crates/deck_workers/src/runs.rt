@@ -10,9 +10,10 @@ use statement_coder::Meter;
 use std::alloc::Global;
 
 /// What can be run: what may be made of it, and how many statements that sizes and codes, at least where
-/// it is not lost, and at most.
+/// it is not lost, at most, and by what is due.
 pub trait Runs {
     ghost use Rattle.std.specs.Prelude.{ℕ};
+    ghost use Rattle.statement_coder.specs.declared.meter.Meter.{Meter};
     ghost use Rattle.deck_workers.specs.declared.made.Made.{Made};
 
     /// What may be made of it.
@@ -24,24 +25,31 @@ pub trait Runs {
     /// How many statements are sized at most, and how many coded.
     ghost at_most: { Self → ℕ };
 
+    /// How far the counts may rise by what is due for its edits.
+    ghost counts: { Self → Meter → Meter → Type 0 };
+
     /// Runs it. The meter counts what is sized and coded, also where memory runs out.
     fn run(self, alloc: Global, meter: &mut Meter) -> Made
         ensures made { gives self result }
-        ensures meter { CountsWithin (if_made result (at_least self)) (at_most self) meter.old meter.new };
+        ensures meter { CountsWithin (if_made result (at_least self)) (at_most self) meter.old meter.new }
+        ensures due { counts self meter.old meter.new };
 }
 
 /// A deck job makes record and object of the job's name (of its record's name where it begins with a
 /// record) and of its cards with its edits in order. It is lost with the first edit that does not
-/// apply, or, where all apply, for want of memory, and then with its record.
+/// apply, or, where all apply, for want of memory, and then with its record. With a record it sizes and
+/// codes no more than is due for its edits, taken as one.
 impl Runs for DeckWork {
     ghost use Rattle.deck_workers.specs.Language.{DeckWork};
-    ghost use Rattle.deck_workers.specs.Jobs.{MayMakeDeck, deck_bound, start_bound};
+    ghost use Rattle.deck_workers.specs.Jobs.{MayMakeDeck, DeckCounts, deck_bound, start_bound};
 
     ghost gives = { MayMakeDeck };
 
     ghost at_least = { λ (work : DeckWork). start_bound work.start };
 
     ghost at_most = { deck_bound };
+
+    ghost counts = { DeckCounts };
 
     fn run(self, alloc: Global, meter: &mut Meter) -> Made {
         let DeckWork {
@@ -67,7 +75,7 @@ impl Runs for DeckWork {
 
 /// A link job makes the publication of its objects under its version, or is lost for want of memory.
 impl Runs for LinkWork {
-    ghost use Rattle.std.specs.Prelude.{ℕ};
+    ghost use Rattle.std.specs.Prelude.{ℕ, ◌≡◌};
     ghost use Rattle.deck_workers.specs.Language.{LinkWork};
     ghost use Rattle.deck_workers.specs.Jobs.{MayMakeLink};
 
@@ -76,6 +84,8 @@ impl Runs for LinkWork {
     ghost at_least = { λ _. 0 };
 
     ghost at_most = { λ _. 0 };
+
+    ghost counts = { λ _ old new. new ≡ old };
 
     fn run(self, alloc: Global, meter: &mut Meter) -> Made {
         let _ = meter;
@@ -96,13 +106,15 @@ impl Runs for LinkWork {
 
 /// A job gives what its deck or its link gives.
 impl Runs for Job {
-    ghost use Rattle.deck_workers.specs.Jobs.{MayMake, job_bound, job_least};
+    ghost use Rattle.deck_workers.specs.Jobs.{JobCounts, MayMake, job_bound, job_least};
 
     ghost gives = { MayMake };
 
     ghost at_least = { job_least };
 
     ghost at_most = { job_bound };
+
+    ghost counts = { JobCounts };
 
     fn run(self, alloc: Global, meter: &mut Meter) -> Made {
         match self {
