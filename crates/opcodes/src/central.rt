@@ -18,6 +18,7 @@ mod operation_name;
 mod pattern_laws;
 mod patterns;
 mod registers_found;
+mod row_places;
 mod sum_table;
 mod tables;
 

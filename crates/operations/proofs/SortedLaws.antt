@@ -1,5 +1,5 @@
 -- What a sorted table has of one name stands together, behind all that is less.
-use Rattle.std.proofs.Common.{◌≡◌, ℕ, zero, suc, ◌+◌, ◌<◌, ◌≤◌, ◌⊎◌, Bool, true, false, List, [], ◌∷◌, length, take, drop, get_or, filter, ltb, leb, cond, refl, ap, ◌∙◌, inl, inr, arith}
+use Rattle.std.proofs.Common.{◌≡◌, ℕ, zero, suc, ◌+◌, ◌<◌, ◌≤◌, ◌⊎◌, Bool, true, false, List, [], ◌∷◌, length, take, drop, get_or, filter, ltb, leb, cond, refl, sym, ap, ◌∙◌, inl, inr, arith}
 use Rattle.std.specs.List.{prefix_len, list_all}
 use Rattle.std.proofs.lemmas.Bool.{leb-true, le-leb, ltb-true, ltb-false, lt-ltb, le-ltb, ne_eqb, both_ways, and_parts}
 use Rattle.std.proofs.lemmas.Bool.Decides.{eqb_tells}
@@ -116,6 +116,14 @@ filter-between x low (row ∷ rows) sorted =
           rw (h.0, more, ne_eqb (number_in row) x (λ same. omega arith)) (filter-between x (number_in row) rows parts.1)
       | inr h ↦ rw h.0 (filter-from x (number_in row) (row ∷ rows) (rw (le-leb (number_in row) (number_in row) (omega arith)) parts.1) h.1)
     ]
+
+-- so many rows behind so many are those with a number, where these are all that are below it, and those all that are not above
+pub rows-at : {F : Type 0} (x first count : ℕ) (rows : List (Row F)) → is_sorted_from 0 rows ≡ true →
+    prefix_len (is_below x) rows ≡ first → prefix_len (is_below (x + 1)) (drop first rows) ≡ count → take count (drop first rows) ≡ filter (has_number x) rows
+rows-at x first count rows sorted below equal =
+    ap (λ n. take n (drop first rows)) (sym equal)
+    ∙ ap (λ n. take (prefix_len (is_below (x + 1)) (drop n rows)) (drop n rows)) (sym below)
+    ∙ sym (filter-between x 0 rows sorted)
 
 -- a number that some row has, or no row
 few-among : {F : Type 0} (x most : ℕ) (rows among : List (Row F)) → list_all (λ row. leb (length (filter (has_number (number_in row)) rows)) most) among ≡ true →

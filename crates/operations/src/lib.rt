@@ -4,7 +4,8 @@
 //!
 //! `KindSearch` is handed one operation after the other, and may be asked at any time; nothing
 //! changes what it found. `Letters` is a set, whose text is all that contracts see. `rows_of`
-//! halves a sorted table for both ends of a name's rows. Nothing here takes memory.
+//! halves a sorted table for both ends of a name's rows; `rows_near` looks at a place before that.
+//! Nothing here takes memory.
 #![tactic(auto)]
 
 // The rows of a name.
@@ -25,5 +26,5 @@ pub use letters::{LetterText, Letters};
 pub use operation::Operation;
 pub use pseudo_table::pseudo_instruction;
 pub use row::Row;
-pub use row_search::rows_of;
+pub use row_search::{RowPlace, rows_near, rows_of};
 pub use settings::{is_end, number_base_set};

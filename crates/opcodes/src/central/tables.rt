@@ -11,6 +11,7 @@ ghost use Rattle.opcodes.specs.LawfulCodes.{is_lawful_row, has_lawful_code, has_
 use crate::central::code::{Code, OperandForm, SumForm};
 use crate::central::operand_table::{MOST_OPERAND_ROWS, NO_ROWS, OPERAND_ROWS, PS_ROWS};
 use crate::central::operation_name::rows_named;
+use crate::central::row_places::{operand_place, sum_place};
 use crate::central::sum_table::{MOST_SUM_ROWS, SUM_ROWS};
 use operations::Row;
 
@@ -39,21 +40,21 @@ fn begins_sum(operation: &[u8]) -> bool
     }
 }
 
-/// The rows of an operation whose operand is a sum, in the order in which they count: of the 44 rows
-/// six are looked at, and four of the 14 behind the first; none where its first letter is another.
+/// The rows of an operation whose operand is a sum, in the order in which they count, by at most
+/// four of the 44 rows where the operation stands at its place; none where its first letter is another.
 pub fn sum_rows(operation: &[u8]) -> &'static [Row<SumForm>]
     ensures rows { map sum_row result.now ≡ sum_rows_of operation.now }
     ensures lawful { IsTrue (list_all has_lawful_codes result.now) }
 {
     if begins_sum(operation) {
-        rows_named(&SUM_ROWS, MOST_SUM_ROWS, operation)
+        rows_named(&SUM_ROWS, MOST_SUM_ROWS, sum_place(operation), operation)
     } else {
         &[]
     }
 }
 
 /// The rows of an operation whose operand is read subfield by subfield, in the order in which they
-/// count: of the 72 rows seven are looked at, and four of the 8 behind the first; none where its first
+/// count, by at most four of the 72 rows where the operation stands at its place; none where its first
 /// letter is that of a sum.
 pub fn central_rows(operation: &[u8]) -> &'static [Row<OperandForm>]
     ensures rows { map operand_row result.now ≡ operand_rows_of operation.now }
@@ -62,11 +63,16 @@ pub fn central_rows(operation: &[u8]) -> &'static [Row<OperandForm>]
     if begins_sum(operation) {
         &[]
     } else {
-        rows_named(&OPERAND_ROWS, MOST_OPERAND_ROWS, operation)
+        rows_named(
+            &OPERAND_ROWS,
+            MOST_OPERAND_ROWS,
+            operand_place(operation),
+            operation,
+        )
     }
 }
 
-/// Whether a table has an operation, by at most twelve comparisons of names, as `find` has them.
+/// Whether a table has an operation, by as many comparisons of names as `find` takes.
 pub fn is_central(operation: &[u8]) -> bool
     ensures { result ≡ is_central operation.now }
 {
