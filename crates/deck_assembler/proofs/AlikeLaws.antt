@@ -1,16 +1,18 @@
 -- Where two views agree on the statements that are left of a deck, each trial of these passes.
-use Rattle.std.proofs.Common.{◌≡◌, ℕ, ◌+◌, ◌≤◌, List, [], ◌∷◌, ◌++◌, drop, length, refl, sym, ap, ◌∙◌, subst, append_assoc, append-nil}
+use Rattle.std.proofs.Common.{◌≡◌, ℕ, ◌+◌, ◌≤◌, Option, List, [], ◌∷◌, ◌++◌, drop, length, refl, sym, ap, ◌∙◌, subst, append_assoc, append-nil}
 use Rattle.definitions.specs.Cards.{Card}
 use Rattle.definitions.specs.Forms.{Form}
 use Rattle.definitions.specs.Operations.{Operation}
 use Rattle.definitions.specs.Settled.{ReadStatement}
 use Rattle.definitions.specs.Settling.{View, settle, settled_all}
 use Rattle.definitions.specs.Statements.{Statement}
-use Rattle.definitions.specs.States.{Agree, own_symbols, operand_symbols}
+use Rattle.definitions.specs.Operands.{Operand, NamesOperand}
+use Rattle.definitions.specs.States.{Agree, early_symbols, lawful_names, own_symbols, operand_symbols}
 use Rattle.definitions.specs.declared.deck_kind.DeckKind.{DeckKind}
 use Rattle.definitions.proofs.NamesLaws.{all-front, all-behind}
 use Rattle.statement_coder.specs.declared.definitions_made.Defines as code
-use Rattle.deck_assembler.specs.Agreements.{left, DoesAgree, IsAlike, AreAlikeFrom, AreAlike, StandAlike}
+use Rattle.statement_coder.specs.declared.definitions_made.Defines.TheVariants as defines
+use Rattle.deck_assembler.specs.Agreements.{left, DoesAgree, IsAgreeing, IsAlike, AreAlikeFrom, AreAlike, AreExternalsAlike, AreNamesAlike, StandAlike}
 use Rattle.deck_assembler.specs.DeckParts.{DeckPiece, sized_in}
 use Rattle.deck_assembler.specs.FirstSymbols.{symbol_in}
 use Rattle.deck_assembler.specs.SizedDecks.{IsSizedStatement, AreSizedFrom}
@@ -91,3 +93,29 @@ pieces-split deck p q before rest piece none e cut =
     let behind : List SizedStatement = sized_in q ++ [] in
     pieces-left deck p q none e ∙ ap (λ (l : List DeckPiece). sized_in l ++ behind) cut ∙ ap (λ (l : List SizedStatement). l ++ behind) (sized_in-append before (piece ∷ rest))
     ∙ append_assoc (sized_in before) (piece.statements ++ sized_in rest) behind ∙ ap (λ (l : List SizedStatement). sized_in before ++ l) (append_assoc piece.statements (sized_in rest) behind)
+
+-- a view agrees with itself
+agree-itself : (v : View) (names : List (List ℕ)) → Agree v v names
+agree-itself v [] = tt
+agree-itself v (name ∷ names) = (refl, agree-itself v names)
+
+names-itself : (v : View) (names : List (Option (List ℕ))) (what : code.Defines) → AreNamesAlike v v names what
+names-itself v names defines.Externals = agree-itself v (lawful_names names)
+names-itself v names defines.Nothing = tt
+names-itself v names (defines.Symbol form) = tt
+
+externals-itself : (v : View) (operand : Operand) (what : code.Defines) → AreExternalsAlike v v operand what
+externals-itself v (NamesOperand names) what = names-itself v names what
+externals-itself v _ what = tt
+
+all-itself : (kind : DeckKind) (v : View) (earlier : List Statement) (sized : List SizedStatement) (statements : List Statement) → AreAlikeFrom kind v v earlier sized statements
+all-itself kind v earlier [] statements = tt
+all-itself kind v earlier (one ∷ sized) [] = tt
+all-itself kind v earlier (one ∷ sized) (statement ∷ statements) =
+    let read = (settle kind (settled_all kind earlier) statement).read in
+    (record { early = agree-itself v (early_symbols read); externals = externals-itself v read.operand one.sizing.defines }, all-itself kind v (statement ∷ earlier) sized statements)
+
+-- where the symbols are the same, all that is left agrees
+pub same-agrees : (deck : OldDeck) (symbols : List (ℕ × Form)) → deck.symbols ≡ symbols → IsAgreeing deck symbols
+same-agrees deck symbols e = λ earlier stood statements behind others are.
+    subst (λ (s : List (ℕ × Form)). AreAlikeFrom deck.kind (symbol_in deck.symbols) (symbol_in s) earlier (left deck) statements) e (all-itself deck.kind (symbol_in deck.symbols) earlier (left deck) statements)

@@ -52,6 +52,7 @@ pub mod PieceCounts
 pub mod PartLaws
 -- What a statement reads in two decks.
 pub mod RebindingLaws
+pub mod SameLaws
 -- A line taken over into another object.
 pub mod CopiedLaws
 -- The lines of the object before an edit.

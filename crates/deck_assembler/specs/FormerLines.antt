@@ -14,12 +14,14 @@ use Rattle.deck_assembler.specs.Rebindings.{AreBindings}
 use Rattle.deck_assembler.specs.Sizers.{stood}
 use Rattle.deck_assembler.specs.TailLines.{AreAlikeOn, lines_behind}
 use Rattle.deck_assembler.specs.Walks.{Whole}
+use Rattle.deck_assembler.specs.declared.deck_view.DeckView.{DeckView}
 use Rattle.deck_assembler.specs.declared.deck_walk.Making.{Making}
 use Rattle.deck_assembler.specs.declared.former.Former.{Former}
 use Rattle.deck_assembler.specs.declared.former_lines.FormerLine.{FormerLine}
 use Rattle.deck_assembler.specs.declared.former_lines.FormerLines.{FormerLines}
 use Rattle.deck_assembler.specs.declared.lines.Line.{Line}
 use Rattle.deck_assembler.specs.declared.object.ObjectParts.{ObjectParts}
+use Rattle.deck_assembler.specs.declared.rebinding.Bindings.{Bindings}
 use Rattle.deck_assembler.specs.declared.sized_statement.SizedStatement.{SizedStatement}
 
 -- the same tail, fields and names
@@ -93,6 +95,12 @@ pub record WasLine (kind : DeckKind) (found : FormerLine) (settled : Settled) : 
   pub alike : unnumbered other ≡ unnumbered settled
   pub letters : found.line.now.letters ≡ (shown_of context other).letters
   pub coded : IsCoded context.kind context.rows found.items.now found.coded.now (coded_of context other)
+
+-- all names mean in a deck that is viewed what they did in the one before
+pub record MeanAsViewed (bindings : Bindings) (view : DeckView) : Type 0 where
+  pub symbols : bindings.symbols.now ≡ view.deck.now.symbols
+  pub literals : bindings.literals.now ≡ view.deck.now.literals
+  pub rows : bindings.bases.now ≡ view.bases.now
 
 -- as far as there is a line
 abbrev pub WasLineIfAny : DeckKind → Option FormerLine → Settled → Type 0

@@ -69,3 +69,9 @@ pub record IsRebinding (r : Rebinding) (old new : Context) (settled : Settled) :
   pub of_new : AreBindings r.new new
   pub location : r.location ≡ settled.location
   pub origin : r.origin ≡ settled.origin
+
+-- all names mean the same in two decks
+pub record MeanSame (bindings other : Bindings) : Type 0 where
+  pub symbols : bindings.symbols.now ≡ other.symbols.now
+  pub literals : bindings.literals.now ≡ other.literals.now
+  pub rows : bindings.bases.now ≡ other.bases.now

@@ -9,7 +9,7 @@ ghost use Rattle.definitions.specs.Statements as statements;
 ghost use Rattle.statement_coder.specs.ReadOperands.{IsReadOperand};
 ghost use Rattle.statement_coder.specs.Meters.{RisesBy};
 ghost use Rattle.deck_assembler.specs.CodedLines.{IsCoded};
-ghost use Rattle.deck_assembler.specs.FormerLines.{WasLineIfAny};
+ghost use Rattle.deck_assembler.specs.FormerLines.{MeanAsViewed, WasLine, WasLineIfAny};
 ghost use Rattle.deck_assembler.specs.Rebindings.{AreBindings};
 ghost use Rattle.deck_assembler.specs.SizedDecks.{IsListedStatement, IsSizedStatement};
 ghost use Rattle.deck_assembler.specs.Walks.{AreLined, AreLinedAs, IsWhole, Whole, context_in, has_row, whole_of};
@@ -119,6 +119,25 @@ impl DeckLines {
         self.block = block;
         self.stood = self.stood.saturating_add(sized.cards as usize);
         Ok(())
+    }
+
+    /// The line of one statement more, as it was in the object before, where all names mean what they
+    /// did there. Where memory runs out the lines are of no use.
+    pub(crate) fn copy_same(
+        &mut self,
+        view: &DeckView<'_>,
+        found: &FormerLine<'_>,
+        sized: &SizedStatement,
+    ) -> Result<(), AllocError>
+        requires { MeanAsViewed found.now.bindings view.now }
+        ensures lined { OnOk result ((known others earlier : List statements.Statement) (given : statements.Statement) →
+            let whole = whole_of view.now known others in
+            let settled = settle whole.deck.kind (settled_all whole.deck.kind earlier) given in
+            IsWhole whole → IsSizedStatement whole.deck.kind earlier self.old.stood (drop self.old.stood whole.cards) sized.now given → has_row settled.block whole.rows ≡ true →
+            WasLine whole.deck.kind found.now settled → AreLined whole earlier self.old → AreLined whole (given ∷ earlier) self.new) }
+        ensures stood { OnOk result (self.new.stood ≡ min (self.old.stood + sized.now.cards) (2 ^ 64 - 1)) }
+    {
+        self.copy(view, found, sized)
     }
 
     /// The line of one statement more, whose operand was read: it is taken over from the object before,

@@ -1,5 +1,5 @@
 //! All statements of a deck, one after the other: their lines and their names.
-ghost use Rattle.std.specs.Prelude.{ℕ, ◌≡◌, ◌≤◌, ◌+◌, ◌-◌, ◌^◌, ◌∷◌, ◌++◌, [], List, IfOk, None, Some, OnOk, false, drop, length, min, reverse};
+ghost use Rattle.std.specs.Prelude.{ℕ, ◌≡◌, ◌≤◌, ◌+◌, ◌-◌, ◌^◌, ◌∷◌, ◌++◌, [], List, IfOk, IfSome, None, Some, OnOk, false, true, drop, length, min, reverse};
 ghost use Rattle.definitions.specs.Rebound.{is_rebound};
 ghost use Rattle.definitions.specs.Settling.{settle, settled_all};
 ghost use Rattle.definitions.specs.StatementItems.{Context};
@@ -12,7 +12,7 @@ ghost use Rattle.deck_assembler.specs.Rebindings.{AreBindings};
 ghost use Rattle.deck_assembler.specs.SizedDecks.{IsSizedStatement};
 ghost use Rattle.deck_assembler.specs.Walks.{IsWhole, Whole, context_in, whole_of};
 ghost use Rattle.deck_assembler.specs.DeckWalks.{IsDone, IsListing};
-ghost use Rattle.deck_assembler.specs.FormerLines.{IsBare, IsBeside, IsNextLine, IsWalkedBeside};
+ghost use Rattle.deck_assembler.specs.FormerLines.{IsBare, IsBeside, IsNextLine, IsWalkedBeside, MeanAsViewed};
 
 use crate::deck_lines::{DeckLines, next_cards};
 use crate::deck_names::DeckNames;
@@ -78,7 +78,7 @@ impl Making {
 
     /// One statement more: its cards are read once more where it gives or takes names, or where its
     /// operand was not kept. Where memory runs out what was made is of no use.
-    fn add(
+    fn add_read(
         &mut self,
         view: &DeckView<'_>,
         room: &mut StatementRoom,
@@ -110,6 +110,72 @@ impl Making {
         }
     }
 
+    /// One statement more, where all names mean what they did in the object before: a line that was found
+    /// there is taken over. The cards are read once more where the statement gives or takes names, or
+    /// where it has no such line and its operand was not kept. Where memory runs out what was made is of
+    /// no use.
+    fn add_same(
+        &mut self,
+        view: &DeckView<'_>,
+        room: &mut StatementRoom,
+        sized: &SizedStatement,
+        found: Option<FormerLine<'_>>,
+        meter: &mut Meter,
+    ) -> Result<(), AllocError>
+        requires { IfSome found (λ line. MeanAsViewed line.bindings view.now) }
+        ensures walked { OnOk result ((known others : List statements.Statement) (left : List code.SizedStatement) (before after : FormerLines) → let whole = whole_of view.now known others in
+            IsWhole whole → IsNextLine before after self.old.lines.stood sized.now.cards found.entry → IsWalkedBeside whole (sized.now ∷ left) self.old before → IsWalkedBeside whole left self.new after) }
+        ensures coded { meter.new.coded ≤ meter.old.coded + 1 }
+        ensures rises { meter.old.coded ≤ meter.new.coded }
+        ensures all { found.entry ≡ None → OnOk result (RisesBy 1 meter.old.coded meter.new.coded) }
+        ensures kept { (known others earlier : List statements.Statement) (given : statements.Statement) (old : Context) (one : FormerLine) → let whole = whole_of view.now known others in
+            IsWhole whole → IsSizedStatement whole.deck.kind earlier self.old.lines.stood (drop self.old.lines.stood whole.cards) sized.now given → found.entry ≡ Some one → AreBindings one.bindings old →
+            is_rebound old (context_in whole) (settle whole.deck.kind (settled_all whole.deck.kind earlier) given) ≡ false → meter.new.coded ≡ meter.old.coded }
+        ensures stood { OnOk result (self.new.lines.stood ≡ min (self.old.lines.stood + sized.now.cards) (2 ^ 64 - 1)) }
+        ensures sized { meter.new.sized ≡ meter.old.sized }
+    {
+        match found {
+            None => self.add_read(view, room, sized, found, meter),
+            Some(line) => {
+                if self.names.note_kept(view.deck.kind(), sized)? {
+                    self.lines.copy_same(view, &line, sized)
+                } else {
+                    self.add_again(view, room, sized, found, meter)
+                }
+            }
+        }
+    }
+
+    /// One statement more; it is said whether all names mean what they did in the object before. Where
+    /// memory runs out what was made is of no use.
+    fn add(
+        &mut self,
+        view: &DeckView<'_>,
+        room: &mut StatementRoom,
+        sized: &SizedStatement,
+        found: Option<FormerLine<'_>>,
+        same: bool,
+        meter: &mut Meter,
+    ) -> Result<(), AllocError>
+        requires { same ≡ true → IfSome found (λ line. MeanAsViewed line.bindings view.now) }
+        ensures walked { OnOk result ((known others : List statements.Statement) (left : List code.SizedStatement) (before after : FormerLines) → let whole = whole_of view.now known others in
+            IsWhole whole → IsNextLine before after self.old.lines.stood sized.now.cards found.entry → IsWalkedBeside whole (sized.now ∷ left) self.old before → IsWalkedBeside whole left self.new after) }
+        ensures coded { meter.new.coded ≤ meter.old.coded + 1 }
+        ensures rises { meter.old.coded ≤ meter.new.coded }
+        ensures all { found.entry ≡ None → OnOk result (RisesBy 1 meter.old.coded meter.new.coded) }
+        ensures kept { (known others earlier : List statements.Statement) (given : statements.Statement) (old : Context) (one : FormerLine) → let whole = whole_of view.now known others in
+            IsWhole whole → IsSizedStatement whole.deck.kind earlier self.old.lines.stood (drop self.old.lines.stood whole.cards) sized.now given → found.entry ≡ Some one → AreBindings one.bindings old →
+            is_rebound old (context_in whole) (settle whole.deck.kind (settled_all whole.deck.kind earlier) given) ≡ false → meter.new.coded ≡ meter.old.coded }
+        ensures stood { OnOk result (self.new.lines.stood ≡ min (self.old.lines.stood + sized.now.cards) (2 ^ 64 - 1)) }
+        ensures sized { meter.new.sized ≡ meter.old.sized }
+    {
+        if same {
+            self.add_same(view, room, sized, found, meter)
+        } else {
+            self.add_read(view, room, sized, found, meter)
+        }
+    }
+
     /// Some statements more.
     fn add_all(
         &mut self,
@@ -117,13 +183,16 @@ impl Making {
         room: &mut StatementRoom,
         piece: &[SizedStatement],
         former: &mut FormerLines<'_>,
+        same: bool,
         meter: &mut Meter,
     ) -> Result<(), AllocError>
+        requires { same ≡ true → MeanAsViewed former.old.bindings view.now }
         ensures walked { OnOk result ((known others : List statements.Statement) (left : List code.SizedStatement) → let whole = whole_of view.now known others in
             IsWhole whole → IsWalkedBeside whole (piece.now ++ left) self.old former.old → IsWalkedBeside whole left self.new former.new) }
         ensures coded { meter.new.coded ≤ meter.old.coded + length piece.now }
         ensures rises { meter.old.coded ≤ meter.new.coded }
         ensures ended { IsBare former.old → IsBare former.new }
+        ensures bindings { former.new.bindings ≡ former.old.bindings }
         ensures all { OnOk result (IsBare former.old → RisesBy (length piece.now) meter.old.coded meter.new.coded) }
         ensures due_on { OnOk result ((known others : List statements.Statement) (left : List code.SizedStatement) (plan : CodePlan) (base : ℕ) → let whole = whole_of view.now known others in
             IsWhole whole → IsPlanned known plan → IsWalkedDue whole plan base (piece.now ++ left) self.old.lines.stood former.old meter.old.coded → IsWalkedDue whole plan base left self.new.lines.stood former.new meter.new.coded) }
@@ -133,7 +202,7 @@ impl Making {
     {
         for sized in piece {
             let found = former.next(self.lines.stood, sized.cards);
-            self.add(view, room, sized, found, meter)?;
+            self.add(view, room, sized, found, same, meter)?;
         }
         Ok(())
     }
@@ -145,8 +214,10 @@ impl Making {
         room: &mut StatementRoom,
         pieces: &[Piece],
         former: &mut FormerLines<'_>,
+        same: bool,
         meter: &mut Meter,
     ) -> Result<(), AllocError>
+        requires { same ≡ true → MeanAsViewed former.old.bindings view.now }
         ensures walked { OnOk result ((known others : List statements.Statement) → let whole = whole_of view.now known others in
             IsWhole whole → IsWalkedBeside whole (sized_in pieces.now) self.old former.old → IsWalkedBeside whole [] self.new former.new) }
         ensures coded { meter.new.coded ≤ meter.old.coded + length (sized_in pieces.now) }
@@ -157,7 +228,7 @@ impl Making {
         ensures sized { meter.new.sized ≡ meter.old.sized }
     {
         for piece in pieces {
-            self.add_all(view, room, piece.statements(), former, meter)?;
+            self.add_all(view, room, piece.statements(), former, same, meter)?;
         }
         Ok(())
     }
@@ -180,8 +251,10 @@ pub(crate) fn walk(
     alloc: Global,
     view: &DeckView<'_>,
     former: FormerLines<'_>,
+    same: bool,
     meter: &mut Meter,
 ) -> Result<Making, AllocError>
+    requires { same ≡ true → MeanAsViewed former.bindings view.now }
     ensures done { IfOk result (λ made. (known others : List statements.Statement) → let whole = whole_of view.now known others in
         IsWhole whole → IsBeside whole.deck.kind whole.cards [] (reverse known) 0 former.entry → IsDone whole made) }
     ensures coded { meter.new.coded ≤ meter.old.coded + length (sized_in view.now.deck.now.pieces) }
@@ -194,7 +267,7 @@ pub(crate) fn walk(
     let mut made = Making::new(alloc, view)?;
     let mut left = former;
     let mut room = StatementRoom::new();
-    made.add_pieces(view, &mut room, view.deck.pieces(), &mut left, meter)?;
+    made.add_pieces(view, &mut room, view.deck.pieces(), &mut left, same, meter)?;
     list_all(&mut made.lines, view.deck.behind())?;
     Ok(made)
 }

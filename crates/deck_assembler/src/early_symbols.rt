@@ -48,7 +48,7 @@ fn is_same_part(part: Option<Part>, other: Option<Part>) -> bool
     }
 }
 
-fn is_same_form(form: Form, other: Form) -> bool
+pub(crate) fn is_same_form(form: Form, other: Form) -> bool
     ensures { Decides result (form ≡ other) }
 {
     form.number() == other.number() && is_same_part(form.part(), other.part())

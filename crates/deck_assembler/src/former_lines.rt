@@ -1,7 +1,7 @@
 //! The lines of the object before an edit, as far as they are those of the statements in front of the
 //! edited card, or of the tail that stayed as it was sized: they are taken over, unless a name is bound
 //! otherwise.
-ghost use Rattle.std.specs.Prelude.{◌≡◌, ◌≤◌, ◌+◌, true};
+ghost use Rattle.std.specs.Prelude.{◌≡◌, ◌≤◌, ◌+◌, true, IfSome};
 ghost use Rattle.definitions.specs.Rebound.{is_rebound};
 ghost use Rattle.definitions.specs.Settled.{Settled, defined};
 ghost use Rattle.definitions.specs.StatementItems.{Context};
@@ -68,7 +68,9 @@ impl<'a> FormerLines<'a> {
     /// The line of the next statement, which has so many cards behind so many others; where the object
     /// has another statement there, none, and of those behind it none either before the tail.
     pub(crate) fn next(&mut self, stood: usize, count: u32) -> Option<FormerLine<'a>>
-        ensures { IsNextLine self.old self.new stood count result }
+        ensures next { IsNextLine self.old self.new stood count result }
+        ensures bindings { self.new.bindings ≡ self.old.bindings }
+        ensures found { IfSome result (λ line. line.bindings ≡ self.old.bindings) }
     {
         if stood == self.tail.at {
             self.next_in_tail(stood, count)
@@ -81,6 +83,8 @@ impl<'a> FormerLines<'a> {
     fn next_in_front(&mut self, stood: usize, count: u32) -> Option<FormerLine<'a>>
         ensures next { IsNextInFront self.old self.new stood count result }
         ensures missed { IsMissedInFront self.old stood count result }
+        ensures bindings { self.new.bindings ≡ self.old.bindings }
+        ensures found { IfSome result (λ line. line.bindings ≡ self.old.bindings) }
     {
         let left = self.left;
         self.left = left.split_at(0).0;
@@ -102,6 +106,8 @@ impl<'a> FormerLines<'a> {
     fn next_in_tail(&mut self, stood: usize, count: u32) -> Option<FormerLine<'a>>
         ensures next { IsNextInTail self.old self.new stood count result }
         ensures missed { IsMissedInTail self.old result }
+        ensures bindings { self.new.bindings ≡ self.old.bindings }
+        ensures found { IfSome result (λ line. line.bindings ≡ self.old.bindings) }
     {
         self.left = self.left.split_at(0).0;
         let tail = self.tail.left;

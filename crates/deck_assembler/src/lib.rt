@@ -11,7 +11,8 @@
 //! `SizedDeck::edited` keeps the statements in front of the edited card, and all those from where the
 //! deck agrees again with the one before; `edited_parts` takes the lines of both over from the object
 //! before, but for those of which `Rebinding` finds a name bound otherwise, and counts no more than those
-//! as coded beside what lies between (`code_due`).
+//! as coded beside what lies between (`code_due`). Where all names mean the same in both decks
+//! (`Bindings::are_same`) no statement is asked.
 //!
 //! A line keeps its fields as one number where they are known and have at most 60 bits, else in the
 //! object's list. That need not be the definitions' list of fields: it is as wide, has the same
@@ -65,6 +66,7 @@ mod former_lines;
 mod line_coder;
 mod object_part_list;
 mod rebinding;
+mod same_bindings;
 
 pub use entries::Entry;
 pub use former::{EditedDeck, Former};

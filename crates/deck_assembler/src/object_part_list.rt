@@ -1,12 +1,12 @@
 //! The parts of the object of a deck whose statements are sized.
-ghost use Rattle.std.specs.Prelude.{ℕ, ◌≡◌, ◌≤◌, ◌+◌, [], List, IfOk, IfSome, None, Some, OnOk, length, reverse};
+ghost use Rattle.std.specs.Prelude.{ℕ, ◌≡◌, ◌≤◌, ◌+◌, [], List, IfOk, IfSome, None, Some, OnOk, true, false, length, reverse};
 ghost use Rattle.definitions.specs.DeckInput.{Deck};
 ghost use Rattle.definitions.specs.DeckKinds.{kind_of_statements, up_to_end};
 ghost use Rattle.definitions.specs.Objects.{object_of};
 ghost use Rattle.definitions.specs.Statements.{statements_of};
 ghost use Rattle.statement_coder.specs.Meters.{RisesBy};
 ghost use Rattle.deck_assembler.specs.DueCodes.{CodePlan, IsDueBeside, IsPlanned, IsPlanOf, code_due_of};
-ghost use Rattle.deck_assembler.specs.FormerLines.{IsBare, IsBeside};
+ghost use Rattle.deck_assembler.specs.FormerLines.{IsBare, IsBeside, MeanAsViewed};
 ghost use Rattle.deck_assembler.specs.Formers.{IsFormerOf, known_in};
 ghost use Rattle.deck_assembler.specs.PartsOf.{ArePartsOf};
 ghost use Rattle.deck_assembler.specs.SizedDecks.{IsSizedDeck};
@@ -30,6 +30,17 @@ fn lines_or_none<'a>(former: Option<FormerLines<'a>>, view: &DeckView<'a>) -> Fo
     match former {
         Some(lines) => lines,
         None => FormerLines::none(view),
+    }
+}
+
+/// Whether there are lines of an object before, and all names mean what they did there.
+fn do_mean_same(former: &Option<FormerLines<'_>>, view: &DeckView<'_>) -> bool
+    ensures same { result ≡ true → IfSome former.now (λ lines. MeanAsViewed lines.bindings view.now) }
+    ensures none { former.now ≡ None → result ≡ false }
+{
+    match former {
+        Some(lines) => lines.bindings.are_same(&view.bindings()),
+        None => false,
     }
 }
 
@@ -60,7 +71,8 @@ fn parts_beside<'a>(
         deck,
         bases: &bases,
     };
-    let made = walk(alloc, &view, lines_or_none(former, &view), meter)?;
+    let same = do_mean_same(&former, &view);
+    let made = walk(alloc, &view, lines_or_none(former, &view), same, meter)?;
     let lines = made.lines;
     let names = made.names;
     let entries = names.entries;

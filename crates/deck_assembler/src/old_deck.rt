@@ -232,6 +232,9 @@ impl<'a> OldDeck<'a> {
         if !self.statements.is_empty() || !self.state.same(&sizer.state) {
             return false;
         }
+        if self.missed.is_none() && self.symbols.is_same(&sizer.symbols) {
+            return true;
+        }
         if self.differs_still(&sizer.symbols, room) {
             return false;
         }

@@ -1,10 +1,11 @@
 //! The symbols of a deck, each with the value of its first definition (COMPASS 60492600, location
 //! field, EQU, EXT).
-ghost use Rattle.std.specs.Prelude.{◌≡◌, ℕ, ◌==◌, nat_eq, Some, None, IfOk, OnOk, OnErr, if◌then◌else◌};
+ghost use Rattle.std.specs.Prelude.{◌≡◌, ℕ, ◌==◌, nat_eq, true, Some, None, IfOk, OnOk, OnErr, if◌then◌else◌};
 ghost use Rattle.std.specs.Map.{lookup};
 ghost use Rattle.definitions.specs.Settled.{or_form};
 ghost use Rattle.deck_assembler.specs.FirstSymbols.{symbol_in, with_symbol};
 
+use crate::early_symbols::is_same_form;
 use crate::symbol_key::SymbolKey;
 use expr_forms::Form;
 use statement_coder::EarlySymbols;
@@ -56,6 +57,13 @@ impl SymbolTable {
         }
     }
 
+    /// Whether both have the same names, each with the same value.
+    pub(crate) fn is_same(&self, other: &SymbolTable) -> bool
+        ensures { result ≡ true → self.now ≡ other.now }
+    {
+        are_entries_same(&self.forms, &other.forms)
+    }
+
     /// Defines a symbol, if the text is a name that has no value yet. Without memory the symbols are
     /// as before.
     pub fn define(&mut self, name: &[u8], form: Form) -> Result<(), AllocError>
@@ -78,6 +86,33 @@ fn keep(forms: &mut BTreeMap<u64, Form>, code: u64, form: Form) -> Result<(), Al
         forms.insert(code, form)?;
     }
     Ok(())
+}
+
+/// Whether two entries have one name and one value.
+fn is_entry_same(entry: (&u64, &Form), other: (&u64, &Form)) -> bool
+    ensures { result ≡ true → (entry.entry.0.now ≡ other.entry.0.now) × (entry.entry.1.now ≡ other.entry.1.now) }
+{
+    *entry.0 == *other.0 && is_same_form(*entry.1, *other.1)
+}
+
+/// Whether two maps have the same entries: they are looked at in order, up to the first that differ.
+fn are_entries_same(forms: &BTreeMap<u64, Form>, others: &BTreeMap<u64, Form>) -> bool
+    ensures { result ≡ true → forms.now.entries ≡ others.now.entries }
+{
+    let mut left = forms.iter();
+    let mut other = others.iter();
+    'entries: loop {
+        match (left.next(), other.next()) {
+            (None, None) => return true,
+            (None, Some(_)) => return false,
+            (Some(_), None) => return false,
+            (Some(entry), Some(found)) => {
+                if !is_entry_same(entry, found) {
+                    return false;
+                }
+            }
+        }
+    }
 }
 
 impl EarlySymbols for SymbolTable {

@@ -14,7 +14,7 @@ loop-sized-preserved c =
     let piece = c.args.piece.now in
     let sized = c.sized-item.result in
     let added = c.in_ok-add.ensures in
-    let none = none-left c.loop-sized.former c.next-found.new.self c.loop-sized.self.lines.stood sized.cards c.next-found.result c.next-found.ensures in
+    let none = none-left c.loop-sized.former c.next-found.new.self c.loop-sized.self.lines.stood sized.cards c.next-found.result c.next-found.ensures.next in
     let coded = added.coded in
     let rises = added.rises in
     let before = c.loop-sized.invariant.coded in
@@ -22,10 +22,11 @@ loop-sized-preserved c =
     record {
       walked = λ known others left is start.
           let whole = whole_of c.args.view.now known others in
-          added.walked known others (drop (i + 1) piece ++ left) c.loop-sized.former c.next-found.new.self is c.next-found.ensures
+          added.walked known others (drop (i + 1) piece ++ left) c.loop-sized.former c.next-found.new.self is c.next-found.ensures.next
           (subst (λ (l : List SizedStatement). IsWalkedBeside whole (l ++ left) c.loop-sized.self c.loop-sized.former) (item-split piece i sized c.loop-sized-test.true c.sized-item.is)
           (c.loop-sized.invariant.walked known others left is start));
       ended = λ e. (none (c.loop-sized.invariant.ended e)).1;
+      bindings = c.next-found.ensures.bindings ∙ c.loop-sized.invariant.bindings;
       coded = omega (arith, coded, before);
       rises = omega (arith, rises, so_far);
       all = λ e room.
@@ -37,7 +38,7 @@ loop-sized-preserved c =
           let whole = whole_of c.args.view.now known others in
           due-step whole plan base (drop (i + 1) piece ++ left) sized c.loop-sized.self.lines.stood c.add.new.self.lines.stood c.next-found.result c.loop-sized.former c.next-found.new.self _ _ is planned
           (subst (λ (l : List SizedStatement). IsWalkedDue whole plan base (l ++ left) c.loop-sized.self.lines.stood c.loop-sized.former c.loop-sized.meter.coded) (item-split piece i sized c.loop-sized-test.true c.sized-item.is)
-          (c.loop-sized.invariant.due known others left plan base is planned start)) c.next-found.ensures added.coded
+          (c.loop-sized.invariant.due known others left plan base is planned start)) c.next-found.ensures.next added.coded
           (λ earlier given one next found bound rebound. added.kept known others earlier given plan.old one is next found bound rebound)
           (λ some within. added.stood ∙ stood-step c.loop-sized.self.lines.stood sized.cards whole.cards some within is.few);
     }
@@ -59,7 +60,7 @@ returns-in_err-add-clause-due c = λ known others left plan base is planned star
     let stood = c.loop-sized.self.lines.stood in
     let step = due-step whole plan base (drop (i + 1) piece ++ left) sized stood (stood + sized.cards) c.next-found.result c.loop-sized.former c.next-found.new.self _ _ is planned
     (subst (λ (l : List SizedStatement). IsWalkedDue whole plan base (l ++ left) stood c.loop-sized.former c.loop-sized.meter.coded) (item-split piece i sized c.loop-sized-test.true c.sized-item.is)
-    (c.loop-sized.invariant.due known others left plan base is planned start)) c.next-found.ensures here.coded
+    (c.loop-sized.invariant.due known others left plan base is planned start)) c.next-found.ensures.next here.coded
     (λ earlier given one next found bound rebound. here.kept known others earlier given plan.old one is next found bound rebound) (λ some within. refl) in
     due-all whole plan base (drop (i + 1) piece ++ left) (stood + sized.cards) c.next-found.new.self _ step
 

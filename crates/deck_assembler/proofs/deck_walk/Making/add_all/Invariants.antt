@@ -13,6 +13,7 @@ invariant-loop-sized l = record {
   walked : (known others : List Statement) (left : List code.SizedStatement) → IsWhole (whole_of l.view known others) → IsWalkedBeside (whole_of l.view known others) (l.piece ++ left) l.fn.self l.fn.former →
       IsWalkedBeside (whole_of l.view known others) (drop l.sized-index l.piece ++ left) l.self l.former;
   ended : IsBare l.fn.former → IsBare l.former;
+  bindings : l.former.bindings ≡ l.fn.former.bindings;
   coded : l.meter.coded ≤ l.fn.meter.coded + l.sized-index;
   rises : l.fn.meter.coded ≤ l.meter.coded;
   all : IsBare l.fn.former → RisesBy l.sized-index l.fn.meter.coded l.meter.coded;

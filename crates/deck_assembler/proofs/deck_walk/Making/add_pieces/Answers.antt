@@ -38,6 +38,7 @@ loop-piece-preserved c =
           (subst (λ (l : List DeckPiece). IsWalkedBeside whole (sized_in l) c.loop-piece.self c.loop-piece.former) (item-split pieces i piece c.loop-piece-test.true c.piece-item.is)
           (c.loop-piece.invariant.walked known others is start)));
       ended = λ e. added.ended (c.loop-piece.invariant.ended e);
+      bindings = added.bindings ∙ c.loop-piece.invariant.bindings;
       coded = omega (arith, coded, before, more, size);
       rises = omega (arith, rises, so_far);
       all = λ e room.

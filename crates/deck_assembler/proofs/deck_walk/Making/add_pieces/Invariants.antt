@@ -13,6 +13,7 @@ invariant-loop-piece l = record {
   walked : (known others : List Statement) → IsWhole (whole_of l.view known others) → IsWalkedBeside (whole_of l.view known others) (sized_in l.pieces) l.fn.self l.fn.former →
       IsWalkedBeside (whole_of l.view known others) (sized_in (drop l.piece-index l.pieces)) l.self l.former;
   ended : IsBare l.fn.former → IsBare l.former;
+  bindings : l.former.bindings ≡ l.fn.former.bindings;
   coded : l.meter.coded ≤ l.fn.meter.coded + length (sized_in (take l.piece-index l.pieces));
   rises : l.fn.meter.coded ≤ l.meter.coded;
   all : IsBare l.fn.former → RisesBy (length (sized_in (take l.piece-index l.pieces))) l.fn.meter.coded l.meter.coded;

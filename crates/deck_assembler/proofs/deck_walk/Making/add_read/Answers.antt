@@ -8,7 +8,7 @@ use Rattle.deck_assembler.specs.Walks.{whole_of}
 use Rattle.deck_assembler.proofs.FormerLaws.{beside-step}
 use Rattle.deck_assembler.proofs.ResultLaws.{on_ok_both}
 use Rattle.deck_assembler.proofs.WalkLaws.{stood-step}
-use Rattle.deck_assembler.proofs.deck_walk.Making.add.Goals as goal
+use Rattle.deck_assembler.proofs.deck_walk.Making.add_read.Goals as goal
 
 pub returns-then-branch-clause-walked : goal.returns-then-branch-clause-walked
 returns-then-branch-clause-walked c =

@@ -1,0 +1,20 @@
+use Rattle.std.proofs.Common.{refl}
+use Rattle.std.proofs.lemmas.Result.{on_ok_weaker}
+use Rattle.definitions.specs.Settled.{Settled}
+use Rattle.definitions.specs.Settling.{settle, settled_all}
+use Rattle.definitions.specs.StatementItems.{Context}
+use Rattle.deck_assembler.specs.Walks.{context_in, whole_of}
+use Rattle.deck_assembler.proofs.FormerLaws.{still-letters, still-coded}
+use Rattle.deck_assembler.proofs.SameLaws.{never-rebound}
+use Rattle.deck_assembler.proofs.deck_lines.DeckLines.copy_same.Goals as goal
+
+pub returns-clause-lined : goal.returns-clause-lined
+returns-clause-lined c =
+    on_ok_weaker c.copy.result (λ lined known others earlier given is sized has was before.
+    let view = c.args.view.now in
+    let whole = whole_of view known others in
+    let settled : Settled = settle whole.deck.kind (settled_all whole.deck.kind earlier) given in
+    let new : Context = context_in whole in
+    let found = c.args.found.now in
+    let not_rebound = never-rebound found.bindings view known others was.context settled is was.bindings c.requires in
+    lined known others earlier given was.context.rows is sized has (still-letters whole.deck.kind found settled new was refl not_rebound) (still-coded whole.deck.kind found settled new was refl not_rebound) before) c.copy.ensures.lined
