@@ -10,14 +10,26 @@ use definitions::{NumberBase, is_same_text};
 pub fn is_end(operation: &[u8]) -> bool
     ensures { (fields : Fields) → fields.operation ≡ operation.now → result ≡ is_end fields }
 {
-    is_same_text(operation, b"END")
+    match operation {
+        [b'E', b'N', b'D'] => true,
+        _ => false,
+    }
+}
+
+fn is_base(operation: &[u8]) -> bool
+    ensures { result ≡ same_text operation.now (codes "BASE") }
+{
+    match operation {
+        [b'B', b'A', b'S', b'E'] => true,
+        _ => false,
+    }
 }
 
 /// The number base that a statement with these fields sets, if it is a BASE that is accepted.
 pub fn number_base_set(operation: &[u8], variable: &[u8]) -> Option<NumberBase>
     ensures { (fields : Fields) → fields.operation ≡ operation.now → fields.variable ≡ variable.now → result ≡ number_base_set fields }
 {
-    if !is_same_text(operation, b"BASE") {
+    if !is_base(operation) {
         return None;
     }
     if is_same_text(variable, b"O") {

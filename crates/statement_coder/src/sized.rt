@@ -26,7 +26,7 @@ use crate::size_letters::size_letters;
 use crate::sizes::{is_bad, is_long, size_of};
 use crate::sizing::Sizing;
 use crate::statement::Statement;
-use definitions::{DeckKind, is_same_text};
+use definitions::DeckKind;
 use expr_forms::Subfields;
 use operations::Operation;
 use use_blocks::{BlockState, LocationSetting};
@@ -51,10 +51,13 @@ fn asks_upper(name: &[u8], text: &[u8]) -> bool
     requires { length text.now ≤ 711 }
     ensures { result ≡ asks_upper name.now (length (subfields_of (pieces_of text.now))) }
 {
-    is_same_text(name, b"JP")
-        || is_same_text(name, b"RJ")
-        || is_same_text(name, b"PS")
-        || is_same_text(name, b"EQ") && is_one(text)
+    match name {
+        [b'J', b'P'] => true,
+        [b'R', b'J'] => true,
+        [b'P', b'S'] => true,
+        [b'E', b'Q'] => is_one(text),
+        _ => false,
+    }
 }
 
 /// Whether the block asks for upper behind a statement.
