@@ -25,6 +25,7 @@ use std::fs::File;
 use std::io::ErrorKind;
 use std::net::{Net, TcpListener, TcpStream};
 use std::process::ExitCode;
+use std::random::RandomSource;
 use std::rt::{Env, Files};
 use std::sync::Wait;
 use std::thread::Threads;
@@ -61,6 +62,7 @@ where
         + Clone
         + Drop
         + Clock
+        + RandomSource
         + Net<Listener = TcpListener, Stream = TcpStream>,
     R::File: Send,
     R::Dir: Send,
@@ -80,7 +82,7 @@ where
     }
     match matches.subcommand_matches("serve") {
         Some(words) => match settings_of(rt, words) {
-            Some(settings) => run_service(rt, &settings),
+            Some(settings) => run_service(rt, &settings, words),
             None => refuse_numbers(rt),
         },
         None => refuse_numbers(rt),

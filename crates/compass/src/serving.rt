@@ -9,6 +9,7 @@ use std::alloc::{AllocError, Global};
 use std::fs::File;
 use std::net::{Net, TcpListener, TcpStream};
 use std::process::ExitCode;
+use std::random::RandomSource;
 use std::rt::Files;
 use std::sync::Wait;
 use std::thread;
@@ -49,6 +50,15 @@ pub(crate) fn serve_words<'a>(alloc: Global) -> Result<Command<'a>, AllocError> 
         .help("The port on 127.0.0.1, 1 to 65535; one that is free unless said, or at 0")
         .action(ArgAction::Set)
         .value_parser(clap::value_parser!(u16));
+    let page = Arg::new(alloc, "page")
+        .long("page")
+        .value_name("P")
+        .help(
+            "The port on 127.0.0.1 of a page for browsers, one that is free at 0; no page unless said, and none with --once",
+        )
+        .action(ArgAction::Set)
+        .value_parser(clap::value_parser!(u16))
+        .conflicts_with("once")?;
     let workers = Arg::new(alloc, "workers")
         .long("workers")
         .value_name("W")
@@ -87,6 +97,7 @@ pub(crate) fn serve_words<'a>(alloc: Global) -> Result<Command<'a>, AllocError> 
         .after_help(EXAMPLE)
         .arg(root)?
         .arg(port)?
+        .arg(page)?
         .arg(workers)?
         .arg(sessions)?
         .arg(idle)?
@@ -147,8 +158,13 @@ pub(crate) fn settings_of<'a>(rt: &impl Threads, words: &ArgMatches<'a>) -> Opti
     })
 }
 
-/// Runs the service, and tells a fault in one line on standard error.
-pub(crate) fn run_service<R>(rt: &R, settings: &Settings<'_>) -> ExitCode
+/// Which port the words want for a page.
+fn page_of(words: &ArgMatches<'_>) -> Option<u16> {
+    words.get_one("page")
+}
+
+/// Runs the service that the words ask for, and tells a fault in one line on standard error.
+pub(crate) fn run_service<R>(rt: &R, settings: &Settings<'_>, words: &ArgMatches<'_>) -> ExitCode
 where
     R: AllocGlobal
         + Threads
@@ -159,26 +175,31 @@ where
         + Drop
         + Clock
         + Eprint
+        + RandomSource
         + Net<Listener = TcpListener, Stream = TcpStream>,
     R::File: Send,
     R::Dir: Send,
     requires { AreInRange settings.now }
 {
-    match serve(rt, rt.alloc(), settings) {
+    let page = page_of(words);
+    match serve(rt, rt.alloc(), settings, page) {
         Ok(()) => ExitCode::SUCCESS,
         Err(fault) => {
-            tell(rt, fault, settings);
+            tell(rt, fault, settings, page.unwrap_or(0));
             ExitCode::from(status_of(fault))
         }
     }
 }
 
 /// The line of a fault, with what can be done.
-fn tell<R: Eprint>(rt: &R, fault: ServeFault, settings: &Settings<'_>) {
+fn tell<R: Eprint>(rt: &R, fault: ServeFault, settings: &Settings<'_>, page: u16) {
     let Settings { root, port, .. } = *settings;
     let _ = match fault {
         ServeFault::SocketFault => eprintln!(rt;
             "compass: {fault}: 127.0.0.1:{port} can't be listened on; another program may have the port, choose another with --port"
+        ),
+        ServeFault::PageFault => eprintln!(rt;
+            "compass: {fault}: the page can't be at 127.0.0.1:{page}; another program may have the port, choose another with --page"
         ),
         ServeFault::OutOfMemory => eprintln!(rt;
             "compass: {fault}: free some, or take fewer --workers and --sessions"
@@ -204,6 +225,7 @@ fn tell<R: Eprint>(rt: &R, fault: ServeFault, settings: &Settings<'_>) {
 /// The status of a fault.
 fn status_of(fault: ServeFault) -> u8
     ensures socket { fault ≡ ServeFault.SocketFault → result ≡ 6 }
+    ensures page { fault ≡ ServeFault.PageFault → result ≡ 6 }
     ensures memory { fault ≡ ServeFault.OutOfMemory → result ≡ 4 }
     ensures none { fault ≡ ServeFault.NoFolder → result ≡ 7 }
     ensures taken { fault ≡ ServeFault.FolderTaken → result ≡ 7 }
@@ -212,7 +234,7 @@ fn status_of(fault: ServeFault) -> u8
     ensures record { (number begin : ℕ) → fault ≡ ServeFault.BadJournal number begin → result ≡ 8 }
 {
     match fault {
-        ServeFault::SocketFault => SOCKET_STATUS,
+        ServeFault::SocketFault | ServeFault::PageFault => SOCKET_STATUS,
         ServeFault::OutOfMemory => MEMORY_STATUS,
         ServeFault::NoFolder | ServeFault::FolderTaken | ServeFault::BadVersions => FOLDER_STATUS,
         ServeFault::NoJournal | ServeFault::BadJournal { .. } => JOURNAL_STATUS,

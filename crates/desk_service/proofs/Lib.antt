@@ -2,3 +2,4 @@ pub mod ConnectionSteps
 pub mod SessionSteps
 pub mod PlaceSteps
 pub mod KeptChanges
+pub mod PageSessions

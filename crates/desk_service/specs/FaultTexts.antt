@@ -1,11 +1,12 @@
 -- The texts of the faults of a service (ours).
 use Rattle.std.specs.Prelude.{ℕ, List, codes}
 use Rattle.desk_service.specs.declared.faults.ServeFault.{ServeFault}
-use Rattle.desk_service.specs.declared.faults.ServeFault.TheVariants.{SocketFault, OutOfMemory, NoFolder, FolderTaken, NoJournal, BadJournal, BadVersions}
+use Rattle.desk_service.specs.declared.faults.ServeFault.TheVariants.{SocketFault, PageFault, OutOfMemory, NoFolder, FolderTaken, NoJournal, BadJournal, BadVersions}
 
 -- the name
 abbrev pub serve_fault_text : ServeFault → List ℕ
 serve_fault_text SocketFault = codes "SocketFault"
+serve_fault_text PageFault = codes "PageFault"
 serve_fault_text OutOfMemory = codes "OutOfMemory"
 serve_fault_text NoFolder = codes "NoFolder"
 serve_fault_text FolderTaken = codes "FolderTaken"

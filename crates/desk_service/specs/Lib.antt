@@ -5,3 +5,5 @@ pub mod Sessions
 pub mod Services
 pub mod Versions
 pub mod Connections
+pub mod PageLines
+pub mod PageThreads

@@ -8,6 +8,8 @@ use std::fmt;
 pub enum ServeFault {
     /// The port can't be listened on.
     SocketFault,
+    /// The port of the page can't be listened on, or the system gives no random numbers for it.
+    PageFault,
     /// No memory was left, for a thread among others.
     OutOfMemory,
     /// The folder is not there, or can't be written in.
@@ -32,6 +34,7 @@ impl fmt::Display for ServeFault {
     fn fmt<W: fmt::Write>(&self, f: &mut fmt::Formatter<W>) -> fmt::Result {
         match self {
             ServeFault::SocketFault => write!(f, "SocketFault"),
+            ServeFault::PageFault => write!(f, "PageFault"),
             ServeFault::OutOfMemory => write!(f, "OutOfMemory"),
             ServeFault::NoFolder => write!(f, "NoFolder"),
             ServeFault::FolderTaken => write!(f, "FolderTaken"),

@@ -6,6 +6,7 @@
 //! | receiving | 1 | accepts connections, gives each to a session that is free | in `accept` |
 //! | session | 1 to 16 | takes a connection, serves it to its end, takes the next | till one comes, in a read of the connection |
 //! | worker | 1 to 16 | claims what is due, runs it, delivers it | on the bell |
+//! | page | 4, or none | accepts a connection of a browser, answers it, takes the next | in `accept`, some seconds for a request |
 //! | control | 1 | hears whether the service is to end | at the socket of the folder |
 //!
 //! Each has a seat of one office over the desk, and waits while others have their turn at it. The bell
@@ -26,6 +27,9 @@
 //! is, in the order of their versions, and syncs once. A start makes the changes again, and goes on behind
 //! the last version that the folder saw.
 //!
+//! Lines that a page sends are served as those of a session: from a reader of these bytes to replies in memory,
+//! at a desk and a shelf of its thread's own.
+//!
 //! Who says `STOP` at the control connection ends the service: no connection is taken any more, nothing more
 //! is read, and what is being answered goes out.
 //!
@@ -35,6 +39,7 @@
 
 // One session, over any ports.
 mod bells;
+mod page_lines;
 mod sessions;
 
 // What a service begins with, and keeps.
@@ -53,16 +58,19 @@ mod laws;
 mod arrivals;
 mod connections;
 mod control;
+mod pages;
 mod patience;
 mod places;
 mod running;
 mod service_end;
+mod timed_stream;
 
 pub use bells::{Ring, Ringing};
 pub use control::stop;
 pub use faults::ServeFault;
 pub use journals::{Journal, SessionKeeper};
 pub use laws::told_changes_are_kept;
+pub use page_lines::DeskLines;
 pub use running::{serve, serve_on};
 pub use sessions::{Ending, serve_session};
 pub use settings::{Journaling, Settings};

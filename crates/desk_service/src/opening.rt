@@ -115,12 +115,13 @@ fn open_behind<R: Files>(
     }
 }
 
-/// The desk that the journal at a path leaves, and the journal. It is begun anew where the settings say so,
+/// The desk that the journal at a path leaves, and the journal, for so many threads that change decks. It is begun anew where the settings say so,
 /// or where the folder has seen versions that are not in it.
 fn open_at<R: Files + Eprint + Clock>(
     rt: &R,
     alloc: Global,
     settings: &Settings<'_>,
+    threads: usize,
     path: &str,
     seen: &Seen,
 ) -> Result<Opened<SystemFile<R::File>>, ServeFault> {
@@ -134,15 +135,17 @@ fn open_at<R: Files + Eprint + Clock>(
     let file = open_behind(rt, path, length, next)?;
     Ok(Opened {
         desk,
-        journal: Some(Journal::new(alloc, file, settings.sessions)?),
+        journal: Some(Journal::new(alloc, file, threads)?),
     })
 }
 
-/// What a service of these settings begins with in a folder that has seen this.
+/// What a service of these settings begins with in a folder that has seen this, where so many threads change
+/// decks.
 pub(crate) fn open<R: Files + Eprint + Clock>(
     rt: &R,
     alloc: Global,
     settings: &Settings<'_>,
+    threads: usize,
     seen: &Seen,
 ) -> Result<Opened<SystemFile<R::File>>, ServeFault> {
     match settings.journal {
@@ -152,8 +155,8 @@ pub(crate) fn open<R: Files + Eprint + Clock>(
         }),
         Journaling::InRoot => {
             let path = path_in(alloc, settings.root, settings.journal.name())?;
-            open_at(rt, alloc, settings, path.as_str(), seen)
+            open_at(rt, alloc, settings, threads, path.as_str(), seen)
         }
-        Journaling::At(path) => open_at(rt, alloc, settings, path, seen),
+        Journaling::At(path) => open_at(rt, alloc, settings, threads, path, seen),
     }
 }

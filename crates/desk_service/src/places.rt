@@ -79,7 +79,7 @@ impl<R: Wait + Clock + Files, F: RecordsFile + Drop> Serve for SessionPlace<'_, 
 }
 
 /// A seat from the list.
-fn take_seat(office: &Office<Desk>, seats: &mut SeatList<Desk>) -> Seat<Desk>
+pub(crate) fn take_seat(office: &Office<Desk>, seats: &mut SeatList<Desk>) -> Seat<Desk>
     requires own { AreOf office.now.id seats.old.items }
     requires some { 1 ≤ length seats.old.items }
     ensures seat { result.office ≡ office.now.id }

@@ -5,6 +5,7 @@ use crate::arrivals::receive_clients;
 use crate::control::{Control, hear};
 use crate::faults::ServeFault;
 use crate::opening::{Opened, open};
+use crate::pages::{Door, PAGE_THREADS, PagePlace, page_places, page_threads};
 use crate::places::{Serve, SessionPlace, WorkerPlace, session_places, worker_places};
 use crate::root::take_folder;
 use crate::service_end::ServiceEnd;
@@ -16,14 +17,19 @@ use deck_files::{KnownFiles, clear_folder};
 use desk_core::Desk;
 use std::alloc::{AllocError, AllocGlobal, Global};
 use std::fs::File;
+use std::hash::RandomState;
 use std::net::{IpAddr, Ipv4Addr, Net, SocketAddr, TcpListener, TcpStream};
 use std::os::unix::net::UnixStream;
+use std::random::RandomSource;
 use std::rt::Files;
 use std::sync::{Mutex, Wait};
 use std::thread;
-use std::thread::Threads;
-use std::time::Clock;
+use std::thread::{JoinHandle, Scope, Threads};
+use std::time::{Clock, Duration};
 use turn_office::Office;
+
+/// How long waking a thread of the page may take, in milliseconds.
+const WAKING: u64 = 200;
 
 /// The address of a port on this machine, which no other reaches.
 fn local_address(port: u16) -> SocketAddr
@@ -32,11 +38,11 @@ fn local_address(port: u16) -> SocketAddr
     SocketAddr::new(IpAddr::V4(Ipv4Addr::new(127, 0, 0, 1)), port)
 }
 
-/// The port at which a listener listens.
-fn port_of(listener: &TcpListener, settings: &Settings<'_>) -> u16 {
+/// The port at which a listener listens that was to have one.
+fn port_of(listener: &TcpListener, port: u16) -> u16 {
     match listener.local_addr() {
         Ok(address) => address.port(),
-        Err(_) => settings.port,
+        Err(_) => port,
     }
 }
 
@@ -52,6 +58,13 @@ fn announce<R: Eprint>(rt: &R, address: SocketAddr, settings: &Settings<'_>) {
     let _ = eprintln!(rt;
         "compass: listening on {address}, folder {root}, workers {workers}, sessions {sessions}"
     );
+}
+
+/// Tells on standard error where the page is, if there is one.
+fn announce_page<R: Eprint>(rt: &R, page: Option<u16>) {
+    if let Some(port) = page {
+        let _ = eprintln!(rt; "compass: the page is at http://127.0.0.1:{port}/");
+    }
 }
 
 /// After how many connections a service ends, where it does.
@@ -70,6 +83,7 @@ struct Receiving<'a, R> {
     listener: &'a TcpListener,
     settings: &'a Settings<'a>,
     port: u16,
+    page: Option<u16>,
     arrivals: Sender<TcpStream>,
     end: &'a ServiceEnd,
 }
@@ -78,6 +92,7 @@ struct Receiving<'a, R> {
 impl<R: Wait + Clock + Eprint> Serve for Receiving<'_, R> {
     fn serve(self) {
         announce(self.rt, local_address(self.port), self.settings);
+        announce_page(self.rt, self.page);
         let most = most_clients(self.settings);
         receive_clients(self.rt, self.listener, &self.arrivals, most, self.end);
     }
@@ -98,6 +113,7 @@ struct Hearing<'a, R> {
     rt: &'a R,
     control: Option<&'a Control>,
     port: u16,
+    page: Option<u16>,
     end: &'a ServiceEnd,
 }
 
@@ -109,13 +125,32 @@ impl<R> Clone for Hearing<'_, R> {
 
 impl<R> Copy for Hearing<'_, R> {}
 
+/// Wakes so many threads that wait at a port: each takes a connection, and finds that the end was asked for.
+fn wake<R: Net>(rt: &R, port: u16, threads: usize) {
+    let (address, waking) = (local_address(port), Duration::from_millis(WAKING));
+    for _ in 0..threads {
+        let _ = TcpStream::connect_timeout(rt, &address, waking);
+    }
+}
+
+/// Wakes the threads of the page, if there is one.
+fn wake_pages<R: Net>(rt: &R, page: Option<u16>) {
+    if let Some(port) = page {
+        wake(rt, port, PAGE_THREADS);
+    }
+}
+
 impl<R: Wait + Clock + Files + Net> Hear for Hearing<'_, R> {
     fn hear(self) -> Option<UnixStream> {
-        hear(self.rt, self.control, local_address(self.port), self.end)
+        let asked = hear(self.rt, self.control, local_address(self.port), self.end);
+        wake_pages(self.rt, self.page);
+        asked
     }
 
     fn close(self) {
         self.end.ask(self.rt);
+        wake(self.rt, self.port, 1);
+        wake_pages(self.rt, self.page);
         if let Some(control) = self.control {
             control.close(self.rt);
         }
@@ -124,20 +159,38 @@ impl<R: Wait + Clock + Files + Net> Hear for Hearing<'_, R> {
 
 /// What a thread of a service works with.
 #[derive(Drop)]
-enum Place<W, S, C> {
+enum Place<W, S, P, C> {
     Worker(W),
     Session(S),
+    Page(P),
     Receiving(C),
 }
 
-impl<W: Serve, S: Serve, C: Serve> Serve for Place<W, S, C> {
+impl<W: Serve, S: Serve, P: Serve, C: Serve> Serve for Place<W, S, P, C> {
     fn serve(self) {
         match self {
             Place::Worker(place) => place.serve(),
             Place::Session(place) => place.serve(),
+            Place::Page(place) => place.serve(),
             Place::Receiving(place) => place.serve(),
         }
     }
+}
+
+/// Serves a place in a thread of its own; want of memory where none can be made.
+fn start<'s, E, P: Serve + Send + Drop + 's>(
+    scope: &Scope<'s, E>,
+    place: P,
+) -> Result<JoinHandle<()>, AllocError> {
+    Ok(scope.spawn(move || place.serve())?)
+}
+
+/// Hears of the end in a thread of its own; want of memory where none can be made.
+fn start_hearing<'s, E, H: Hear + Send + Copy + 's>(
+    scope: &Scope<'s, E>,
+    hearing: H,
+) -> Result<JoinHandle<Option<UnixStream>>, AllocError> {
+    Ok(scope.spawn(move || hearing.hear())?)
 }
 
 /// Runs each place in a thread of its own, and returns when all have ended. Where a thread can't be made,
@@ -155,11 +208,18 @@ where
         thread::scope_env(),
         rt,
         move |scope| -> Result<(), AllocError> {
-            let mut threads = Vec::new(alloc);
+            let mut threads = Vec::with_capacity(alloc, places.len())?;
             for place in places {
-                threads.push(scope.spawn(move || place.serve())?)?;
+                let Ok(thread) = start(scope, place) else {
+                    hearing.close();
+                    return Err(AllocError);
+                };
+                threads.push(thread)?;
             }
-            let stopped = scope.spawn(move || hearing.hear())?;
+            let Ok(stopped) = start_hearing(scope, hearing) else {
+                hearing.close();
+                return Err(AllocError);
+            };
             for thread in threads {
                 thread.join(rt);
             }
@@ -170,12 +230,13 @@ where
     )
 }
 
-/// `run` with the places of workers and sessions, and what receives the clients.
-fn run_places<R, W, S, C, H>(
+/// `run` with the places of workers, sessions and the page, and what receives the clients.
+fn run_places<R, W, S, P, C, H>(
     rt: &R,
     alloc: Global,
     workers: Vec<W>,
     sessions: Vec<S>,
+    pages: Vec<P>,
     receiving: C,
     hearing: H,
 ) -> Result<(), AllocError>
@@ -183,61 +244,90 @@ where
     R: Threads + Wait + Sync,
     W: Serve + Send + Drop,
     S: Serve + Send + Drop,
+    P: Serve + Send + Drop,
     C: Serve + Send + Drop,
     H: Hear + Send + Copy,
 {
-    let mut places: Vec<Place<W, S, C>> = Vec::new(alloc);
+    let mut places: Vec<Place<W, S, P, C>> = Vec::new(alloc);
     for place in workers {
         places.push(Place::Worker(place))?;
     }
     for place in sessions {
         places.push(Place::Session(place))?;
     }
+    for place in pages {
+        places.push(Place::Page(place))?;
+    }
     places.push(Place::Receiving(receiving))?;
     run(rt, alloc, places, hearing)
 }
 
 /// `run_places` with the places of workers.
-fn run_workers<R, S, C, H>(
+fn run_workers<R, S, P, C, H>(
     rt: &R,
     alloc: Global,
     workers: Vec<WorkerPlace<'_, R>>,
     sessions: Vec<S>,
+    pages: Vec<P>,
     receiving: C,
     hearing: H,
 ) -> Result<(), AllocError>
 where
     R: Threads + Wait + Sync + Clock,
     S: Serve + Send + Drop,
+    P: Serve + Send + Drop,
     C: Serve + Send + Drop,
     H: Hear + Send + Copy,
 {
-    run_places(rt, alloc, workers, sessions, receiving, hearing)
+    run_places(rt, alloc, workers, sessions, pages, receiving, hearing)
 }
 
 /// `run_workers` with what receives the clients.
-fn run_receiving<R, S, H>(
+fn run_receiving<R, S, P, H>(
     rt: &R,
     alloc: Global,
     workers: Vec<WorkerPlace<'_, R>>,
     sessions: Vec<S>,
+    pages: Vec<P>,
     receiving: Receiving<'_, R>,
     hearing: H,
 ) -> Result<(), AllocError>
 where
     R: Threads + Wait + Sync + Clock + Eprint,
     S: Serve + Send + Drop,
+    P: Serve + Send + Drop,
     H: Hear + Send + Copy,
 {
-    run_workers(rt, alloc, workers, sessions, receiving, hearing)
+    run_workers(rt, alloc, workers, sessions, pages, receiving, hearing)
 }
 
 /// `run_receiving` with the places of sessions.
-fn run_sessions<R, H>(
+fn run_sessions<R, P, H>(
     rt: &R,
     alloc: Global,
     workers: Vec<WorkerPlace<'_, R>>,
     sessions: Vec<SessionPlace<'_, R, SystemFile<R::File>>>,
+    pages: Vec<P>,
+    receiving: Receiving<'_, R>,
+    hearing: H,
+) -> Result<(), AllocError>
+where
+    R: Threads + Wait + Sync + Clock + Eprint + Files,
+    R::File: Send,
+    R::Dir: Send,
+    P: Serve + Send + Drop,
+    H: Hear + Send + Copy,
+{
+    run_receiving(rt, alloc, workers, sessions, pages, receiving, hearing)
+}
+
+/// `run_sessions` with the places of the page.
+fn run_pages<R, H>(
+    rt: &R,
+    alloc: Global,
+    workers: Vec<WorkerPlace<'_, R>>,
+    sessions: Vec<SessionPlace<'_, R, SystemFile<R::File>>>,
+    pages: Vec<PagePlace<'_, R, SystemFile<R::File>>>,
     receiving: Receiving<'_, R>,
     hearing: H,
 ) -> Result<(), AllocError>
@@ -247,15 +337,16 @@ where
     R::Dir: Send,
     H: Hear + Send + Copy,
 {
-    run_receiving(rt, alloc, workers, sessions, receiving, hearing)
+    run_sessions(rt, alloc, workers, sessions, pages, receiving, hearing)
 }
 
-/// `run_sessions` with what hears of the end.
+/// `run_pages` with what hears of the end.
 fn run_hearing<R>(
     rt: &R,
     alloc: Global,
     workers: Vec<WorkerPlace<'_, R>>,
     sessions: Vec<SessionPlace<'_, R, SystemFile<R::File>>>,
+    pages: Vec<PagePlace<'_, R, SystemFile<R::File>>>,
     receiving: Receiving<'_, R>,
     hearing: Hearing<'_, R>,
 ) -> Result<(), AllocError>
@@ -266,14 +357,24 @@ where
     R::Listener: Send,
     R::Stream: Send,
 {
-    run_sessions(rt, alloc, workers, sessions, receiving, hearing)
+    run_pages(rt, alloc, workers, sessions, pages, receiving, hearing)
 }
 
-/// Serves what was opened at a listener: each worker and each session has a seat of its own at its desk.
+/// The port of a page, if there is one.
+fn page_port(door: Option<Door<'_>>) -> Option<u16> {
+    match door {
+        Some(door) => Some(door.port),
+        None => None,
+    }
+}
+
+/// Serves what was opened at a listener: each worker and each session has a seat of its own at its desk, and
+/// so has each thread of the page, if there is a door for browsers.
 fn serve_opened<'a, R>(
     rt: &'a R,
     alloc: Global,
     listener: &'a TcpListener,
+    door: Option<Door<'a>>,
     control: Option<&'a Control>,
     settings: &'a Settings<'a>,
     opened: Opened<SystemFile<R::File>>,
@@ -292,22 +393,27 @@ where
         sessions,
         ..
     } = *settings;
-    let (office, mut seats) = Office::open(alloc, desk, workers + sessions)?;
+    let threads = sessions + page_threads(door);
+    let (office, mut seats) = Office::open(alloc, desk, workers + threads)?;
     let (bells, heard) = unbounded(alloc)?;
     let (arrivals, received) = bounded(alloc, 0)?;
     let known = Mutex::new(KnownFiles::new(alloc));
-    let end = &ServiceEnd::new(alloc, sessions)?;
+    let end = &ServiceEnd::new(alloc, threads)?;
     let journal = journal.as_ref();
     let workers = worker_places(rt, alloc, &office, &mut seats, workers, &heard)?;
+    let pages = page_places(
+        rt, alloc, &office, &mut seats, settings, door, &bells, &known, end, journal,
+    )?;
     let sessions = session_places(
         rt, alloc, &office, &mut seats, settings, &bells, &received, &known, end, journal,
     )?;
     drop((bells, heard, received));
-    let port = port_of(listener, settings);
+    let (port, page) = (port_of(listener, settings.port), page_port(door));
     let hearing = Hearing {
         rt,
         control,
         port,
+        page,
         end,
     };
     let receiving = Receiving {
@@ -315,15 +421,16 @@ where
         listener,
         settings,
         port,
+        page,
         arrivals,
         end,
     };
-    Ok(run_hearing(rt, alloc, workers, sessions, receiving, hearing)?)
+    Ok(run_hearing(rt, alloc, workers, sessions, pages, receiving, hearing)?)
 }
 
 /// Serves at a listener: the desk is new, or as its journal leaves it; each worker and each session has a
 /// seat of its own at it. What its folder has seen of versions is not asked, and it has no control
-/// connection.
+/// connection and no page.
 /// With `once` it returns when each session thread has served one connection; else it returns only
 /// where a thread can't be made.
 pub fn serve_on<'a, R>(
@@ -340,30 +447,74 @@ where
     R::Stream: Send,
     requires { AreInRange settings.now }
 {
-    let opened = open(rt, alloc, settings, &Seen::nothing(alloc))?;
-    serve_opened(rt, alloc, listener, None, settings, opened)
+    let opened = open(
+        rt,
+        alloc,
+        settings,
+        settings.sessions,
+        &Seen::nothing(alloc),
+    )?;
+    serve_opened(rt, alloc, listener, None, None, settings, opened)
 }
 
-/// What a service begins with in its folder, which has kept the versions that it may tell.
+/// What a service begins with in its folder, which has kept the versions that it may tell, where so many
+/// threads change decks.
 fn open_in_folder<R: Files + Eprint + Clock>(
     rt: &R,
     alloc: Global,
     settings: &Settings<'_>,
+    threads: usize,
 ) -> Result<Opened<SystemFile<R::File>>, ServeFault> {
     let seen = Seen::read(rt, alloc, settings.root)?;
-    let opened = open(rt, alloc, settings, &seen)?;
+    let opened = open(rt, alloc, settings, threads, &seen)?;
     let begun = opened.desk.version();
     seen.take(rt, alloc, settings.root, settings.journal, begun)?;
     Ok(opened)
 }
 
+/// Serves a folder on a listener, and browsers at a door, if there is one.
+fn serve_folder<'a, R>(
+    rt: &'a R,
+    alloc: Global,
+    listener: &'a TcpListener,
+    door: Option<Door<'a>>,
+    settings: &'a Settings<'a>,
+) -> Result<(), ServeFault>
+where
+    R: Threads + Wait + Sync + Files + Drop + Clock + Eprint + Net,
+    R::File: Send,
+    R::Dir: Send,
+    R::Listener: Send,
+    R::Stream: Send,
+    requires { AreInRange settings.now }
+{
+    let threads = settings.sessions + page_threads(door);
+    let opened = open_in_folder(rt, alloc, settings, threads)?;
+    let control = Control::open(rt, alloc, settings.root);
+    serve_opened(
+        rt,
+        alloc,
+        listener,
+        door,
+        control.as_ref(),
+        settings,
+        opened,
+    )
+}
+
 /// Serves on a port of 127.0.0.1, where no other service has the folder; what saves of a killed service
-/// left there is taken away. The faults come in this order: want of memory for the name of a file,
-/// `NoFolder`, `FolderTaken`, `SocketFault`, then those of versions and journal, and want of memory. A
-/// port that can't be listened on is the one fault that is told of sockets: later ones end a session at
-/// most. It returns without a fault where `STOP` is said at the control connection of the folder, and with
-/// `once` as `serve_on`.
-pub fn serve<'a, R>(rt: &'a R, alloc: Global, settings: &'a Settings<'a>) -> Result<(), ServeFault>
+/// left there is taken away. With a port for the page, browsers are served there, at 127.0.0.1 too. The faults
+/// come in this order: want of memory for the name of a file, `NoFolder`, `FolderTaken`, `SocketFault`,
+/// `PageFault`, then those of versions and journal, and want of memory. A port that can't be listened on is
+/// the one fault that is told of sockets: later ones end a session at most. It returns without a fault where
+/// `STOP` is said at the control connection of the folder, and with `once` as `serve_on`, where there is no
+/// page.
+pub fn serve<'a, R>(
+    rt: &'a R,
+    alloc: Global,
+    settings: &'a Settings<'a>,
+    page: Option<u16>,
+) -> Result<(), ServeFault>
 where
     R: Threads
         + Wait
@@ -374,6 +525,7 @@ where
         + Drop
         + Clock
         + Eprint
+        + RandomSource
         + Net<Listener = TcpListener, Stream = TcpStream>,
     R::File: Send,
     R::Dir: Send,
@@ -384,7 +536,19 @@ where
     let Ok(listener) = TcpListener::bind(rt, local_address(settings.port)) else {
         return Err(ServeFault::SocketFault);
     };
-    let opened = open_in_folder(rt, alloc, settings)?;
-    let control = Control::open(rt, alloc, settings.root);
-    serve_opened(rt, alloc, &listener, control.as_ref(), settings, opened)
+    let Some(port) = page else {
+        return serve_folder(rt, alloc, &listener, None, settings);
+    };
+    let Ok(browsers) = TcpListener::bind(rt, local_address(port)) else {
+        return Err(ServeFault::PageFault);
+    };
+    let Ok(keys) = RandomState::new(rt) else {
+        return Err(ServeFault::PageFault);
+    };
+    let door = Door {
+        listener: &browsers,
+        port: port_of(&browsers, port),
+        keys,
+    };
+    serve_folder(rt, alloc, &listener, Some(door), settings)
 }

@@ -1,0 +1,17 @@
+use Rattle.std.proofs.Common.{◌≡◌, ◌+◌, All, length, map}
+use Rattle.std.specs.List.{range_with_len}
+use Rattle.turn_office.specs.Seats.{AreOf}
+use Rattle.desk_service.proofs.pages.page_places.Given as goal
+
+-- the seats that are left are of the office, and as many as were taken are places, each with its number behind the sessions'
+abbrev pub invariant-loop-turn : goal.invariant-loop-turn
+invariant-loop-turn g l = record {
+  own : AreOf l.office.id l.seats.items;
+  left : length l.seats.items + l.turn ≡ length l.fn.seats.items;
+  all : length l.places.items ≡ l.turn;
+  number : map (λ place. place.page.1.1.number) l.places.items ≡ range_with_len l.settings.sessions l.turn;
+  keeper : map (λ place. place.page.1.0.1.session) l.places.items ≡ range_with_len l.settings.sessions l.turn;
+  folder : All (λ place. place.page.1.1.folder ≡ l.settings.root.now) l.places.items;
+  office : All (λ place. place.page.1.0.0.0.seat.office ≡ l.office.id) l.places.items;
+  port : All (λ place. place.page.0 ≡ l.entrance.port) l.places.items;
+}

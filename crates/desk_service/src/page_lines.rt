@@ -1,0 +1,59 @@
+//! The lines that a page sends: served as those of a session.
+ghost use Rattle.std.specs.Prelude.{◌≡◌};
+ghost use Rattle.desk_service.specs.PageLines.{is_whole};
+
+use crate::sessions::{Ending, serve_session};
+use deck_files::Shelf;
+use page::{Replies, ServeLines, Served};
+use session_line::Calls;
+use std::alloc::Global;
+use std::marker::Model;
+use text_ports::Counted;
+
+/// Whether all replies of a session that ended so found room.
+fn is_whole(ending: Ending) -> bool
+    ensures { result ≡ is_whole ending }
+{
+    match ending {
+        Ending::Left | Ending::Full => true,
+        Ending::ReadFault | Ending::WriteFault => false,
+    }
+}
+
+/// A desk and a shelf, at which lines in memory are served. Contracts see the two as a pair.
+#[derive(Drop)]
+pub struct DeskLines<C, S> {
+    alloc: Global,
+    desk: C,
+    shelf: S,
+}
+
+impl<C, S> Model for DeskLines<C, S> {
+    ghost Value = { C × S };
+
+    ghost view = { λ l. (l.desk, l.shelf) };
+}
+
+impl<C, S> DeskLines<C, S> {
+    pub fn new(alloc: Global, desk: C, shelf: S) -> DeskLines<C, S>
+        ensures { result ≡ (desk, shelf) }
+    {
+        DeskLines { alloc, desk, shelf }
+    }
+}
+
+impl<C: Calls, S: Shelf> ServeLines for DeskLines<C, S> {
+    ghost use Rattle.desk_service.specs.PageLines.{ServesBody};
+
+    ghost serves = { ServesBody C.makes S.loads S.refuses_to_load S.saves S.refuses_to_save };
+
+    fn serve(&mut self, lines: &[u8], replies: Replies) -> Served {
+        let (mut input, mut output) = (Counted::new(lines), Counted::new(replies));
+        let (desk, shelf) = (&mut self.desk, &mut self.shelf);
+        let ending = serve_session(self.alloc, &mut input, &mut output, desk, shelf);
+        Served {
+            replies: output.into_inner(),
+            is_whole: is_whole(ending),
+        }
+    }
+}

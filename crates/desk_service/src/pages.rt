@@ -1,0 +1,205 @@
+//! The threads of the page: each answers browsers, one connection after the other.
+//!
+//! They wait at a listener of their own, and have seats, a shelf and places in the journal of their own. A
+//! browser that says nothing, or does not take its answer, holds one of them for some seconds and nobody else.
+ghost use Rattle.std.specs.Prelude.{◌≡◌, ◌-◌, ◌≤◌, All, length, map, IfOk, IfSome, OnOk};
+ghost use Rattle.std.specs.List.{range_with_len};
+ghost use Rattle.turn_office.specs.Seats.{AreOf};
+ghost use Rattle.desk_service.specs.PageThreads.{page_threads};
+
+use crate::bells::{Ringing, WorkBell};
+use crate::journals::{Journal, SessionKeeper};
+use crate::page_lines::DeskLines;
+use crate::places::{Serve, take_seat};
+use crate::service_end::ServiceEnd;
+use crate::settings::Settings;
+use crate::timed_stream::TimedStream;
+use crossbeam_channel::Sender;
+use deck_files::{FolderShelf, KnownFiles, Shelf};
+use deck_workers::Bell;
+use desk_core::Desk;
+use journal::{Keeping, RecordsFile};
+use page::{PageService, serve_page};
+use session_line::{Calls, SeatCalls};
+use std::alloc::{AllocError, Global};
+use std::hash::RandomState;
+use std::io::Read;
+use std::net::{Shutdown, TcpListener, TcpStream};
+use std::rt::Files;
+use std::sync::{Mutex, Wait};
+use std::thread;
+use std::time::{Clock, Duration};
+use turn_office::{Office, SeatList};
+
+/// How many connections of browsers are served at once, each by a thread of its own; others wait.
+pub(crate) const PAGE_THREADS: usize = 4;
+
+/// How long a request may take from the moment that its connection is taken, in seconds.
+const REQUEST_SECONDS: u64 = 3;
+
+/// How long an answer may take to be sent, in seconds.
+const ANSWER_SECONDS: u64 = 5;
+
+/// How long a browser has to close a connection behind its answer, in milliseconds.
+const CLOSING: u64 = 500;
+
+/// How often something is read that stands behind a request.
+const MOST_READS: u32 = 64;
+
+/// How long a thread sleeps after it could not accept a connection, in milliseconds.
+const PAUSE: u64 = 100;
+
+/// Where browsers come in: the listener, and the keys by which the names of their fields are spread.
+#[derive(Clone, Copy)]
+pub(crate) struct Door<'a> {
+    pub(crate) listener: &'a TcpListener,
+    pub(crate) port: u16,
+    pub(crate) keys: RandomState,
+}
+
+/// What page threads do their work at: a desk whose changes are kept, and a shelf.
+type PageDesk<'a, R, F> = DeskLines<
+    Keeping<Ringing<SeatCalls<'a, R>, WorkBell<'a, R>>, SessionKeeper<'a, R, F>>,
+    FolderShelf<'a, R>,
+>;
+
+/// What a page thread works with.
+#[derive(Drop)]
+pub(crate) struct PagePlace<'a, R, F: RecordsFile> {
+    rt: &'a R,
+    alloc: Global,
+    door: Door<'a>,
+    session: usize,
+    end: &'a ServiceEnd,
+    page: PageService<PageDesk<'a, R, F>>,
+}
+
+/// Takes what stands behind a request, for a moment, and lets it go: where the connection was closed with
+/// something unread, its last answer would be lost.
+fn let_go<R: Clock>(rt: &R, stream: &TcpStream) {
+    let _ = stream.shutdown(Shutdown::Write);
+    let mut rest = TimedStream::new(rt, stream, Duration::from_millis(CLOSING));
+    let mut bytes = [0; 4096];
+    for _ in 0..MOST_READS {
+        match rest.read(&mut bytes) {
+            Ok(count) if count > 0 => {}
+            _ => return,
+        }
+    }
+}
+
+/// Serves one connection of a browser.
+fn serve_browser<R: Clock, C: Calls, S: Shelf>(
+    rt: &R,
+    alloc: Global,
+    keys: RandomState,
+    stream: &TcpStream,
+    page: &mut PageService<DeskLines<C, S>>,
+) {
+    let _ = stream.set_nodelay(true);
+    let mut reader = TimedStream::new(rt, stream, Duration::from_secs(REQUEST_SECONDS));
+    let mut writer = TimedStream::new(rt, stream, Duration::from_secs(ANSWER_SECONDS));
+    let _ = serve_page(alloc, keys, page, &mut reader, &mut writer);
+    let_go(rt, stream);
+}
+
+/// Accepts a connection and serves it: whether another may come.
+fn serve_next<R: Wait + Clock, C: Calls, S: Shelf>(
+    rt: &R,
+    alloc: Global,
+    door: Door<'_>,
+    session: usize,
+    end: &ServiceEnd,
+    page: &mut PageService<DeskLines<C, S>>,
+) -> bool {
+    let Ok((stream, _)) = door.listener.accept() else {
+        let _ = thread::sleep(rt, Duration::from_millis(PAUSE));
+        return !end.is_asked(rt);
+    };
+    if end.enter(rt, session, &stream) {
+        serve_browser(rt, alloc, door.keys, &stream, page);
+        end.leave(rt, session);
+    }
+    !end.is_asked(rt)
+}
+
+/// A page thread serves connections until the end of the service is asked for.
+impl<R: Wait + Clock + Files, F: RecordsFile + Drop> Serve for PagePlace<'_, R, F> {
+    fn serve(self) {
+        let PagePlace {
+            rt,
+            alloc,
+            door,
+            session,
+            end,
+            mut page,
+        } = self;
+        for _ in rt.forever() {
+            if !serve_next(rt, alloc, door, session, end, &mut page) {
+                return;
+            }
+        }
+    }
+}
+
+/// How many threads a page has, if there is a door.
+pub(crate) fn page_threads(door: Option<Door<'_>>) -> usize
+    ensures count { result ≡ page_threads door.entry }
+    ensures few { result ≤ 4 }
+{
+    match door {
+        Some(_) => PAGE_THREADS,
+        None => 0,
+    }
+}
+
+/// Places for the threads of the page, if there is a door, with seats from the list. Their numbers, in the
+/// journal and among the shelves of the folder, are those behind the sessions'.
+pub(crate) fn page_places<'a, R, F: RecordsFile>(
+    rt: &'a R,
+    alloc: Global,
+    office: &'a Office<Desk>,
+    seats: &mut SeatList<Desk>,
+    settings: &Settings<'a>,
+    door: Option<Door<'a>>,
+    bells: &Sender<Bell>,
+    known: &'a Mutex<KnownFiles>,
+    end: &'a ServiceEnd,
+    journal: Option<&'a Journal<F>>,
+) -> Result<Vec<PagePlace<'a, R, F>>, AllocError>
+    requires own { AreOf office.now.id seats.old.items }
+    requires enough { page_threads door ≤ length seats.old.items }
+    requires few { settings.now.sessions ≤ 16 }
+    ensures own { OnOk result (AreOf office.now.id seats.new.items) }
+    ensures left { OnOk result (length seats.new.items ≡ length seats.old.items - page_threads door.entry) }
+    ensures all { IfOk result (λ places. length places.items ≡ page_threads door.entry) }
+    ensures number { IfOk result (λ places. map (λ place. place.page.1.1.number) places.items ≡ range_with_len settings.now.sessions (page_threads door.entry)) }
+    ensures keeper { IfOk result (λ places. map (λ place. place.page.1.0.1.session) places.items ≡ range_with_len settings.now.sessions (page_threads door.entry)) }
+    ensures folder { IfOk result (λ places. All (λ place. place.page.1.1.folder ≡ settings.now.root.now) places.items) }
+    ensures office { IfOk result (λ places. All (λ place. place.page.1.0.0.0.seat.office ≡ office.now.id) places.items) }
+    ensures port { IfSome door.entry (λ door. IfOk result (λ places. All (λ place. place.page.0 ≡ door.port) places.items)) }
+{
+    let mut places = Vec::new(alloc);
+    let Some(entrance) = door else {
+        return Ok(places);
+    };
+    for turn in 0..PAGE_THREADS {
+        let session = settings.sessions + turn;
+        let seat = SeatCalls::new(rt, office, take_seat(office, seats));
+        let ringing = Ringing::new(seat, WorkBell::new(rt, bells.clone()?));
+        let keeper = SessionKeeper::new(rt, alloc, journal, session);
+        let desk = Keeping::new(ringing, keeper);
+        let shelf = FolderShelf::new(rt, alloc, settings.root, session, known);
+        let lines = DeskLines::new(alloc, desk, shelf);
+        let page = PageService::new(alloc, entrance.port, lines);
+        places.push(PagePlace {
+            rt,
+            alloc,
+            door: entrance,
+            session,
+            end,
+            page,
+        })?;
+    }
+    Ok(places)
+}
