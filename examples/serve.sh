@@ -47,8 +47,7 @@ ask 4 'INS M 1 1           BX6    X1'
 ask 4 'INS M 2 2           BX6    X1'
 ask 3 'CARDS M'
 ask 3 'SAVE M'
-until status=$(ask 4 'STATUS') && [[ $status == *'PUBLISHED 3'* ]]; do sleep 0.05; done
-echo "$status"
+ask 4 'WAIT 3'
 ask 4 'IMAGE'
 ask 3 'BYE'
 ask 4 'BYE'

@@ -12,6 +12,7 @@ use Rattle.desk_core.specs.Runs.{History}
 use Rattle.deck_workers.specs.declared.made.Made.{Made}
 use Rattle.deck_workers.specs.Rounds.{Working, IsRound, call_of, entries_of, entries_in}
 use Rattle.deck_workers.proofs.Turns.{entries-more}
+use Rattle.deck_workers.specs.Subscribers.{unheard, heard}
 use Rattle.deck_workers.specs.Working.{Calls, MakesRound, Works}
 
 -- an entry of a seat is its own
@@ -42,14 +43,6 @@ more-calls number before behind seen middle now earlier later = record {
   calls = later.calls ∙ (ap (λ (log : History). log ++ behind) earlier.calls ∙ append_assoc (entries_by number seen) before behind);
 }
 
--- no calls yet
-pub no-calls : (number : ℕ) (seen : History) → Works number seen seen
-no-calls number seen = record {
-  rounds = [];
-  are_rounds = All-nil IsRound;
-  made = record { begins = ([], append-nil seen); calls = sym (append-nil (entries_by number seen)) };
-}
-
 -- the calls of a round with a job
 pub worked : (number other : ℕ) (claimed answered : Reply) (result : Made) (call : Call) (seen middle now : History) → other ≡ number → call ≡ call_of result →
     Calls number (entry number Claim claimed ∷ []) seen middle → Calls other (entry other call answered ∷ []) middle now → Calls number (entries_of number (Working claimed result answered)) seen now
@@ -58,12 +51,24 @@ worked number other claimed answered result call seen middle now same is earlier
     more-calls number (entry number Claim claimed ∷ []) (entry number (call_of result) answered ∷ []) seen middle now earlier
     (subst (λ (n : ℕ). Calls n (entry n (call_of result) answered ∷ []) middle now) same ends)
 
--- one round more
-pub more-work : (number other : ℕ) (seen middle now : History) → other ≡ number → Works number seen middle → MakesRound other middle now → Works number seen now
-more-work number other seen middle now same works makes =
-    let made = subst (λ (n : ℕ). Calls n (entries_of n makes.round) middle now) same makes.made in
-    record {
-      rounds = works.rounds ++ makes.round ∷ [];
-      are_rounds = All-push IsRound works.rounds makes.round works.are_rounds makes.is_round;
-      made = subst (λ (entries : History). Calls number entries seen now) (entries-more number works.rounds makes.round) (more-calls number (entries_in number works.rounds) (entries_of number makes.round) seen middle now works.made made);
-    }
+module _ {S : Type 0} (hears : S → ℕ → S → Type 0) where
+  -- no calls yet
+  pub no-calls : (number : ℕ) (seen : History) (first : S) → Works hears number seen seen first first
+  no-calls number seen first = record {
+    rounds = [];
+    are_rounds = All-nil IsRound;
+    made = record { begins = ([], append-nil seen); calls = sym (append-nil (entries_by number seen)) };
+    heard = unheard;
+  }
+
+  -- one round more
+  pub more-work : (number other : ℕ) (seen middle now : History) (first between last : S) → other ≡ number → Works hears number seen middle first between →
+      MakesRound hears other middle now between last → Works hears number seen now first last
+  more-work number other seen middle now first between last same works makes =
+      let made = subst (λ (n : ℕ). Calls n (entries_of n makes.round) middle now) same makes.made in
+      record {
+        rounds = works.rounds ++ makes.round ∷ [];
+        are_rounds = All-push IsRound works.rounds makes.round works.are_rounds makes.is_round;
+        made = subst (λ (entries : History). Calls number entries seen now) (entries-more number works.rounds makes.round) (more-calls number (entries_in number works.rounds) (entries_of number makes.round) seen middle now works.made made);
+        heard = heard works.rounds makes.round between last works.heard makes.heard;
+      }

@@ -16,4 +16,4 @@ pub use Rattle.desk_core.specs.declared.jobs.DeckWork.{DeckWork}
 pub use Rattle.desk_core.specs.declared.jobs.LinkWork.{LinkWork}
 pub use Rattle.desk_core.specs.declared.replies.Refusal.{Refusal}
 pub use Rattle.desk_core.specs.declared.replies.Reply.{Reply}
-pub use Rattle.desk_core.specs.declared.replies.Reply.TheVariants.{DeckJob, LinkJob}
+pub use Rattle.desk_core.specs.declared.replies.Reply.TheVariants.{DeckJob, LinkJob, Stored}

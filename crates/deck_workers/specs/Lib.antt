@@ -2,4 +2,5 @@ pub mod Working
 pub mod Language
 pub mod Jobs
 pub mod Rounds
+pub mod Subscribers
 pub mod Settling

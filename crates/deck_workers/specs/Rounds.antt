@@ -22,6 +22,12 @@ call_of (made.Deck done) = DeliverDeck done
 call_of (made.Link lease publication) = DeliverLink lease publication
 call_of (made.Lost lease fault) = GiveUp lease
 
+-- the version of the publication that was made, if one was
+abbrev pub published_in : Made → Option ℕ
+published_in (made.Deck done) = None
+published_in (made.Link lease publication) = Some publication.version
+published_in (made.Lost lease fault) = None
+
 -- a round: a claim with a reply that gives no job; or one that gives a job, what was made of it, and the reply to the call that ends it
 pub data Round : Type 0 where
   Resting : Reply → Round

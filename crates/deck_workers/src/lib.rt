@@ -18,6 +18,7 @@ mod settling;
 // Workers.
 mod bells;
 mod gates;
+mod subscribers;
 mod working;
 
 pub use bells::Bell;
@@ -26,4 +27,5 @@ pub use jobs::{Job, job_in};
 pub use made::Made;
 pub use runs::Runs;
 pub use settling::{Settled, settle};
+pub use subscribers::{NoSubscriber, Subscriber};
 pub use working::worker;

@@ -1,7 +1,7 @@
 //! What is made of a job.
 ghost use Rattle.std.specs.Prelude.{◌≡◌};
 ghost use Rattle.deck_workers.specs.Jobs.{is_result};
-ghost use Rattle.deck_workers.specs.Rounds.{call_of};
+ghost use Rattle.deck_workers.specs.Rounds.{call_of, published_in};
 
 use desk_core::{Call, Done, SharedPublication};
 use edit_core::RecordFault;
@@ -31,6 +31,16 @@ impl Made {
         match self {
             Made::Deck(_) | Made::Link { .. } => true,
             Made::Lost { .. } => false,
+        }
+    }
+
+    /// The version of the publication, if one was made.
+    pub fn published(&self) -> Option<u64>
+        ensures { result ≡ published_in self.now }
+    {
+        match self {
+            Made::Link { publication, .. } => Some(publication.publication().version()),
+            Made::Deck(_) | Made::Lost { .. } => None,
         }
     }
 

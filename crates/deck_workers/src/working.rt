@@ -7,6 +7,7 @@ ghost use Rattle.deck_workers.specs.Working.{MakesRound, Works};
 
 use crate::bells::{Bell, Patience, Round, goes_on};
 use crate::gates::Gate;
+use crate::subscribers::{Subscriber, tell_after};
 use crate::{Job, Made, Runs, job_in};
 use crossbeam_channel::Receiver;
 use desk_core::{Call, Desk, Reply};
@@ -23,24 +24,26 @@ use turn_office::{Office, Seat};
 /// `Stop` ends it, and so does a channel that no bell can come from.
 ///
 /// What the seat had seen begins what it has seen then, and its calls since are rounds: each is a
-/// claim, followed by one call that ends the job, where the claim gave one.
-pub fn worker<R: Wait + Clock, G: Gate>(
+/// claim, followed by one call that ends the job, where the claim gave one. Of each publication that the
+/// desk took from it the subscriber hears once, behind the delivery, and of nothing else.
+pub fn worker<R: Wait + Clock, G: Gate, S: Subscriber>(
     rt: &R,
     alloc: Global,
     office: &Office<Desk>,
     mut seat: Seat<Desk>,
     gate: &G,
+    subscriber: &mut S,
     bells: Receiver<Bell>,
 ) -> Seat<Desk>
     requires { seat.office ≡ office.now.id }
     ensures same { (result.office ≡ seat.office) × (result.number ≡ seat.number) }
-    ensures works { Works seat.number seat.seen result.seen }
+    ensures works { Works S.hears seat.number seat.seen result.seen subscriber.old subscriber.new }
     ensures legal { IsLegal Steps office.now.seats office.now.first result.seen }
 {
     let mut meter = Meter { sized: 0, coded: 0 };
     let mut patience = Patience::new();
     for _ in rt.forever() {
-        let round = make_round(rt, alloc, office, &mut seat, gate, &mut meter);
+        let round = make_round(rt, alloc, office, &mut seat, gate, subscriber, &mut meter);
         if !goes_on(rt, &bells, round, &mut patience) {
             return seat;
         }
@@ -49,17 +52,18 @@ pub fn worker<R: Wait + Clock, G: Gate>(
 }
 
 /// Claims, and does the job that the claim gives, if it gives one.
-fn make_round<R: Wait, G: Gate>(
+fn make_round<R: Wait, G: Gate, S: Subscriber>(
     rt: &R,
     alloc: Global,
     office: &Office<Desk>,
     seat: &mut Seat<Desk>,
     gate: &G,
+    subscriber: &mut S,
     meter: &mut Meter,
 ) -> Round
     requires { seat.old.office ≡ office.now.id }
     ensures same { (seat.new.office ≡ seat.old.office) × (seat.new.number ≡ seat.old.number) }
-    ensures round { MakesRound seat.old.number seat.old.seen seat.new.seen }
+    ensures round { MakesRound S.hears seat.old.number seat.old.seen seat.new.seen subscriber.old subscriber.new }
     ensures legal { IsLegal Steps office.now.seats office.now.first seat.new.seen }
 {
     let reply = seat.call(rt, office, Call::Claim);
@@ -68,7 +72,9 @@ fn make_round<R: Wait, G: Gate>(
         Some(job) => {
             let made = run(alloc, gate, job, meter);
             let is_result = made.is_result();
-            seat.call(rt, office, made.into_call());
+            let published = made.published();
+            let answered = seat.call(rt, office, made.into_call());
+            tell_after(subscriber, published, &answered);
             Round::with_job(is_result)
         }
         None => Round::without_job(is_refused),

@@ -1,4 +1,5 @@
 pub mod Bells
+pub mod Waiting
 pub mod SessionKeepers
 pub mod FaultTexts
 pub mod Sessions

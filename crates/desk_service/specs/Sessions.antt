@@ -63,14 +63,15 @@ module _ {C S : Type 0} where
     pub reader : new.read_faults ≡ old.read_faults
     pub writer : new.write_faults ≡ count_after_flush sent old.write_faults
 
-module _ {C S : Type 0} (makes : C → Call → Reply → C → Type 0) (loads : S → List ℕ → List Card → S → Type 0) (refuses_to_load : S → List ℕ → ShelfLoadFault → S → Type 0)
+module _ {C S : Type 0} (makes : C → Call → Reply → C → Type 0) (awaits : C → ℕ → Reply → C → Type 0) (loads : S → List ℕ → List Card → S → Type 0)
+    (refuses_to_load : S → List ℕ → ShelfLoadFault → S → Type 0)
     (saves : S → Saving → S → Type 0) (refuses_to_save : S → Saving → ShelfSaveFault → S → Type 0) where
   -- one line is served, its reply is sent on, and this is how the session ends there, if it ends
   pub record ServesLine (old new : Standing C S) (told : Option Ending) : Type 0 where
     pub middle : Standing C S
     pub outcome : Outcome
     pub flushed : Bool
-    pub served : Serves makes loads refuses_to_load saves refuses_to_save old.sides middle.sides outcome
+    pub served : Serves makes awaits loads refuses_to_load saves refuses_to_save old.sides middle.sides outcome
     pub reads : middle.read_faults ≡ read_faults_after outcome old.read_faults
     pub writes : middle.write_faults ≡ write_faults_after outcome old.write_faults
     pub sent : SendsOn flushed middle new

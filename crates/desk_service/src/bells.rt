@@ -40,16 +40,23 @@ impl<C, B> Ringing<C, B> {
     }
 }
 
-/// The calls are the desk's.
+/// The calls are the desk's. Who waits is answered by the desk.
 impl<C: Calls, B: Ring> Calls for Ringing<C, B> {
+    ghost use Rattle.std.specs.Prelude.{◌≡◌};
     ghost use Rattle.desk_service.specs.Bells.{RingsAfter};
 
     ghost makes = { λ old call reply new. C.makes old.0 call reply new.0 × RingsAfter B.rings reply old.1 new.1 };
+
+    ghost awaits = { λ old version reply new. C.awaits old.0 version reply new.0 × (new.1 ≡ old.1) };
 
     fn call(&mut self, call: Call) -> Reply {
         let reply = self.desk.call(call);
         ring_after(&mut self.bell, &reply);
         reply
+    }
+
+    fn await_version(&mut self, version: u64) -> Reply {
+        self.desk.await_version(version)
     }
 }
 

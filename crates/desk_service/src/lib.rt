@@ -4,7 +4,7 @@
 //! | Thread | How many | What it does | Where it sleeps |
 //! |---|---|---|---|
 //! | receiving | 1 | accepts connections, gives each to a session that is free | in `accept` |
-//! | session | 1 to 16 | takes a connection, serves it to its end, takes the next | till one comes, in a read of the connection |
+//! | session | 1 to 16 | takes a connection, serves it to its end, takes the next | till one comes, in a read of the connection, till a version is published |
 //! | worker | 1 to 16 | claims what is due, runs it, delivers it | on the bell |
 //! | page | 4, or none | accepts a connection of a browser, answers it, takes the next | in `accept`, some seconds for a request |
 //! | control | 1 | hears whether the service is to end | at the socket of the folder |
@@ -14,6 +14,10 @@
 //! accepted, after the change; a worker that hears it claims whatever is due then. It claims again after
 //! each delivery, so a deck that was out while it changed, and the link behind the last deck, need no
 //! bell of their own. When the last session has ended no bell can come any more, which ends the workers.
+//!
+//! A session that waits for a version asks for the status, and sleeps where that does not show it; it holds no
+//! turn and no worker meanwhile. A worker tells of each link that the desk took from it, behind the delivery,
+//! and so wakes who waits; then the session asks once more. So do a minute, and the end of the service.
 //!
 //! A client that goes away, sends a line that is too long or never ends, or sends what is no command,
 //! ends its session or is told so, and nothing else; so does one that sends nothing for longer than it may
@@ -41,6 +45,7 @@
 mod bells;
 mod page_lines;
 mod sessions;
+mod waiting;
 
 // What a service begins with, and keeps.
 mod faults;
@@ -61,6 +66,7 @@ mod control;
 mod pages;
 mod patience;
 mod places;
+mod publications;
 mod running;
 mod service_end;
 mod timed_stream;
@@ -75,3 +81,4 @@ pub use running::{serve, serve_on};
 pub use sessions::{Ending, serve_session};
 pub use settings::{Journaling, Settings};
 pub use system_file::SystemFile;
+pub use waiting::{Sleep, Waiting, Woken};

@@ -16,8 +16,8 @@ pub(crate) struct PatientReader<'a, R> {
     rt: &'a R,
     stream: &'a TcpStream,
     idle: Duration,
-    /// When the line began whose end was not read yet.
-    begun: Option<Instant>,
+    /// How long the reads have taken of the line whose end was not read yet.
+    spent: Option<Duration>,
 }
 
 impl<'a, R: Clock> PatientReader<'a, R> {
@@ -26,44 +26,40 @@ impl<'a, R: Clock> PatientReader<'a, R> {
             rt,
             stream,
             idle,
-            begun: None,
+            spent: None,
         }
     }
 
     /// How long the next read may wait.
-    fn wait(&self) -> io::Result<Duration> {
-        match self.begun {
-            Some(begun) => Ok(Duration::from_secs(LINE_SECONDS).saturating_sub(begun.elapsed(
-                self.rt,
-            )?)),
-            None => Ok(self.idle),
+    fn wait(&self) -> Duration {
+        match self.spent {
+            Some(spent) => Duration::from_secs(LINE_SECONDS).saturating_sub(spent),
+            None => self.idle,
         }
     }
 
-    /// Notes whether these bytes end inside of a line.
-    fn note(&mut self, bytes: &[u8]) -> io::Result<()> {
-        match bytes.last() {
-            None => {}
-            Some(b'\n') => self.begun = None,
-            Some(_) if self.begun.is_none() || bytes.contains(&b'\n') => {
-                self.begun = Some(Instant::now(self.rt)?);
-            }
-            Some(_) => {}
-        }
-        Ok(())
+    /// Notes whether these bytes, which a read gave that took so long, end inside of a line.
+    fn note(&mut self, bytes: &[u8], took: Duration) {
+        self.spent = match (bytes.last(), self.spent) {
+            (None, spent) => spent,
+            (Some(b'\n'), _) => None,
+            (Some(_), Some(spent)) if !bytes.contains(&b'\n') => Some(spent.saturating_add(took)),
+            (Some(_), _) => Some(Duration::ZERO),
+        };
     }
 }
 
 impl<R: Clock> Read for PatientReader<'_, R> {
     fn read(&mut self, buf: &mut [u8]) -> io::Result<usize> {
-        let wait = self.wait()?;
+        let wait = self.wait();
         if wait.is_zero() {
             return Err(io::Error::from(ErrorKind::TimedOut));
         }
         self.stream.set_read_timeout(Some(wait))?;
+        let began = Instant::now(self.rt)?;
         let mut stream = self.stream;
         let count = stream.read(buf)?;
-        self.note(&buf[..count])?;
+        self.note(&buf[..count], began.elapsed(self.rt)?);
         Ok(count)
     }
 }

@@ -6,8 +6,10 @@ ghost use Rattle.turn_office.specs.Seats.{AreOf};
 use crate::bells::{Ringing, WorkBell};
 use crate::connections::{Serving, serve_connections};
 use crate::journals::{Journal, SessionKeeper};
+use crate::publications::PublicationsEnd;
 use crate::service_end::ServiceEnd;
 use crate::settings::Settings;
+use crate::waiting::Waiting;
 use crossbeam_channel::{Receiver, Sender};
 use deck_files::{FolderShelf, KnownFiles};
 use deck_workers::{Bell, OpenGate, worker};
@@ -27,7 +29,8 @@ pub(crate) trait Serve {
     fn serve(self);
 }
 
-/// What a worker works with: a seat of the office, and the end of the bell that it hears.
+/// What a worker works with: a seat of the office, the end of the bell that it hears, and where it tells
+/// of what it published.
 #[derive(Drop)]
 pub(crate) struct WorkerPlace<'a, R> {
     rt: &'a R,
@@ -35,31 +38,42 @@ pub(crate) struct WorkerPlace<'a, R> {
     office: &'a Office<Desk>,
     seat: Seat<Desk>,
     bells: Receiver<Bell>,
+    published: PublicationsEnd<'a, R>,
     ghost seated: { seat.office ≡ office.now.id },
 }
 
 /// A worker works until no bell can come any more.
 impl<R: Wait + Clock> Serve for WorkerPlace<'_, R> {
     fn serve(self) {
-        worker(
-            self.rt,
-            self.alloc,
-            self.office,
-            self.seat,
-            &OpenGate,
-            self.bells,
-        );
+        let WorkerPlace {
+            rt,
+            alloc,
+            office,
+            seat,
+            bells,
+            mut published,
+            ..
+        } = self;
+        worker(rt, alloc, office, seat, &OpenGate, &mut published, bells);
     }
 }
 
-/// What a session thread works with: a desk whose changes are kept, and a shelf.
+/// The desk of a session: its changes are kept, and it is waited at.
+type SessionDesk<'a, R, F> = Waiting<
+    'a,
+    Keeping<Ringing<SeatCalls<'a, R>, WorkBell<'a, R>>, SessionKeeper<'a, R, F>>,
+    PublicationsEnd<'a, R>,
+    R,
+>;
+
+/// What a session thread works with: a desk, and a shelf.
 #[derive(Drop)]
 pub(crate) struct SessionPlace<'a, R, F: RecordsFile> {
     rt: &'a R,
     alloc: Global,
     arrivals: Receiver<TcpStream>,
     serving: Serving<'a>,
-    desk: Keeping<Ringing<SeatCalls<'a, R>, WorkBell<'a, R>>, SessionKeeper<'a, R, F>>,
+    desk: SessionDesk<'a, R, F>,
     shelf: FolderShelf<'a, R>,
 }
 
@@ -100,6 +114,7 @@ pub(crate) fn worker_places<'a, R>(
     seats: &mut SeatList<Desk>,
     count: usize,
     bells: &Receiver<Bell>,
+    end: &'a ServiceEnd,
 ) -> Result<Vec<WorkerPlace<'a, R>>, AllocError>
     requires own { AreOf office.now.id seats.old.items }
     requires enough { count ≤ length seats.old.items }
@@ -116,9 +131,34 @@ pub(crate) fn worker_places<'a, R>(
             office,
             seat: take_seat(office, seats),
             bells: bells.clone()?,
+            published: PublicationsEnd::new(rt, end.publications()),
         })?;
     }
     Ok(places)
+}
+
+/// The desk of the session of this number, at a seat of the office.
+fn session_desk<'a, R, F: RecordsFile>(
+    rt: &'a R,
+    alloc: Global,
+    office: &'a Office<Desk>,
+    seat: Seat<Desk>,
+    number: usize,
+    bells: Sender<Bell>,
+    end: &'a ServiceEnd,
+    journal: Option<&'a Journal<F>>,
+) -> SessionDesk<'a, R, F>
+    requires own { seat.office ≡ office.now.id }
+    ensures office { result.0.0.0.seat.office ≡ office.now.id }
+    ensures keeper { result.0.1.session ≡ number }
+{
+    let calls = SeatCalls::new(rt, office, seat);
+    let bell = WorkBell::new(rt, bells);
+    let ringing = Ringing::new(calls, bell);
+    let keeper = SessionKeeper::new(rt, alloc, journal, number);
+    let keeping = Keeping::new(ringing, keeper);
+    let published = PublicationsEnd::new(rt, end.publications());
+    Waiting::new(rt, keeping, published)
 }
 
 /// Places for the sessions of a service, with seats from the list; each has an end of the bell, waits for
@@ -141,15 +181,24 @@ pub(crate) fn session_places<'a, R, F: RecordsFile>(
     ensures all { IfOk result (λ places. length places.items ≡ settings.now.sessions) }
     ensures number { IfOk result (λ places. map (λ place. place.shelf.number) places.items ≡ range_with_len 0 settings.now.sessions) }
     ensures session { IfOk result (λ places. map (λ place. place.serving.session) places.items ≡ range_with_len 0 settings.now.sessions) }
-    ensures keeper { IfOk result (λ places. map (λ place. place.desk.1.session) places.items ≡ range_with_len 0 settings.now.sessions) }
+    ensures keeper { IfOk result (λ places. map (λ place. place.desk.0.1.session) places.items ≡ range_with_len 0 settings.now.sessions) }
     ensures folder { IfOk result (λ places. All (λ place. place.shelf.folder ≡ settings.now.root.now) places.items) }
     ensures once { IfOk result (λ places. All (λ place. place.serving.once ≡ settings.now.once) places.items) }
-    ensures office { IfOk result (λ places. All (λ place. place.desk.0.0.seat.office ≡ office.now.id) places.items) }
+    ensures office { IfOk result (λ places. All (λ place. place.desk.0.0.0.seat.office ≡ office.now.id) places.items) }
 {
     let mut places = Vec::new(alloc);
     for number in 0..settings.sessions {
-        let seat = SeatCalls::new(rt, office, take_seat(office, seats));
-        let keeper = SessionKeeper::new(rt, alloc, journal, number);
+        let desk = session_desk(
+            rt,
+            alloc,
+            office,
+            take_seat(office, seats),
+            number,
+            bells.clone()?,
+            end,
+            journal,
+        );
+        let shelf = FolderShelf::new(rt, alloc, settings.root, number, known);
         places.push(SessionPlace {
             rt,
             alloc,
@@ -160,11 +209,8 @@ pub(crate) fn session_places<'a, R, F: RecordsFile>(
                 once: settings.once,
                 end,
             },
-            desk: Keeping::new(
-                Ringing::new(seat, WorkBell::new(rt, bells.clone()?)),
-                keeper,
-            ),
-            shelf: FolderShelf::new(rt, alloc, settings.root, number, known),
+            desk,
+            shelf,
         })?;
     }
     Ok(places)

@@ -400,7 +400,7 @@ where
     let known = Mutex::new(KnownFiles::new(alloc));
     let end = &ServiceEnd::new(alloc, threads)?;
     let journal = journal.as_ref();
-    let workers = worker_places(rt, alloc, &office, &mut seats, workers, &heard)?;
+    let workers = worker_places(rt, alloc, &office, &mut seats, workers, &heard, end)?;
     let pages = page_places(
         rt, alloc, &office, &mut seats, settings, door, &bells, &known, end, journal,
     )?;

@@ -1,6 +1,7 @@
 //! The end of a service, where it is asked for: no connection is taken any more, nothing more is read of
-//! those that are open, and what is being answered goes out.
+//! those that are open, who waits for a publication is answered, and what is being answered goes out.
 
+use crate::publications::Publications;
 use std::alloc::{AllocError, Global};
 use std::net::{Shutdown, TcpStream};
 use std::sync::{Mutex, Wait};
@@ -17,6 +18,8 @@ struct Known {
 #[derive(Drop)]
 pub(crate) struct ServiceEnd {
     known: Mutex<Known>,
+    /// Where sessions sleep that the end wakes.
+    publications: Publications,
 }
 
 /// Ends one direction of each connection that is open, or both.
@@ -38,7 +41,13 @@ impl ServiceEnd {
                 is_asked: false,
                 open,
             }),
+            publications: Publications::new(),
         })
+    }
+
+    /// The publications of the service, which it has to wake who waits for one.
+    pub(crate) fn publications(&self) -> &Publications {
+        &self.publications
     }
 
     /// Whether somebody has asked for it.
@@ -69,11 +78,14 @@ impl ServiceEnd {
         }
     }
 
-    /// Asks for the end: nothing more is read of the connections that are open.
+    /// Asks for the end: nothing more is read of the connections that are open, and nobody waits for a
+    /// publication any more.
     pub(crate) fn ask<R: Wait>(&self, rt: &R) {
         let mut known = self.known.lock(rt);
         known.is_asked = true;
         shut(known.open.as_slice(), Shutdown::Read);
+        drop(known);
+        self.publications.end(rt);
     }
 
     /// Whether no connection is open any more.

@@ -61,7 +61,7 @@ fn serve_line<R: Read, W: Write, C: Calls, S: Shelf>(
     desk: &mut C,
     shelf: &mut S,
 ) -> Option<Ending>
-    ensures line { ServesLine C.makes S.loads S.refuses_to_load S.saves S.refuses_to_save
+    ensures line { ServesLine C.makes C.awaits S.loads S.refuses_to_load S.saves S.refuses_to_save
         (standing (sides (R.remaining input.old.0) (W.contents output.old.0) desk.old shelf.old) input.old.1 output.old.1)
         (standing (sides (R.remaining input.new.0) (W.contents output.new.0) desk.new shelf.new) input.new.1 output.new.1) result }
     ensures read_faults { input.new.1 ≡ read_faults_at result input.old.1 }
@@ -82,7 +82,7 @@ pub fn serve_session<R: Read, W: Write, C: Calls, S: Shelf>(
     desk: &mut C,
     shelf: &mut S,
 ) -> Ending
-    ensures session { ServesSession C.makes S.loads S.refuses_to_load S.saves S.refuses_to_save
+    ensures session { ServesSession C.makes C.awaits S.loads S.refuses_to_load S.saves S.refuses_to_save
         (standing (sides (R.remaining input.old.0) (W.contents output.old.0) desk.old shelf.old) input.old.1 output.old.1)
         (standing (sides (R.remaining input.new.0) (W.contents output.new.0) desk.new shelf.new) input.new.1 output.new.1) result }
     ensures read_faults { input.new.1 ≡ read_faults_at (Some result) input.old.1 }

@@ -81,17 +81,25 @@ fn make_change<C: Calls, K: Keep>(desk: &mut C, keeper: &mut K, change: Change) 
     }
 }
 
-/// The calls are the desk's, but for changes that are refused, or not kept.
+/// The calls are the desk's, but for changes that are refused, or not kept. Who waits is answered by the
+/// desk.
 impl<C: Calls, K: Keep> Calls for Keeping<C, K> {
+    ghost use Rattle.std.specs.Prelude.{◌≡◌};
     ghost use Rattle.journal.specs.Asking.{asked_of};
     ghost use Rattle.journal.specs.Keeping.{MakesKept};
 
     ghost makes = { λ old call reply new. MakesKept C.makes K.begins K.keeps old (asked_of call) reply new };
+
+    ghost awaits = { λ old version reply new. C.awaits old.0 version reply new.0 × (new.1 ≡ old.1) };
 
     fn call(&mut self, call: Call) -> Reply {
         match asked_of(call) {
             Asked::Change(change) => make_change(&mut self.desk, &mut self.keeper, change),
             Asked::Other(call) => self.desk.call(call),
         }
+    }
+
+    fn await_version(&mut self, version: u64) -> Reply {
+        self.desk.await_version(version)
     }
 }

@@ -86,6 +86,7 @@ fn command_text(rt: &impl Abort, alloc: Global, command: &Command) -> String {
             one_line(rt, alloc, name.as_slice())
         ),
         Command::Status => format!(in alloc; "status"),
+        Command::Wait { version } => format!(in alloc; "wait {version}"),
         Command::Batch(head) => {
             let fault = head.name.as_ref().err();
             format!(in alloc; "batch {fault:?} {} {}", head.version, head.count)
@@ -160,6 +161,9 @@ fn lines(rt: HostRuntime) {
         ("MAP", "map"),
         ("MAP M", "BadCommand"),
         ("STATUS", "status"),
+        ("WAIT 12", "wait 12"),
+        ("WAIT", "BadCommand"),
+        ("WAIT 12 ", "BadCommand"),
         ("BYE", "bye"),
         ("BATCH M 3 3", "batch None 3 3"),
         ("BATCH M+ 3 1", "batch Some(BadName) 3 1"),

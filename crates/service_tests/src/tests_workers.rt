@@ -4,7 +4,7 @@ ghost use Rattle.std.specs.Thread.{IsSync};
 
 use cards::{Card, DeckName};
 use crossbeam_channel::Receiver;
-use deck_workers::{Bell, Gate, OpenGate, worker};
+use deck_workers::{Bell, Gate, NoSubscriber, OpenGate, worker};
 use desk_core::{Call, Desk, NewDeck, Reply};
 use std::alloc::{AllocError, Global};
 use std::process::Abort;
@@ -66,10 +66,20 @@ fn work_both<R: Threads + Wait + Clock + Sync>(
         rt,
         move || -> Seat<Desk>
             requires { IsSync R.row × (first.office ≡ office.now.id) }
-        { worker(rt, alloc, office, first, gate, to_first) },
+        { worker(rt, alloc, office, first, gate, &mut NoSubscriber, to_first) },
         move || -> Seat<Desk>
             requires { IsSync R.row × (second.office ≡ office.now.id) }
-        { worker(rt, alloc, office, second, gate, to_second) },
+        {
+            worker(
+                rt,
+                alloc,
+                office,
+                second,
+                gate,
+                &mut NoSubscriber,
+                to_second,
+            )
+        },
     )
 }
 
@@ -151,7 +161,15 @@ fn a_worker_ends_where_no_bell_can_come(rt: HostRuntime) -> Result<(), Fail> {
     add_deck(&rt, alloc, &office, &mut second, b"B")?;
     let _ = ring.send(&rt, Bell::Work);
     drop(ring);
-    let first = worker(&rt, alloc, &office, first, &OpenGate, bells);
+    let first = worker(
+        &rt,
+        alloc,
+        &office,
+        first,
+        &OpenGate,
+        &mut NoSubscriber,
+        bells,
+    );
     assert_eq!(&rt; first.number(), 0);
     assert_eq!(&rt; decks_published(&rt, &office, &mut second), 2);
     Ok(())

@@ -138,6 +138,28 @@ blank_behind_errors = refl
 pub status : command_of (codes "STATUS") ≡ Ok command.Status
 status = refl
 
+pub wait : command_of (codes "WAIT 12") ≡ Ok (command.Wait 12)
+wait = refl
+
+-- a desk that was published for the first time
+pub wait-first : command_of (codes "WAIT 0") ≡ Ok (command.Wait 0)
+wait-first = refl
+
+pub wait-nothing : command_of (codes "WAIT") ≡ Err BadCommand
+wait-nothing = refl
+
+pub wait-name : command_of (codes "WAIT M") ≡ Err BadCommand
+wait-name = refl
+
+pub wait-two : command_of (codes "WAIT 12 60") ≡ Err BadCommand
+wait-two = refl
+
+pub wait-blank : command_of (codes "WAIT 12 ") ≡ Err BadCommand
+wait-blank = refl
+
+pub wait-greatest : command_of (codes "WAIT 4611686018427387905") ≡ Err BadCommand
+wait-greatest = refl
+
 pub bye : command_of (codes "BYE") ≡ Ok command.Bye
 bye = refl
 

@@ -15,9 +15,9 @@ use Rattle.session_line.specs.Commands.{command_of}
 use Rattle.session_line.specs.declared.errors.ErrorsView.TheVariants.{Every, Of}
 use Rattle.session_line.specs.declared.views.CardsView.TheVariants.{All, From, With}
 use Rattle.session_line.specs.declared.tasks.PublishedText.TheVariants.{Image, Listing, Map}
-use Rattle.session_line.specs.declared.tasks.Task.TheVariants.{Ask, ShowCards, ShowText, ShowPart, ShowErrors, LoadDeck, SaveDeck, Leave, Refuse}
+use Rattle.session_line.specs.declared.tasks.Task.TheVariants.{Ask, AwaitVersion, ShowCards, ShowText, ShowPart, ShowErrors, LoadDeck, SaveDeck, Leave, Refuse}
 use Rattle.session_line.specs.Tasks.{lines_due, task_of}
-use Rattle.session_line.specs.Answers.{told_of_call, told_of_cards, told_of_publication, told_of_part, told_of_errors, told_text}
+use Rattle.session_line.specs.Answers.{told_of_call, told_of_wait, told_of_cards, told_of_publication, told_of_part, told_of_errors, told_text}
 use Rattle.session_line.specs.Parts.{part_of}
 
 -- which call of the desk a line is
@@ -53,6 +53,9 @@ errors = refl
 
 pub errors_of : task_of (codes "ERRORS M") [] ≡ ShowErrors (Of (codes "M"))
 errors_of = refl
+
+pub wait : task_of (codes "WAIT 7") [] ≡ AwaitVersion 7
+wait = refl
 
 pub bye : task_of (codes "BYE") [] ≡ Leave
 bye = refl
@@ -176,6 +179,13 @@ errors_of_none = refl
 
 pub status : told_text (told_of_call (reply.StatusIs 1 None (record { name = codes "M"; version = 1; cards = 0; state = Behind } ∷ []))) ≡ codes "OK 1 2\nPUBLISHED NONE\nM 1 0 BEHIND\n"
 status = unfold digits in refl
+
+-- who waited is told the status without its decks: here once version 7 is published, and where nothing is
+pub awaited : told_text (told_of_wait (reply.StatusIs 9 (Some 7) (record { name = codes "M"; version = 9; cards = 0; state = Behind } ∷ []))) ≡ codes "OK 9 1\nPUBLISHED 7\n"
+awaited = unfold digits in refl
+
+pub awaited_in_vain : told_text (told_of_wait (reply.StatusIs 0 None [])) ≡ codes "OK 0 1\nPUBLISHED NONE\n"
+awaited_in_vain = unfold digits in refl
 
 pub published : told_text (told_of_publication Image (reply.Shown (record { version = 0; decks = [] }))) ≡ codes "OK 0 1\nEND\n"
 published = unfold digits in refl

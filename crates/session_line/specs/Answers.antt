@@ -6,6 +6,7 @@ use Rattle.deck_linker.specs.Publishing.{listing_named, map_of}
 use Rattle.desk_core.specs.Language.{listing_of, image_of}
 use Rattle.desk_core.specs.Desks.{Publication}
 use Rattle.desk_core.specs.declared.replies.Reply.{Reply}
+use Rattle.desk_core.specs.declared.replies.Row.{Row}
 use Rattle.desk_core.specs.declared.replies.Reply.TheVariants.{Changed, CardsAre, Shown, StatusIs, Refused}
 use Rattle.deck_files.specs.DeckFiles.{file_of}
 use Rattle.session_line.specs.declared.refusals.Refusal.{Refusal}
@@ -43,6 +44,12 @@ told_of_call (Changed version) = told.Done version
 told_of_call (StatusIs version published rows) = if nat_le (length rows) most_decks then told.Status version published rows else foreign
 told_of_call (Refused reason) = told.Refused (desk_reason reason)
 told_of_call _ = foreign
+
+-- what is told of the reply to a call for the status that was waited for: the status without its decks
+abbrev pub told_of_wait : Reply → Told
+told_of_wait (StatusIs version published rows) = told.Standing version published
+told_of_wait (Refused reason) = told.Refused (desk_reason reason)
+told_of_wait _ = foreign
 
 -- what is told of the reply to a call for the cards of a deck, of which this is shown; no more than a deck may have
 abbrev pub told_of_cards : CardsView → Reply → Told
@@ -112,6 +119,10 @@ view_text version All cards = cards_text version cards
 view_text version (From place count) cards = cards_text version (cards_from place count cards)
 view_text version (With text) cards = with_body (counted_text version (length (numbers_of text cards))) (numbers_text (numbers_of text cards))
 
+-- the text of a status
+abbrev pub status_text : ℕ → Option ℕ → List Row → List ℕ
+status_text version published rows = with_body (counted_text version (length rows + 1)) (line_of (published_text published) ++ rows_text rows)
+
 -- the text that a session is told
 abbrev pub told_text : Told → List ℕ
 told_text (told.Done version) = with_body (ok_text version) []
@@ -119,7 +130,8 @@ told_text (told.Cards version cards view) = view_text version view cards
 told_text (told.Published publication text) = lines_text publication.version (shown_text text publication)
 told_text (told.Part publication text name) = part_text publication.version (shown_part name text publication)
 told_text (told.Errors publication view) = errors_text publication.version view publication.decks (map_of publication.decks)
-told_text (told.Status version published rows) = with_body (counted_text version (length rows + 1)) (line_of (published_text published) ++ rows_text rows)
+told_text (told.Status version published rows) = status_text version published rows
+told_text (told.Standing version published) = status_text version published []
 told_text (told.Refused reason) = refused_text reason
 told_text told.Bye = with_body (codes "BYE") []
 

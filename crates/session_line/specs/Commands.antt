@@ -90,6 +90,10 @@ list_in rest = if is_end rest then Ok command.List else made_of command.ListOf (
 abbrev pub errors_in : List ℕ → Result Command Refusal
 errors_in rest = if is_end rest then Ok (command.Errors Every) else made_of (λ name. command.Errors (Of name)) (only_name rest)
 
+-- version
+abbrev pub wait_in : List ℕ → Result Command Refusal
+wait_in rest = needs (first_number rest) (λ version. only_if (is_end (behind_word rest)) (Ok (command.Wait version)))
+
 -- name version
 abbrev pub drop_in : List ℕ → Result Command Refusal
 drop_in rest =
@@ -155,6 +159,7 @@ command_by verb.List rest = list_in rest
 command_by verb.Map rest = alone command.Map rest
 command_by verb.Errors rest = errors_in rest
 command_by verb.Status rest = alone command.Status rest
+command_by verb.Wait rest = wait_in rest
 command_by verb.Batch rest = sized is_batch_size command.Batch (head_in rest)
 command_by verb.Put rest = sized is_put_size command.Put (head_in rest)
 command_by verb.Bye rest = alone command.Bye rest

@@ -10,12 +10,12 @@ use Rattle.desk_core.specs.declared.replies.Reply.{Reply}
 use Rattle.desk_core.specs.declared.calls.Call.TheVariants.{AddDeck, Cards, Show}
 use Rattle.session_line.specs.declared.views.CardsView.TheVariants.{All}
 use Rattle.session_line.specs.declared.tasks.Task.{Task}
-use Rattle.session_line.specs.declared.tasks.Task.TheVariants.{Ask, ShowCards, ShowText, ShowPart, ShowErrors, LoadDeck, SaveDeck, Leave, Refuse}
+use Rattle.session_line.specs.declared.tasks.Task.TheVariants.{Ask, AwaitVersion, ShowCards, ShowText, ShowPart, ShowErrors, LoadDeck, SaveDeck, Leave, Refuse}
 use Rattle.session_line.specs.declared.answers.Told.{Told}
 use Rattle.session_line.specs.declared.answers.Told.TheVariants as told
 use Rattle.session_line.specs.declared.answers.Answer.{Answer}
 use Rattle.session_line.specs.Reasons.{load_reason, save_reason}
-use Rattle.session_line.specs.Answers.{told_of_call, told_of_cards, told_of_publication, told_of_part, told_of_errors, called, uncalled}
+use Rattle.session_line.specs.Answers.{told_of_call, told_of_wait, told_of_cards, told_of_publication, told_of_part, told_of_errors, called, uncalled}
 
 module _ {C : Type 0} (makes : C → Call → Reply → C → Type 0) where
   -- one call of the desk, and what is told of its reply
@@ -60,7 +60,15 @@ module _ {C S : Type 0} (makes : C → Call → Reply → C → Type 0) (saves :
     pub made : makes desk (Cards name) reply next
     pub kept : SavesTold saves refuses_to_save name over (told_of_cards All reply) shelf after answer
 
-module _ {C S : Type 0} (makes : C → Call → Reply → C → Type 0) (loads : S → List ℕ → List Card → S → Type 0) (refuses_to_load : S → List ℕ → ShelfLoadFault → S → Type 0)
+module _ {C : Type 0} (awaits : C → ℕ → Reply → C → Type 0) where
+  -- WAIT: the desk answers who waits for a version, and what is told of that
+  pub record AwaitsVersion (version : ℕ) (desk next : C) (answer : Answer) : Type 0 where
+    pub reply : Reply
+    pub awaited : awaits desk version reply next
+    pub answered : answer ≡ called (told_of_wait reply)
+
+module _ {C S : Type 0} (makes : C → Call → Reply → C → Type 0) (awaits : C → ℕ → Reply → C → Type 0) (loads : S → List ℕ → List Card → S → Type 0)
+    (refuses_to_load : S → List ℕ → ShelfLoadFault → S → Type 0)
     (saves : S → Saving → S → Type 0) (refuses_to_save : S → Saving → ShelfSaveFault → S → Type 0) where
   -- nothing is called, and this is told
   abbrev pub OnlyTells : Answer → C → C → S → S → Answer → Type 0
@@ -69,6 +77,7 @@ module _ {C S : Type 0} (makes : C → Call → Reply → C → Type 0) (loads :
   -- a task is executed once
   abbrev pub Executes : Task → C → C → S → S → Answer → Type 0
   Executes (Ask call) desk next shelf after answer = Asks makes call told_of_call desk next answer × (after ≡ shelf)
+  Executes (AwaitVersion version) desk next shelf after answer = AwaitsVersion awaits version desk next answer × (after ≡ shelf)
   Executes (ShowCards name view) desk next shelf after answer = Asks makes (Cards name) (told_of_cards view) desk next answer × (after ≡ shelf)
   Executes (ShowText text) desk next shelf after answer = Asks makes Show (told_of_publication text) desk next answer × (after ≡ shelf)
   Executes (ShowPart text name) desk next shelf after answer = Asks makes Show (told_of_part text name) desk next answer × (after ≡ shelf)

@@ -54,14 +54,15 @@ module _ {C S : Type 0} where
     pub desk : new.desk ≡ old.desk
     pub shelf : new.shelf ≡ old.shelf
 
-module _ {C S : Type 0} (makes : C → Call → Reply → C → Type 0) (loads : S → List ℕ → List Card → S → Type 0) (refuses_to_load : S → List ℕ → ShelfLoadFault → S → Type 0)
+module _ {C S : Type 0} (makes : C → Call → Reply → C → Type 0) (awaits : C → ℕ → Reply → C → Type 0) (loads : S → List ℕ → List Card → S → Type 0)
+    (refuses_to_load : S → List ℕ → ShelfLoadFault → S → Type 0)
     (saves : S → Saving → S → Type 0) (refuses_to_save : S → Saving → ShelfSaveFault → S → Type 0) where
   -- one command is taken whole, executed once and answered
   pub record ServesCommand (old new : Sides C S) (outcome : Outcome) : Type 0 where
     pub task : Task
     pub answer : Answer
     pub taken : TakesTask old.input new.input task
-    pub executed : Executes makes loads refuses_to_load saves refuses_to_save task old.desk new.desk old.shelf new.shelf answer
+    pub executed : Executes makes awaits loads refuses_to_load saves refuses_to_save task old.desk new.desk old.shelf new.shelf answer
     pub sent : GoesOut old.output new.output answer outcome
 
   -- one line of a session is served

@@ -2,7 +2,7 @@
 ghost use Rattle.std.specs.Prelude.{◌≡◌, ◌≤◌, length, option_map};
 ghost use Rattle.session_line.specs.Replies.{text_of_reply, IsWithinLimits};
 ghost use Rattle.deck_linker.specs.Publishing.{map_of};
-ghost use Rattle.session_line.specs.Answers.{foreign, told_of_call, told_of_cards, told_of_part, told_of_errors, told_of_publication, lines_text, part_text, errors_text, shown_part, shown_text, view_text, told_text, is_bye, IsTellable};
+ghost use Rattle.session_line.specs.Answers.{foreign, told_of_call, told_of_wait, told_of_cards, told_of_part, told_of_errors, told_of_publication, lines_text, part_text, errors_text, shown_part, shown_text, view_text, told_text, is_bye, IsTellable};
 
 use crate::Refusal;
 use crate::errors::{ErrorsView, shows_any};
@@ -32,6 +32,8 @@ pub(crate) enum Told {
     Errors(SharedPublication, ErrorsView),
     /// The desk's version, the published one, and a row for each deck.
     Status(u64, Option<u64>, Listed<Row>),
+    /// The desk's version and the published one.
+    Standing(u64, Option<u64>),
     /// Why nothing was done.
     Refused(Refusal),
     /// The end of the session.
@@ -66,6 +68,18 @@ pub(crate) fn told_of_call(reply: Reply) -> Told
                 foreign()
             }
         }
+        Reply::Refused(refusal) => Told::Refused(desk_reason(refusal)),
+        _ => foreign(),
+    }
+}
+
+/// What is told of the reply to a call for the status that was waited for: the status without its decks.
+pub(crate) fn told_of_wait(reply: Reply) -> Told
+    ensures told { result ≡ told_of_wait reply }
+    ensures fits { IsTellable result }
+{
+    match reply {
+        Reply::StatusIs(version, published, _) => Told::Standing(version, published),
         Reply::Refused(refusal) => Told::Refused(desk_reason(refusal)),
         _ => foreign(),
     }
@@ -243,6 +257,11 @@ impl Told {
                 version: *version,
                 published: *published,
                 decks: rows.as_slice(),
+            },
+            Told::Standing(version, published) => crate::Reply::Status {
+                version: *version,
+                published: *published,
+                decks: &[],
             },
             Told::Refused(refusal) => crate::Reply::Refused(*refusal),
             Told::Bye => crate::Reply::Bye,

@@ -1,7 +1,7 @@
 //! The commands of a session.
 ghost use Rattle.std.specs.Prelude.{◌≡◌};
 ghost use Rattle.session_line.specs.declared.commands.Command.TheVariants as command;
-ghost use Rattle.session_line.specs.Commands.{name_in, alone, only_name, save_over_in, save_in, view_in, cards_in, sought_in, find_in, image_in, list_in, errors_in, drop_in, edit_in, head_in, sized, command_by, command_of, is_batch_size, is_put_size};
+ghost use Rattle.session_line.specs.Commands.{name_in, alone, only_name, save_over_in, save_in, view_in, cards_in, sought_in, find_in, image_in, list_in, errors_in, wait_in, drop_in, edit_in, head_in, sized, command_by, command_of, is_batch_size, is_put_size};
 
 use crate::edits::{edit_at, fits_edit};
 use crate::errors::ErrorsView;
@@ -69,6 +69,10 @@ pub enum Command {
     Errors(ErrorsView),
     /// The versions and states of all decks.
     Status,
+    /// The desk's version and the published one, once this version or a later one is published.
+    Wait {
+        version: u64,
+    },
     /// Edits of one deck, all or none, each on a line of its own behind this one.
     Batch(LinesHead),
     /// A deck in the place of the one of its name, its cards on lines of their own behind this one; or a
@@ -248,6 +252,19 @@ fn errors_in(rest: &[u8]) -> Result<Command, Refusal>
     Ok(Command::Errors(ErrorsView::Of(name)))
 }
 
+/// `version`
+fn wait_in(rest: &[u8]) -> Result<Command, Refusal>
+    ensures { result ≡ wait_in rest.now }
+{
+    let Some(version) = first_number(rest) else {
+        return Err(Refusal::BadCommand);
+    };
+    if !behind_word(rest).is_empty() {
+        return Err(Refusal::BadCommand);
+    }
+    Ok(Command::Wait { version })
+}
+
 /// `name version`
 fn drop_in(rest: &[u8]) -> Result<Command, Refusal>
     ensures { result ≡ drop_in rest.now }
@@ -389,6 +406,7 @@ fn command_by(verb: Verb, rest: &[u8]) -> Result<Command, Refusal>
         Verb::Map => alone(Command::Map, rest),
         Verb::Errors => errors_in(rest),
         Verb::Status => alone(Command::Status, rest),
+        Verb::Wait => wait_in(rest),
         Verb::Batch => batch_in(rest),
         Verb::Put => put_in(rest),
         Verb::Bye => alone(Command::Bye, rest),

@@ -1,11 +1,12 @@
 //! Executes a task once.
 ghost use Rattle.std.specs.Prelude.{◌≡◌, ◌≤◌, length};
-ghost use Rattle.session_line.specs.Answers.{IsTellable, called, most_cards, told_of_call, told_of_cards, told_of_errors, told_of_part, told_of_publication, uncalled};
-ghost use Rattle.session_line.specs.Executing.{Asks, Executes, LoadsDeck, SavesCards, SavesDeck};
+ghost use Rattle.session_line.specs.Answers.{IsTellable, called, most_cards, told_of_call, told_of_cards, told_of_errors, told_of_part, told_of_publication, told_of_wait, uncalled};
+ghost use Rattle.session_line.specs.Executing.{Asks, AwaitsVersion, Executes, LoadsDeck, SavesCards, SavesDeck};
 ghost use Rattle.desk_core.specs.declared.calls.Call.TheVariants.{Cards, Show};
 
 use crate::answers::{
     Answer, Told, told_of_call, told_of_cards, told_of_errors, told_of_part, told_of_publication,
+    told_of_wait,
 };
 use crate::calls::Calls;
 use crate::errors::ErrorsView;
@@ -42,6 +43,14 @@ fn ask<C: Calls>(desk: &mut C, call: Call) -> Answer
     ensures fits { IsTellable result.told }
 {
     called(told_of_call(desk.call(call)))
+}
+
+/// The desk answers who waits for a version.
+fn await_version<C: Calls>(desk: &mut C, version: u64) -> Answer
+    ensures awaits { AwaitsVersion C.awaits version desk.old desk.new result }
+    ensures fits { IsTellable result.told }
+{
+    called(told_of_wait(desk.await_version(version)))
 }
 
 /// The desk is asked for the cards of the deck.
@@ -125,11 +134,12 @@ fn save_deck<C: Calls, S: Shelf>(
 
 /// Executes a task: at most one call of the desk, with the call of the shelf that belongs to it.
 pub(crate) fn execute<C: Calls, S: Shelf>(desk: &mut C, shelf: &mut S, task: Task) -> Answer
-    ensures executes { Executes C.makes S.loads S.refuses_to_load S.saves S.refuses_to_save task desk.old desk.new shelf.old shelf.new result }
+    ensures executes { Executes C.makes C.awaits S.loads S.refuses_to_load S.saves S.refuses_to_save task desk.old desk.new shelf.old shelf.new result }
     ensures fits { IsTellable result.told }
 {
     match task {
         Task::Ask(call) => ask(desk, call),
+        Task::AwaitVersion(version) => await_version(desk, version),
         Task::ShowCards(name, view) => show_cards(desk, name, view),
         Task::ShowText(text) => show_text(desk, text),
         Task::ShowPart(text, name) => show_part(desk, text, name),

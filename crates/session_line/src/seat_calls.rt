@@ -36,15 +36,24 @@ impl<'a, R> SeatCalls<'a, R> {
 }
 
 /// Each reply is the desk's at one point of one legal history, which begins with all that the seat
-/// had seen and ends with the call.
+/// had seen and ends with the call. It knows of no bell, so it answers at once who waits.
 impl<R: Wait> Calls for SeatCalls<'_, R> {
     ghost use Rattle.desk_core.specs.Steps.{Steps};
+    ghost use Rattle.desk_core.specs.declared.calls.Call.TheVariants.{Status};
     ghost use Rattle.turn_office.specs.Histories.{Answers};
 
     ghost makes = { λ old call reply new. (new.office.now ≡ old.office.now) × (new.seat.office ≡ old.seat.office) × (new.seat.number ≡ old.seat.number)
         × Answers Steps old.office.now.seats old.office.now.first old.seat.number call reply old.seat.seen new.seat.seen };
 
+    ghost awaits = { λ old version reply new. (new.office.now ≡ old.office.now) × (new.seat.office ≡ old.seat.office) × (new.seat.number ≡ old.seat.number)
+        × Answers Steps old.office.now.seats old.office.now.first old.seat.number Status reply old.seat.seen new.seat.seen };
+
     fn call(&mut self, call: Call) -> Reply {
         self.seat.call(self.rt, self.office, call)
+    }
+
+    fn await_version(&mut self, version: u64) -> Reply {
+        let _ = version;
+        self.seat.call(self.rt, self.office, Call::Status)
     }
 }

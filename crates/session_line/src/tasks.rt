@@ -28,6 +28,8 @@ pub(crate) enum PublishedText {
 pub(crate) enum Task {
     /// One call of the desk that shows neither cards nor a publication: a change, or the status.
     Ask(Call),
+    /// The status is asked for once this version or a later one is published.
+    AwaitVersion(u64),
     /// This of the cards of the deck of this name is shown.
     ShowCards(DeckName, CardsView),
     /// This text of the publication is shown.
@@ -56,7 +58,7 @@ fn lines_behind(command: &Command) -> u64
         Command::Edit { .. } | Command::Cards { .. } | Command::Save { .. } => 0,
         Command::Image | Command::List | Command::Map => 0,
         Command::ImageOf { .. } | Command::ListOf { .. } | Command::Errors(_) => 0,
-        Command::Status | Command::Bye => 0,
+        Command::Status | Command::Wait { .. } | Command::Bye => 0,
     }
 }
 
@@ -161,6 +163,7 @@ fn task_of_command(alloc: Global, command: Command, edits: ItemsRead<Edit>) -> T
         Command::ListOf { name } => Task::ShowPart(PublishedText::Listing, name),
         Command::Errors(view) => Task::ShowErrors(view),
         Command::Status => Task::Ask(Call::Status),
+        Command::Wait { version } => Task::AwaitVersion(version),
         Command::Batch(head) => batch_named(head, edits),
         Command::Put(_) => unreachable!(),
         Command::Bye => Task::Leave,

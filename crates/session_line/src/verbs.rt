@@ -28,6 +28,7 @@ pub(crate) enum Verb {
     Map,
     Errors,
     Status,
+    Wait,
     Batch,
     Put,
     Bye,
@@ -73,6 +74,8 @@ fn other_verb_of(word: &[u8]) -> Option<Verb>
         Some(Verb::Errors)
     } else if is_same_text(word, b"STATUS") {
         Some(Verb::Status)
+    } else if is_same_text(word, b"WAIT") {
+        Some(Verb::Wait)
     } else if is_same_text(word, b"BATCH") {
         Some(Verb::Batch)
     } else if is_same_text(word, b"PUT") {

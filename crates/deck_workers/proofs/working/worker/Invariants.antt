@@ -7,5 +7,5 @@ abbrev pub invariant-loop : goal.invariant-loop
 invariant-loop g l = record {
   office : l.seat.office ≡ l.initial.seat.office;
   number : l.seat.number ≡ l.initial.seat.number;
-  works : Works l.initial.seat.number l.initial.seat.seen l.seat.seen;
+  works : Works g.S.Subscriber.hears l.initial.seat.number l.initial.seat.seen l.seat.seen l.fn.subscriber l.subscriber;
 }

@@ -7,12 +7,11 @@ loop-number-preserved g c = record {
   own = c.take_seat.ensures.own;
   left = omega (arith, c.take_seat.ensures.left, c.loop-number.invariant.left, c.loop-number-test.true, c.requires.enough);
   all = ap length c.in_ok-push.ensures.items ∙ (length-append c.loop-number.places.items _ ∙ ap (λ n. n + 1) c.loop-number.invariant.all);
-  number = numbers-more _ _ _ _ _ c.loop-number.invariant.number c.in_ok-push.ensures.items c.new-in-loop-number-3.ensures.number;
+  number = numbers-more _ _ _ _ _ c.loop-number.invariant.number c.in_ok-push.ensures.items c.new-shelf.ensures.number;
   session = numbers-more _ _ _ _ _ c.loop-number.invariant.session c.in_ok-push.ensures.items refl;
-  keeper = numbers-more _ _ _ _ _ c.loop-number.invariant.keeper c.in_ok-push.ensures.items (ap (λ desk. desk.1.session) c.new-in-loop-number-2.ensures ∙ c.new-keeper.ensures.session);
-  folder = all-more (λ place. place.shelf.folder ≡ c.args.settings.now.root.now) _ _ _ c.loop-number.invariant.folder c.in_ok-push.ensures.items c.new-in-loop-number-3.ensures.folder;
+  keeper = numbers-more _ _ _ _ _ c.loop-number.invariant.keeper c.in_ok-push.ensures.items c.session_desk-desk.ensures.keeper;
+  folder = all-more (λ place. place.shelf.folder ≡ c.args.settings.now.root.now) _ _ _ c.loop-number.invariant.folder c.in_ok-push.ensures.items c.new-shelf.ensures.folder;
   once = all-more (λ place. place.serving.once ≡ c.args.settings.now.once) _ _ _ c.loop-number.invariant.once c.in_ok-push.ensures.items refl;
   office =
-      all-more (λ place. place.desk.0.0.seat.office ≡ c.args.office.now.id) _ _ _ c.loop-number.invariant.office c.in_ok-push.ensures.items
-      (ap (λ desk. desk.0.0.seat.office) c.new-in-loop-number-2.ensures ∙ (ap (λ ringing. ringing.0.seat.office) c.new-in-loop-number.ensures ∙ (ap (λ seat. seat.office) c.new-seat.ensures.seat ∙ c.take_seat.ensures.seat)));
+      all-more (λ place. place.desk.0.0.0.seat.office ≡ c.args.office.now.id) _ _ _ c.loop-number.invariant.office c.in_ok-push.ensures.items c.session_desk-desk.ensures.office;
 }

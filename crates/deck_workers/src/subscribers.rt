@@ -1,0 +1,49 @@
+//! Who is told of publications.
+ghost use Rattle.deck_workers.specs.Subscribers.{HearsAfter, HearsIf};
+
+use desk_core::Reply;
+
+/// Who is told of each publication that a worker delivered and the desk took. The member says what telling
+/// one makes of it.
+pub trait Subscriber {
+    ghost use Rattle.std.specs.Prelude.{ℕ};
+
+    // The subscriber before, the version that was published, and the subscriber after.
+    ghost hears: { Self → ℕ → Self → Type 0 };
+
+    /// Tells it of the publication of a version.
+    fn hear(&mut self, version: u64)
+        ensures { hears self.old version self.new };
+}
+
+/// Nobody, who hears of nothing.
+#[derive(Clone, Copy, Debug, Drop, PartialEq, Eq)]
+pub struct NoSubscriber;
+
+impl Subscriber for NoSubscriber {
+    ghost use Rattle.std.specs.Prelude.{◌≡◌};
+
+    ghost hears = { λ old version new. new ≡ old };
+
+    fn hear(&mut self, version: u64) {
+        let _ = version;
+    }
+}
+
+/// Tells a subscriber of a publication, where there is one.
+fn tell_if<S: Subscriber>(subscriber: &mut S, published: Option<u64>)
+    ensures { HearsIf S.hears published subscriber.old subscriber.new }
+{
+    if let Some(version) = published {
+        subscriber.hear(version);
+    }
+}
+
+/// Tells a subscriber of a publication that was delivered, where the desk took it, which its reply tells.
+pub(crate) fn tell_after<S: Subscriber>(subscriber: &mut S, published: Option<u64>, reply: &Reply)
+    ensures { HearsAfter S.hears reply.now published subscriber.old subscriber.new }
+{
+    if let Reply::Stored = reply {
+        tell_if(subscriber, published);
+    }
+}
