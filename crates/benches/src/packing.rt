@@ -2,8 +2,8 @@
 ghost use Rattle.std.specs.Prelude.{◌≡◌, OnOk};
 ghost use Rattle.definitions.specs.declared.deck_kind.DeckKind.TheVariants.{Rel};
 
+use deck_listing::packing::{Field, Words};
 use definitions::DeckKind;
-use parcel_packer::{Field, Words};
 use std::alloc::Global;
 use std::io;
 

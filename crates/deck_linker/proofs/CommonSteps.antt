@@ -13,8 +13,8 @@ use Rattle.definitions.specs.Lengths.{BlockRow}
 use Rattle.definitions.specs.Link.{Based, Common, Layout}
 use Rattle.definitions.specs.Words.{StoredWord}
 use Rattle.definitions.proofs.TextLaws.{same_text-refl, same_text_tells}
-use Rattle.parcel_packer.specs.Filling.{DoSpansRise, as_stored}
-use Rattle.parcel_packer.specs.declared.word_spans.WordSpan.{WordSpan}
+use Rattle.deck_listing.specs.Filling.{DoSpansRise, as_stored}
+use Rattle.deck_listing.specs.declared.packing.word_spans.WordSpan.{WordSpan}
 use Rattle.deck_listing.specs.Walking.{DoNamesDiffer}
 use Rattle.deck_listing.proofs.BlockSteps.{behind_other}
 use Rattle.deck_linker.specs.CommonWords.{AreCommonWords, AreMade, AreNone, DoListsRise, IsPutOver, common_place, deck_words, has_common, has_row, over_deck, over_row, over_rows}

@@ -7,8 +7,8 @@ use Rattle.definitions.specs.Image.{common_words, with_all_stored}
 use Rattle.definitions.specs.Lengths.{BlockRow}
 use Rattle.definitions.specs.Link.{Based, Common, Layout, linking_of}
 use Rattle.definitions.specs.Words.{StoredWord, stored_words}
-use Rattle.parcel_packer.specs.Filling.{DoSpansRise, as_stored}
-use Rattle.parcel_packer.specs.declared.word_spans.WordSpan.{WordSpan}
+use Rattle.deck_listing.specs.Filling.{DoSpansRise, as_stored}
+use Rattle.deck_listing.specs.declared.packing.word_spans.WordSpan.{WordSpan}
 use Rattle.deck_linker.specs.Placing.{names_of_commons}
 
 -- where the first common block of a name stands among others

@@ -4,14 +4,14 @@ ghost use Rattle.std.specs.Option.{is_some};
 ghost use Rattle.definitions.specs.Image.{common_section_by, common_words};
 ghost use Rattle.deck_linker.specs.CommonWords.{AreCommonWords, common_place};
 ghost use Rattle.deck_linker.specs.Sections.{common_head, common_words_text};
-ghost use Rattle.parcel_packer.specs.Filling.{DoSpansRise, as_stored, words_from};
+ghost use Rattle.deck_listing.specs.Filling.{DoSpansRise, as_stored, words_from};
 
 use crate::common_words::words_of_commons;
 use crate::{Common, Layout};
+use deck_listing::packing::WordSpan;
 use deck_listing::push_image_line;
 use definitions::DeckKind;
 use expr_forms::Name;
-use parcel_packer::WordSpan;
 use std::alloc::{AllocError, Global};
 use text_ports::Text;
 

@@ -12,10 +12,10 @@ use Rattle.definitions.specs.Words.{Coded, Linking, Parcel, runs_of, stored, wor
 use Rattle.definitions.specs.declared.deck_kind.DeckKind.{DeckKind}
 use Rattle.definitions.proofs.TextLaws.{same_text-refl, same_text_tells}
 use Rattle.statement_coder.specs.declared.items.Item as code
-use Rattle.parcel_packer.specs.Packing.{Packed, empty_run}
+use Rattle.deck_listing.specs.Packing.{Packed, empty_run}
 use Rattle.deck_assembler.specs.CodedLines.{IsNamed}
 use Rattle.deck_assembler.specs.declared.lines.CodedLine as lines
-use Rattle.parcel_packer.specs.declared.word_spans.WordSpan.{WordSpan}
+use Rattle.deck_listing.specs.declared.packing.word_spans.WordSpan.{WordSpan}
 use Rattle.deck_listing.specs.BlockWords.{AreWhole, AreWordsOf, IsFilledWith}
 use Rattle.deck_listing.specs.Walking.{AreEmpty, DoNamesDiffer, DoesFollow, DoesFollowAll, HasRuns, HaveRuns}
 use Rattle.deck_listing.proofs.RunSteps.{other-runs}

@@ -8,7 +8,7 @@ use Rattle.statement_coder.specs.declared.items.Item as code
 use Rattle.definitions.specs.Filling.{HasRoom}
 use Rattle.definitions.specs.declared.deck_kind.DeckKind.{DeckKind}
 use Rattle.definitions.specs.declared.deck_kind.DeckKind.TheVariants.{Rel, Abs, Periph}
-use Rattle.parcel_packer.specs.Packing.{most_bits}
+use Rattle.deck_listing.specs.Packing.{most_bits}
 use Rattle.deck_assembler.specs.LineItems.{AreShort}
 
 pub fields_more : (items : List code.Item) (i : ℕ) (x : code.Item) → i < length items → x ≡ get_or items i x → map item_as (take (i + 1) items) ≡ map item_as (take i items) ++ item_as x ∷ []

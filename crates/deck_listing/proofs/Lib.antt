@@ -1,3 +1,17 @@
+-- The words of one block.
+mod PackingLaws
+mod ParcelSteps
+mod RiseLaws
+mod GatherLaws
+mod ZeroLaws
+mod MergeLaws
+mod NothingLaws
+mod FillLaws
+pub mod OverLaws
+mod GatherSteps
+mod PutLaws
+mod PackedLaws
+-- The texts.
 mod PushLaws
 mod CutLaws
 mod WordLaws

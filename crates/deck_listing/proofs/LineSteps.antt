@@ -16,8 +16,8 @@ use Rattle.definitions.specs.declared.deck_kind.DeckKind.TheVariants.{Rel, Abs, 
 use Rattle.definitions.proofs.TextLaws.{same_text-true}
 use Rattle.statement_coder.specs.declared.items.Item as code
 use Rattle.operations.specs.OperationsAs.{operation_as}
-use Rattle.parcel_packer.specs.Packing.{OpenRun, Packed, moved, put_bits}
-use Rattle.parcel_packer.proofs.PutLaws.{unit_some}
+use Rattle.deck_listing.specs.Packing.{OpenRun, Packed, moved, put_bits}
+use Rattle.deck_listing.proofs.PutLaws.{unit_some}
 use Rattle.definitions.specs.Filling.{DoFill, HasFields}
 use Rattle.definitions.specs.Rising.{run_end}
 use Rattle.deck_assembler.specs.CodedLines.{IsCoded, IsNamed}

@@ -2,8 +2,8 @@
 use Rattle.std.proofs.Common.{◌≡◌, ℕ, zero, suc, ◌+◌, ◌<◌, List, [], ◌∷◌, ◌++◌, length, take, get_or, refl, sym, ap, ◌∙◌, arith, append_assoc}
 use Rattle.definitions.specs.Link.{literal_stored}
 use Rattle.definitions.specs.Words.{StoredWord}
-use Rattle.parcel_packer.specs.Filling.{as_stored, words_from}
-use Rattle.parcel_packer.specs.declared.word_spans.WordSpan.{WordSpan}
+use Rattle.deck_listing.specs.Filling.{as_stored, words_from}
+use Rattle.deck_listing.specs.declared.packing.word_spans.WordSpan.{WordSpan}
 
 stored_more : (words : List WordSpan) (offset value : ℕ) → as_stored (words ++ record { offset = offset; count = 1; value = value } ∷ []) ≡ as_stored words ++ record { offset = offset; value = value } ∷ []
 stored_more [] offset value = refl

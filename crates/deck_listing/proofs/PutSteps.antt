@@ -5,8 +5,8 @@ use Rattle.std.proofs.lemmas.Nat.{le-div}
 use Rattle.std.proofs.lemmas.Bool.Decides.{eqb_tells}
 use Rattle.definitions.specs.StatementItems.{Item}
 use Rattle.definitions.specs.Words.{Linking, content_bits, cut, joined, parcels_from, width_of}
-use Rattle.parcel_packer.specs.Packing.{OpenRun, AreFieldsFitting, end_bit, moved, put_bits, put_items}
-use Rattle.parcel_packer.proofs.PutLaws.{items_whole, put_bits-end}
+use Rattle.deck_listing.specs.Packing.{OpenRun, AreFieldsFitting, end_bit, moved, put_bits, put_items}
+use Rattle.deck_listing.proofs.PutLaws.{items_whole, put_bits-end}
 use Rattle.deck_listing.specs.Putting.{StandsAt, ArePut}
 
 whole_parcels : (size n : ℕ) → 0 < size → n % size ≡ 0 → size * (n / size) ≡ n

@@ -11,8 +11,8 @@ use Rattle.definitions.specs.Words.{Coded, Linking, Parcel, cut, joined, parcels
 use Rattle.definitions.specs.declared.deck_kind.DeckKind.{DeckKind}
 use Rattle.statement_coder.specs.declared.items.Item as code
 use Rattle.operations.specs.OperationsAs.{operation_as}
-use Rattle.parcel_packer.specs.Packing.{OpenRun, Packed, empty_run}
-use Rattle.parcel_packer.proofs.PutLaws.{runs_put, runs_begun, unit_some}
+use Rattle.deck_listing.specs.Packing.{OpenRun, Packed, empty_run}
+use Rattle.deck_listing.proofs.PutLaws.{runs_put, runs_begun, unit_some}
 use Rattle.definitions.specs.Filling.{DoFill}
 use Rattle.definitions.specs.Rising.{run_end, end_with, end_behind}
 use Rattle.deck_assembler.specs.LineItems.{AreBitsOf, kept_items}

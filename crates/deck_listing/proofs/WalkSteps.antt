@@ -7,7 +7,7 @@ use Rattle.definitions.specs.Objects.{Object}
 use Rattle.definitions.specs.Words.{Coded, Linking}
 use Rattle.definitions.specs.declared.deck_kind.DeckKind.{DeckKind}
 use Rattle.statement_coder.specs.declared.items.Item as code
-use Rattle.parcel_packer.specs.Packing.{Packed}
+use Rattle.deck_listing.specs.Packing.{Packed}
 use Rattle.definitions.specs.Reaching.{DoReach}
 use Rattle.definitions.specs.Rising.{AreLaidOut}
 use Rattle.deck_assembler.specs.CodedLines.{IsCoded, AreCoded}

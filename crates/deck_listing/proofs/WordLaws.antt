@@ -3,7 +3,7 @@ use Rattle.std.proofs.Common.{◌≡◌, ℕ, suc, ◌+◌, ◌-◌, ◌*◌, �
 use Rattle.std.specs.Prelude.{ℤ, pos, ◌+ℤ◌, unwrap_or}
 use Rattle.std.proofs.Math.Nat.{mod-lt}
 use Rattle.std.proofs.Math.Pow.{pow_mono}
-use Rattle.std.proofs.lemmas.Nat.{pow-add, mul-add-lt, shr_below}
+use Rattle.std.proofs.lemmas.Nat.{pow-add, shr_below}
 use Rattle.definitions.specs.Coding.{coded_in}
 use Rattle.definitions.specs.Forms.{Form}
 use Rattle.definitions.specs.Kinds.{word_bits}
@@ -20,14 +20,7 @@ use Rattle.deck_assembler.specs.LineItems.{AreShort}
 use Rattle.deck_listing.specs.WordLines.{AreJoined, DoFillWords, behind_full, lines_ahead, with_bits, word_line, word_lines}
 use Rattle.deck_listing.specs.declared.field_lines.OpenWord.{OpenWord}
 use Rattle.deck_listing.proofs.CutLaws.{cut-first}
-
--- bits behind bits fit both widths together
-pub joined_below : (a b f w : ℕ) → a < 2 ^ f → b < 2 ^ w → a * 2 ^ w + b < 2 ^ (f + w)
-joined_below a b f w h k =
-    let together : 2 ^ (f + w) ≡ 2 ^ f * 2 ^ w = pow-add 2 f w in
-    let below = mul-add-lt a (2 ^ w) b (2 ^ f) h k in
-    let turned : 2 ^ w * 2 ^ f ≡ 2 ^ f * 2 ^ w = omega arith in
-    omega (arith, together, below, turned)
+use Rattle.deck_listing.proofs.ParcelSteps.{joined_below}
 
 or_zero-below : (width : ℕ) (value : ℤ) → unwrap_or (coded_in width value) 0 < 2 ^ width
 or_zero-below width value = step (coded_in width value) refl

@@ -4,9 +4,9 @@ use Rattle.std.specs.List.{AllZip}
 use Rattle.definitions.specs.Lengths.{BlockRow}
 use Rattle.definitions.specs.Objects.{Object}
 use Rattle.definitions.specs.Words.{Linking, stored, stored_words, words_in}
-use Rattle.parcel_packer.specs.Filling.{DoSpansRise, as_stored}
-use Rattle.parcel_packer.specs.Packing.{Packed, runs_in}
-use Rattle.parcel_packer.specs.declared.word_spans.WordSpan.{WordSpan}
+use Rattle.deck_listing.specs.Filling.{DoSpansRise, as_stored}
+use Rattle.deck_listing.specs.Packing.{Packed, runs_in}
+use Rattle.deck_listing.specs.declared.packing.word_spans.WordSpan.{WordSpan}
 
 -- spans by increasing offset are the words that the statements of an object store in a block
 pub record AreWordsOf {Z : Type 0} (linking : Linking) (object : Object) (row : BlockRow) (spans : Vec WordSpan Z) : Type 0 where

@@ -10,8 +10,8 @@ use Rattle.definitions.specs.Numerals.{octal_of}
 use Rattle.definitions.specs.Objects.{Object}
 use Rattle.definitions.specs.Words.{Linking}
 use Rattle.definitions.specs.declared.deck_kind.DeckKind.{DeckKind}
-use Rattle.parcel_packer.specs.Filling.{as_stored, words_from}
-use Rattle.parcel_packer.specs.declared.word_spans.WordSpan.{WordSpan}
+use Rattle.deck_listing.specs.Filling.{as_stored, words_from}
+use Rattle.deck_listing.specs.declared.packing.word_spans.WordSpan.{WordSpan}
 
 -- the lines of words; one beyond the memory of the deck has none
 abbrev pub lines_of : DeckKind → List AddressedWord → List ℕ

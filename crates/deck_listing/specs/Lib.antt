@@ -1,3 +1,7 @@
+-- What is put into a block, run by run, and the words that it then has.
+pub mod Packing
+pub mod Spans
+pub mod Filling
 -- The lines of the words that fields fill.
 pub mod WordLines
 -- The text of what an object keeps.

@@ -8,7 +8,7 @@ use Rattle.definitions.specs.declared.deck_kind.DeckKind.{DeckKind}
 use Rattle.statement_coder.specs.declared.items.Item as code
 use Rattle.operations.specs.OperationsAs.{operation_as}
 use Rattle.definitions.specs.Filling.{DoFill}
-use Rattle.parcel_packer.specs.Packing.{OpenRun, Packed, AreFieldsFitting, MayBegin, moved, put_items}
+use Rattle.deck_listing.specs.Packing.{OpenRun, Packed, AreFieldsFitting, MayBegin, moved, put_items}
 use Rattle.deck_assembler.specs.LineItems.{kept_items, AreKept}
 use Rattle.deck_assembler.specs.declared.lines.CodedLine as lines
 use Rattle.deck_assembler.specs.declared.lines.LineFields.TheVariants as variant

@@ -8,7 +8,7 @@ use Rattle.definitions.specs.Objects.{Object}
 use Rattle.definitions.specs.Words.{Coded, Linking, runs_of}
 use Rattle.definitions.specs.declared.deck_kind.DeckKind.{DeckKind}
 use Rattle.statement_coder.specs.declared.items.Item as code
-use Rattle.parcel_packer.specs.Packing.{Packed, empty_run, runs_in}
+use Rattle.deck_listing.specs.Packing.{Packed, empty_run, runs_in}
 use Rattle.definitions.specs.Reaching.{DoesReach, DoReach}
 use Rattle.definitions.specs.Rising.{run_end, IsLaidOut, AreLaidOut}
 use Rattle.deck_assembler.specs.CodedLines.{IsCoded, AreCoded}

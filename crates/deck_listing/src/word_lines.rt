@@ -14,9 +14,9 @@ ghost use Rattle.deck_listing.specs.Putting.{ArePut, IsReady};
 ghost use Rattle.deck_listing.specs.Walking.{AreEmpty, DoNamesDiffer, DoesFollow, DoesFollowAll, HasObject, HasRuns, HaveRuns, IsNext, IsNextOfAll};
 
 use crate::fields::put_fields;
+use crate::packing::Words;
 use deck_assembler::{CodedLine, LineFields, Linking, ObjectParts};
 use definitions::DeckKind;
-use parcel_packer::Words;
 use statement_coder::{Content, Item};
 use std::alloc::AllocError;
 

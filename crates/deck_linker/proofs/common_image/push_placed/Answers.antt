@@ -1,7 +1,7 @@
 use Rattle.std.proofs.Common.{◌^◌, ◌∙◌, List, Some, ap, subst, sym}
 use Rattle.std.proofs.lemmas.Option.{slice_get-get_or}
-use Rattle.parcel_packer.specs.Filling.{DoSpansRise, as_stored}
-use Rattle.parcel_packer.specs.declared.word_spans.WordSpan.{WordSpan}
+use Rattle.deck_listing.specs.Filling.{DoSpansRise, as_stored}
+use Rattle.deck_listing.specs.declared.packing.word_spans.WordSpan.{WordSpan}
 use Rattle.deck_linker.proofs.common_image.push_placed.Goals as goal
 
 pub push_section-requires-clause-words : goal.push_section-requires-clause-words

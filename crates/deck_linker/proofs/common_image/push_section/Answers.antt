@@ -1,7 +1,7 @@
 use Rattle.std.proofs.Common.{◌^◌, refl}
-use Rattle.parcel_packer.specs.Filling.{as_stored}
+use Rattle.deck_listing.specs.Filling.{as_stored}
 use Rattle.deck_linker.proofs.TextLaws.{on_ok_along}
-use Rattle.parcel_packer.proofs.OverLaws.{some_stored}
+use Rattle.deck_listing.proofs.OverLaws.{some_stored}
 use Rattle.deck_linker.proofs.ImageLaws.{section-written, some_words}
 use Rattle.deck_linker.proofs.common_image.push_section.Goals as goal
 

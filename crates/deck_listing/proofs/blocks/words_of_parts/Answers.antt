@@ -1,7 +1,7 @@
 use Rattle.std.proofs.Common.{List, ap, length, sym, subst}
 use Rattle.std.specs.List.{AllZip}
 use Rattle.std.proofs.lemmas.Result.{IfOk-weaker}
-use Rattle.parcel_packer.specs.Packing.{Packed}
+use Rattle.deck_listing.specs.Packing.{Packed}
 use Rattle.deck_listing.specs.BlockWords.{AreWhole, AreWordsOf, IsFilledWith}
 use Rattle.deck_listing.specs.Walking.{AreEmpty}
 use Rattle.deck_listing.proofs.BlockSteps.{filled-words, runs-whole}

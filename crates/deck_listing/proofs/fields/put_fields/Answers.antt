@@ -3,7 +3,7 @@ use Rattle.definitions.specs.Kinds.{unit_bits}
 use Rattle.definitions.specs.StatementItems.{Item}
 use Rattle.definitions.specs.declared.deck_kind.DeckKind.{DeckKind}
 use Rattle.statement_coder.specs.Items.{item_as}
-use Rattle.parcel_packer.specs.Packing.{most_bits}
+use Rattle.deck_listing.specs.Packing.{most_bits}
 use Rattle.deck_listing.specs.Putting.{ArePut}
 use Rattle.deck_listing.proofs.FieldSteps.{field_short, fields_more, fields_within, width_more, most_small}
 use Rattle.deck_listing.proofs.PutSteps.{put_more}

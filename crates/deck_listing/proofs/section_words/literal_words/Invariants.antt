@@ -1,6 +1,6 @@
 use Rattle.std.proofs.Common.{◌≡◌, take}
 use Rattle.definitions.specs.Link.{literal_stored}
-use Rattle.parcel_packer.specs.Filling.{as_stored}
+use Rattle.deck_listing.specs.Filling.{as_stored}
 use Rattle.deck_listing.proofs.section_words.literal_words.Given as goal
 
 abbrev pub invariant-loop-index : goal.invariant-loop-index

@@ -1,7 +1,7 @@
 use Rattle.std.proofs.Common.{◌<◌, ◌++◌, ◌∙◌, Some, ap, length, sym, arith}
 use Rattle.std.proofs.lemmas.List.{take_all}
 use Rattle.std.proofs.lemmas.Option.{slice_get-get_or}
-use Rattle.parcel_packer.specs.Filling.{as_stored}
+use Rattle.deck_listing.specs.Filling.{as_stored}
 use Rattle.deck_listing.specs.BlockWords.{AreWordsOf}
 use Rattle.deck_listing.specs.ImageWordLines.{lines_of, rows_words}
 use Rattle.deck_listing.proofs.BlockSteps.{zip-at}

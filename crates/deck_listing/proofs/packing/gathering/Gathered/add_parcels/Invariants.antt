@@ -1,0 +1,13 @@
+use Rattle.std.proofs.Common.{◌≡◌, ◌+◌, ◌-◌, ◌/◌, ◌<◌, List, ◌++◌, replicate}
+use Rattle.definitions.specs.Kinds.{units}
+use Rattle.definitions.specs.Words.{Parcel, parcels_from}
+use Rattle.deck_listing.specs.Filling.{IsGathered}
+use Rattle.deck_listing.proofs.packing.gathering.Gathered.add_parcels.Given as goal
+
+abbrev pub invariant-loop-index : goal.invariant-loop-index
+invariant-loop-index l = record {
+  gathered : (parcels : List Parcel) → IsGathered l.kind parcels l.initial.self.words.items l.initial.self.next →
+      IsGathered l.kind (parcels ++ parcels_from l.span.is_instruction l.span.place (replicate l.index l.span.bits)) l.self.words.items l.self.next;
+  word : 0 < l.index → l.self.next.word ≡ (l.span.place + l.index - 1) / units l.kind;
+  same : l.index ≡ 0 → l.self.next.word ≡ l.initial.self.next.word;
+}

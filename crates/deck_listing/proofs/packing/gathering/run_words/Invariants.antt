@@ -1,0 +1,11 @@
+use Rattle.std.proofs.Common.{ℕ, ◌/◌, ◌≤◌, take, drop}
+use Rattle.definitions.specs.Kinds.{units}
+use Rattle.deck_listing.specs.Spans.{RiseWithin, places, parcels_in}
+use Rattle.deck_listing.specs.Filling.{IsGathered}
+use Rattle.deck_listing.proofs.packing.gathering.run_words.Given as goal
+
+abbrev pub invariant-loop-span : goal.invariant-loop-span
+invariant-loop-span l = record {
+  gathered : IsGathered l.kind (parcels_in (take l.span-index l.run)) l.gathered.words.items l.gathered.next;
+  order : (low : ℕ) × (l.gathered.next.word ≤ low / units l.kind) × RiseWithin low (places (parcels_in (drop l.span-index l.run))) 524288;
+}

@@ -1,3 +1,0 @@
-pub mod Packing
-pub mod Spans
-pub mod Filling
