@@ -17,7 +17,7 @@ mod CutLaws
 mod WordLaws
 mod FieldTexts
 mod ListableLaws
-mod ListingLaws
+pub mod ListingLaws
 mod PutSteps
 mod FieldSteps
 mod LiteralSteps

@@ -53,11 +53,12 @@ line-same kind rows items before stood cards shown statement is which =
     (cards-same before stood (take shown.cards cards) which ∙ ap₂ card_lines is.before is.cards)
     (ap₂ (λ front rest. letters_line front ++ rest) is.letters (stored-same kind rows items shown.coded statement.coded is.stored))
 
-take-none : (n : ℕ) (cards : List Card) → cards ≡ [] → take n cards ≡ []
+-- no cards of none
+pub take-none : (n : ℕ) (cards : List Card) → cards ≡ [] → take n cards ≡ []
 take-none n cards none = ap (take n) none ∙ take-nil n
 
 -- behind some cards so many stand as stood before them and they are, or no card is left
-behind-cards : (n before stood : ℕ) (cards : List Card) → (cards ≡ []) ⊎ (before ≡ stood) → (drop n cards ≡ []) ⊎ (before + length (take n cards) ≡ stood + n)
+pub behind-cards : (n before stood : ℕ) (cards : List Card) → (cards ≡ []) ⊎ (before ≡ stood) → (drop n cards ≡ []) ⊎ (before + length (take n cards) ≡ stood + n)
 behind-cards n before stood cards which =
     ⊎_elim (λ (none : cards ≡ []). inl (ap (drop n) none ∙ drop-nil n))
     (λ (same : before ≡ stood). ⊎_elim

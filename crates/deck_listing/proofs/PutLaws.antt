@@ -12,7 +12,7 @@ use Rattle.definitions.specs.Words.{Parcel, Coded, Linking, cut, parcels_from, w
 use Rattle.definitions.specs.Operations.{is_instruction}
 use Rattle.definitions.specs.declared.deck_kind.DeckKind.{DeckKind}
 use Rattle.definitions.specs.declared.deck_kind.DeckKind.TheVariants.{Rel, Abs, Periph}
-use Rattle.deck_listing.specs.Packing.{OpenRun, Packed, AreFieldsFitting, end_bit, most_bits, moved, MayBegin, put_bit, put_bits, put_items, parcel_at, runs_in}
+use Rattle.deck_listing.specs.Packing.{OpenRun, Packed, DoItemsFit, end_bit, most_bits, moved, MayBegin, put_bit, put_bits, put_items, parcel_at, runs_in}
 use Rattle.deck_listing.specs.Spans.{IsOpen, IsPut, IsKept, RiseWithin, DoRunsRise, places, parcels_in, run_of, span_parcels}
 use Rattle.deck_listing.specs.declared.packing.spans.Span.{Span}
 use Rattle.deck_listing.specs.declared.packing.spans.OpenParcel.{OpenParcel}
@@ -21,13 +21,13 @@ use Rattle.deck_listing.proofs.PackingLaws.{put_bits-joined, put_bits-whole}
 use Rattle.deck_listing.proofs.ParcelSteps.{joined_below, parcels_in-push}
 use Rattle.deck_listing.proofs.RiseLaws.{rise-wider, rise-push, rise-append, places-append}
 
-joined-below : (linking : Linking) (items : List Item) → AreFieldsFitting linking items → joined linking items < 2 ^ width_of items
+joined-below : (linking : Linking) (items : List Item) → DoItemsFit linking items → joined linking items < 2 ^ width_of items
 joined-below linking [] h = omega arith
 joined-below linking (first ∷ items) h =
     joined_below (content_bits linking first.width first.content) (joined linking items) first.width (width_of items) h.0 (joined-below linking items h.1)
 
 -- fields put one behind the other are put as one number
-put_items-joined : (size : ℕ) (instruction : Bool) (linking : Linking) (items : List Item) (run : OpenRun) → AreFieldsFitting linking items →
+put_items-joined : (size : ℕ) (instruction : Bool) (linking : Linking) (items : List Item) (run : OpenRun) → DoItemsFit linking items →
     put_items size instruction linking items run ≡ put_bits size instruction (width_of items) (joined linking items) run
 put_items-joined size instruction linking [] run h = refl
 put_items-joined size instruction linking (first ∷ items) run h =
@@ -43,7 +43,7 @@ fresh_run run place f b p = same run.parcels run.place place run.filled 0 run.bi
 
 -- fields that fill whole parcels are their number cut
 pub items_whole : (size : ℕ) (instruction : Bool) (linking : Linking) (items : List Item) (count : ℕ) (run : OpenRun) → 0 < size → run.filled ≡ 0 → run.bits ≡ 0 →
-    width_of items ≡ size * count → AreFieldsFitting linking items →
+    width_of items ≡ size * count → DoItemsFit linking items →
     put_items size instruction linking items run ≡ record { parcels = run.parcels ++ parcels_from instruction run.place (cut size count (joined linking items)); place = run.place + count; filled = 0; bits = 0 }
 items_whole size instruction linking items count run some f b width fits =
     put_items-joined size instruction linking items run fits
@@ -79,7 +79,7 @@ moved_fresh size at_bit place run f b p = elim (eqb_tells run.filled 0) [
 
 -- a statement whose fields are put from its place to its end has the parcels of the definitions
 pub statement_put : (kind : DeckKind) (linking : Linking) (coded : Coded) (run : OpenRun) → run.filled ≡ 0 → run.bits ≡ 0 →
-    width_of coded.fields ≡ unit_bits kind * (coded.settled.end - coded.settled.place) → AreFieldsFitting linking coded.fields →
+    width_of coded.fields ≡ unit_bits kind * (coded.settled.end - coded.settled.place) → DoItemsFit linking coded.fields →
     put_items (unit_bits kind) (is_instruction coded.settled.read.operation) linking coded.fields (moved (unit_bits kind) (unit_bits kind * coded.settled.place) run)
     ≡ record { parcels = run.parcels ++ parcels_of kind linking coded; place = coded.settled.place + (coded.settled.end - coded.settled.place); filled = 0; bits = 0 }
 statement_put kind linking coded run f b width fits =

@@ -5,7 +5,7 @@ use Rattle.std.proofs.lemmas.Nat.{le-div}
 use Rattle.std.proofs.lemmas.Bool.Decides.{eqb_tells}
 use Rattle.definitions.specs.StatementItems.{Item}
 use Rattle.definitions.specs.Words.{Linking, content_bits, cut, joined, parcels_from, width_of}
-use Rattle.deck_listing.specs.Packing.{OpenRun, AreFieldsFitting, end_bit, moved, put_bits, put_items}
+use Rattle.deck_listing.specs.Packing.{OpenRun, DoItemsFit, end_bit, moved, put_bits, put_items}
 use Rattle.deck_listing.proofs.PutLaws.{items_whole, put_bits-end}
 use Rattle.deck_listing.specs.Putting.{StandsAt, ArePut}
 
@@ -94,7 +94,7 @@ put_items-append : (size : ℕ) (instruction : Bool) (linking : Linking) (xs ys 
 put_items-append size instruction linking [] ys run = refl
 put_items-append size instruction linking (x ∷ xs) ys run = put_items-append size instruction linking xs ys (put_bits size instruction x.width (content_bits linking x.width x.content) run)
 
-fits-append : (linking : Linking) (xs ys : List Item) → AreFieldsFitting linking xs → AreFieldsFitting linking ys → AreFieldsFitting linking (xs ++ ys)
+fits-append : (linking : Linking) (xs ys : List Item) → DoItemsFit linking xs → DoItemsFit linking ys → DoItemsFit linking (xs ++ ys)
 fits-append linking [] ys h k = k
 fits-append linking (x ∷ xs) ys h k = (h.0, fits-append linking xs ys h.1 k)
 

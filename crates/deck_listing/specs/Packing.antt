@@ -60,13 +60,13 @@ most_bits kind = unit_bits kind * (units kind * most_words kind)
 abbrev pub runs_in : Packed → List (List Parcel)
 runs_in packed = packed.run.parcels ∷ packed.earlier
 
--- the fields of a statement put one behind the other
+-- the items of a statement put one behind the other
 abbrev pub put_items : ℕ → Bool → Linking → List Item → OpenRun → OpenRun
 put_items size instruction linking [] run = run
-put_items size instruction linking (bits ∷ fields) run =
-    put_items size instruction linking fields (put_bits size instruction bits.width (content_bits linking bits.width bits.content) run)
+put_items size instruction linking (item ∷ items) run =
+    put_items size instruction linking items (put_bits size instruction item.width (content_bits linking item.width item.content) run)
 
--- each field's bits fit its width
-abbrev pub AreFieldsFitting : Linking → List Item → Type 0
-AreFieldsFitting linking [] = Unit {0}
-AreFieldsFitting linking (bits ∷ fields) = (content_bits linking bits.width bits.content < 2 ^ bits.width) × AreFieldsFitting linking fields
+-- the bits of each item fit its width
+abbrev pub DoItemsFit : Linking → List Item → Type 0
+DoItemsFit linking [] = Unit {0}
+DoItemsFit linking (item ∷ items) = (content_bits linking item.width item.content < 2 ^ item.width) × DoItemsFit linking items

@@ -8,7 +8,7 @@ use Rattle.definitions.specs.declared.deck_kind.DeckKind.{DeckKind}
 use Rattle.statement_coder.specs.declared.items.Item as code
 use Rattle.operations.specs.OperationsAs.{operation_as}
 use Rattle.definitions.specs.Filling.{DoFill}
-use Rattle.deck_listing.specs.Packing.{OpenRun, Packed, AreFieldsFitting, MayBegin, moved, put_items}
+use Rattle.deck_listing.specs.Packing.{OpenRun, Packed, DoItemsFit, MayBegin, moved, put_items}
 use Rattle.deck_assembler.specs.LineItems.{kept_items, AreKept}
 use Rattle.deck_assembler.specs.declared.lines.CodedLine as lines
 use Rattle.deck_assembler.specs.declared.lines.LineFields.TheVariants as variant
@@ -22,7 +22,7 @@ pub record StandsAt (size : ℕ) (run : OpenRun) (at_bit : ℕ) : Type 0 where
 pub record ArePut (size : ℕ) (instruction : Bool) (linking : Linking) (old : OpenRun) (from : ℕ) (fields : List Item) (new : OpenRun) : Type 0 where
   pub run : moved size (from + width_of fields) new ≡ put_items size instruction linking fields (moved size from old)
   pub stands : StandsAt size new (from + width_of fields)
-  pub fits : AreFieldsFitting linking fields
+  pub fits : DoItemsFit linking fields
   pub none : fields ≡ [] → new ≡ old
 
 -- a line may be put behind a run whose parcels are whole

@@ -11,6 +11,7 @@
 
 // The listing.
 mod field_lines;
+mod kept_fields;
 mod lines;
 mod listed_object;
 mod statements;

@@ -1,9 +1,8 @@
 //! The lines of one statement: its cards, its letters, and what it stores.
-ghost use Rattle.std.specs.Prelude.{◌≡◌, ◌≢◌, ◌≤◌, ◌<◌, ◌+◌, ◌-◌, ◌*◌, ◌/◌, ◌%◌, ◌^◌, ◌++◌, List, map, length, take, drop, true, false, OnOk};
-ghost use Rattle.definitions.specs.Kinds.{unit_bits, units, word_bits};
+ghost use Rattle.std.specs.Prelude.{◌≡◌, ◌≢◌, ◌≤◌, ◌<◌, ◌+◌, ◌/◌, ◌%◌, ◌^◌, ◌++◌, List, map, length, take, drop, true, false, OnOk};
+ghost use Rattle.definitions.specs.Kinds.{units, word_bits};
 ghost use Rattle.definitions.specs.Listing.{central_lines, unlinked};
 ghost use Rattle.definitions.specs.Operations as op;
-ghost use Rattle.definitions.specs.StatementItems.{known};
 ghost use Rattle.definitions.specs.Words.{width_of};
 ghost use Rattle.deck_listing.specs.ListedParts.{AreListable, IsListable, IsListableLine, line_text, lines_text, stored_text};
 ghost use Rattle.deck_listing.specs.WordLines.{fields_text, has_one_line};
@@ -12,12 +11,13 @@ ghost use Rattle.statement_coder.specs.Items.{item_as};
 ghost use Rattle.operations.specs.OperationsAs.{operation_as};
 
 use crate::field_lines::{joined_fields, push_word_lines};
+use crate::kept_fields::{known_field, listed};
 use crate::lines::{push_card_lines, push_central_line, push_letters_line};
 use cards::Card;
 use deck_assembler::{CodedLine, Line, LineFields, ObjectParts};
 use definitions::DeckKind;
 use operations::Operation;
-use statement_coder::{Content, Item};
+use statement_coder::Item;
 use std::alloc::AllocError;
 use text_ports::Text;
 use use_blocks::Bases;
@@ -75,18 +75,6 @@ fn push_fields(
     push_word_lines(text, kind, &parts.bases, word as u64, items)
 }
 
-/// Bits that reach from the place of a statement to its end, as a field.
-fn known_field(kind: DeckKind, stored: &CodedLine, bits: u64) -> Item
-    requires { (stored.now.end - stored.now.place) * unit_bits kind ≤ 60 }
-    ensures { item_as result ≡ known ((stored.now.end - stored.now.place) * unit_bits kind) bits }
-{
-    Item {
-        width: stored.end.saturating_sub(stored.place) * kind.unit_bits(),
-        content: Content::Known(bits),
-        letter: None,
-    }
-}
-
 /// The lines of what a statement stores; the zeros of a BSSZ have none.
 fn push_stored(text: &mut Text, parts: &ObjectParts, stored: &CodedLine) -> Result<(), AllocError>
     requires { IsListable parts.now.kind parts.now.items.items stored.now }
@@ -103,9 +91,8 @@ fn push_stored(text: &mut Text, parts: &ObjectParts, stored: &CodedLine) -> Resu
             )
         }
         LineFields::Listed { first, count } => {
-            let first = first as usize;
-            let listed = &parts.items[first..first + count as usize];
-            push_fields(text, parts, stored, listed)
+            let fields = listed(parts.items.as_slice(), first, count);
+            push_fields(text, parts, stored, fields)
         }
     }
 }

@@ -1,45 +1,23 @@
 //! The lines of an object, put one behind the other, each into the words of its block.
-ghost use Rattle.std.specs.Prelude.{◌≡◌, ◌≤◌, ◌+◌, ◌-◌, ◌*◌, ◌∷◌, List, length, map, OnOk};
+ghost use Rattle.std.specs.Prelude.{◌≡◌, ◌*◌, ◌∷◌, List, length, OnOk};
 ghost use Rattle.definitions.specs.Kinds.{unit_bits};
 ghost use Rattle.definitions.specs.Objects.{Object};
 ghost use Rattle.definitions.specs.Cards.{Card};
 ghost use Rattle.definitions.specs.Operations.{is_instruction};
-ghost use Rattle.definitions.specs.StatementItems.{known};
 ghost use Rattle.definitions.specs.Words.{Coded};
-ghost use Rattle.statement_coder.specs.Items.{item_as};
 ghost use Rattle.operations.specs.OperationsAs.{operation_as};
-ghost use Rattle.deck_assembler.specs.LineItems.{kept_items, listed};
+ghost use Rattle.deck_assembler.specs.LineItems.{kept_items};
 ghost use Rattle.deck_assembler.specs.PartsOf.{ArePartsOf};
 ghost use Rattle.deck_listing.specs.Putting.{ArePut, IsReady};
 ghost use Rattle.deck_listing.specs.Walking.{AreEmpty, DoNamesDiffer, DoesFollow, DoesFollowAll, HasObject, HasRuns, HaveRuns, IsNext, IsNextOfAll};
 
 use crate::fields::put_fields;
+use crate::kept_fields::{known_field, listed};
 use crate::packing::Words;
 use deck_assembler::{CodedLine, LineFields, Linking, ObjectParts};
 use definitions::DeckKind;
-use statement_coder::{Content, Item};
+use statement_coder::Item;
 use std::alloc::AllocError;
-
-/// The known bits of a line, which fill it, as one field.
-fn known_field(kind: DeckKind, line: &CodedLine, bits: u64) -> Item
-    requires ordered { line.now.place ≤ line.now.end }
-    requires short { (line.now.end - line.now.place) * unit_bits kind ≤ 60 }
-    ensures { item_as result ≡ known ((line.now.end - line.now.place) * unit_bits kind) bits }
-{
-    Item {
-        width: (line.end - line.place) * kind.unit_bits(),
-        content: Content::Known(bits),
-        letter: None,
-    }
-}
-
-/// So many of these fields, from the first of them on.
-fn listed(items: &[Item], first: u32, count: u32) -> &[Item]
-    requires { first + count ≤ length items.now }
-    ensures { map item_as result.now ≡ listed items.now first count }
-{
-    items.split_at(first as usize).1.split_at(count as usize).0
-}
 
 /// Puts the fields of a line into its block.
 fn put_line<L: Linking>(

@@ -6,7 +6,7 @@ ghost use Rattle.definitions.specs.Words.{Coded, Linking, parcels_of, runs_of, w
 ghost use Rattle.definitions.specs.Operations.{is_instruction};
 ghost use Rattle.definitions.specs.Kinds.{unit_bits};
 ghost use Rattle.definitions.specs.declared.deck_kind.DeckKind.{DeckKind};
-ghost use Rattle.deck_listing.specs.Packing.{AreFieldsFitting, OpenRun, Packed, end_bit, moved, put_bits, put_items, runs_in};
+ghost use Rattle.deck_listing.specs.Packing.{DoItemsFit, OpenRun, Packed, end_bit, moved, put_bits, put_items, runs_in};
 
 /// Bits behind bits are put as one number, so a wide field may be put in pieces; and a field that
 /// begins where the last one ended needs no move.
@@ -26,7 +26,7 @@ pub fn ends_add()
 /// that the definitions cut from their joined number.
 pub fn statements_fill_parcels()
     ensures { (kind : DeckKind) (linking : Linking) (coded : Coded) (run : OpenRun) → run.filled ≡ 0 → run.bits ≡ 0 →
-        width_of coded.fields ≡ unit_bits kind * (coded.settled.end - coded.settled.place) → AreFieldsFitting linking coded.fields →
+        width_of coded.fields ≡ unit_bits kind * (coded.settled.end - coded.settled.place) → DoItemsFit linking coded.fields →
         put_items (unit_bits kind) (is_instruction coded.settled.read.operation) linking coded.fields (moved (unit_bits kind) (unit_bits kind * coded.settled.place) run)
         ≡ record { parcels = run.parcels ++ parcels_of kind linking coded; place = coded.settled.place + (coded.settled.end - coded.settled.place); filled = 0; bits = 0 } }
 {}

@@ -1,8 +1,7 @@
-use Rattle.std.proofs.Common.{◌≡◌, ◌+◌, ◌-◌, arith}
+use Rattle.std.proofs.Common.{arith}
 use Rattle.deck_listing.proofs.statements.push_stored.Goals as goal
 
 pub push_fields-requires-in-Listed-clause-few : goal.push_fields-requires-in-Listed-clause-few
 push_fields-requires-in-Listed-clause-few c =
     let bounded = rw c.in-Listed.is at c.requires.bounded in
-    let count : c.in-Listed.first + c.in-Listed.count - c.in-Listed.first ≡ c.in-Listed.count = omega arith in
-    rw (count, c.deref.ensures.value) (omega (arith, bounded))
+    rw (c.listed-fields.ensures, c.as_slice.ensures.value) (omega (arith, bounded))
