@@ -1,11 +1,13 @@
 -- Names with the values that decks enter, a step at a time.
-use Rattle.std.proofs.Common.{ℕ, ◌≡◌, Bool, true, false, true≢false, cond, List, ◌∷◌, Option, Some, None, is_some, refl, sym, ap, ◌∙◌, ℤ}
+use Rattle.std.proofs.Common.{ℕ, ◌≡◌, Bool, true, false, true≢false, cond, List, [], ◌∷◌, Option, Some, None, is_some, ◌||◌, refl, sym, ap, ap₂, ◌∙◌, ℤ}
 use Rattle.std.specs.Prelude.{if◌then◌else◌}
 use Rattle.std.specs.Map.{update}
 use Rattle.std.specs.Ordering.{eq_by_cmp}
+use Rattle.std.proofs.lemmas.List.Folds.{list_any-append}
 use Rattle.definitions.specs.Characters.{same_text}
 use Rattle.definitions.specs.Settled.{Definition}
-use Rattle.definitions.specs.Link.{Based, Common, entered_in, entry_value, or_value}
+use Rattle.definitions.specs.Blocks.{is_named}
+use Rattle.definitions.specs.Link.{Based, Common, entered, entered_in, entry_names, entry_value, names_of, or_value}
 use Rattle.deck_linker.specs.NameKeys.{name_order, same_in_order, same_text_equivalence}
 use Rattle.deck_linker.specs.Placing.{entry_alone}
 use Rattle.expr_forms.proofs.NameLaws.{same_text-Decides}
@@ -62,6 +64,29 @@ entered-again found name value other some = by_test (same_text other name) refl
         first (found other) (ap (λ (n : List ℕ). is_some (found n)) same ∙ some) (entry_alone other name value)
     by_test false e =
         sym (ap (λ (b : Bool). or_value (found other) (if b then Some value else None)) e ∙ or_value-none (found other))
+
+-- one of two values is there where one of them is
+some-or : (a b : Option ℤ) → is_some (or_value a b) ≡ (is_some a || is_some b)
+some-or None b = refl
+some-or (Some n) b = refl
+
+-- a deck has a value for a name where one of its entries has it
+entered-names : (name : List ℕ) (commons : List Common) (based : Based) (entries : List Definition) → is_some (entered_in name commons based entries) ≡ is_named name (names_of entries)
+entered-names name commons based [] = refl
+entered-names name commons based (entry ∷ entries) = by_test (same_text name entry.name) (entered-names name commons based entries)
+  where
+    by_test : (t : Bool) → is_some (entered_in name commons based entries) ≡ is_named name (names_of entries) →
+        is_some (if t then Some (entry_value commons based entry) else entered_in name commons based entries) ≡ (t || is_named name (names_of entries))
+    by_test true rest = refl
+    by_test false rest = rest
+
+-- decks have a value for a name where one of them enters it
+pub entered-named : (name : List ℕ) (commons : List Common) (decks : List Based) → is_some (entered name commons decks) ≡ is_named name (entry_names decks)
+entered-named name commons [] = refl
+entered-named name commons (based ∷ others) =
+    some-or (entered_in name commons based based.object.entries) (entered name commons others)
+    ∙ ap₂ (λ (a b : Bool). a || b) (entered-names name commons based based.object.entries) (entered-named name commons others)
+    ∙ sym (list_any-append (same_text name) (names_of based.object.entries) (entry_names others))
 
 -- a name that is not in a map
 pub none-is : (o : Option ℤ) → is_some o ≡ false → o ≡ None

@@ -9,11 +9,11 @@ use Rattle.std.proofs.lemmas.List.Folds.{list_any-append}
 use Rattle.definitions.specs.Characters.{same_text}
 use Rattle.definitions.specs.Blocks.{is_named}
 use Rattle.definitions.specs.Settled.{Definition}
-use Rattle.definitions.specs.Link.{Based, Common, names_of, entry_names, doubled_lines, missing_lines, link_line}
+use Rattle.definitions.specs.Link.{Based, Common, names_of, doubled_lines, link_line}
 use Rattle.definitions.specs.Map.{entry_line, entry_lines}
 use Rattle.definitions.proofs.TextLaws.{same_text-true}
 use Rattle.deck_linker.specs.NameKeys.{name_order, same_in_order}
-use Rattle.deck_linker.specs.Names.{with_name, with_entries, with_decks, HaveNames}
+use Rattle.deck_linker.specs.Names.{with_name, with_entries, HaveNames}
 
 -- a name that is there already changes nothing
 or_there : (b c : Bool) → (b ≡ true → c ≡ true) → c ≡ (c || b)
@@ -73,23 +73,11 @@ doubled-same set names deck [] h = refl
 doubled-same set names deck (entry ∷ entries) h =
     ap₂ (λ (b : Bool) (l : List (List ℕ)). (if b then link_line (codes "D") deck (codes " " ++ entry.name) ∷ [] else []) ++ l) (h entry.name) (doubled-same set names deck entries h)
 
-pub missing-same : (set names : List (List ℕ)) (deck : List ℕ) (externals : List (List ℕ)) → HaveNames set names → missing_lines set deck externals ≡ missing_lines names deck externals
-missing-same set names deck [] h = refl
-missing-same set names deck (name ∷ externals) h =
-    ap₂ (λ (b : Bool) (l : List (List ℕ)). (if b then [] else link_line (codes "U") deck (codes " " ++ name) ∷ []) ++ l) (h name) (missing-same set names deck externals h)
-
 pub entry_lines-same : (commons : List Common) (set names : List (List ℕ)) (based : Based) (entries : List Definition) → HaveNames set names →
     entry_lines commons set based entries ≡ entry_lines commons names based entries
 entry_lines-same commons set names based [] h = refl
 entry_lines-same commons set names based (entry ∷ entries) h =
     ap₂ (λ (b : Bool) (l : List ℕ). (if b then [] else entry_line commons based entry) ++ l) (h entry.name) (entry_lines-same commons set names based entries h)
-
--- the names that decks enter
-pub have-decks : (decks : List Based) (set names : List (List ℕ)) → HaveNames set names → HaveNames (with_decks decks set) (names ++ entry_names decks)
-have-decks [] set names h other = h other ∙ ap (is_named other) (sym (append-nil names))
-have-decks (based ∷ decks) set names h other =
-    have-decks decks (with_entries based.object.entries set) (names ++ names_of based.object.entries) (have-entries based.object.entries set names h) other
-    ∙ ap (is_named other) (append_assoc names (names_of based.object.entries) (entry_names decks))
 
 -- a set in order has the names that are among its names
 pub named-ordered : (name : List ℕ) (names : List (List ℕ)) → list_any (λ other. is_eq (name_order name other)) names ≡ is_named name names

@@ -3,7 +3,6 @@ use Rattle.std.specs.Prelude.{ℕ, ◌≡◌, List, [], ◌∷◌}
 use Rattle.std.specs.BTreeSet.{insert_key}
 use Rattle.definitions.specs.Blocks.{is_named}
 use Rattle.definitions.specs.Settled.{Definition}
-use Rattle.definitions.specs.Link.{Based}
 use Rattle.deck_linker.specs.NameKeys.{name_order}
 
 -- names with one more, where it is not among them
@@ -14,11 +13,6 @@ with_name name names = insert_key name_order names name
 abbrev pub with_entries : List Definition → List (List ℕ) → List (List ℕ)
 with_entries [] names = names
 with_entries (entry ∷ entries) names = with_entries entries (with_name entry.name names)
-
--- names with those that decks enter
-abbrev pub with_decks : List Based → List (List ℕ) → List (List ℕ)
-with_decks [] names = names
-with_decks (based ∷ others) names = with_decks others (with_entries based.object.entries names)
 
 -- these are the names that are among others
 abbrev pub HaveNames : List (List ℕ) → List (List ℕ) → Type 0

@@ -1,6 +1,7 @@
 //! The LINK lines of a link.
 ghost use Rattle.std.specs.Prelude.{◌≡◌, [], flat_map, OnOk};
-ghost use Rattle.definitions.specs.Link.{doubled_lines, lines_from, link_lines, missing_lines, past_lines};
+ghost use Rattle.definitions.specs.Blocks.{is_named};
+ghost use Rattle.definitions.specs.Link.{doubled_lines, entry_names, lines_from, link_lines, missing_lines, past_lines};
 ghost use Rattle.deck_linker.specs.DeckLines.{lines_of_common, lines_of_deck, lines_of_decks};
 ghost use Rattle.deck_linker.specs.Lines.{with_lines};
 
@@ -30,17 +31,24 @@ fn push_doubled(
     Ok(())
 }
 
+/// Whether a deck enters a name.
+fn is_entered(layout: &Layout, name: &Name) -> bool
+    ensures { result ≡ is_named name.now (entry_names layout.now.decks) }
+{
+    layout.entered(name).is_some()
+}
+
 /// Writes a U line for each external that no deck enters.
 fn push_missing(
     out: &mut LinkText,
-    entered: &NameSet,
+    layout: &Layout,
     deck: &[u8],
     externals: &[Name],
 ) -> Result<(), AllocError>
-    ensures { OnOk result (out.new ≡ with_lines out.old (missing_lines entered.now deck.now externals.now)) }
+    ensures { OnOk result (out.new ≡ with_lines out.old (missing_lines (entry_names layout.now.decks) deck.now externals.now)) }
 {
     for name in externals {
-        if !entered.contains(name) {
+        if !is_entered(layout, name) {
             out.push_name(b'U', deck, name.as_slice())?;
         }
     }
@@ -57,37 +65,34 @@ fn push_past(out: &mut LinkText, is_past: bool, name: &[u8]) -> Result<(), Alloc
     Ok(())
 }
 
-/// Writes the LINK lines of a deck, where decks enter some names, and earlier decks enter others.
+/// Writes the LINK lines of a deck, where earlier decks enter some names.
 #[tactic(auto, using(crate::proofs::LineLaws::lines_joined))]
 fn push_deck(
     out: &mut LinkText,
     layout: &Layout,
-    entered: &NameSet,
     earlier: &NameSet,
     based: &Based,
 ) -> Result<(), AllocError>
-    ensures { OnOk result (out.new ≡ with_lines out.old (lines_of_deck layout.now entered.now earlier.now based.now)) }
+    ensures { OnOk result (out.new ≡ with_lines out.old (lines_of_deck layout.now earlier.now based.now)) }
 {
     let deck = name(based);
     push_doubled(out, earlier, deck, entries(based))?;
-    push_missing(out, entered, deck, externals(based))?;
+    push_missing(out, layout, deck, externals(based))?;
     push_unfit(out, layout, based)?;
     push_past(out, based.is_past(), deck)
 }
 
-/// Writes the LINK lines of decks, where decks enter some names; their own join those that earlier
-/// decks enter.
+/// Writes the LINK lines of decks; the names that they enter join those that earlier decks enter.
 fn push_decks(
     out: &mut LinkText,
     layout: &Layout,
-    entered: &NameSet,
     earlier: &mut NameSet,
     decks: &[Based],
 ) -> Result<(), AllocError>
-    ensures { OnOk result (out.new ≡ with_lines out.old (lines_of_decks layout.now entered.now earlier.old decks.now)) }
+    ensures { OnOk result (out.new ≡ with_lines out.old (lines_of_decks layout.now earlier.old decks.now)) }
 {
     for based in decks {
-        push_deck(out, layout, entered, earlier, based)?;
+        push_deck(out, layout, earlier, based)?;
         earlier.add_entries(entries(based))?;
     }
     Ok(())
@@ -113,9 +118,7 @@ pub(crate) fn push_link_lines(
 ) -> Result<(), AllocError>
     ensures { OnOk result (out.new ≡ with_lines out.old (link_lines layout.now)) }
 {
-    let decks = layout.decks();
-    let entered = NameSet::of_decks(alloc, decks)?;
     let mut earlier = NameSet::new(alloc);
-    push_decks(out, layout, &entered, &mut earlier, decks)?;
+    push_decks(out, layout, &mut earlier, layout.decks())?;
     push_commons(out, layout.commons())
 }

@@ -1,10 +1,9 @@
 //! Sets of names.
-ghost use Rattle.std.specs.Prelude.{◌≡◌, [], IfOk, OnOk};
+ghost use Rattle.std.specs.Prelude.{◌≡◌, [], OnOk};
 ghost use Rattle.definitions.specs.Blocks.{is_named};
-ghost use Rattle.deck_linker.specs.Names.{with_decks, with_entries, with_name};
+ghost use Rattle.deck_linker.specs.Names.{with_entries, with_name};
 
-use crate::linked_deck::entries;
-use crate::{Based, NameKey};
+use crate::NameKey;
 use deck_assembler::Entry;
 use expr_forms::Name;
 use std::alloc::{AllocError, Global};
@@ -40,17 +39,6 @@ impl NameSet {
         ensures { result ≡ is_named name.now self.now }
     {
         self.names.contains(&NameKey::new(name))
-    }
-
-    /// The names that decks enter.
-    pub(crate) fn of_decks(alloc: Global, decks: &[Based]) -> Result<NameSet, AllocError>
-        ensures { IfOk result (λ names. names ≡ with_decks decks.now []) }
-    {
-        let mut names = NameSet::new(alloc);
-        for based in decks {
-            names.add_entries(entries(based))?;
-        }
-        Ok(names)
     }
 
     /// Adds a name, where it is not among them.

@@ -1,5 +1,5 @@
 -- A common block that is there is widened in its place, and one that is not joins the others.
-use Rattle.std.proofs.Common.{◌≡◌, cond, ◌++◌, ◌∷◌, List, [], ℕ, Option, Some, None, length, sym, subst, ap, ap₂, ◌∙◌, arith}
+use Rattle.std.proofs.Common.{◌≡◌, cond, ◌++◌, ◌∷◌, List, [], ℕ, Some, None, length, sym, subst, ap, ap₂, ◌∙◌, arith}
 use Rattle.std.specs.Prelude.{slice_set}
 use Rattle.std.specs.BTreeMap.{get}
 use Rattle.std.specs.Ordering.{eq_by_cmp}
