@@ -326,3 +326,10 @@ known-open (first ∷ earlier) later front statement e = by (has_end earlier) re
     by false is (last ∷ later) e more =
         let same = rest-of first last earlier ((later ++ statement ∷ []) ++ front) (ap (λ (b : Bool). front_if b (up_to_end earlier) (first ∷ earlier)) (sym is) ∙ e) in
         front-open (later ++ statement ∷ []) (ap has_end (sym same) ∙ is)
+
+-- a deck up to where a statement begins has the statements in front of that
+pub cut-front : (cards : List Card) (later front : List Statement) → known_in cards ≡ later ++ front → has_end front ≡ false → known_in (take (stood front) cards) ≡ front
+cut-front cards later front e none =
+    let n = stood front in
+    let split = is-split cards later front e none in
+    ap up_to_end (cut-behind (reverse (drop n cards)) (reverse (take n cards)) (split.behind ++ later) front split.all split.count).0 ∙ (end-none front none).0

@@ -1,5 +1,5 @@
 -- What is due of coding is within due code, with those in front of the tail.
-use Rattle.std.proofs.Common.{◌≡◌, ◌∙◌, ℕ, ◌+◌, ◌-◌, ◌<◌, ◌≤◌, inl, inr, Bool, true, false, nat_lt, nat_le, List, [], ◌∷◌, ◌++◌, min, cond, length, length-append, refl, ap, sym, subst, arith}
+use Rattle.std.proofs.Common.{◌≡◌, ◌∙◌, ℕ, ◌+◌, ◌-◌, ◌<◌, ◌≤◌, ◌⊎◌, inl, inr, Bool, true, false, nat_lt, nat_le, List, [], ◌∷◌, ◌++◌, min, cond, length, length-append, refl, ap, sym, subst, arith}
 use Rattle.std.specs.Prelude.{not, ◌||◌}
 use Rattle.std.specs.List.{count_by}
 use Rattle.std.proofs.lemmas.Bool.{cases_lt, lt-ltb, le-leb}
@@ -137,12 +137,12 @@ begins-within kind old cards count earlier limit tail within = elim (cases_lt li
 ]
 
 -- what is coded in an edited deck is within due code, with those of a piece
-pub within-due-code : (old cards : List Card) (before behind : ℕ) (former : Former) (decks : Edited) (count : ℕ) → StandApart old cards before behind decks → decks.before ≤ before → former.before ≡ before → former.kind ≡ kind_of_statements (known_in old) →
-    kind_of_statements decks.old ≡ kind_of_statements decks.new → HasTailIfAny (kind_of_statements (known_in cards)) old cards former.tail (known_in cards) →
+pub within-due-code : (old cards : List Card) (before behind : ℕ) (former : Former) (decks : Edited) (count : ℕ) → StandApart old cards before behind decks → decks.before ≤ before → former.before ≡ before →
+    (former.kind ≡ kind_of_statements (known_in cards)) ⊎ (former.tail ≡ 0) → HasTailIfAny (kind_of_statements (known_in cards)) old cards former.tail (known_in cards) →
     ((front : List Statement) (split : Split) → IsUntouched decks front → DoAgree decks split → length split.new_front + 128 < length (known_in cards) →
     HasTailWithin (kind_of_statements (known_in cards)) old cards former.tail (known_in cards) (length split.new_front + 128)) →
     ((plan : CodePlan) → IsPlanOf (kind_of_statements (known_in cards)) old cards former plan → count ≤ code_due_of cards plan) → IsWithinDueCode decks 128 count
-within-due-code old cards before behind former decks count apart few same_before same_kind kinds tail within due = record {
+within-due-code old cards before behind former decks count apart few same_before same tail within due = record {
   to_end = λ front is.
       let found = begins-somewhere kind old cards former.tail (known_in cards) tail in
       let bound = counted front is found.from found.begins in
@@ -185,7 +185,7 @@ within-due-code old cards before behind former decks count apart few same_before
         subst (λ (both : List Statement × List Statement). count ≤ code_due (context_from both.0) (context_from both.1) (length front) from (settled_all (kind_of_statements both.1) both.1))
         (λ i. (sym apart.of_old i, sym apart.of_new i))
         (due plan (record {
-          same = same_kind ∙ ap kind_of_statements (sym apart.of_old) ∙ kinds ∙ ap kind_of_statements apart.of_new;
+          same = same;
           of_old = apart.of_old;
           of_new = record { untouched = is; of_new = apart.of_new };
           known = refl;

@@ -1,22 +1,25 @@
 -- The lines of the object before an edit go beside a walk over the edited deck; what was not bound otherwise keeps its line.
-use Rattle.std.proofs.Common.{◌≡◌, ◌∙◌, ℕ, ◌+◌, ◌-◌, ◌≤◌, ◌⊎◌, inl, inr, true, false, List, [], ◌∷◌, ◌++◌, Option, Some, None, zero, suc, ◌<◌, length, get_or, arith, map, take, drop, reverse, refl, ap, ap₂, sym, subst, append_assoc, length-append, length-take-le}
-use Rattle.std.specs.Prelude.{IfSome}
+use Rattle.std.proofs.Common.{◌≡◌, ◌∙◌, ℕ, ◌+◌, ◌-◌, ◌≤◌, ◌⊎◌, inl, inr, Bool, true, false, Result, Ok, Err, List, [], ◌∷◌, ◌++◌, Option, Some, None, zero, suc, ◌<◌, length, get_or, arith, map, take, drop, reverse, refl, ap, ap₂, sym, subst, append_assoc, length-append, length-take-le}
+use Rattle.std.specs.Prelude.{IfSome, not, ◌||◌}
+use Rattle.std.specs.List.{list_any}
 use Rattle.std.proofs.lemmas.Bool.{cases_lt}
 use Rattle.std.proofs.lemmas.List.{drop-drop, length-reverse, reverse-append, reverse-reverse}
 use Rattle.definitions.specs.Cards.{Card}
 use Rattle.definitions.specs.DeckInput.{Deck}
 use Rattle.definitions.specs.DeckKinds.{behind_end, kind_of_statements}
+use Rattle.definitions.specs.Forms.{Form, element_form}
 use Rattle.definitions.specs.Literals.{literal_words}
 use Rattle.definitions.specs.Letters.{in_order}
 use Rattle.definitions.specs.Objects.{Shown, shown_of, only_listed, coded_of, object_of}
-use Rattle.definitions.specs.Rebound.{context_from, is_rebound}
+use Rattle.definitions.specs.Rebound.{coded_elements, context_from, is_rebound, same_value}
 use Rattle.definitions.specs.Settled.{Settled, defined}
 use Rattle.definitions.specs.Settling.{View, settle, settled_all}
-use Rattle.definitions.specs.StatementItems.{Context, Item, items_of}
+use Rattle.definitions.specs.StatementItems.{Context, Item, final_names, items_of}
 use Rattle.definitions.specs.Statements.{Statement, cards_in, statements_of}
 use Rattle.definitions.specs.States.{unnumbered}
 use Rattle.definitions.specs.Words.{Coded}
 use Rattle.definitions.specs.declared.deck_kind.DeckKind.{DeckKind}
+use Rattle.definitions.specs.declared.letter.Letter.{Letter}
 use Rattle.definitions.specs.Lengths.{BlockRow}
 use Rattle.definitions.proofs.EditLaws.{cards_in-append}
 use Rattle.definitions.proofs.ReboundLaws.{letters-enough, fields-enough}
@@ -24,9 +27,9 @@ use Rattle.statement_coder.specs.declared.items.Item as code
 use Rattle.deck_assembler.specs.CodedLines.{IsCoded, IsShown, IsStored, AreShown}
 use Rattle.deck_assembler.specs.DeckParts.{sized_in}
 use Rattle.deck_assembler.specs.DeckWalks.{IsWalked}
-use Rattle.deck_assembler.specs.FormerLines.{IsSameTail, IsOneOf, IsMissedInFront, IsMissedInTail, IsTaken, IsTakenOfTail, IsNextInFront, IsNextInTail, IsNextLine, IsBare, WasLine, WasLineIfAny, shown_from, AreBeside, AreOfTail, AreOfTailIfAny, IsBeside, AreChosen, IsWalkedBeside}
+use Rattle.deck_assembler.specs.FormerLines.{IsSameTail, IsOneOf, IsMissedInFront, IsMissedInTail, IsTaken, IsTakenOfTail, IsNextInFront, IsNextInTail, IsNextLine, IsBare, WasLine, WasLineIfAny, shown_from, AreBeside, AreOfTail, AreOfHead, AreOfTailIfAny, IsBeside, AreChosen, IsWalkedBeside}
 use Rattle.deck_assembler.specs.FirstSymbols.{symbol_in}
-use Rattle.deck_assembler.specs.DueCodes.{CodePlan, HasNoTail, IsBesideTail, IsDueBeside, IsPlanOf}
+use Rattle.deck_assembler.specs.DueCodes.{one_where, has_line, code_due, code_due_of, CodePlan, HasNoTail, IsBesideTail, IsDueBeside, IsPlanned, IsPlanOf}
 use Rattle.deck_assembler.specs.Formers.{known_in, IsFormerOf}
 use Rattle.deck_assembler.specs.PartsOf.{ArePartsOf}
 use Rattle.deck_assembler.specs.Rebindings.{AreBindings}
@@ -44,7 +47,10 @@ use Rattle.deck_assembler.specs.declared.lines.Line.{Line}
 use Rattle.deck_assembler.specs.declared.object.ObjectParts.{ObjectParts}
 use Rattle.deck_assembler.specs.declared.sized_statement.SizedStatement.{SizedStatement}
 use Rattle.deck_assembler.proofs.DeckWalkLaws.{IsStep, there}
+use Rattle.deck_assembler.proofs.HeadDeckLaws.{kinds-told}
 use Rattle.deck_assembler.proofs.HeadLaws.{same-between}
+use Rattle.deck_assembler.proofs.HeadLineLaws.{context_as, head-lines-beside}
+use Rattle.deck_assembler.proofs.NeutralLaws.{front-neutral}
 use Rattle.deck_assembler.proofs.ForwardLaws.{stood-more}
 use Rattle.deck_assembler.proofs.OntoLaws.{append-none, drop-none, first-of, rest-of, reverse-onto}
 use Rattle.deck_assembler.proofs.PartLaws.{shown-object}
@@ -408,9 +414,9 @@ pub record HasLines (kind : DeckKind) (old : List Card) (parts : ObjectParts) (l
   pub listed : List Statement
   pub shown : let context = context_from (known_in old) in AreShown context.kind context.rows lines.items.now 0 old parts.lines.items (shown_from context [] (reverse (known_in old)) listed)
 
-pub has-lines : (kind : DeckKind) (old cards : List Card) (name : List ℕ) (former : Former) (parts : ObjectParts) (lines : FormerLines) → IsFormerOf old former →
-    (let given : Deck = record { name = name; cards = old } in ArePartsOf old parts (object_of given)) → AreChosen kind (length old) (length cards) former parts lines → former.kind ≡ kind → HasLines kind old parts lines
-has-lines kind old cards name former parts lines is are chosen k =
+pub has-lines : (chosen_kind kind : DeckKind) (old cards : List Card) (name : List ℕ) (former : Former) (parts : ObjectParts) (lines : FormerLines) → IsFormerOf old former →
+    (let given : Deck = record { name = name; cards = old } in ArePartsOf old parts (object_of given)) → AreChosen chosen_kind (length old) (length cards) former parts lines → former.kind ≡ kind → HasLines kind old parts lines
+has-lines chosen_kind kind old cards name former parts lines is are chosen k =
     let known = known_in old in
     let others = behind_end (statements_of (reverse old)) in
     let context = context_from known in
@@ -477,7 +483,7 @@ alike-onward kind before (other ∷ others) earlier (statement ∷ statements) l
 -- the lines of a tail
 pub tail-beside : (kind : DeckKind) (old cards : List Card) (former : Former) (parts : ObjectParts) (lines : FormerLines) → AreChosen kind (length old) (length cards) former parts lines → HasLines kind old parts lines → former.kind ≡ kind →
     (tail : HasTail kind old cards former.tail (known_in cards)) → AreOfTail kind (context_from (known_in old)) [] (reverse (known_in cards)) (reverse tail.tail.split.new_front) 0 lines
-tail-beside kind old cards former parts lines chosen has k tail = by chosen.tail
+tail-beside kind old cards former parts lines chosen has k tail = by (chosen.tail k)
   where
     by : (former.tail ≡ 0) ⊎ (lines.tail.left.now ≡ lines_behind (length old - former.tail) lines.left.now) → AreOfTail kind (context_from (known_in old)) [] (reverse (known_in cards)) (reverse tail.tail.split.new_front) 0 lines
     by (inl none) = let some = tail.tail.some in absurd (omega (arith, none, some))
@@ -526,7 +532,7 @@ front-beside kind old cards former parts lines chosen has k same =
       listed = has.listed;
       same_kind = has.same_kind;
       bindings = has.bindings;
-      same = subst (λ n. take n old ≡ take n cards) (sym chosen.before) same;
+      same = subst (λ n. take n old ≡ take n cards) (sym (chosen.before k)) same;
       shown = subst (λ (l : List Line). AreShown context.kind context.rows lines.items.now 0 old l (shown_from context [] (reverse (known_in old)) has.listed)) (sym (chosen.alike k)) has.shown;
     }
 
@@ -535,39 +541,38 @@ pub begin-beside : (kind : DeckKind) (old cards : List Card) (name : List ℕ) (
     (let given : Deck = record { name = name; cards = old } in ArePartsOf old parts (object_of given)) → IsEditedOf old cards former → kind ≡ kind_of_statements (known_in cards) → AreChosen kind (length old) (length cards) former parts lines →
     IsBeside kind cards [] (reverse (known_in cards)) 0 lines
 begin-beside kind old cards name former parts lines is are edited kinds chosen = elim chosen.other [
-  | inl none ↦ record { front = inl none; tail = inl (no-tail none chosen.tail) }
-  | inr k ↦
-      let has = has-lines kind old cards name former parts lines is are chosen k in
+  | inl k ↦
+      let has = has-lines kind kind old cards name former parts lines is are chosen k in
       record { front = inr (context_from (known_in old), reverse (known_in old), front-beside kind old cards former parts lines chosen has k edited.same); tail = by-tail has k edited.tail }
+  | inr of ↦
+      let has = has-lines kind former.kind old cards name former parts lines is are chosen refl in
+      let there = head-lines-beside kind old cards former.before parts.lines.items lines has.listed has.bindings has.shown of.head of.before edited.same in
+      record { front = inr (context_as kind (context_from (known_in old)), there.given, there.beside); tail = inl of.none }
 ]
   where
-    no-tail : lines.left.now ≡ [] → (former.tail ≡ 0) ⊎ (lines.tail.left.now ≡ lines_behind (length old - former.tail) lines.left.now) → lines.tail.left.now ≡ []
-    no-tail none (inl e) = chosen.none e
-    no-tail none (inr e) = e ∙ ap (lines_behind (length old - former.tail)) none
-
     by-tail : HasLines kind old parts lines → former.kind ≡ kind → HasTailIfAny (kind_of_statements (known_in cards)) old cards former.tail (known_in cards) → AreOfTailIfAny kind [] (reverse (known_in cards)) 0 lines
     by-tail has k (inl e) = inl (chosen.none e)
     by-tail has k (inr tail) =
         let here = subst (λ (d : DeckKind). HasTail d old cards former.tail (known_in cards)) (sym kinds) tail in
         inr (context_from (known_in old), reverse here.tail.split.new_front, tail-beside kind old cards former parts lines chosen has k here)
 
--- each line that there is, in front and in the tail
-pub begin-due : (kind : DeckKind) (old cards : List Card) (name : List ℕ) (former : Former) (parts : ObjectParts) (lines : FormerLines) (plan : CodePlan) → IsFormerOf old former →
+-- each line that there is, in front and in the tail, where the kinds are one
+due-alike : (kind : DeckKind) (old cards : List Card) (name : List ℕ) (former : Former) (parts : ObjectParts) (lines : FormerLines) (plan : CodePlan) → IsFormerOf old former →
     (let given : Deck = record { name = name; cards = old } in ArePartsOf old parts (object_of given)) → IsEditedOf old cards former → AreChosen kind (length old) (length cards) former parts lines → IsPlanOf kind old cards former plan →
-    IsDueBeside kind cards plan [] (reverse (known_in cards)) 0 lines
-begin-due kind old cards name former parts lines plan is are edited chosen of = record {
+    former.kind ≡ kind → IsDueBeside kind cards plan [] (reverse (known_in cards)) 0 lines
+due-alike kind old cards name former parts lines plan is are edited chosen of k = record {
   stands = refl;
   front = λ first second. record {
     coming = reverse (known_in old);
     all = append-none (reverse (reverse (known_in old))) ∙ reverse-reverse (known_in old) ∙ sym of.of_old;
-    few = subst (λ n. plan.decks.before ≤ n) (sym chosen.before) of.few;
-    beside = subst (λ (context : Context). AreBeside kind cards context [] (reverse (known_in old)) 0 lines) (sym of.known) (front-beside kind old cards former parts lines chosen has of.same edited.same);
+    few = subst (λ n. plan.decks.before ≤ n) (sym (chosen.before k)) of.few;
+    beside = subst (λ (context : Context). AreBeside kind cards context [] (reverse (known_in old)) 0 lines) (sym of.known) (front-beside kind old cards former parts lines chosen has k edited.same);
   };
   tail = by of.begins;
 }
   where
     has : HasLines kind old parts lines
-    has = has-lines kind old cards name former parts lines is are chosen of.same
+    has = has-lines kind kind old cards name former parts lines is are chosen k
 
     turned : length (reverse (known_in cards)) ≡ length (known_in cards)
     turned = length-reverse (known_in cards)
@@ -585,9 +590,90 @@ begin-due kind old cards name former parts lines plan is are edited chosen of = 
         let from = tail.1 in
         inr (record {
           between = reverse front;
-          of = subst (λ (context : Context). AreOfTail kind context [] (reverse (known_in cards)) (reverse front) 0 lines) (sym of.known) (tail-beside kind old cards former parts lines chosen has of.same tail.0);
+          of = subst (λ (context : Context). AreOfTail kind context [] (reverse (known_in cards)) (reverse front) 0 lines) (sym of.known) (tail-beside kind old cards former parts lines chosen has k tail.0);
           place = inl (omega (arith, from, same));
         })
+
+-- what is due of a plan does not ask for the kind of the old deck
+value-as : (kind : DeckKind) (old new : Context) (a b : Result Form Letter) → same_value (context_as kind old) new a b ≡ same_value old new a b
+value-as kind old new (Ok a) (Ok b) = refl
+value-as kind old new (Ok a) (Err b) = refl
+value-as kind old new (Err a) (Ok b) = refl
+value-as kind old new (Err a) (Err b) = refl
+
+rebound-as : (kind : DeckKind) (old new : Context) (settled : Settled) → is_rebound (context_as kind old) new settled ≡ is_rebound old new settled
+rebound-as kind old new settled = λ i. list_any (λ element. not (value-as kind old new (element_form (final_names old settled) element) (element_form (final_names new settled) element) i)) (coded_elements settled.read.operation settled.read.operand)
+
+due-as : (kind : DeckKind) (old new : Context) (front from : ℕ) (settled : List Settled) → code_due (context_as kind old) new front from settled ≡ code_due old new front from settled
+due-as kind old new front from [] = refl
+due-as kind old new front from (latest ∷ earlier) =
+    ap₂ (λ (n : ℕ) (rebound : Bool). n + one_where (not (has_line front from (length earlier)) || rebound)) (due-as kind old new front from earlier) (rebound-as kind old new latest)
+
+-- a walk that begins comes to each line that is due by a plan, or by one of which as much is due
+pub record BeginsDue (kind : DeckKind) (cards : List Card) (plan : CodePlan) (lines : FormerLines) : Type 0 where
+  pub own : CodePlan
+  pub planned : IsPlanned (known_in cards) own
+  pub beside : IsDueBeside kind cards own [] (reverse (known_in cards)) 0 lines
+  pub same : code_due_of cards own ≡ code_due_of cards plan
+
+-- where the kinds are two
+due-other : (kind : DeckKind) (old cards : List Card) (name : List ℕ) (former : Former) (parts : ObjectParts) (lines : FormerLines) (plan : CodePlan) → IsFormerOf old former →
+    (let given : Deck = record { name = name; cards = old } in ArePartsOf old parts (object_of given)) → IsEditedOf old cards former → kind ≡ kind_of_statements (known_in cards) →
+    AreChosen kind (length old) (length cards) former parts lines → IsPlanOf kind old cards former plan → (former.kind ≡ kind → ⊥) → former.tail ≡ 0 → AreOfHead former parts lines → BeginsDue kind cards plan lines
+due-other kind old cards name former parts lines plan is are edited kinds chosen of other none head =
+    let decks = plan.decks in
+    let untouched = of.of_new.untouched in
+    let has = has-lines kind former.kind old cards name former parts lines is are chosen refl in
+    let there = head-lines-beside kind old cards former.before parts.lines.items lines has.listed has.bindings has.shown head.head head.before edited.same in
+    let neutral = front-neutral plan.front untouched.of_old.0 untouched.of_new.0 decks.old decks.new untouched.of_old.1 untouched.of_new.1
+    (λ e. other (is.kind ∙ ap kind_of_statements (sym of.of_old) ∙ e ∙ ap kind_of_statements of.of_new.of_new ∙ sym kinds)) in
+    let unchanged = untouched.unchanged in
+    let few = of.few in
+    let top = there.top plan.front untouched.of_old.0 (sym of.of_old ∙ untouched.of_old.1) neutral (omega (arith, unchanged, few)) in
+    let cards_same = ap (λ (l : List Statement). length (cards_in l)) top.is in
+    let parts_same = cards_in-append top.more plan.front in
+    let count = there.count in
+    let turned = length-reverse (known_in cards) in
+    let place = chosen.place in
+    let from : plan.from ≡ length (known_in cards) = elim of.begins [
+      | inl both ↦ both.1
+      | inr tail ↦ let some = tail.0.tail.some in absurd (omega (arith, some, none))
+    ] in
+    record {
+      own = record {
+        decks = record { old = reverse there.given; new = decks.new; before = length (cards_in plan.front); old_behind = decks.old_behind; new_behind = decks.new_behind };
+        old = context_as kind (context_from (known_in old));
+        front = plan.front;
+        from = plan.from;
+      };
+      planned = record { untouched = record { of_old = (top.more, top.is); of_new = untouched.of_new; unchanged = omega arith }; of_new = of.of_new.of_new };
+      beside = record {
+        stands = refl;
+        front = λ first second. record { coming = there.given; all = append-none (reverse there.given); few = omega (arith, cards_same, parts_same, count); beside = there.beside };
+        tail = inl (record { from = omega (arith, from, turned); at_end = omega (arith, place, none) });
+      };
+      same =
+          let known = known_in cards in
+          due-as kind (context_from (known_in old)) (context_from known) (length plan.front) plan.from (settled_all (kind_of_statements known) known)
+          ∙ ap (λ (o : Context). code_due o (context_from known) (length plan.front) plan.from (settled_all (kind_of_statements known) known)) (sym of.known);
+    }
+
+pub begin-due : (kind : DeckKind) (old cards : List Card) (name : List ℕ) (former : Former) (parts : ObjectParts) (lines : FormerLines) (plan : CodePlan) → IsFormerOf old former →
+    (let given : Deck = record { name = name; cards = old } in ArePartsOf old parts (object_of given)) → IsEditedOf old cards former → kind ≡ kind_of_statements (known_in cards) →
+    AreChosen kind (length old) (length cards) former parts lines → IsPlanOf kind old cards former plan → BeginsDue kind cards plan lines
+begin-due kind old cards name former parts lines plan is are edited kinds chosen of = elim (kinds-told former.kind kind) [
+  | inl k ↦ alike k
+  | inr other ↦ elim chosen.other [
+    | inl k ↦ alike k
+    | inr head ↦ elim of.same [
+      | inl k ↦ alike k
+      | inr none ↦ due-other kind old cards name former parts lines plan is are edited kinds chosen of other none head
+    ]
+  ]
+]
+  where
+    alike : former.kind ≡ kind → BeginsDue kind cards plan lines
+    alike k = record { own = plan; planned = of.of_new; beside = due-alike kind old cards name former parts lines plan is are edited chosen of k; same = refl }
 
 -- before the first statement
 pub beside-begin : (whole : Whole) (made : Making) (former : FormerLines) → IsWhole whole → made.lines.stood ≡ 0 → AreLined whole [] made.lines → AreNoted whole [] made.names →

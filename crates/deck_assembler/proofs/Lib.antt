@@ -67,3 +67,7 @@ pub mod CutLaws
 pub mod PieceMeetings
 pub mod DueLaws
 pub mod AgreementLaws
+-- What stays in a deck of another kind.
+pub mod NeutralLaws
+pub mod HeadDeckLaws
+pub mod HeadLineLaws

@@ -91,9 +91,9 @@ abbrev pub code_due_of : List Card → CodePlan → ℕ
 code_due_of cards plan =
     let known = known_in cards in code_due plan.old (context_from known) (length plan.front) plan.from (settled_all (kind_of_statements known) known)
 
--- a plan for the deck that was edited from one with these cards, and is of its kind
+-- a plan for the deck that was edited from one with these cards; where that is of another kind there is no tail
 pub record IsPlanOf (kind : DeckKind) (old cards : List Card) (former : Former) (plan : CodePlan) : Type 0 where
-  pub same : former.kind ≡ kind
+  pub same : (former.kind ≡ kind) ⊎ (former.tail ≡ 0)
   pub of_old : plan.decks.old ≡ known_in old
   pub of_new : IsPlanned (known_in cards) plan
   pub known : plan.old ≡ context_from (known_in old)

@@ -10,6 +10,7 @@ use Rattle.definitions.specs.States.{unnumbered}
 use Rattle.definitions.specs.declared.deck_kind.DeckKind.{DeckKind}
 use Rattle.deck_assembler.specs.CodedLines.{IsCoded, AreShown}
 use Rattle.deck_assembler.specs.DeckWalks.{IsWalked}
+use Rattle.deck_assembler.specs.Heads.{AreHeadLines, cards_of_lines}
 use Rattle.deck_assembler.specs.Rebindings.{AreBindings}
 use Rattle.deck_assembler.specs.Sizers.{stood}
 use Rattle.deck_assembler.specs.TailLines.{AreAlikeOn, lines_behind}
@@ -151,17 +152,23 @@ pub record IsBeside (kind : DeckKind) (cards : List Card) (earlier coming : List
   pub front : AreBesideIfAny kind cards earlier stood former
   pub tail : AreOfTailIfAny kind earlier coming stood former
 
+-- beside a deck of another kind the lines of the neutral statements in front were chosen, and none of a tail
+pub record AreOfHead (former : Former) (parts : ObjectParts) (lines : FormerLines) : Type 0 where
+  pub head : AreHeadLines former.before 0 parts.lines.items lines.left.now
+  pub before : lines.before ≡ cards_of_lines lines.left.now
+  pub none : lines.tail.left.now ≡ []
+
 -- these lines were chosen of the object before an edit, beside a deck of this kind; so many cards has the old deck, and so many the edited one
 pub record AreChosen (kind : DeckKind) (old count : ℕ) (former : Former) (parts : ObjectParts) (lines : FormerLines) : Type 0 where
   pub items : lines.items.now ≡ parts.items.items
-  pub before : lines.before ≡ former.before
   pub symbols : lines.bindings.symbols.now ≡ former.symbols
   pub literals : lines.bindings.literals.now ≡ former.literals
   pub bases : lines.bindings.bases.now ≡ parts.bases
   pub alike : former.kind ≡ kind → lines.left.now ≡ parts.lines.items
-  pub other : (lines.left.now ≡ []) ⊎ (former.kind ≡ kind)
+  pub before : former.kind ≡ kind → lines.before ≡ former.before
+  pub other : (former.kind ≡ kind) ⊎ AreOfHead former parts lines
   pub none : former.tail ≡ 0 → lines.tail.left.now ≡ []
-  pub tail : (former.tail ≡ 0) ⊎ (lines.tail.left.now ≡ lines_behind (old - former.tail) lines.left.now)
+  pub tail : former.kind ≡ kind → (former.tail ≡ 0) ⊎ (lines.tail.left.now ≡ lines_behind (old - former.tail) lines.left.now)
   pub place : lines.tail.at ≡ count - former.tail
 
 -- how far a walk has come, and beside it the lines of the object before

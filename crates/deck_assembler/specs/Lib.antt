@@ -19,6 +19,8 @@ pub mod OldDecks
 -- Where an old deck and an edited one are found to agree.
 pub mod Meetings
 pub mod FirstStatements
+-- What stays in a deck of another kind.
+pub mod Heads
 -- The fields of a statement, as a line keeps them.
 pub mod KeptFields
 -- Entries and externals.

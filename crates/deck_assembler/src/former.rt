@@ -1,10 +1,11 @@
 //! What coding an edited deck needs of the deck before the edit.
-ghost use Rattle.std.specs.Prelude.{◌≡◌, ◌-◌, ◌⊎◌, []};
+ghost use Rattle.std.specs.Prelude.{◌≡◌, ◌-◌, ◌⊎◌, [], true};
 ghost use Rattle.deck_assembler.specs.FormerLines.{AreChosen};
+ghost use Rattle.deck_assembler.specs.Heads.{AreHeadLines, IsLineOfHead, cards_of_lines};
 ghost use Rattle.deck_assembler.specs.TailLines.{lines_behind};
 
 use crate::Line;
-use crate::former_lines::{FormerLines, TailLines};
+use crate::former_lines::{FormerLines, TailLines, ends_within};
 use crate::object::ObjectParts;
 use crate::rebinding::Bindings;
 use crate::sized_deck::SizedDeck;
@@ -43,6 +44,64 @@ fn lines_alike(lines: &[Line], old: DeckKind, kind: DeckKind) -> &[Line]
     }
 }
 
+/// The lines that go beside the front of a deck, and how many of its first cards stand unchanged.
+#[derive(Clone, Copy)]
+struct FirstLines<'a> {
+    lines: &'a [Line],
+    cards: usize,
+}
+
+/// Whether a line behind so many cards is that of a neutral statement and ends within so many.
+fn is_of_head(line: &Line, stood: usize, before: usize) -> bool
+    ensures yes { result ≡ true → IsLineOfHead before stood line.now }
+    ensures no { IsLineOfHead before stood line.now → result ≡ true }
+{
+    match &line.coded {
+        Some(coded) => coded.operation.is_neutral() && ends_within(stood, line.cards, before),
+        None => false,
+    }
+}
+
+/// The first lines, as far as they are those of neutral statements and end within so many cards.
+fn head_lines(lines: &[Line], before: usize) -> FirstLines<'_>
+    ensures lines { AreHeadLines before 0 lines.now result.lines.now }
+    ensures cards { result.cards ≡ cards_of_lines result.lines.now }
+{
+    let mut left = lines;
+    let mut count = 0;
+    let mut cards = 0;
+    'lines: loop {
+        let Some((line, others)) = left.split_first() else {
+            break 'lines;
+        };
+        if !is_of_head(line, cards, before) {
+            break 'lines;
+        }
+        left = others;
+        count += 1;
+        cards += line.cards as usize;
+    }
+    FirstLines {
+        lines: lines.split_at(count).0,
+        cards,
+    }
+}
+
+/// The lines of an object, of which so many first cards stand unchanged, that go beside the front of a
+/// deck: all where two kinds of deck are one, and else those of the neutral statements there.
+fn front_lines(lines: &[Line], old: DeckKind, kind: DeckKind, before: usize) -> FirstLines<'_>
+    ensures alike { old ≡ kind → (result.lines.now ≡ lines.now) × (result.cards ≡ before) }
+    ensures other { (old ≡ kind) ⊎ (AreHeadLines before 0 lines.now result.lines.now × (result.cards ≡ cards_of_lines result.lines.now)) }
+{
+    if old != kind {
+        return head_lines(lines, before);
+    }
+    FirstLines {
+        lines,
+        cards: before,
+    }
+}
+
 /// The lines behind those of so many first cards.
 fn lines_behind(lines: &[Line], count: usize) -> &[Line]
     ensures { result.now ≡ lines_behind count lines.now }
@@ -58,14 +117,16 @@ fn lines_behind(lines: &[Line], count: usize) -> &[Line]
 }
 
 impl Former {
-    /// The same with a tail of so many cards.
-    pub(crate) fn with_tail(self, tail: usize) -> Former
+    /// The same with a tail of so many cards in a deck of this kind; a deck of another kind has none.
+    pub(crate) fn with_tail(self, kind: DeckKind, tail: usize) -> Former
         ensures kind { result.kind ≡ self.kind }
         ensures symbols { result.symbols ≡ self.symbols }
         ensures literals { result.literals ≡ self.literals }
         ensures before { result.before ≡ self.before }
-        ensures tail { result.tail ≡ tail }
+        ensures tail { self.kind ≡ kind → result.tail ≡ tail }
+        ensures other { (self.kind ≡ kind) ⊎ (result.tail ≡ 0) }
     {
+        let tail = if self.kind == kind { tail } else { 0 };
         Former {
             kind: self.kind,
             symbols: self.symbols,
@@ -92,7 +153,7 @@ impl Former {
     }
 
     /// The lines of the object of its deck, which has so many cards, beside the statements of an edited
-    /// deck of so many cards, and of this kind.
+    /// deck of so many cards, and of this kind: of a deck of another kind those of its head.
     pub(crate) fn lines<'a>(
         &'a self,
         kind: DeckKind,
@@ -102,12 +163,14 @@ impl Former {
     ) -> FormerLines<'a>
         ensures { AreChosen kind old count self.now parts.now result }
     {
-        let lines = lines_alike(parts.lines.as_slice(), self.kind, kind);
+        let all = parts.lines.as_slice();
+        let front = front_lines(all, self.kind, kind, self.before);
+        let alike = lines_alike(all, self.kind, kind);
         FormerLines {
-            left: lines,
-            tail: self.tail_lines(lines, old, count),
+            left: front.lines,
+            tail: self.tail_lines(alike, old, count),
             items: parts.items.as_slice(),
-            before: self.before,
+            before: front.cards,
             bindings: self.bindings(&parts.bases),
         }
     }

@@ -44,7 +44,7 @@ pub(crate) struct FormerLines<'a> {
 }
 
 /// Whether so many cards behind so many others are among the unchanged ones.
-fn ends_within(stood: usize, count: u32, before: usize) -> bool
+pub(crate) fn ends_within(stood: usize, count: u32, before: usize) -> bool
     ensures within { result ≡ true → stood + count ≤ before }
     ensures all { stood + count ≤ before → result ≡ true }
 {

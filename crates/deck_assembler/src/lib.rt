@@ -12,7 +12,8 @@
 //! deck agrees again with the one before; `edited_parts` takes the lines of both over from the object
 //! before, but for those of which `Rebinding` finds a name bound otherwise, and counts no more than those
 //! as coded beside what lies between (`code_due`). Where all names mean the same in both decks
-//! (`Bindings::are_same`) no statement is asked.
+//! (`Bindings::are_same`) no statement is asked. In a deck of another kind the neutral statements in front
+//! stay, with other counters (`head_deck`), and so do their lines.
 //!
 //! A line keeps its fields as one number where they are known and have at most 60 bits, else in the
 //! object's list. That need not be the definitions' list of fields: it is as wide, has the same
@@ -40,6 +41,7 @@ mod symbol_table;
 // All statements of a deck, sized.
 mod early_symbols;
 mod early_trial;
+mod head_deck;
 mod old_deck;
 mod sized_deck;
 mod sizer;

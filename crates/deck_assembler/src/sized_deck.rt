@@ -1,6 +1,5 @@
 //! All of a deck: its statements up to END, sized one behind the other.
 ghost use Rattle.std.specs.Prelude.{ℕ, ◌≡◌, ◌<◌, ◌≤◌, ◌+◌, ◌⊎◌, List, [], All, length, take, reverse, IfOk, OnOk};
-ghost use Rattle.std.specs.List.{AllByRecursion};
 ghost use Rattle.cards.specs.Spans.{IsSpan, statements_at};
 ghost use Rattle.definitions.specs.Cards as deck_cards;
 ghost use Rattle.definitions.specs.DeckKinds.{up_to_end, kind_of_statements};
@@ -9,14 +8,17 @@ ghost use Rattle.definitions.specs.Statements as deck_statements;
 ghost use Rattle.definitions.specs.Statements.{statements_of};
 ghost use Rattle.statement_coder.specs.Meters.{RisesBy};
 ghost use Rattle.deck_assembler.specs.Agreements.{HaveSameEnd};
+ghost use Rattle.deck_assembler.specs.DeckParts.{sized_in};
 ghost use Rattle.deck_assembler.specs.Formers.{IsFormerOf, known_in};
-ghost use Rattle.deck_assembler.specs.Meetings.{IsShort, StandApart, WillAgree};
+ghost use Rattle.deck_assembler.specs.Heads.{BeginsBeside, IsHeadDeck, IsOldDeck, IsWholeDeck};
+ghost use Rattle.deck_assembler.specs.Meetings.{StandApart, WillAgree};
 ghost use Rattle.deck_assembler.specs.OldDecks.{IsKeptOn, StandsInFront};
 ghost use Rattle.deck_assembler.specs.SizedDecks.{IsSizedDeck};
 ghost use Rattle.deck_assembler.specs.Tails.{HasTailIfAny, HasTailWithin};
 ghost use Rattle.deck_assembler.specs.declared.old_deck.Stage.TheVariants as stages;
 
 use crate::former::{EditedDeck, Former};
+use crate::head_deck::head_deck;
 use crate::old_deck::{OldCards, OldDeck, Stage};
 use crate::pieces::Piece;
 use crate::sizer::Sizer;
@@ -73,8 +75,9 @@ impl SizedDeck {
 
     /// What these cards make, where so many of the first and of the last are those of the deck that this
     /// was made of. The statements of the first ones stay as they were sized, and so do all those behind
-    /// the edited card from a place on where both decks agree; the others are sized once. And what
-    /// coding needs of this deck. An error where memory runs out: then some of them were counted.
+    /// the edited card from a place on where both decks agree; the others are sized once. Where the kind
+    /// of the deck changes those in front have other counters, and none behind stays. And what coding
+    /// needs of this deck. An error where memory runs out: then some of them were counted.
     pub fn edited(
         self,
         alloc: Global,
@@ -88,10 +91,11 @@ impl SizedDeck {
         ensures deck { IfOk result (λ edited. IsSizedDeck cards.now edited.deck) }
         ensures former { IfOk result (λ edited. IsFormerOf old.entry.cards.now edited.former) }
         ensures before { IfOk result (λ edited. edited.former.before ≡ old.entry.before) }
+        ensures kinds { IfOk result (λ edited. (edited.former.kind ≡ kind_of_statements (known_in cards.now)) ⊎ (edited.former.tail ≡ 0)) }
         ensures tail { IfOk result (λ edited. HasTailIfAny (kind_of_statements (known_in cards.now)) old.entry.cards.now cards.now edited.former.tail (known_in cards.now)) }
         ensures sized { meter.new.sized ≤ meter.old.sized + length (up_to_end (statements_of (reverse cards.now))) }
         ensures front { (decks : Edited) (front : List deck_statements.Statement) → decks.old ≡ known_in old.entry.cards.now → decks.new ≡ known_in cards.now → decks.before ≤ old.entry.before →
-            kind_of_statements decks.old ≡ kind_of_statements decks.new → IsUntouched decks front → length front + meter.new.sized ≤ length decks.new + meter.old.sized }
+            IsUntouched decks front → length front + meter.new.sized ≤ length decks.new + meter.old.sized }
         ensures due { (decks : Edited) (front : List deck_statements.Statement) (split : Split) → StandApart old.entry.cards.now cards.now old.entry.before old.entry.behind decks → decks.before ≤ old.entry.before →
             IsUntouched decks front → DoAgree decks split → length front + meter.new.sized ≤ (length split.new_front + 128) + meter.old.sized }
         ensures within { IfOk result (λ edited. (decks : Edited) (front : List deck_statements.Statement) (split : Split) → StandApart old.entry.cards.now cards.now old.entry.before old.entry.behind decks → decks.before ≤ old.entry.before →
@@ -106,11 +110,11 @@ impl SizedDeck {
         let all = made(alloc, kind, cards, list.as_slice(), parted.old_deck, meter)?;
         Ok(EditedDeck {
             deck: all.deck,
-            former: parted.former.with_tail(all.tail),
+            former: parted.former.with_tail(kind, all.tail),
         })
     }
 
-    /// Its statements, of which none stays in a deck of another kind; and what coding needs of it.
+    /// What stays of its statements in a deck of this kind, and what coding needs of it.
     fn parted<'a>(
         self,
         alloc: Global,
@@ -118,17 +122,14 @@ impl SizedDeck {
         old: OldCards<'a>,
     ) -> Result<Parted<'a>, AllocError>
         requires { IsSizedDeck old.cards.now self }
-        ensures old_deck { IfOk result (λ parted. (cards : List deck_cards.Card) → take old.entry.before old.entry.cards.now ≡ take old.entry.before cards → HaveSameEnd old.entry.behind old.entry.cards.now cards →
-            IsKeptOn kind old.entry.cards.now cards [] parted.old_deck) }
+        ensures beside { IfOk result (λ parted. (cards : List deck_cards.Card) → take old.entry.before old.entry.cards.now ≡ take old.entry.before cards → HaveSameEnd old.entry.behind old.entry.cards.now cards →
+            BeginsBeside kind old.entry.cards.now cards old.entry.before parted.old_deck) }
+        ensures old_deck { IfOk result (λ parted. kind_of_statements (known_in old.entry.cards.now) ≡ kind → IsWholeDeck old.entry parted.old_deck × ((cards : List deck_cards.Card) →
+            take old.entry.before old.entry.cards.now ≡ take old.entry.before cards → HaveSameEnd old.entry.behind old.entry.cards.now cards → IsKeptOn kind old.entry.cards.now cards [] parted.old_deck)) }
         ensures former { IfOk result (λ parted. IsFormerOf old.entry.cards.now parted.former) }
         ensures before { IfOk result (λ parted. parted.former.before ≡ old.entry.before) }
-        ensures front { IfOk result (λ parted. kind_of_statements (known_in old.entry.cards.now) ≡ kind → (parted.old_deck.stage ≡ stages.Front) × (parted.old_deck.before ≡ old.entry.before)) }
-        ensures begun { IfOk result (λ parted. parted.old_deck.statements.items ≡ []) }
-        ensures short { IfOk result (λ parted. AllByRecursion IsShort parted.old_deck.pieces.items) }
-        ensures behind { IfOk result (λ parted. parted.old_deck.behind ≡ old.entry.behind) }
     {
-        let stage = first_stage(self.kind, kind);
-        let old_deck = OldDeck::of(alloc, old, self.pieces, kind, stage)?;
+        let old_deck = what_stays(alloc, self.pieces, self.kind, old, kind)?;
         Ok(Parted {
             old_deck,
             former: Former {
@@ -195,15 +196,22 @@ struct TailedDeck {
     tail: usize,
 }
 
-/// Where an edited deck of a kind begins beside one of another: nothing stays unless the kinds are one.
-fn first_stage(old: DeckKind, kind: DeckKind) -> Stage
-    ensures either { (result ≡ stages.Over) ⊎ ((result ≡ stages.Front) × (old ≡ kind)) }
-    ensures same { old ≡ kind → result ≡ stages.Front }
+/// What stays of a deck of one kind in an edited one of this kind: all of it where the kinds are one, and
+/// else its head.
+fn what_stays<'a>(
+    alloc: Global,
+    pieces: Vec<Piece>,
+    first: DeckKind,
+    old: OldCards<'a>,
+    kind: DeckKind,
+) -> Result<OldDeck<'a>, AllocError>
+    ensures same { IfOk result (λ deck. first ≡ kind → IsOldDeck kind old.entry pieces.items deck) }
+    ensures other { IfOk result (λ deck. (first ≡ kind) ⊎ IsHeadDeck kind old.entry.before old.entry.cards.now (sized_in pieces.items) deck) }
 {
-    if old == kind {
-        Stage::Front
+    if first == kind {
+        OldDeck::of(alloc, old, pieces, kind, Stage::Front)
     } else {
-        Stage::Over
+        head_deck(alloc, old, pieces, kind)
     }
 }
 

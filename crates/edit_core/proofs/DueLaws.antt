@@ -1,5 +1,5 @@
 -- What is sized for edits is within what is due.
-use Rattle.std.proofs.Common.{◌≡◌, ℕ, ◌+◌, ◌-◌, ◌<◌, ◌≤◌, ◌==◌, true, false, List, [], ◌∷◌, length, All, None, refl, sym, ap, ◌∙◌, subst, arith}
+use Rattle.std.proofs.Common.{◌≡◌, ℕ, ◌+◌, ◌-◌, ◌<◌, ◌≤◌, ◌⊎◌, ◌==◌, true, false, List, [], ◌∷◌, length, All, None, refl, sym, ap, ◌∙◌, subst, arith}
 use Rattle.std.proofs.lemmas.Bool.{eqb-true}
 use Rattle.definitions.specs.Cards.{Card}
 use Rattle.definitions.specs.DeckKinds.{kind_of_statements}
@@ -63,7 +63,7 @@ apart-of edits own cards made before behind decks same after taken are ends =
 
 -- what is counted from one time to another, where it is bounded behind each untouched front
 pub due-edited : (edits : List Edit) (own cards made : List Card) (before behind count now : ℕ) → own ≡ cards → made ≡ edited_by edits own → AreTaken edits cards before behind → count ≤ now →
-    ((decks : Edited) (front : List Statement) → decks.old ≡ known_in own → decks.new ≡ known_in made → decks.before ≤ before → kind_of_statements decks.old ≡ kind_of_statements decks.new → IsUntouched decks front →
+    ((decks : Edited) (front : List Statement) → decks.old ≡ known_in own → decks.new ≡ known_in made → decks.before ≤ before → IsUntouched decks front →
     length front + now ≤ length decks.new + count) →
     ((decks : Edited) (front : List Statement) (split : Split) → StandApart own made before behind decks → decks.before ≤ before → IsUntouched decks front → DoAgree decks split → length front + now ≤ (length split.new_front + 128) + count) →
     RisesToDue edits cards count now
@@ -71,14 +71,14 @@ due-edited edits own cards made before behind count now same after taken rises f
     let apart = apart-of edits own cards made before behind decks same after taken are ends in
     let few = decks-before edits cards before decks taken.most are taken.few in
     record {
-      to_end = λ untouched is. let bound = front decks untouched apart.of_old apart.of_new few are.kinds is in omega (arith, bound, rises);
+      to_end = λ untouched is. let bound = front decks untouched apart.of_old apart.of_new few is in omega (arith, bound, rises);
       to_agreement = λ untouched split is agree. let bound = due decks untouched split apart few is agree in omega (arith, bound, rises);
     }
 
 -- where nothing is counted
 pub due-still : (edits : List Edit) (cards : List Card) (before behind count : ℕ) → AreTaken edits cards before behind → RisesToDue edits cards count count
 due-still edits cards before behind count taken =
-    due-edited edits cards cards (edited_by edits cards) before behind count count refl refl taken (omega arith) (λ decks front old new few kinds is. still decks front count is)
+    due-edited edits cards cards (edited_by edits cards) before behind count count refl refl taken (omega arith) (λ decks front old new few is. still decks front count is)
     (λ decks front split apart few is agree. let before_split = untouched-before cards (edited_by edits cards) before behind decks front split apart few is agree in omega (arith, before_split))
 
 -- some edits
@@ -93,19 +93,19 @@ due-none (edit ∷ edits) cards count none = let zero = eqb-true (length (edit �
 
 -- what is coded, where it is bounded by what is due of each plan
 pub due-code-edited : (edits : List Edit) (own cards made : List Card) (before behind : ℕ) (former : Former) (count now : ℕ) → own ≡ cards → made ≡ edited_by edits own → AreTaken edits cards before behind → count ≤ now →
-    former.before ≡ before → former.kind ≡ kind_of_statements (known_in own) → HasTailIfAny (kind_of_statements (known_in made)) own made former.tail (known_in made) →
+    former.before ≡ before → (former.kind ≡ kind_of_statements (known_in made)) ⊎ (former.tail ≡ 0) → HasTailIfAny (kind_of_statements (known_in made)) own made former.tail (known_in made) →
     ((decks : Edited) (front : List Statement) (split : Split) → StandApart own made before behind decks → decks.before ≤ before → IsUntouched decks front → DoAgree decks split → length split.new_front + 128 < length (known_in made) →
     HasTailWithin (kind_of_statements (known_in made)) own made former.tail (known_in made) (length split.new_front + 128)) →
     ((plan : CodePlan) → IsPlanOf (kind_of_statements (known_in made)) own made former plan → now ≤ count + code_due_of made plan) → RisesToDueCode edits cards count now
 due-code-edited edits own cards made before behind former count now same after taken rises same_before same_kind tail within due = λ decks are ends.
     let apart = apart-of edits own cards made before behind decks same after taken are ends in
     let few = decks-before edits cards before decks taken.most are taken.few in
-    within-due-code own made before behind former decks (now - count) apart few same_before same_kind are.kinds tail (λ front split is agree. within decks front split apart few is agree)
+    within-due-code own made before behind former decks (now - count) apart few same_before same_kind tail (λ front split is agree. within decks front split apart few is agree)
     (λ plan of. let bound = due plan of in omega (arith, bound))
 
 -- the same, where the bound is told of other lists that are these cards, and from another count that is this one
 pub due-code-object : (edits : List Edit) (own cards made shown items : List Card) (before behind : ℕ) (former : Former) (count start now : ℕ) → own ≡ cards → made ≡ edited_by edits own → AreTaken edits cards before behind →
-    own ≡ shown → made ≡ items → start ≡ count → start ≤ now → former.before ≡ before → former.kind ≡ kind_of_statements (known_in own) → HasTailIfAny (kind_of_statements (known_in made)) own made former.tail (known_in made) →
+    own ≡ shown → made ≡ items → start ≡ count → start ≤ now → former.before ≡ before → (former.kind ≡ kind_of_statements (known_in made)) ⊎ (former.tail ≡ 0) → HasTailIfAny (kind_of_statements (known_in made)) own made former.tail (known_in made) →
     ((decks : Edited) (front : List Statement) (split : Split) → StandApart own made before behind decks → decks.before ≤ before → IsUntouched decks front → DoAgree decks split → length split.new_front + 128 < length (known_in made) →
     HasTailWithin (kind_of_statements (known_in made)) own made former.tail (known_in made) (length split.new_front + 128)) →
     ((plan : CodePlan) → IsPlanOf (kind_of_statements (known_in items)) shown items former plan → now ≤ start + code_due_of items plan) → RisesToDueCode edits cards count now

@@ -6,7 +6,6 @@ use Rattle.std.proofs.lemmas.Bool.{eqb-true}
 use Rattle.std.proofs.lemmas.List.{nil_from_length, take-take}
 use Rattle.std.proofs.lemmas.List.Elements.{All-head, All-tail, All-push, All-weaker}
 use Rattle.definitions.specs.Cards.{Card}
-use Rattle.definitions.specs.DeckKinds.{kind_of_statements}
 use Rattle.definitions.specs.Edits.{Edited, IsUntouched}
 use Rattle.definitions.specs.Statements.{Statement}
 use Rattle.cards.specs.declared.edits.Edit.{Edit}
@@ -102,7 +101,7 @@ decks-before edits cards count decks most are few = let within = are.within in m
 
 -- no statement of an untouched front is counted where none of one beside these places is
 pub front-edited : (edits : List Edit) (own cards made : List Card) (before count now : ℕ) → own ≡ cards → made ≡ edited_by edits own → ((n : ℕ) → n ≤ 20000 → All (λ edit. n ≤ front_of edit) edits → n ≤ before) → length cards ≤ 20000 →
-    ((decks : Edited) (front : List Statement) → decks.old ≡ known_in own → decks.new ≡ known_in made → decks.before ≤ before → kind_of_statements decks.old ≡ kind_of_statements decks.new → IsUntouched decks front →
+    ((decks : Edited) (front : List Statement) → decks.old ≡ known_in own → decks.new ≡ known_in made → decks.before ≤ before → IsUntouched decks front →
     length front + now ≤ length decks.new + count) → RisesBehindFront edits cards count now
 front-edited edits own cards made before count now same after most few bound = λ decks front are is.
-    bound decks front (are.old ∙ ap known_in (sym same)) (are.new ∙ ap (λ (l : List Card). known_in (edited_by edits l)) (sym same) ∙ ap known_in (sym after)) (decks-before edits cards before decks most are few) are.kinds is
+    bound decks front (are.old ∙ ap known_in (sym same)) (are.new ∙ ap (λ (l : List Card). known_in (edited_by edits l)) (sym same) ∙ ap known_in (sym after)) (decks-before edits cards before decks most are few) is

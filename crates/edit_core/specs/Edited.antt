@@ -1,7 +1,7 @@
 -- What edits leave of a record (ours).
 use Rattle.std.specs.Prelude.{◌≡◌, ℕ, ⊤, ◌+◌, ◌-◌, ◌≤◌, All, false, List, [], ◌∷◌, length, reverse}
 use Rattle.definitions.specs.Cards.{Card}
-use Rattle.definitions.specs.DeckKinds.{up_to_end, kind_of_statements}
+use Rattle.definitions.specs.DeckKinds.{up_to_end}
 use Rattle.definitions.specs.Edits.{Edited, IsUntouched, IsWithinDue}
 use Rattle.definitions.specs.Rebound.{IsWithinDueCode}
 use Rattle.definitions.specs.Statements.{Statement, statements_of}
@@ -44,15 +44,14 @@ pub record IsRecordOf (name : List ℕ) (cards : List Card) (made : Record) : Ty
   pub unspent : made.is_spent ≡ false
   pub pieces_are : ArePieces (statement_count cards) made.pieces
 
--- a deck with these cards before edits and after them, of one kind; so many cards stand before each one that an edit is of
+-- a deck with these cards before edits and after them; so many cards stand before each one that an edit is of
 pub record AreDecksOf (edits : List Edit) (cards : List Card) (decks : Edited) : Type 0 where
   pub old : decks.old ≡ up_to_end (statements_of (reverse cards))
   pub new : decks.new ≡ up_to_end (statements_of (reverse (edited_by edits cards)))
   pub before : All (λ edit. decks.before ≤ front_of edit) edits
   pub within : decks.before ≤ length cards
-  pub kinds : kind_of_statements decks.old ≡ kind_of_statements decks.new
 
--- a count rises by no more than the statements behind those that stand untouched in front of both decks, where they are of one kind
+-- a count rises by no more than the statements behind those that stand untouched in front of both decks
 abbrev pub RisesBehindFront : List Edit → List Card → ℕ → ℕ → Type 0
 RisesBehindFront edits cards count now =
     (decks : Edited) (front : List Statement) → AreDecksOf edits cards decks → IsUntouched decks front → length front + now ≤ length decks.new + count
@@ -65,7 +64,7 @@ pub record StandUnchanged (edits : List Edit) (cards : List Card) (decks : Edite
   pub of_old : decks.old_behind + behind ≡ length cards
   pub of_new : decks.new_behind + behind ≡ length (edited_by edits cards)
 
--- a count rises by no more than is due for the edit of one deck into the other, and the 128 statements of a piece; where they are of one kind
+-- a count rises by no more than is due for the edit of one deck into the other, and the 128 statements of a piece
 abbrev pub RisesToDue : List Edit → List Card → ℕ → ℕ → Type 0
 RisesToDue edits cards count now = (decks : Edited) → AreDecksOf edits cards decks → StandUnchanged edits cards decks → IsWithinDue decks 128 (now - count)
 

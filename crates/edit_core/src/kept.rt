@@ -100,10 +100,11 @@ impl Kept {
     /// changes nothing; where memory runs out it is spent. The statements in front of the edited card
     /// stay as they were sized, and keep their lines in the object unless a name is bound otherwise; and
     /// so do the others from the first piece on behind which all is sized as before. Where the kind of
-    /// the deck changes, none does. The meter counts at most one statement sized, and one coded, for each
-    /// up to END of the edited cards; and where the kind stays, none of those that stand untouched in
-    /// front of both decks, and behind the first place where both decks agree again no more than the 128
-    /// of a piece, but for those coded that are bound otherwise.
+    /// the deck changes, those in front are what they were but for their counters, and none of the others
+    /// stays. The meter counts at most one statement sized, and one coded, for each up to END of the
+    /// edited cards; none of those that stand untouched in front of both decks, and behind the first
+    /// place where both decks agree again no more than the 128 of a piece, but for those coded that are
+    /// bound otherwise.
     pub fn edit(&mut self, alloc: Global, edit: &Edit, meter: &mut Meter) -> Result<(), RecordFault>
         ensures refused { ForSome (against edit.now self.old.is_spent self.old.cards) (λ fault. (result ≡ Err fault) × (self.new ≡ self.old) × (meter.new ≡ meter.old)) }
         ensures accepted { against edit.now self.old.is_spent self.old.cards ≡ None → IfErr result (λ fault. fault ≡ RecordFault.OutOfMemory) }
@@ -126,9 +127,9 @@ impl Kept {
     /// Where the record is spent, or else at the first edit that doesn't apply to what the ones before
     /// it leave, it says so and changes nothing; where memory runs out it is spent. The meter counts at
     /// most one statement sized, and one coded, for each up to END of the cards that all of them leave,
-    /// and none where there are no edits; and where the kind stays, none of those that stand untouched
-    /// in front of both decks, and behind the first place where both decks agree again no more than the
-    /// 128 of a piece, but for those coded that are bound otherwise.
+    /// and none where there are no edits; none of those that stand untouched in front of both decks, and
+    /// behind the first place where both decks agree again no more than the 128 of a piece, but for those
+    /// coded that are bound otherwise.
     pub fn edit_all(
         &mut self,
         alloc: Global,

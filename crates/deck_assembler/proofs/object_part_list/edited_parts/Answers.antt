@@ -1,4 +1,4 @@
-use Rattle.std.proofs.Common.{◌∙◌, [], length, reverse, refl, ap, sym, subst}
+use Rattle.std.proofs.Common.{◌∙◌, [], length, reverse, refl, ap, sym, subst, arith}
 use Rattle.deck_assembler.specs.DueCodes.{IsDueBeside}
 use Rattle.deck_assembler.specs.FormerLines.{AreChosen, IsBeside}
 use Rattle.deck_assembler.specs.Formers.{known_in}
@@ -23,5 +23,7 @@ returns-clause-due c = λ plan of.
     let kind = c.kind.ensures ∙ c.requires.deck.kind in
     let chosen = subst (λ n. AreChosen c.kind.result n (length cards) former c.parts.result.now lines) (ap length c.cards.ensures) c.lines-lines.ensures in
     let here = subst (λ k. AreChosen k (length old) (length cards) former c.parts.result.now lines) kind chosen in
-    let beside = begin-due _ old cards c.args.object.now.name former c.parts.result.now lines plan c.requires.former c.parts.ensures c.requires.edited here of in
-    c.parts_beside.ensures.due lines plan refl of.of_new (subst (λ k. IsDueBeside k cards plan [] (reverse (known_in cards)) 0 lines) (sym c.requires.deck.kind) beside)
+    let found = begin-due _ old cards c.args.object.now.name former c.parts.result.now lines plan c.requires.former c.parts.ensures c.requires.edited refl here of in
+    let bound = c.parts_beside.ensures.due lines found.own refl found.planned (subst (λ k. IsDueBeside k cards found.own [] (reverse (known_in cards)) 0 lines) (sym c.requires.deck.kind) found.beside) in
+    let same = found.same in
+    omega (arith, bound, same)

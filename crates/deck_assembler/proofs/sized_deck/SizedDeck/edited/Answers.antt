@@ -20,32 +20,30 @@ use Rattle.deck_assembler.proofs.FrontLaws.{front-stands, front-still}
 use Rattle.deck_assembler.proofs.sized_deck.SizedDeck.edited.Goals as goal
 
 pub returns-in_err-list-clause-front : goal.returns-in_err-list-clause-front
-returns-in_err-list-clause-front c = λ decks front old new before kinds is. front-still decks front _ is
+returns-in_err-list-clause-front c = λ decks front old new before is. front-still decks front _ is
 
 pub returns-in_err-parted-clause-front : goal.returns-in_err-parted-clause-front
-returns-in_err-parted-clause-front c = λ decks front old new before kinds is. front-still decks front _ is
+returns-in_err-parted-clause-front c = λ decks front old new before is. front-still decks front _ is
 
 pub returns-in_err-all-clause-front : goal.returns-in_err-all-clause-front
-returns-in_err-all-clause-front c = λ decks front old new before kinds is.
-    let own = c.args.old.cards.now in
+returns-in_err-all-clause-front c = λ decks front old new before is.
     let cards = c.args.cards.now in
-    let deck = c.in_ok-parted.parted.old_deck in
     let all = ap (λ (spans : List Span). all_statements cards spans) c.as_slice.ensures ∙ all-statements cards c.in_ok-list.list c.in_ok-list.ensures.statements in
     let kind = c.kind_of-kind.ensures ∙ ap (λ (l : List Statement). kind_of_statements (up_to_end l)) all in
-    let two = c.in_ok-parted.ensures.front (sym (ap kind_of_statements old) ∙ kinds ∙ ap kind_of_statements new ∙ sym kind) in
-    front-stands own cards decks front deck _ _ old new (subst (λ n. decks.before ≤ n) (sym two.1) before) two.0 is
-    (c.made.ensures.front own front (c.in_ok-parted.ensures.old_deck cards c.requires.before c.requires.behind))
+    let beside = c.in_ok-parted.ensures.beside cards c.requires.before c.requires.behind in
+    let there = c.made.ensures.front beside.of front beside.kept_on (beside.stands decks front old new before (sym kind) is) in
+    let same = ap length new in
+    omega (arith, there, same)
 
 pub returns-clause-front : goal.returns-clause-front
-returns-clause-front c = λ decks front old new before kinds is.
-    let own = c.args.old.cards.now in
+returns-clause-front c = λ decks front old new before is.
     let cards = c.args.cards.now in
-    let deck = c.in_ok-parted.parted.old_deck in
     let all = ap (λ (spans : List Span). all_statements cards spans) c.as_slice.ensures ∙ all-statements cards c.in_ok-list.list c.in_ok-list.ensures.statements in
     let kind = c.kind_of-kind.ensures ∙ ap (λ (l : List Statement). kind_of_statements (up_to_end l)) all in
-    let two = c.in_ok-parted.ensures.front (sym (ap kind_of_statements old) ∙ kinds ∙ ap kind_of_statements new ∙ sym kind) in
-    front-stands own cards decks front deck _ _ old new (subst (λ n. decks.before ≤ n) (sym two.1) before) two.0 is
-    (c.made.ensures.front own front (c.in_ok-parted.ensures.old_deck cards c.requires.before c.requires.behind))
+    let beside = c.in_ok-parted.ensures.beside cards c.requires.before c.requires.behind in
+    let there = c.made.ensures.front beside.of front beside.kept_on (beside.stands decks front old new before (sym kind) is) in
+    let same = ap length new in
+    omega (arith, there, same)
 
 pub returns-in_err-list-clause-due : goal.returns-in_err-list-clause-due
 returns-in_err-list-clause-due c = λ decks front split apart before is agree.
@@ -63,18 +61,18 @@ returns-in_err-all-clause-due c = λ decks front split apart before is agree.
     let limit = length split.new_front + 128 in
     let all = ap (λ (spans : List Span). all_statements cards spans) c.as_slice.ensures ∙ all-statements cards c.in_ok-list.list c.in_ok-list.ensures.statements in
     let kind = c.kind_of-kind.ensures ∙ ap (λ (l : List Statement). kind_of_statements (up_to_end l)) all in
-    let two = c.in_ok-parted.ensures.front (sym (ap kind_of_statements apart.of_old) ∙ agree.kinds ∙ ap kind_of_statements apart.of_new ∙ sym kind) in
+    let two = c.in_ok-parted.ensures.old_deck (sym (ap kind_of_statements apart.of_old) ∙ agree.kinds ∙ ap kind_of_statements apart.of_new ∙ sym kind) in
     let few = untouched-before own cards c.args.old.before c.args.old.behind decks front split apart before is agree in
-    let here = subst (λ (both : ℕ × ℕ). StandApart own cards both.0 both.1 decks) (λ i. (sym two.1 i, sym c.in_ok-parted.ensures.behind i)) apart in
-    let will = subst (WillAgreeAt c.kind_of-kind.result own cards limit [] deck) (sym two.0)
-    (begins-due c.kind_of-kind.result own cards decks split deck here (kind ∙ ap kind_of_statements (sym apart.of_new)) agree c.in_ok-parted.ensures.begun c.in_ok-parted.ensures.short) in
+    let here = subst (λ (both : ℕ × ℕ). StandApart own cards both.0 both.1 decks) (λ i. (sym two.0.before_is i, sym two.0.behind i)) apart in
+    let will = subst (WillAgreeAt c.kind_of-kind.result own cards limit [] deck) (sym two.0.stage)
+    (begins-due c.kind_of-kind.result own cards decks split deck here (kind ∙ ap kind_of_statements (sym apart.of_new)) agree two.0.begun two.0.short) in
     elim (cases_lt limit (length (known_in cards))) [
       | inl more ↦
-          c.made.ensures.due own front limit (c.in_ok-parted.ensures.old_deck cards c.requires.before c.requires.behind)
-          (record { decks = decks; untouched = is; of_old = apart.of_old; of_new = apart.of_new; before = subst (λ n. decks.before ≤ n) (sym two.1) before; stage = two.0 }) (omega (arith, few)) more will
+          c.made.ensures.due own front limit (two.1 cards c.requires.before c.requires.behind)
+          (record { decks = decks; untouched = is; of_old = apart.of_old; of_new = apart.of_new; before = subst (λ n. decks.before ≤ n) (sym two.0.before_is) before; stage = two.0.stage }) (omega (arith, few)) more will
       | inr enough ↦
-          let there = front-stands own cards decks front deck _ _ apart.of_old apart.of_new (subst (λ n. decks.before ≤ n) (sym two.1) before) two.0 is
-          (c.made.ensures.front own front (c.in_ok-parted.ensures.old_deck cards c.requires.before c.requires.behind)) in
+          let there = front-stands own cards decks front deck _ _ apart.of_old apart.of_new (subst (λ n. decks.before ≤ n) (sym two.0.before_is) before) two.0.stage is
+          (c.made.ensures.front own front (two.1 cards c.requires.before c.requires.behind)) in
           let same = ap length apart.of_new in
           omega (arith, enough, there, same)
     ]
@@ -87,18 +85,18 @@ returns-clause-due c = λ decks front split apart before is agree.
     let limit = length split.new_front + 128 in
     let all = ap (λ (spans : List Span). all_statements cards spans) c.as_slice.ensures ∙ all-statements cards c.in_ok-list.list c.in_ok-list.ensures.statements in
     let kind = c.kind_of-kind.ensures ∙ ap (λ (l : List Statement). kind_of_statements (up_to_end l)) all in
-    let two = c.in_ok-parted.ensures.front (sym (ap kind_of_statements apart.of_old) ∙ agree.kinds ∙ ap kind_of_statements apart.of_new ∙ sym kind) in
+    let two = c.in_ok-parted.ensures.old_deck (sym (ap kind_of_statements apart.of_old) ∙ agree.kinds ∙ ap kind_of_statements apart.of_new ∙ sym kind) in
     let few = untouched-before own cards c.args.old.before c.args.old.behind decks front split apart before is agree in
-    let here = subst (λ (both : ℕ × ℕ). StandApart own cards both.0 both.1 decks) (λ i. (sym two.1 i, sym c.in_ok-parted.ensures.behind i)) apart in
-    let will = subst (WillAgreeAt c.kind_of-kind.result own cards limit [] deck) (sym two.0)
-    (begins-due c.kind_of-kind.result own cards decks split deck here (kind ∙ ap kind_of_statements (sym apart.of_new)) agree c.in_ok-parted.ensures.begun c.in_ok-parted.ensures.short) in
+    let here = subst (λ (both : ℕ × ℕ). StandApart own cards both.0 both.1 decks) (λ i. (sym two.0.before_is i, sym two.0.behind i)) apart in
+    let will = subst (WillAgreeAt c.kind_of-kind.result own cards limit [] deck) (sym two.0.stage)
+    (begins-due c.kind_of-kind.result own cards decks split deck here (kind ∙ ap kind_of_statements (sym apart.of_new)) agree two.0.begun two.0.short) in
     elim (cases_lt limit (length (known_in cards))) [
       | inl more ↦
-          c.made.ensures.due own front limit (c.in_ok-parted.ensures.old_deck cards c.requires.before c.requires.behind)
-          (record { decks = decks; untouched = is; of_old = apart.of_old; of_new = apart.of_new; before = subst (λ n. decks.before ≤ n) (sym two.1) before; stage = two.0 }) (omega (arith, few)) more will
+          c.made.ensures.due own front limit (two.1 cards c.requires.before c.requires.behind)
+          (record { decks = decks; untouched = is; of_old = apart.of_old; of_new = apart.of_new; before = subst (λ n. decks.before ≤ n) (sym two.0.before_is) before; stage = two.0.stage }) (omega (arith, few)) more will
       | inr enough ↦
-          let there = front-stands own cards decks front deck _ _ apart.of_old apart.of_new (subst (λ n. decks.before ≤ n) (sym two.1) before) two.0 is
-          (c.made.ensures.front own front (c.in_ok-parted.ensures.old_deck cards c.requires.before c.requires.behind)) in
+          let there = front-stands own cards decks front deck _ _ apart.of_old apart.of_new (subst (λ n. decks.before ≤ n) (sym two.0.before_is) before) two.0.stage is
+          (c.made.ensures.front own front (two.1 cards c.requires.before c.requires.behind)) in
           let same = ap length apart.of_new in
           omega (arith, enough, there, same)
     ]
@@ -109,9 +107,24 @@ returns-clause-tail c =
     let cards = c.args.cards.now in
     let all = ap (λ (spans : List Span). all_statements cards spans) c.as_slice.ensures ∙ all-statements cards c.in_ok-list.list c.in_ok-list.ensures.statements in
     let kind = c.kind_of-kind.ensures ∙ ap (λ (l : List Statement). kind_of_statements (up_to_end l)) all in
-    subst (λ k. HasTailIfAny k own cards c.with_tail.result.tail (known_in cards)) kind
-    (subst (λ n. HasTailIfAny c.kind_of-kind.result own cards n (known_in cards)) (sym c.with_tail.ensures.tail)
-    (c.in_ok-all.ensures.tail own (c.in_ok-parted.ensures.old_deck cards c.requires.before c.requires.behind)))
+    elim c.with_tail.ensures.other [
+      | inr none ↦ inl none
+      | inl same ↦
+          let two = c.in_ok-parted.ensures.old_deck (sym c.in_ok-parted.ensures.former.kind ∙ same) in
+          subst (λ k. HasTailIfAny k own cards c.with_tail.result.tail (known_in cards)) kind
+          (subst (λ n. HasTailIfAny c.kind_of-kind.result own cards n (known_in cards)) (sym (c.with_tail.ensures.tail same))
+          (c.in_ok-all.ensures.tail own (two.1 cards c.requires.before c.requires.behind)))
+    ]
+
+pub returns-clause-kinds : goal.returns-clause-kinds
+returns-clause-kinds c =
+    let cards = c.args.cards.now in
+    let all = ap (λ (spans : List Span). all_statements cards spans) c.as_slice.ensures ∙ all-statements cards c.in_ok-list.list c.in_ok-list.ensures.statements in
+    let kind = c.kind_of-kind.ensures ∙ ap (λ (l : List Statement). kind_of_statements (up_to_end l)) all in
+    elim c.with_tail.ensures.other [
+      | inl same ↦ inl (c.with_tail.ensures.kind ∙ same ∙ kind)
+      | inr none ↦ inr none
+    ]
 
 pub returns-clause-former : goal.returns-clause-former
 returns-clause-former c =
@@ -132,11 +145,12 @@ returns-clause-within c = λ decks front split apart before is agree more.
     let limit = length split.new_front + 128 in
     let all = ap (λ (spans : List Span). all_statements cards spans) c.as_slice.ensures ∙ all-statements cards c.in_ok-list.list c.in_ok-list.ensures.statements in
     let kind = c.kind_of-kind.ensures ∙ ap (λ (l : List Statement). kind_of_statements (up_to_end l)) all in
-    let two = c.in_ok-parted.ensures.front (sym (ap kind_of_statements apart.of_old) ∙ agree.kinds ∙ ap kind_of_statements apart.of_new ∙ sym kind) in
+    let kinds = sym (ap kind_of_statements apart.of_old) ∙ agree.kinds ∙ ap kind_of_statements apart.of_new ∙ sym kind in
+    let two = c.in_ok-parted.ensures.old_deck kinds in
     let few = untouched-before own cards c.args.old.before c.args.old.behind decks front split apart before is agree in
-    let here = subst (λ (both : ℕ × ℕ). StandApart own cards both.0 both.1 decks) (λ i. (sym two.1 i, sym c.in_ok-parted.ensures.behind i)) apart in
-    let will = subst (WillAgreeAt c.kind_of-kind.result own cards limit [] deck) (sym two.0)
-    (begins-due c.kind_of-kind.result own cards decks split deck here (kind ∙ ap kind_of_statements (sym apart.of_new)) agree c.in_ok-parted.ensures.begun c.in_ok-parted.ensures.short) in
-    subst (λ (both : DeckKind × ℕ). HasTailWithin both.0 own cards both.1 (known_in cards) limit) (λ i. (kind i, sym c.with_tail.ensures.tail i))
-    (c.in_ok-all.ensures.within own front limit (c.in_ok-parted.ensures.old_deck cards c.requires.before c.requires.behind)
-    (record { decks = decks; untouched = is; of_old = apart.of_old; of_new = apart.of_new; before = subst (λ n. decks.before ≤ n) (sym two.1) before; stage = two.0 }) (omega (arith, few)) more will)
+    let here = subst (λ (both : ℕ × ℕ). StandApart own cards both.0 both.1 decks) (λ i. (sym two.0.before_is i, sym two.0.behind i)) apart in
+    let will = subst (WillAgreeAt c.kind_of-kind.result own cards limit [] deck) (sym two.0.stage)
+    (begins-due c.kind_of-kind.result own cards decks split deck here (kind ∙ ap kind_of_statements (sym apart.of_new)) agree two.0.begun two.0.short) in
+    subst (λ (both : DeckKind × ℕ). HasTailWithin both.0 own cards both.1 (known_in cards) limit) (λ i. (kind i, sym (c.with_tail.ensures.tail (c.in_ok-parted.ensures.former.kind ∙ kinds)) i))
+    (c.in_ok-all.ensures.within own front limit (two.1 cards c.requires.before c.requires.behind)
+    (record { decks = decks; untouched = is; of_old = apart.of_old; of_new = apart.of_new; before = subst (λ n. decks.before ≤ n) (sym two.0.before_is) before; stage = two.0.stage }) (omega (arith, few)) more will)

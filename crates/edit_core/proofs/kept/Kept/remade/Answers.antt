@@ -5,7 +5,6 @@ use Rattle.definitions.specs.Cards.{Card}
 use Rattle.definitions.specs.DeckInput.{Deck}
 use Rattle.definitions.specs.DeckKinds.{kind_of_statements}
 use Rattle.deck_assembler.specs.Agreements.{HaveSameEnd}
-use Rattle.deck_assembler.specs.DueCodes.{IsPlanOf, code_due_of}
 use Rattle.deck_assembler.specs.Formers.{IsFormerOf, known_in}
 use Rattle.deck_assembler.specs.SizedDecks.{IsSizedDeck}
 use Rattle.deck_assembler.specs.Tails.{HasTailIfAny}
@@ -165,7 +164,7 @@ returns-in_err-object-clause-coded_due c =
     let edited = c.in_ok-edited.ensures in
     let object = same ∙ sym (ap (λ (r : Record). r.cards) c.self.view_is) ∙ sym (ap (λ (d : Deck). d.cards) c.object.ensures) in
     due-code-object edits own cards c.deref.result.now _ _ c.cards_before_all.result c.cards_behind_all.result c.in_ok-edited.edited.former c.args.meter.now.coded _ _ same (c.deref.ensures.value ∙ c.in_ok-cards.ensures)
-    taken object c.deref.ensures.value c.edited.ensures.coded c.edited_object.ensures.coded_rises edited.before edited.former.kind edited.tail edited.within c.edited_object.ensures.coded_due
+    taken object c.deref.ensures.value c.edited.ensures.coded c.edited_object.ensures.coded_rises edited.before edited.kinds edited.tail edited.within c.edited_object.ensures.coded_due
 
 pub returns-clause-coded_due : goal.returns-clause-coded_due
 returns-clause-coded_due c =
@@ -179,4 +178,4 @@ returns-clause-coded_due c =
     let edited = c.in_ok-edited.ensures in
     let object = same ∙ sym (ap (λ (r : Record). r.cards) c.self.view_is) ∙ sym (ap (λ (d : Deck). d.cards) c.object.ensures) in
     due-code-object edits own cards c.deref.result.now _ _ c.cards_before_all.result c.cards_behind_all.result c.in_ok-edited.edited.former c.args.meter.now.coded _ _ same (c.deref.ensures.value ∙ c.in_ok-cards.ensures)
-    taken object c.deref.ensures.value c.edited.ensures.coded c.edited_object.ensures.coded_rises edited.before edited.former.kind edited.tail edited.within c.edited_object.ensures.coded_due
+    taken object c.deref.ensures.value c.edited.ensures.coded c.edited_object.ensures.coded_rises edited.before edited.kinds edited.tail edited.within c.edited_object.ensures.coded_due

@@ -1,0 +1,322 @@
+-- What stays of an old deck in an edited one of another kind: the neutral statements in front, and their lines.
+use Rattle.std.proofs.Common.{◌≡◌, ◌∙◌, ℕ, ◌+◌, ◌-◌, ◌<◌, ◌≤◌, ◌⊎◌, inl, inr, List, [], ◌∷◌, ◌++◌, Some, length, take, drop, refl, sym, ap, ap₂, subst, arith, append-nil, length-append, length-take-le}
+use Rattle.std.specs.Prelude.{IfSome, reverse}
+use Rattle.std.specs.List.{AllByRecursion}
+use Rattle.std.proofs.lemmas.Bool.{cases_lt}
+use Rattle.std.proofs.lemmas.List.{drop-take, length-drop, length-reverse, reverse-append, reverse-reverse, take-take}
+use Rattle.definitions.specs.Cards.{Card}
+use Rattle.definitions.specs.DeckKinds.{kind_of_statements}
+use Rattle.definitions.specs.Fields.{fields_of}
+use Rattle.definitions.specs.Operands.{Operand}
+use Rattle.definitions.specs.Operations.{is_neutral}
+use Rattle.definitions.specs.Settled.{defined}
+use Rattle.definitions.specs.Settling.{View, settle, settled_all}
+use Rattle.definitions.specs.Statements.{Statement, cards_in}
+use Rattle.definitions.specs.declared.deck_kind.DeckKind.{DeckKind}
+use Rattle.definitions.specs.declared.deck_kind.DeckKind.TheVariants.{Rel, Abs, Periph}
+use Rattle.definitions.proofs.EditLaws.{cards_in-append}
+use Rattle.definitions.proofs.NamesLaws.{all-behind}
+use Rattle.operations.specs.OperationsAs.{operation_as}
+use Rattle.statement_coder.specs.Definitions.{defined_by, IsOfExt}
+use Rattle.statement_coder.specs.KeptReadings.{IsKeptReading}
+use Rattle.statement_coder.specs.Sizings.{IsSizing}
+use Rattle.use_blocks.specs.EffectsAs.{change_as, setting_as}
+use Rattle.deck_assembler.specs.Agreements.{left, HaveSameEnd}
+use Rattle.deck_assembler.specs.DeckParts.{DeckParts, sized_in}
+use Rattle.deck_assembler.specs.Formers.{known_in}
+use Rattle.deck_assembler.specs.Heads.{counter_of, AreHead, IsHeadDeck, IsOldDeck, IsRecounted, IsWholeDeck, BeginsBeside}
+use Rattle.deck_assembler.specs.Meetings.{cards_of, IsShort}
+use Rattle.deck_assembler.specs.OldDecks.{IsAtStage, IsInFront, IsKeptOn}
+use Rattle.deck_assembler.specs.SizedDecks.{IsSizedDeck, IsSizedStatement, AreSizedFrom}
+use Rattle.deck_assembler.specs.declared.old_deck.OldCards.{OldCards}
+use Rattle.deck_assembler.specs.declared.old_deck.OldDeck.{OldDeck}
+use Rattle.deck_assembler.specs.declared.sized_statement.SizedStatement.{SizedStatement}
+use Rattle.deck_assembler.proofs.AgreementLaws.{between}
+use Rattle.deck_assembler.proofs.CutLaws.{cut-front}
+use Rattle.deck_assembler.proofs.DueLaws.{filled-short}
+use Rattle.deck_assembler.proofs.ForwardLaws.{stood-more}
+use Rattle.deck_assembler.proofs.HeadLaws.{deck-in-front}
+use Rattle.deck_assembler.proofs.NeutralLaws.{AreNeutral, IsNeutral, base-same, counted, front-neutral, neutral-known, neutral-open, neutral-settles, neutral-told, neutral-view}
+use Rattle.deck_assembler.proofs.OntoLaws.{append-none, reverse-onto}
+
+-- a neutral statement that was sized behind neutral ones is so in a deck of another kind, with other counters
+recounted-sized : (first second : DeckKind) (earlier : List Statement) (stood : ℕ) (ahead other : List Card) (sized made : SizedStatement) (statement : Statement) → AreNeutral earlier → IsNeutral statement →
+    IsRecounted (counter_of second) sized made → IsSizedStatement first earlier stood ahead sized statement → take sized.cards ahead ≡ take sized.cards other → sized.cards ≤ length other →
+    IsSizedStatement second earlier stood other made statement
+recounted-sized first second earlier stood ahead other sized made statement are neutral re is e within =
+    let before = settle first (settled_all first earlier) statement in
+    let same = neutral-settles first second earlier statement are neutral in
+    let view : Path View (λ name. defined name (settled_all second earlier)) (λ name. defined name (settled_all first earlier)) = neutral-view second earlier are ∙ sym (neutral-view first earlier are) in
+    let there : IsSizing (λ name. defined name (settled_all second earlier)) (counted (counter_of second) before) made.sizing = record {
+      block = re.block ∙ is.sizing.block;
+      change = ap change_as re.change ∙ is.sizing.change;
+      is_placed = re.is_placed ∙ is.sizing.is_placed;
+      place = re.place ∙ is.sizing.place;
+      end = re.end ∙ is.sizing.end;
+      asks = re.asks ∙ is.sizing.asks;
+      begins_run = re.begins_run ∙ is.sizing.begins_run;
+      setting = ap setting_as re.setting ∙ is.sizing.setting;
+      location = re.location;
+      origin = re.origin;
+      definitions = ap₂ (λ v what. defined_by v before.read.fields.location before.read.operand what) view re.defines ∙ is.sizing.definitions;
+      externals = subst (IsOfExt before.read.operation) (sym re.defines) is.sizing.externals;
+      letters = re.letters ∙ is.sizing.letters;
+    } in
+    record {
+      before = is.before;
+      cards = ap (λ n. take n other) re.cards ∙ sym e ∙ is.cards;
+      some = subst (λ n. 0 < n) (sym re.cards) is.some;
+      few = subst (λ n. n ≤ 10) (sym re.cards) is.few;
+      within = subst (λ n. n ≤ length other) (sym re.cards) within;
+      sizing = subst (λ settled. IsSizing (λ name. defined name (settled_all second earlier)) settled made.sizing) (sym same) there;
+      number_base = re.number_base ∙ is.number_base ∙ base-same first second earlier;
+      operation = ap (λ settled. settled.read.operation) same ∙ is.operation ∙ ap operation_as (sym re.operation);
+      label = subst (λ label. IfSome label (λ l. l ≡ (fields_of statement.cards).location)) (sym re.label) is.label;
+      kept = subst (λ (operand : Operand). IsKeptReading made.kept operand) (sym (ap (λ settled. settled.read.operand) same)) (subst (λ kept. IsKeptReading kept before.read.operand) (sym re.kept) is.kept);
+    }
+
+-- no neutral statement that ends within so many cards stands behind these
+abbrev pub DoStop : ℕ → List Statement → List Statement → Type 0
+DoStop before given rest = (statement : Statement) (others : List Statement) → rest ≡ statement ∷ others → IsNeutral statement → length (cards_in given) + length statement.cards ≤ before → ⊥
+
+-- the statements of a head
+record HasHead (kind : DeckKind) (before : ℕ) (earlier : List Statement) (stood : ℕ) (ahead : List Card) (made : List SizedStatement) (later : List Statement) : Type 0 where
+  given : List Statement
+  rest : List Statement
+  all : later ≡ given ++ rest
+  sized : AreSizedFrom kind earlier stood (take (cards_of made) ahead) made given [] []
+  neutral : AreNeutral (reverse given ++ earlier)
+  count : length (cards_in (reverse given ++ earlier)) ≡ stood + cards_of made
+  within : cards_of made ≤ length ahead
+  few : stood + cards_of made ≤ before
+  stops : DoStop before (reverse given ++ earlier) rest
+
+has-head : (first second : DeckKind) (before : ℕ) (earlier : List Statement) (stood : ℕ) (ahead : List Card) (sized made : List SizedStatement) (later : List Statement) (behind : List ℕ) (others : List Statement) →
+    AreNeutral earlier → length (cards_in earlier) ≡ stood → stood ≤ before → AreSizedFrom first earlier stood ahead sized later behind others → AreHead (counter_of second) before stood sized made →
+    HasHead second before earlier stood ahead made later
+has-head first second before earlier stood ahead [] [] [] behind others are place few sized head = record {
+  given = [];
+  rest = [];
+  all = refl;
+  sized = refl;
+  neutral = are;
+  count = omega (arith, place);
+  within = omega arith;
+  few = omega (arith, few);
+  stops = λ statement others e. absurd cc;
+}
+has-head first second before earlier stood ahead [] (one ∷ made) later behind others are place few sized head = absurd head
+has-head first second before earlier stood ahead [] [] (statement ∷ later) behind others are place few sized head = absurd sized
+has-head first second before earlier stood ahead (one ∷ sized') made [] behind others are place few sized head = absurd sized
+has-head first second before earlier stood ahead (one ∷ sized') [] (statement ∷ later) behind others are place few sized head = record {
+  given = [];
+  rest = statement ∷ later;
+  all = refl;
+  sized = refl;
+  neutral = are;
+  count = omega (arith, place);
+  within = omega arith;
+  few = omega (arith, few);
+  stops = λ next others e neutral within.
+      let same : statement ≡ next = cc in
+      let is = sized.0 in
+      let own : length statement.cards ≡ one.cards = ap length (sym is.cards) ∙ length-take-le one.cards ahead is.within in
+      let its = ap (λ (s : Statement). length s.cards) same in
+      head (record {
+        neutral = ap (λ o. is_neutral (Some o)) (sym is.operation) ∙ neutral-known first statement (subst IsNeutral (sym same) neutral);
+        within = omega (arith, within, own, its, place);
+      });
+}
+has-head first second before earlier stood ahead (one ∷ sized') (more ∷ made) (statement ∷ later) behind others are place few sized head =
+    let is = sized.0 in
+    let of = head.0 in
+    let re = head.1.0 in
+    let neutral = neutral-told first statement (ap (λ o. is_neutral (Some o)) is.operation ∙ of.neutral) in
+    let moved = stood-more earlier statement ahead one.cards is.cards is.within in
+    let rest = has-head first second before (statement ∷ earlier) (stood + one.cards) (drop one.cards ahead) sized' made later behind others (neutral, are) (omega (arith, moved, place)) of.within sized.1 head.1.1 in
+    let whole = reverse-onto statement rest.given earlier in
+    let same = re.cards in
+    let less = length-drop one.cards ahead in
+    let rest_within = rest.within in
+    let own_within = is.within in
+    let all_within : more.cards + cards_of made ≤ length ahead = omega (arith, same, less, rest_within, own_within) in
+    let n = more.cards + cards_of made in
+    let full = length-take-le n ahead all_within in
+    let cut : take (cards_of made) (drop one.cards ahead) ≡ drop more.cards (take n ahead) = ap (λ k. take (cards_of made) (drop k ahead)) (sym same) ∙ sym (drop-take more.cards (cards_of made) ahead) in
+    let rest_count = rest.count in
+    let count_same = ap (λ (l : List Statement). length (cards_in l)) whole in
+    let rest_few = rest.few in
+    record {
+      given = statement ∷ rest.given;
+      rest = rest.rest;
+      all = ap (λ l. statement ∷ l) rest.all;
+      sized = (
+        recounted-sized first second earlier stood ahead (take n ahead) one more statement are neutral re is (sym (take-take one.cards n ahead (omega (arith, same)))) (omega (arith, same, full)),
+        subst (λ (both : ℕ × List Card). AreSizedFrom second (statement ∷ earlier) both.0 both.1 made rest.given [] []) (λ i. (stood + sym same i, cut i)) rest.sized,
+      );
+      neutral = subst AreNeutral whole rest.neutral;
+      count = omega (arith, rest_count, count_same, same);
+      within = all_within;
+      few = omega (arith, rest_few, same);
+      stops = subst (λ l. DoStop before l rest.rest) whole rest.stops;
+    }
+
+-- a front of neutral statements that ends within so many cards stands among those of a head
+pub record HasTop (given front : List Statement) : Type 0 where
+  pub more : List Statement
+  pub is : given ≡ more ++ front
+
+pub head-top : (given rest front behind : List Statement) (before : ℕ) → reverse (given ++ rest) ≡ behind ++ front → AreNeutral front → length (cards_in front) ≤ before → DoStop before (reverse given) rest → HasTop (reverse given) front
+head-top given rest front behind before e are few stops = elim (cases_lt (length given) (length front)) [
+  | inl less ↦ absurd (by rest e stops less)
+  | inr enough ↦
+      let whole = sym e ∙ reverse-append given rest in
+      let all = ap length whole in
+      let left_parts = length-append behind front in
+      let right_parts = length-append (reverse rest) (reverse given) in
+      let turned = length-reverse given in
+      let there = between behind front (reverse rest) (reverse given) whole (omega (arith, all, left_parts, right_parts, turned, enough)) in
+      record { more = there.middle; is = there.of_earlier }
+]
+  where
+    by : (rest : List Statement) → reverse (given ++ rest) ≡ behind ++ front → DoStop before (reverse given) rest → length given < length front → ⊥
+    by [] e stops less =
+        let all = ap length (sym (reverse-append given []) ∙ e) in
+        let parts = length-append behind front in
+        let turned = length-reverse given in
+        omega (arith, all, parts, turned, less)
+    by (statement ∷ others) e stops less =
+        let turned = length-reverse given in
+        let whole : reverse others ++ statement ∷ reverse given ≡ behind ++ front = reverse-onto statement others (reverse given) ∙ sym (reverse-append given (statement ∷ others)) ∙ e in
+        let all = ap length whole in
+        let left_parts = length-append (reverse others) (statement ∷ reverse given) in
+        let right_parts = length-append behind front in
+        let there = between (reverse others) (statement ∷ reverse given) behind front whole (omega (arith, all, left_parts, right_parts, turned, less)) in
+        let neutral = all-behind IsNeutral there.middle (statement ∷ reverse given) (subst AreNeutral there.of_earlier are) in
+        let cards = ap (λ (l : List Statement). length (cards_in l)) there.of_earlier in
+        let parts = cards_in-append there.middle (statement ∷ reverse given) in
+        let own = length-append (cards_in (reverse given)) statement.cards in
+        stops statement others refl neutral.0 (omega (arith, few, cards, parts, own))
+
+drop-all : {A : Type 0} (items : List A) → drop (length items) items ≡ []
+drop-all [] = refl
+drop-all (item ∷ items) = drop-all items
+
+none-behind : (count : ℕ) (cards : List Card) → count ≡ 0 → drop (length cards - count) cards ≡ []
+none-behind count cards none =
+    let all : length cards - count ≡ length cards = omega (arith, none) in
+    ap (λ m. drop m cards) all ∙ drop-all cards
+
+-- a head stands in front of an edited deck of another kind: all that stands untouched in front of both
+pub head-beside : (kind first : DeckKind) (old cards : List Card) (before : ℕ) (sized : List SizedStatement) (deck : OldDeck) (behind : List ℕ) (others : List Statement) → AreSizedFrom first [] 0 old sized (reverse (known_in old)) behind others →
+    first ≡ kind_of_statements (known_in old) → (first ≡ kind → ⊥) → IsHeadDeck kind before old sized deck → take before old ≡ take before cards → BeginsBeside kind old cards before deck
+head-beside kind first old cards before sized deck behind others are first_is other is same = record {
+  of = of;
+  kept_on = record {
+    standing = subst (IsAtStage kind of cards [] deck) (sym is.stage) front;
+    kinds = is.kind_is;
+    same = none-behind deck.behind of is.behind ∙ sym (none-behind deck.behind cards is.behind);
+  };
+  stands = λ decks front of_old of_new few kind_is untouched.
+      let neutral = front-neutral front untouched.of_old.0 untouched.of_new.0 decks.old decks.new untouched.of_old.1 untouched.of_new.1
+      (λ e. other (first_is ∙ ap kind_of_statements (sym of_old) ∙ e ∙ ap kind_of_statements of_new ∙ kind_is)) in
+      let unchanged = untouched.unchanged in
+      let whole : reverse (has.given ++ has.rest) ≡ untouched.of_old.0 ++ front = ap reverse (sym has.all) ∙ reverse-reverse (known_in old) ∙ sym of_old ∙ untouched.of_old.1 in
+      let top = head-top has.given has.rest front untouched.of_old.0 before whole neutral (omega (arith, unchanged, few)) (subst (λ l. DoStop before l has.rest) (append-nil (reverse has.given)) has.stops) in
+      let cards_same = ap (λ (l : List Statement). length (cards_in l)) top.is in
+      let parts = cards_in-append top.more front in
+      let head_count = count in
+      record {
+        decks = record { old = known_in of; new = decks.new; before = length (cards_in front); old_behind = decks.old_behind; new_behind = decks.new_behind };
+        untouched = record { of_old = (top.more, known ∙ top.is); of_new = untouched.of_new; unchanged = omega arith };
+        of_old = refl;
+        of_new = of_new;
+        before = subst (λ m. length (cards_in front) ≤ m) (sym is.before_is) (omega (arith, cards_same, parts, head_count));
+        stage = is.stage;
+      };
+}
+  where
+    has : HasHead kind before [] 0 old (left deck) (reverse (known_in old))
+    has = has-head first kind before [] 0 old sized (left deck) (reverse (known_in old)) behind others tt refl (omega arith) are is.head
+
+    n : ℕ
+    n = cards_of (left deck)
+
+    of : List Card
+    of = take n old
+
+    count : length (cards_in (reverse has.given)) ≡ n
+    count =
+        let same = ap (λ (l : List Statement). length (cards_in l)) (append-nil (reverse has.given)) in
+        let counted_all = has.count in
+        omega (arith, same, counted_all)
+
+    -- the statements of the head are those of its cards
+    known : known_in of ≡ reverse has.given
+    known =
+        let whole : known_in old ≡ reverse has.rest ++ reverse has.given = sym (reverse-reverse (known_in old)) ∙ ap reverse has.all ∙ reverse-append has.given has.rest in
+        ap (λ m. known_in (take m old)) (sym count) ∙ cut-front old (reverse has.rest) (reverse has.given) whole (neutral-open (reverse has.given) (subst AreNeutral (append-nil (reverse has.given)) has.neutral))
+
+    front : IsInFront of cards [] (left deck) deck
+    front =
+        let few = has.few in
+        record {
+          later = has.given;
+          behind = [];
+          others = [];
+          within = omega arith;
+          ahead = is.ahead has.within;
+          rest = subst (λ (k : DeckKind). AreSizedFrom k [] 0 of (left deck) has.given [] []) (sym is.kind_is) has.sized;
+          unchanged = ap (λ m. take m of) is.before_is
+              ∙ (take-take n n old (omega arith) ∙ sym (take-take n before old (omega (arith, few))) ∙ ap (take n) same ∙ take-take n before cards (omega (arith, few)))
+              ∙ ap (λ m. take m cards) (sym is.before_is);
+          all = append-none (reverse has.given) ∙ sym known;
+        }
+
+-- two kinds are one, or not
+pub kinds-told : (a b : DeckKind) → (a ≡ b) ⊎ (a ≡ b → ⊥)
+kinds-told Rel Rel = inl refl
+kinds-told Rel Abs = inr (λ e. cc)
+kinds-told Rel Periph = inr (λ e. cc)
+kinds-told Abs Rel = inr (λ e. cc)
+kinds-told Abs Abs = inl refl
+kinds-told Abs Periph = inr (λ e. cc)
+kinds-told Periph Rel = inr (λ e. cc)
+kinds-told Periph Abs = inr (λ e. cc)
+kinds-told Periph Periph = inl refl
+
+-- all of a deck stands in front of an edited one of its kind
+whole-kept : (kind : DeckKind) (old : OldCards) (cards : List Card) (parts : DeckParts) (deck : OldDeck) → IsSizedDeck old.cards.now parts → parts.kind ≡ kind → IsOldDeck kind old parts.pieces deck →
+    take old.before old.cards.now ≡ take old.before cards → HaveSameEnd old.behind old.cards.now cards → IsKeptOn kind old.cards.now cards [] deck
+whole-kept kind old cards parts deck is same whole unchanged same_end = record {
+  standing = subst (IsAtStage kind old.cards.now cards [] deck) (sym whole.stage)
+      (deck-in-front old.cards.now cards parts deck is (whole.kind_is ∙ sym same) whole.ahead whole.all (subst (λ n. take n old.cards.now ≡ take n cards) (sym whole.before_is) unchanged));
+  kinds = whole.kind_is;
+  same = subst (λ n. HaveSameEnd n old.cards.now cards) (sym whole.behind) same_end;
+}
+
+pub stays-whole : (kind : DeckKind) (old : OldCards) (parts : DeckParts) (deck : OldDeck) → IsSizedDeck old.cards.now parts → parts.kind ≡ kind → IsOldDeck kind old parts.pieces deck →
+    IsWholeDeck old deck × ((cards : List Card) → take old.before old.cards.now ≡ take old.before cards → HaveSameEnd old.behind old.cards.now cards → IsKeptOn kind old.cards.now cards [] deck)
+stays-whole kind old parts deck is same whole = (
+  record { stage = whole.stage; before_is = whole.before_is; begun = whole.begun; short = subst (AllByRecursion IsShort) (sym whole.pieces_are) (filled-short parts.pieces is.filled); behind = whole.behind },
+  λ cards unchanged same_end. whole-kept kind old cards parts deck is same whole unchanged same_end,
+)
+
+-- what stays of a deck stands in front, whatever the kind is
+pub stays-beside : (kind : DeckKind) (old : OldCards) (cards : List Card) (parts : DeckParts) (deck : OldDeck) → IsSizedDeck old.cards.now parts → (parts.kind ≡ kind → IsOldDeck kind old parts.pieces deck) →
+    (parts.kind ≡ kind) ⊎ IsHeadDeck kind old.before old.cards.now (sized_in parts.pieces) deck → take old.before old.cards.now ≡ take old.before cards → HaveSameEnd old.behind old.cards.now cards →
+    BeginsBeside kind old.cards.now cards old.before deck
+stays-beside kind old cards parts deck is whole head unchanged same_end = elim (kinds-told parts.kind kind) [
+  | inl same ↦
+      let all = whole same in
+      record {
+        of = old.cards.now;
+        kept_on = whole-kept kind old cards parts deck is same all unchanged same_end;
+        stands = λ decks front of_old of_new few kind_is untouched.
+            record { decks = decks; untouched = untouched; of_old = of_old; of_new = of_new; before = subst (λ n. decks.before ≤ n) (sym all.before_is) few; stage = all.stage };
+      }
+  | inr other ↦ elim head [
+    | inl same ↦ absurd (other same)
+    | inr made ↦ head-beside kind parts.kind old.cards.now cards old.before (sized_in parts.pieces) deck parts.behind _ is.sized is.kind other made unchanged
+  ]
+]

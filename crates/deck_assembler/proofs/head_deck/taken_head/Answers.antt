@@ -1,0 +1,31 @@
+use Rattle.std.proofs.Common.{◌∙◌, ◌++◌, List, [], ◌∷◌, true≢false, append-nil, append_assoc, refl, sym, ap, subst, arith}
+use Rattle.deck_assembler.specs.Agreements.{left}
+use Rattle.deck_assembler.specs.Heads.{AreHead}
+use Rattle.deck_assembler.specs.Meetings.{cards_of}
+use Rattle.deck_assembler.specs.declared.sized_statement.SizedStatement.{SizedStatement}
+use Rattle.deck_assembler.proofs.PieceMeetings.{cards_of-append}
+use Rattle.deck_assembler.proofs.head_deck.taken_head.Goals as goal
+use Rattle.deck_assembler.proofs.head_deck.taken_head.Goals.{in-None, in-Some+then-not-is_of_head}
+
+pub statements-preserved : goal.statements-preserved
+statements-preserved c =
+    let items = c.statements.head.items in
+    let made = c.recounted.result in
+    let pushed = c.in_ok-push-in-Some.ensures.items in
+    let whole = ap cards_of pushed ∙ cards_of-append items (made ∷ []) in
+    let own = c.recounted.ensures.cards in
+    let so_far = c.statements.invariant.cards in
+    record {
+      head = λ rest h.
+          subst (λ (l : List SizedStatement). AreHead c.args.counter c.args.before 0 (left c.args.deck.now) l) (sym (append_assoc items (made ∷ []) rest) ∙ ap (λ (l : List SizedStatement). l ++ rest) (sym pushed))
+          (c.statements.invariant.head (made ∷ rest) (subst (λ (l : List SizedStatement). AreHead c.args.counter c.args.before c.statements.cards l (made ∷ rest)) (sym c.in-Some.ensures.next)
+          (c.is_of_head.ensures.yes c.if-not-is_of_head.false, (c.recounted.ensures, h))));
+      cards = omega (arith, whole, own, so_far);
+    }
+
+pub returns-clause-head : goal.returns-clause-head
+returns-clause-head c = subst (λ (l : List SizedStatement). AreHead c.args.counter c.args.before 0 (left c.args.deck.now) l) (append-nil c.statements.head.items) (c.statements.invariant.head [] (elim c.match-next.branch [
+  | in-None w ↦ subst (λ (l : List SizedStatement). AreHead c.args.counter c.args.before c.statements.cards l []) (sym (w.in-None.ensures.next ∙ w.in-None.ensures.last refl)) tt
+  | in-Some+then-not-is_of_head w ↦ subst (λ (l : List SizedStatement). AreHead c.args.counter c.args.before c.statements.cards l []) (sym w.in-Some.ensures.next)
+      (λ is. true≢false (sym (w.is_of_head.ensures.no is) ∙ w.if-not-is_of_head.true))
+]))

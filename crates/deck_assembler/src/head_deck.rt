@@ -1,0 +1,104 @@
+//! The neutral statements in front of an edited card: in a deck of another kind they stay as they were
+//! sized, but for their two counters.
+ghost use Rattle.std.specs.Prelude.{◌≡◌, ◌++◌, List, true, IfOk};
+ghost use Rattle.deck_assembler.specs.Agreements.{left};
+ghost use Rattle.deck_assembler.specs.DeckParts.{sized_in};
+ghost use Rattle.deck_assembler.specs.Heads.{AreHead, IsHeadDeck, IsOfHead, IsRecounted};
+ghost use Rattle.deck_assembler.specs.Meetings.{cards_of};
+
+use crate::former_lines::ends_within;
+use crate::old_deck::{OldCards, OldDeck, Stage};
+use crate::pieces::Piece;
+use crate::sized_statement::SizedStatement;
+use crate::symbol_table::SymbolTable;
+use definitions::DeckKind;
+use expr_forms::Form;
+use std::alloc::{AllocError, Global};
+use std::collections::VecDeque;
+use use_blocks::BlockState;
+
+/// The statements of a head in order, and how many cards they have.
+#[derive(Drop)]
+struct Head {
+    statements: Vec<SizedStatement>,
+    cards: usize,
+}
+
+/// A statement with another value of its two counters: nothing of it is sized again.
+fn recounted(sized: SizedStatement, counter: Form) -> SizedStatement
+    ensures { IsRecounted counter sized result }
+{
+    let mut made = sized;
+    made.sizing.location = counter;
+    made.sizing.origin = counter;
+    made
+}
+
+/// Whether a statement behind so many cards is neutral and ends within so many.
+fn is_of_head(sized: &SizedStatement, stood: usize, before: usize) -> bool
+    ensures yes { result ≡ true → IsOfHead before stood sized.now }
+    ensures no { IsOfHead before stood sized.now → result ≡ true }
+{
+    sized.operation.is_neutral() && ends_within(stood, sized.cards, before)
+}
+
+/// The first statements of a deck, as far as they are neutral and end within so many cards, with this
+/// value of their two counters.
+fn taken_head(
+    alloc: Global,
+    deck: &mut OldDeck<'_>,
+    before: usize,
+    counter: Form,
+) -> Result<Head, AllocError>
+    ensures head { IfOk result (λ head. AreHead counter before 0 (left deck.old) head.statements.items) }
+    ensures cards { IfOk result (λ head. head.cards ≡ cards_of head.statements.items) }
+{
+    let mut head = Vec::new(alloc);
+    let mut cards = 0;
+    'statements: loop {
+        match deck.next() {
+            None => break 'statements,
+            Some(sized) => {
+                if !is_of_head(&sized, cards, before) {
+                    break 'statements;
+                }
+                cards += sized.cards as usize;
+                head.push(recounted(sized, counter))?;
+            }
+        }
+    }
+    Ok(Head {
+        statements: head,
+        cards,
+    })
+}
+
+/// What stays of a deck in an edited one of another kind, which this is: its first statements, as far as
+/// they are neutral and end before the edited card. They are all that is left of it, and so many cards
+/// of them stand unchanged.
+pub(crate) fn head_deck<'a>(
+    alloc: Global,
+    old: OldCards<'a>,
+    pieces: Vec<Piece>,
+    kind: DeckKind,
+) -> Result<OldDeck<'a>, AllocError>
+    ensures { IfOk result (IsHeadDeck kind old.entry.before old.entry.cards.now (sized_in pieces.items)) }
+{
+    let state = BlockState::new(alloc)?;
+    let counter = state.origin(kind, 0);
+    let mut whole = OldDeck::of(alloc, old, pieces, kind, Stage::Over)?;
+    let head = taken_head(alloc, &mut whole, old.before, counter)?;
+    let ahead = old.cards.split_at(head.cards.min(old.cards.len())).0;
+    Ok(OldDeck {
+        kind,
+        ahead,
+        statements: VecDeque::from_vec(head.statements),
+        pieces: VecDeque::new(alloc),
+        before: head.cards,
+        behind: 0,
+        stage: Stage::Front,
+        state,
+        symbols: SymbolTable::new(alloc),
+        missed: None,
+    })
+}
