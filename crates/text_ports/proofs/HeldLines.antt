@@ -1,8 +1,9 @@
 -- Lines at the front of what a reader holds.
-use Rattle.std.proofs.Common.{ℕ, ◌≡◌, ◌≢◌, ◌<◌, ◌≤◌, ◌==◌, List, [], ◌∷◌, ◌++◌, Option, None, Some, IfSome, length, take, true, false, get_or, get_or-take, position, sym, ap, ◌∙◌, arith, length-take-le, eq-eqb, eqb-true}
+use Rattle.std.proofs.Common.{ℕ, ◌≡◌, ◌≢◌, ◌<◌, ◌≤◌, ◌==◌, List, [], ◌∷◌, ◌++◌, Option, None, Some, IfSome, length, take, true, false, get_or, get_or-take, sym, ap, ◌∙◌, arith, length-take-le, eq-eqb, eqb-true}
 use Rattle.std.proofs.lemmas.List.{take_more}
 use Rattle.std.proofs.lemmas.List.Elements.{All-from_get_or}
-use Rattle.std.proofs.lemmas.List.Quantifiers.{position-Some}
+use Rattle.std.proofs.lemmas.Bool.{false_from_ne_true}
+use Rattle.memchr.specs.Find.{IsFirstByte, is_byte}
 use Rattle.text_ports.specs.Lines.{line_feed, IsUnbroken, IsFrontLine}
 
 -- bytes up to the first line feed have none
@@ -15,15 +16,14 @@ before_feed bytes len within others =
     search (arith, sym is ∙ others k inside))
 
 -- the first line feed among the first bytes ends a line
-pub IsFrontLine-found : (bytes : List ℕ) (most : ℕ) (found : Option ℕ) → most ≤ 257 → most ≤ length bytes → found ≡ position (λ b. b == 10) (take most bytes) → IfSome found (λ len. IsFrontLine len bytes)
+pub IsFrontLine-found : (bytes : List ℕ) (most : ℕ) (found : Option ℕ) → most ≤ 257 → most ≤ length bytes → IsFirstByte (is_byte 10) (take most bytes) found → IfSome found (λ len. IsFrontLine len bytes)
 IsFrontLine-found bytes most None few within is = tt
 IsFrontLine-found bytes most (Some len) few within is =
-    let h = position-Some (λ b. b == 10) (take most bytes) len 0 (sym is) in
     let long : length (take most bytes) ≡ most = length-take-le most bytes within in
-    let inside : len < most = omega (arith, h.0, long) in
-    let feed : get_or bytes len 0 ≡ 10 = sym (get_or-take most bytes len 0 inside) ∙ eqb-true _ _ h.1 in (
+    let inside : len < most = omega (arith, is.0.high, long) in
+    let feed : get_or bytes len 0 ≡ 10 = sym (get_or-take most bytes len 0 inside) ∙ eqb-true _ _ is.1 in (
       omega (arith, inside, few),
       omega (arith, inside, within),
       take_more bytes len 0 (omega (arith, inside, within)) ∙ ap (λ b. take len bytes ++ b ∷ []) feed,
-      before_feed bytes len (omega (arith, inside, within)) (λ k below. ap (λ b. b == 10) (sym (get_or-take most bytes k 0 (omega (arith, below, inside)))) ∙ h.2 k below),
+      before_feed bytes len (omega (arith, inside, within)) (λ k below. ap (λ b. b == 10) (sym (get_or-take most bytes k 0 (omega (arith, below, inside)))) ∙ false_from_ne_true _ (is.0.before k (omega arith) below)),
     )

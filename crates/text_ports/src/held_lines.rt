@@ -1,10 +1,11 @@
 //! Lines that lie whole in what a reader holds.
-ghost use Rattle.std.specs.Prelude.{◌≡◌, ◌==◌, ◌+◌, ◌<◌, length, take, position, IfSome};
+ghost use Rattle.std.specs.Prelude.{◌≡◌, ◌==◌, ◌+◌, ◌<◌, length, take, IfSome};
 ghost use Rattle.text_ports.specs.Lines.{IsFrontLine, ReadsLine};
 ghost use Rattle.text_ports.specs.Faults.{TakesHeld, count_after_held, count_after_line};
 
 use crate::counted::Counted;
 use crate::lines::{LineBuf, LineIs, MOST_BYTES, next_line};
+use memchr::memchr;
 use std::io::BufRead;
 
 /// What begins with the first byte that a reader holds.
@@ -18,18 +19,11 @@ pub(crate) enum HeldIs {
     Fault,
 }
 
-/// The place of the first line feed.
-fn feed_place(bytes: &[u8]) -> Option<usize>
-    ensures { result ≡ position (λ b. b == 10) bytes.now }
-{
-    bytes.iter().position(|byte| *byte == b'\n')
-}
-
 /// How long the line is with which some bytes begin, if its line feed is among them.
 fn front_line_len(bytes: &[u8]) -> Option<usize>
     ensures { IfSome result (λ len. IsFrontLine len bytes.now) }
 {
-    feed_place(bytes.split_at(bytes.len().min(MOST_BYTES + 1)).0)
+    memchr(b'\n', bytes.split_at(bytes.len().min(MOST_BYTES + 1)).0)
 }
 
 /// Takes the line that begins what a reader holds, with its line feed, or nothing.
