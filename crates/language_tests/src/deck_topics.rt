@@ -19,7 +19,8 @@ pub fn answer(answer: &mut Answer, topic: &str, text: &str) -> Result<bool, Allo
             deck(answer, topic, text)?;
         }
         "records" => record(answer, text)?,
-        "record_edits" => record_edits(answer, text)?,
+        "record_edits" => record_edits(answer, text, b"          DATA   1")?,
+        "record_kinds" => record_edits(answer, text, b"          ABS")?,
         _ => return Ok(false),
     }
     Ok(true)
@@ -235,14 +236,14 @@ fn edited(
 }
 
 /// Edits of the record of a deck of comment cards: how many cards, and the edits, such as `R20`, the
-/// card at place 20 goes, and `I20`, a card more at place 20.
-fn record_edits(answer: &mut Answer, text: &str) -> Result<(), AllocError> {
+/// card at place 20 goes, and `I20`, this card comes in at place 20.
+fn record_edits(answer: &mut Answer, text: &str, card: &[u8]) -> Result<(), AllocError> {
     let (count, words) = cut(text);
     let mut done = Meter { sized: 0, coded: 0 };
     let cards = comment_cards(answer.alloc, count)?;
     if let Some(mut kept) = record_of(answer, cards, &mut done)? {
         let mut done = Meter { sized: 0, coded: 0 };
-        for edit in &edits_of(answer.alloc, words, b"          DATA   1")? {
+        for edit in &edits_of(answer.alloc, words, card)? {
             edited(answer, &mut kept, edit, &mut done)?;
         }
         meter(answer, &done);

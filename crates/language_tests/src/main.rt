@@ -42,7 +42,7 @@ use std::rt::Files;
 use tables::{Row, rows_of};
 
 /// The topics, lowest first.
-const TOPICS: [&str; 81] = [
+const TOPICS: [&str; 82] = [
     "displays",
     "octals",
     "lines",
@@ -119,6 +119,7 @@ const TOPICS: [&str; 81] = [
     "parts_of_decks",
     "records",
     "record_edits",
+    "record_kinds",
     "edited_decks",
     "listings",
     "ends_of_listings",
