@@ -1,7 +1,7 @@
 //! What an edit of a record costs beside a new record: a card replaced in the middle of a deck, and a
 //! hundred cards within a thousand.
 
-use cards::{Card, DeckName, Edit, edited_copy};
+use cards::{Card, DeckName, Edit, MOST_CARDS, edited_copy};
 use edit_core::Kept;
 use statement_coder::Meter;
 use std::alloc::{AllocError, AllocGlobal, Global};
@@ -50,11 +50,11 @@ fn replacements(alloc: Global, first: u64, count: u64) -> Result<Vec<Edit>, Allo
     Ok(edits)
 }
 
-/// A new record of these cards, at most 20,000.
+/// A new record of these cards, as many as a deck may have.
 fn record_of(alloc: Global, cards: &[Card], meter: &mut Meter) -> io::Result<Kept> {
     let cards = edited_copy(alloc, cards, &[])?;
     match DeckName::read(b"M") {
-        Ok(name) if cards.len() <= 20_000 => Ok(Kept::new(alloc, name, cards, meter)?),
+        Ok(name) if cards.len() <= MOST_CARDS => Ok(Kept::new(alloc, name, cards, meter)?),
         _ => Err(io::Error::other("no such deck")),
     }
 }

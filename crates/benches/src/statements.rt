@@ -1,9 +1,7 @@
 //! Cards as decks often have them, read as statements, sized one behind the other, and coded.
-ghost use Rattle.std.specs.Prelude.{◌≡◌};
-ghost use Rattle.definitions.specs.Characters.{same_text};
 
 use cards::{Card, StatementRoom};
-use definitions::{DeckKind, Letter};
+use definitions::{DeckKind, Letter, is_same_text};
 use expr_forms::{Form, Literal, Name};
 use statement_coder::{
     BlockBases, CodedItems, EarlySymbols, FinalSymbols, Item, Meter, Sizing, Statement, code, size,
@@ -30,13 +28,6 @@ const TIMES: u32 = 2500;
 /// Of the symbols, the one that reserves words is defined before.
 struct Known;
 
-/// Whether both texts are the same.
-fn is_same(text: &[u8], other: &[u8]) -> bool
-    ensures { result ≡ same_text text.now other.now }
-{
-    text == other
-}
-
 impl EarlySymbols for Known {
     ghost use Rattle.std.specs.Prelude.{Some, None, pos, codes, if◌then◌else◌};
     ghost use Rattle.definitions.specs.Characters.{same_text};
@@ -45,7 +36,7 @@ impl EarlySymbols for Known {
     ghost view = { λ _ name. if same_text name (codes "N") then Some (absolute (pos 3)) else None };
 
     fn symbol(&self, name: &[u8]) -> Option<Form> {
-        if is_same(name, b"N") {
+        if is_same_text(name, b"N") {
             Some(Form::absolute(3))
         } else {
             None
