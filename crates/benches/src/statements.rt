@@ -4,7 +4,8 @@ use cards::{Card, StatementRoom};
 use definitions::{DeckKind, Letter, is_same_text};
 use expr_forms::{Form, Literal, Name};
 use statement_coder::{
-    BlockBases, CodedItems, EarlySymbols, FinalSymbols, Item, Meter, Sizing, Statement, code, size,
+    BlockBases, CodedItems, EarlySymbols, FinalSymbols, Item, KeptSizing, Meter, Statement, code,
+    size,
 };
 use std::alloc::Global;
 use std::io;
@@ -108,7 +109,7 @@ fn end_of(
 /// How many fields are told of a sized statement.
 fn fields_of(
     statement: &Statement<'_>,
-    sizing: &Sizing,
+    sizing: &KeptSizing,
     list: &mut Vec<Item>,
     meter: &mut Meter,
 ) -> io::Result<u64> {
@@ -123,6 +124,7 @@ fn fields_of(
 
 /// How many fields are told of a card's statement behind the others.
 fn fields_behind(
+    alloc: Global,
     text: &[u8],
     room: &mut StatementRoom,
     state: &mut BlockState,
@@ -136,10 +138,12 @@ fn fields_behind(
     let statement = Statement::read(DeckKind::Rel, &cards, room);
     let sizing = size(&statement, state, &Known, meter);
     state.advance(&sizing.effect(&statement))?;
-    fields_of(&statement, &sizing, list, meter)
+    let kept = KeptSizing::new(alloc, statement.kind, true, sizing)?;
+    fields_of(&statement, &kept, list, meter)
 }
 
 fn code_each(
+    alloc: Global,
     room: &mut StatementRoom,
     state: &mut BlockState,
     list: &mut Vec<Item>,
@@ -147,7 +151,7 @@ fn code_each(
 ) -> io::Result<u64> {
     let mut sum: u64 = 0;
     for text in CARDS {
-        sum = sum.wrapping_add(fields_behind(text, room, state, list, meter)?);
+        sum = sum.wrapping_add(fields_behind(alloc, text, room, state, list, meter)?);
     }
     Ok(sum)
 }
@@ -202,7 +206,7 @@ pub fn code_all(alloc: Global) -> io::Result<u64> {
     let mut meter = Meter { sized: 0, coded: 0 };
     let mut sum: u64 = 0;
     for _ in 0..TIMES {
-        sum = sum.wrapping_add(code_each(&mut room, &mut state, &mut list, &mut meter)?);
+        sum = sum.wrapping_add(code_each(alloc, &mut room, &mut state, &mut list, &mut meter)?);
     }
     Ok(sum.wrapping_add(meter.coded))
 }

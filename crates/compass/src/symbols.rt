@@ -147,8 +147,8 @@ impl Mentions {
         sized: &SizedStatement,
         card: u32,
     ) -> Result<(), AllocError> {
-        let read = statement.read_operand(sized.sizing.number_base);
-        match (&sized.sizing.defines, &read.reading) {
+        let read = statement.read_operand(sized.sizing.number_base());
+        match (&sized.sizing.defines(), &read.reading) {
             (Defines::Symbol(_), _) => self.note(statement.location, false, card)?,
             (Defines::Externals, Reading::Names(names)) => self.note_names(names, false, card)?,
             _ => {}

@@ -85,7 +85,7 @@ impl DeckLines {
         ensures rises { meter.old.coded ≤ meter.new.coded }
         ensures sized { meter.new.sized ≡ meter.old.sized }
     {
-        let block = block_index(view.bases.rows(), &sized.sizing.block, self.block);
+        let block = block_index(view.bases.rows(), sized.sizing.block(), self.block);
         let line = statement_line(view, read, sized, block, &mut self.items, meter)?;
         self.lines.push(line)?;
         self.block = block;
@@ -109,7 +109,7 @@ impl DeckLines {
             AreLined whole earlier self.old → AreLined whole (given ∷ earlier) self.new) }
         ensures stood { OnOk result (self.new.stood ≡ min (self.old.stood + sized.now.cards) (2 ^ 64 - 1)) }
     {
-        let block = block_index(view.bases.rows(), &sized.sizing.block, self.block);
+        let block = block_index(view.bases.rows(), sized.sizing.block(), self.block);
         let line = copied_line(found.coded, block, found.items, &mut self.items)?;
         self.lines.push(Line {
             cards: sized.cards,

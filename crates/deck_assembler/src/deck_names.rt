@@ -17,7 +17,7 @@ use crate::entry_names::EntryNames;
 use crate::external_names::{ExternalNames, is_ext, operand};
 use definitions::DeckKind;
 use operations::Operation;
-use statement_coder::{Defines, Sizing, Statement};
+use statement_coder::{Defines, KeptSizing, Statement};
 use std::alloc::{AllocError, Global};
 
 /// The entries and the externals of the statements so far.
@@ -44,7 +44,7 @@ fn enter(
     entries: &mut EntryNames,
     view: &DeckView<'_>,
     statement: &Statement<'_>,
-    sizing: &Sizing,
+    sizing: &KeptSizing,
 ) -> Result<(), AllocError>
     ensures entries { OnOk result ((known others : List statements.Statement) (before : List Settled) (given : statements.Statement) →
         let whole = whole_of view.now known others in
@@ -54,7 +54,10 @@ fn enter(
     ensures seen { OnOk result (AreSeen entries.old.seen entries.old.entries.items → AreSeen entries.new.seen entries.new.entries.items) }
 {
     if enters(statement.kind, statement.operation) {
-        entries.enter_operand(view.deck.symbols(), &operand(statement, sizing.number_base))
+        entries.enter_operand(
+            view.deck.symbols(),
+            &operand(statement, sizing.number_base()),
+        )
     } else {
         Ok(())
     }
@@ -89,7 +92,7 @@ impl DeckNames {
         if is_ext(sized.operation) {
             return Ok(false);
         }
-        match sized.sizing.defines {
+        match sized.sizing.defines() {
             Defines::Nothing => Ok(true),
             Defines::Externals => Ok(false),
             Defines::Symbol(form) => match &sized.label {
@@ -107,7 +110,7 @@ impl DeckNames {
         &mut self,
         view: &DeckView<'_>,
         statement: &Statement<'_>,
-        sizing: &Sizing,
+        sizing: &KeptSizing,
     ) -> Result<(), AllocError>
         ensures { OnOk result ((known others earlier : List statements.Statement) (given : statements.Statement) →
             let whole = whole_of view.now known others in

@@ -72,7 +72,7 @@ impl Making {
         let cards = next_cards(view.cards, self.lines.stood, sized.cards);
         let statement = Statement::read(view.deck.kind(), cards, room);
         self.names.note(view, &statement, &sized.sizing)?;
-        let read = statement.read_operand(sized.sizing.number_base);
+        let read = statement.read_operand(sized.sizing.number_base());
         self.lines.put(view, &read, sized, found, meter)
     }
 

@@ -1,10 +1,9 @@
 //! Whether the symbols that a statement defines, or reads before its deck is known, have one value in
 //! two tables (ours).
-ghost use Rattle.std.specs.Prelude.{◌≡◌, ◌||◌, true, option_map};
+ghost use Rattle.std.specs.Prelude.{◌≡◌, ◌||◌, true};
 ghost use Rattle.std.specs.Bool.{Decides};
 ghost use Rattle.definitions.specs.Operands as operands;
 ghost use Rattle.definitions.specs.States.{Agree, defines_location, lawful_names, own_symbols, operand_symbols, symbols_in};
-ghost use Rattle.expr_forms.specs.FormsAs.{relocation_as, part_as};
 ghost use Rattle.operations.specs.OperationsAs.{operation_as};
 ghost use Rattle.statement_coder.specs.Readings.{IsReading};
 ghost use Rattle.deck_assembler.specs.FirstSymbols.{symbol_in};
@@ -13,46 +12,9 @@ ghost use Rattle.deck_assembler.specs.SharedNames.{is_ext};
 
 use crate::external_names::is_ext;
 use crate::symbol_table::SymbolTable;
-use expr_forms::{Expr, Form, LinkedNames, Part, Relocation, is_symbol};
+use expr_forms::{Expr, Form, LinkedNames, is_symbol};
 use operations::Operation;
-use statement_coder::{Defines, Reading};
-
-fn is_same_relocation(relocation: Relocation, other: Relocation) -> bool
-    ensures { Decides result (relocation_as relocation ≡ relocation_as other) }
-{
-    relocation.is_same(&other)
-}
-
-fn is_same_signed(part: Part, other: Part) -> bool
-    ensures { Decides result (part_as part ≡ part_as other) }
-{
-    match (part, other) {
-        (Part::Added(relocation), Part::Added(other)) => is_same_relocation(relocation, other),
-        (Part::Added(_), Part::Subtracted(_)) => false,
-        (Part::Subtracted(_), Part::Added(_)) => false,
-        (Part::Subtracted(relocation), Part::Subtracted(other)) => {
-            is_same_relocation(relocation, other)
-        }
-    }
-}
-
-/// Whether both parts are the same, or both are absent.
-fn is_same_part(part: Option<Part>, other: Option<Part>) -> bool
-    ensures { Decides result (option_map part_as part ≡ option_map part_as other) }
-{
-    match (part, other) {
-        (None, None) => true,
-        (None, Some(_)) => false,
-        (Some(_), None) => false,
-        (Some(part), Some(other)) => is_same_signed(part, other),
-    }
-}
-
-pub(crate) fn is_same_form(form: Form, other: Form) -> bool
-    ensures { Decides result (form ≡ other) }
-{
-    form.number() == other.number() && is_same_part(form.part(), other.part())
-}
+use statement_coder::{Defines, Reading, is_same_form};
 
 /// Whether both values are the same, or both are absent.
 fn is_same_value(value: Option<Form>, other: Option<Form>) -> bool

@@ -36,12 +36,12 @@ impl<'a> Trial<'a> {
     {
         let cards = next_cards(self.ahead, 0, sized.cards);
         let statement = Statement::read(self.kind, cards, room);
-        let read = statement.read_operand(sized.sizing.number_base);
+        let read = statement.read_operand(sized.sizing.number_base());
         let operation = statement.operation;
         if !is_own_alike(self.first, self.second, operation, statement.location) {
             return false;
         }
-        let defines = sized.sizing.defines;
+        let defines = sized.sizing.defines();
         is_operand_alike(self.first, self.second, &read.reading, operation, defines)
     }
 
@@ -59,7 +59,7 @@ impl<'a> Trial<'a> {
         if !is_own_alike(self.first, self.second, sized.operation, label.as_slice()) {
             return false;
         }
-        let defines = sized.sizing.defines;
+        let defines = sized.sizing.defines();
         is_operand_alike(self.first, self.second, &reading, sized.operation, defines)
     }
 

@@ -19,7 +19,7 @@ use crate::SymbolTable;
 use definitions::{DeckKind, NumberBase};
 use expr_forms::{Form, LinkedNames, Name, Part, Relocation};
 use operations::Operation;
-use statement_coder::{Defines, Reading, Sizing, Statement, read_operand};
+use statement_coder::{Defines, KeptSizing, Reading, Statement, read_operand};
 use std::alloc::{AllocError, Global};
 
 /// The externals so far, and the symbols that are defined so far.
@@ -134,7 +134,7 @@ impl ExternalNames {
     pub(crate) fn follow(
         &mut self,
         statement: &Statement<'_>,
-        sizing: &Sizing,
+        sizing: &KeptSizing,
     ) -> Result<(), AllocError>
         ensures { OnOk result ((kind : kinds.DeckKind) (earlier : List Settled) (given : statements.Statement) →
             IsRead kind given.cards statement.now → sizing.now.number_base ≡ number_base_of earlier → IsSizing (λ name. defined name earlier) (settle kind earlier given) sizing.now →
@@ -144,13 +144,13 @@ impl ExternalNames {
             if is_absolute_deck(statement.kind) {
                 return Ok(());
             }
-            return self.add_operand(&operand(statement, sizing.number_base), true);
+            return self.add_operand(&operand(statement, sizing.number_base()), true);
         }
-        match sizing.defines {
+        match sizing.defines() {
             Defines::Nothing => Ok(()),
             Defines::Symbol(form) => self.seen.define(statement.location, form),
             Defines::Externals => {
-                self.add_operand(&operand(statement, sizing.number_base), false)
+                self.add_operand(&operand(statement, sizing.number_base()), false)
             }
         }
     }

@@ -13,7 +13,7 @@ ghost use Rattle.deck_assembler.specs.Rebindings.{AreBindings};
 use crate::deck_view::DeckView;
 use crate::rebinding::{Bindings, Rebinding};
 use crate::{CodedLine, Line};
-use statement_coder::{Item, ReadOperand, Sizing};
+use statement_coder::{Item, KeptSizing, ReadOperand};
 
 /// The line of a statement in the object before an edit, and what names meant there.
 #[derive(Clone, Copy)]
@@ -133,7 +133,7 @@ impl FormerLine<'_> {
         &self,
         view: &DeckView<'_>,
         read: &ReadOperand<'_>,
-        sizing: &Sizing,
+        sizing: &KeptSizing,
     ) -> bool
         ensures { (old new : Context) (settled : Settled) → AreBindings self.now.bindings old →
             symbol_in view.now.deck.now.symbols ≡ (λ name. defined name new.settled) → view.now.deck.now.literals ≡ new.literals → view.now.bases.now ≡ new.rows →
@@ -142,8 +142,8 @@ impl FormerLine<'_> {
         let rebinding = Rebinding {
             old: self.bindings,
             new: view.bindings(),
-            location: sizing.location,
-            origin: sizing.origin,
+            location: sizing.location(),
+            origin: sizing.origin(),
         };
         rebinding.differs(read)
     }

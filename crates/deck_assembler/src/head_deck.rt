@@ -24,14 +24,23 @@ struct Head {
     cards: usize,
 }
 
-/// A statement with another value of its two counters: nothing of it is sized again.
-fn recounted(sized: SizedStatement, counter: Form) -> SizedStatement
-    ensures { IsRecounted counter sized result }
+/// A statement with another value of its two counters, as in a deck of this kind: nothing of it is sized
+/// again.
+fn recounted(
+    alloc: Global,
+    sized: SizedStatement,
+    kind: DeckKind,
+    counter: Form,
+) -> Result<SizedStatement, AllocError>
+    ensures { IfOk result (IsRecounted counter sized) }
 {
-    let mut made = sized;
-    made.sizing.location = counter;
-    made.sizing.origin = counter;
-    made
+    Ok(SizedStatement {
+        cards: sized.cards,
+        operation: sized.operation,
+        label: sized.label,
+        kept: sized.kept,
+        sizing: sized.sizing.recounted(alloc, kind, counter)?,
+    })
 }
 
 /// Whether a statement behind so many cards is neutral and ends within so many.
@@ -48,6 +57,7 @@ fn taken_head(
     alloc: Global,
     deck: &mut OldDeck<'_>,
     before: usize,
+    kind: DeckKind,
     counter: Form,
 ) -> Result<Head, AllocError>
     ensures head { IfOk result (λ head. AreHead counter before 0 (left deck.old) head.statements.items) }
@@ -63,7 +73,7 @@ fn taken_head(
                     break 'statements;
                 }
                 cards += sized.cards as usize;
-                head.push(recounted(sized, counter))?;
+                head.push(recounted(alloc, sized, kind, counter)?)?;
             }
         }
     }
@@ -87,7 +97,7 @@ pub(crate) fn head_deck<'a>(
     let state = BlockState::new(alloc)?;
     let counter = state.origin(kind, 0);
     let mut whole = OldDeck::of(alloc, old, pieces, kind, Stage::Over)?;
-    let head = taken_head(alloc, &mut whole, old.before, counter)?;
+    let head = taken_head(alloc, &mut whole, old.before, kind, counter)?;
     let ahead = old.cards.split_at(head.cards.min(old.cards.len())).0;
     Ok(OldDeck {
         kind,

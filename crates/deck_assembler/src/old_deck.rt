@@ -127,8 +127,8 @@ impl<'a> OldDeck<'a> {
         ensures stage { self.new.stage ≡ self.old.stage }
     {
         let statement = Statement::read(self.kind, next_cards(self.ahead, 0, sized.cards), room);
-        let read = statement.read_operand(sized.sizing.number_base);
-        let defines = sized.sizing.defines;
+        let read = statement.read_operand(sized.sizing.number_base());
+        let defines = sized.sizing.defines();
         define(
             &mut self.symbols,
             statement.location,

@@ -3,7 +3,7 @@ ghost use Rattle.std.specs.Prelude.{◌≡◌, IfSome};
 
 use expr_forms::Name;
 use operations::Operation;
-use statement_coder::{KeptReading, Sizing};
+use statement_coder::{KeptReading, KeptSizing};
 
 /// A statement up to END: how many cards it has, its operation with what is kept of its location field
 /// and its operand, and what it is behind those before it.
@@ -13,7 +13,7 @@ pub struct SizedStatement {
     pub operation: Operation,
     pub label: Option<Name>,
     pub kept: KeptReading,
-    pub sizing: Sizing,
+    pub sizing: KeptSizing,
 }
 
 /// The text of a location field, where it is as short as each that defines a symbol.

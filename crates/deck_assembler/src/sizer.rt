@@ -23,7 +23,7 @@ use crate::pieces::{Piece, add_statement};
 use crate::sized_statement::{SizedStatement, label_of};
 use crate::symbol_table::SymbolTable;
 use statement_coder::{
-    Defines, KeptReading, Meter, Reading, Statement, read_operand, size_reading,
+    Defines, KeptReading, KeptSizing, Meter, Reading, Statement, read_operand, size_reading,
 };
 use std::alloc::{AllocError, Global};
 use use_blocks::{BlockState, Effect, Lengths, Literals};
@@ -79,12 +79,14 @@ impl Sizer {
         let sizing = size_reading(statement, &reading, &self.state, &self.symbols, meter);
         let effect = sizing.effect(statement);
         self.note(&reading, statement.location, sizing.defines, &effect)?;
+        let is_counted = self.state.block().counting().is_some();
+        let kept_sizing = KeptSizing::new(alloc, statement.kind, is_counted, sizing)?;
         let sized = SizedStatement {
             cards: count,
             operation: statement.operation,
             label: label_of(statement.location),
             kept: reading.kept(),
-            sizing,
+            sizing: kept_sizing,
         };
         self.put(alloc, sized, &effect)?;
         Ok(())
@@ -146,11 +148,11 @@ impl Sizer {
         ensures state { self.new.state ≡ self.old.state }
         ensures pieces { self.new.pieces ≡ self.old.pieces }
     {
-        let defines = sized.sizing.defines;
+        let defines = sized.sizing.defines();
         if let Some(reading) = bare_reading(&sized.kept) {
             return self.note(&reading, statement.location, defines, effect);
         }
-        let read = statement.read_operand(sized.sizing.number_base);
+        let read = statement.read_operand(sized.sizing.number_base());
         self.note(&read.reading, statement.location, defines, effect)
     }
 

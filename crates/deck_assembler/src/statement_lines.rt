@@ -14,7 +14,7 @@ ghost use Rattle.deck_assembler.specs.KeptFields.{IsTold};
 use crate::CodedLine;
 use crate::line_fields::line_fields;
 use operations::Operation;
-use statement_coder::{CodedItems, Item, Sizing};
+use statement_coder::{CodedItems, Item, KeptSizing};
 use std::alloc::AllocError;
 
 /// The line of a statement of which this was told, in a block that has this index among the blocks
@@ -23,7 +23,7 @@ use std::alloc::AllocError;
 pub fn coded_line(
     operation: Operation,
     block: u32,
-    sizing: &Sizing,
+    sizing: &KeptSizing,
     told: CodedItems,
     items: &mut Vec<Item>,
 ) -> Result<CodedLine, AllocError>
@@ -39,9 +39,9 @@ pub fn coded_line(
     Ok(CodedLine {
         operation,
         block,
-        place: sizing.place,
-        end: sizing.end,
-        begins_run: sizing.begins_run,
+        place: sizing.place(),
+        end: sizing.end(),
+        begins_run: sizing.begins_run(),
         fields,
     })
 }

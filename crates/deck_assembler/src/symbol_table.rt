@@ -5,10 +5,9 @@ ghost use Rattle.std.specs.Map.{lookup};
 ghost use Rattle.definitions.specs.Settled.{or_form};
 ghost use Rattle.deck_assembler.specs.FirstSymbols.{symbol_in, with_symbol};
 
-use crate::early_symbols::is_same_form;
 use crate::symbol_key::SymbolKey;
 use expr_forms::Form;
-use statement_coder::EarlySymbols;
+use statement_coder::{EarlySymbols, is_same_form};
 use std::alloc::{AllocError, Global};
 use std::collections::BTreeMap;
 use std::marker::Model;

@@ -76,9 +76,9 @@ fn piece(answer: &mut Answer, piece: &Piece) {
     }
     for statement in piece.statements() {
         answer.decimal(u64::from(statement.cards));
-        if statement.sizing.is_placed {
+        if statement.sizing.is_placed() {
             answer.word("to");
-            answer.decimal(u64::from(statement.sizing.end));
+            answer.decimal(u64::from(statement.sizing.end()));
         }
     }
 }

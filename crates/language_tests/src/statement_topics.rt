@@ -12,7 +12,9 @@ use crate::outputs::Answer;
 use cards::{Card, StatementRoom};
 use definitions::DeckKind;
 use expr_forms::{Form, Name};
-use statement_coder::{Coded, CodedItems, Defines, Meter, Sizing, Statement, code, size};
+use statement_coder::{
+    Coded, CodedItems, Defines, KeptSizing, Meter, Sizing, Statement, code, size,
+};
 use std::alloc::{AllocError, Global};
 use use_blocks::{
     Bases, BlockState, Counting, Effect, Lengths, Literals, LocationSetting, location, origin,
@@ -88,7 +90,8 @@ fn one_statement(
     let mut done = Meter { sized: 0, coded: 0 };
     let sizing = size(&statement, &state, symbols, &mut done);
     if is_coded {
-        coded(answer, &statement, &sizing, symbols, &mut done)?;
+        let kept = KeptSizing::new(answer.alloc, statement.kind, true, sizing)?;
+        coded(answer, &statement, &kept, symbols, &mut done)?;
     } else {
         sizing_shown(answer, &sizing);
     }
@@ -109,7 +112,7 @@ fn sizing_shown(answer: &mut Answer, sizing: &Sizing) {
 fn coded(
     answer: &mut Answer,
     statement: &Statement<'_>,
-    sizing: &Sizing,
+    sizing: &KeptSizing,
     symbols: &KnownNames,
     done: &mut Meter,
 ) -> Result<(), AllocError> {

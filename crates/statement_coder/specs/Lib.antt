@@ -7,6 +7,7 @@ pub mod StatementsRead
 pub mod Outcomes
 pub mod Definitions
 pub mod Sizings
+pub mod KeptSizings
 pub mod WordItems
 pub mod CodedItems
 pub mod FieldLetters

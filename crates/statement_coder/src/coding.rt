@@ -23,23 +23,23 @@ ghost use Rattle.statement_coder.specs.declared.sizing.Sizing as sizings;
 use crate::coded::{Coded, CodedItems};
 use crate::entry_letters::entry_letters;
 use crate::final_names::{FinalNames, FinalSymbols};
+use crate::kept_sizing::KeptSizing;
 use crate::meter::Meter;
 use crate::operand_fields::{fields_told, take_back, told_letters};
 use crate::read_operands::ReadOperand;
-use crate::sizing::Sizing;
 use crate::statement::Statement;
 use crate::{BlockBases, Item};
 use operations::Operation;
 use std::alloc::AllocError;
 
 /// The fields of a statement that stores those of its operand: none where it ends at its place.
-fn within(sizing: &Sizing, items: CodedItems, list: &mut Vec<Item>) -> CodedItems
+fn within(sizing: &KeptSizing, items: CodedItems, list: &mut Vec<Item>) -> CodedItems
     ensures some { is_zeros items ≡ false → is_zeros result ≡ false }
     ensures told { (kind : kinds.DeckKind) (operand : operands.Operand) (before : List fields.Item) (told : List definitions.Item) →
         AreTold kind operand sizing.now items before list.old.items told →
         AreTold kind operand sizing.now result before list.new.items (if nat_le sizing.now.end sizing.now.place then [] else told) }
 {
-    if sizing.end <= sizing.place {
+    if sizing.end() <= sizing.place() {
         take_back(items, list);
         CodedItems::Absent
     } else {
@@ -61,7 +61,7 @@ fn zeros(items: CodedItems, list: &mut Vec<Item>) -> CodedItems
 /// that ends at its place has none.
 fn placed(
     operation: Operation,
-    sizing: &Sizing,
+    sizing: &KeptSizing,
     items: CodedItems,
     list: &mut Vec<Item>,
 ) -> CodedItems
@@ -96,7 +96,7 @@ fn placed(
 /// An operand that was read, coded.
 fn coded<S: FinalSymbols, B: BlockBases>(
     read: &ReadOperand<'_>,
-    sizing: &Sizing,
+    sizing: &KeptSizing,
     symbols: &S,
     bases: &B,
     list: &mut Vec<Item>,
@@ -116,15 +116,11 @@ fn coded<S: FinalSymbols, B: BlockBases>(
 {
     let kind = read.kind;
     let operation = read.operation;
-    let names = FinalNames {
-        symbols,
-        location: sizing.location,
-        origin: sizing.origin,
-    };
+    let names = FinalNames { symbols, sizing };
     let told = fields_told(kind, bases, &names, &read.reading, list)?;
     let entries = entry_letters(kind, operation, symbols, &read.reading);
     let fields = told_letters(&told, list);
-    let letters = sizing.letters.union(&entries.union(&fields));
+    let letters = sizing.letters().union(&entries.union(&fields));
     Ok(Coded {
         items: placed(operation, sizing, told, list),
         letters,
@@ -137,7 +133,7 @@ fn coded<S: FinalSymbols, B: BlockBases>(
 /// it runs out the list is as it was.
 pub fn code_read<S: FinalSymbols, B: BlockBases>(
     read: &ReadOperand<'_>,
-    sizing: &Sizing,
+    sizing: &KeptSizing,
     symbols: &S,
     bases: &B,
     list: &mut Vec<Item>,
@@ -167,7 +163,7 @@ pub fn code_read<S: FinalSymbols, B: BlockBases>(
 /// again.
 pub fn code<S: FinalSymbols, B: BlockBases>(
     statement: &Statement<'_>,
-    sizing: &Sizing,
+    sizing: &KeptSizing,
     symbols: &S,
     bases: &B,
     list: &mut Vec<Item>,
@@ -189,6 +185,6 @@ pub fn code<S: FinalSymbols, B: BlockBases>(
     ensures rises { meter.old.coded ≤ meter.new.coded }
     ensures sized { meter.new.sized ≡ meter.old.sized }
 {
-    let read = statement.read_operand(sizing.number_base);
+    let read = statement.read_operand(sizing.number_base());
     code_read(&read, sizing, symbols, bases, list, meter)
 }

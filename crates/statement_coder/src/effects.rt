@@ -1,6 +1,6 @@
 //! What a sized statement does to the state between statements, and how many words of its block it
 //! reaches (COMPASS 60492600, USE, BASE, LOC, ORG, blocks).
-ghost use Rattle.std.specs.Prelude.{◌≡◌, ◌≤◌, ◌+◌, ◌-◌, ◌/◌, Some, None, if◌then◌else◌};
+ghost use Rattle.std.specs.Prelude.{◌≡◌, ◌≤◌, ◌+◌, ◌-◌, ◌/◌, Some, None, false, if◌then◌else◌};
 ghost use Rattle.definitions.specs.Kinds.{units};
 ghost use Rattle.definitions.specs.Lengths.{reached};
 ghost use Rattle.definitions.specs.Settled.{Settled, read_of};
@@ -10,14 +10,16 @@ ghost use Rattle.definitions.specs.Statements as statements;
 ghost use Rattle.definitions.specs.declared.deck_kind.DeckKind as kinds;
 ghost use Rattle.definitions.specs.declared.number_base.NumberBase as bases;
 ghost use Rattle.use_blocks.specs.EffectsAs.{effect_as};
+ghost use Rattle.statement_coder.specs.KeptSizings.{usual_as};
 ghost use Rattle.statement_coder.specs.Sizings.{IsSizing};
 ghost use Rattle.statement_coder.specs.StatementsRead.{IsRead};
 
 use crate::sizing::Sizing;
 use crate::statement::Statement;
+use crate::usual_sizing::UsualSizing;
 use definitions::DeckKind;
 use operations::number_base_set;
-use use_blocks::{Effect, Position};
+use use_blocks::{BlockChange, Effect, LocationSetting, Position};
 
 /// How many words reach to the end of a statement.
 fn words_to(kind: DeckKind, end: u32) -> u32
@@ -27,27 +29,39 @@ fn words_to(kind: DeckKind, end: u32) -> u32
     (end + kind.units() - 1) / kind.units()
 }
 
-impl Sizing {
-    /// The new position of its block, where the statement has a place.
-    fn position(&self) -> Option<Position>
-        ensures { (view : View) (settled : Settled) → IsSizing view settled self.now →
-            result ≡ (if settled.is_placed then Some (record { end = settled.end; asks = settled.asks }) else None) }
-    {
-        if self.is_placed {
-            Some(Position::new(self.end, self.asks))
-        } else {
-            None
-        }
+/// The new position of a block, where the statement has a place.
+fn position_behind(is_placed: bool, end: u32, asks: bool) -> Option<Position>
+    requires { end ≤ 524288 }
+    ensures { result ≡ (if is_placed then Some (record { end = end; asks = asks }) else None) }
+{
+    if is_placed {
+        Some(Position::new(end, asks))
+    } else {
+        None
     }
+}
 
+/// How many words of its block a statement that begins no run reaches from its place to its end.
+fn reached_from(kind: DeckKind, is_placed: bool, place: u32, end: u32) -> u32
+    requires { end ≤ 524288 }
+    ensures { (settled : Settled) → settled.is_placed ≡ is_placed → settled.place ≡ place → settled.end ≡ end → settled.begins_run ≡ false → result ≡ reached kind settled }
+{
+    if is_placed && place < end {
+        words_to(kind, end)
+    } else {
+        0
+    }
+}
+
+impl Sizing {
     /// How many words of its block the statement reaches; an ORG reaches none.
     fn reached(&self, kind: DeckKind) -> u32
         ensures { (view : View) (settled : Settled) → IsSizing view settled self.now → result ≡ reached kind settled }
     {
-        if self.is_placed && self.place < self.end && !self.begins_run {
-            words_to(kind, self.end)
-        } else {
+        if self.begins_run {
             0
+        } else {
+            reached_from(kind, self.is_placed, self.place, self.end)
         }
     }
 
@@ -62,11 +76,30 @@ impl Sizing {
     {
         Effect {
             change: self.change,
-            position: self.position(),
+            position: position_behind(self.is_placed, self.end, self.asks),
             setting: self.setting,
             number_base: number_base_set(statement.name, statement.variable),
             neutral: statement.operation.is_neutral(),
             reached: self.reached(statement.kind),
+        }
+    }
+}
+
+impl UsualSizing {
+    /// The same of a usual sizing.
+    pub(crate) fn effect(&self, statement: &Statement<'_>) -> Effect
+        ensures effect { (kind : kinds.DeckKind) (given : statements.Statement) (base : bases.NumberBase) (view : View) (settled : Settled) →
+            IsRead kind given.cards statement.now → settled.read ≡ read_of kind base given → IsSizing view settled (usual_as self.now) →
+            effect_as result ≡ effect_of kind settled }
+        ensures change { result.change ≡ (usual_as self.now).change }
+    {
+        Effect {
+            change: BlockChange::Nothing,
+            position: position_behind(self.is_placed, self.end, self.asks),
+            setting: LocationSetting::Unchanged,
+            number_base: number_base_set(statement.name, statement.variable),
+            neutral: statement.operation.is_neutral(),
+            reached: reached_from(statement.kind, self.is_placed, self.place, self.end),
         }
     }
 }

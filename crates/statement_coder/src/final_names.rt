@@ -7,6 +7,7 @@ ghost use Rattle.definitions.specs.Settling.{View};
 ghost use Rattle.definitions.specs.declared.letter.Letter as marks;
 ghost use Rattle.expr_forms.specs.Elements.{literal_as};
 
+use crate::kept_sizing::KeptSizing;
 use definitions::Letter;
 use expr_forms::{Form, Literal, Names};
 
@@ -29,12 +30,11 @@ pub trait FinalSymbols {
 #[derive(Drop)]
 pub(crate) struct FinalNames<'a, S: FinalSymbols> {
     pub(crate) symbols: &'a S,
-    pub(crate) location: Form,
-    pub(crate) origin: Form,
+    pub(crate) sizing: &'a KeptSizing,
 }
 
 impl<'a, S: FinalSymbols> Names for FinalNames<'a, S> {
-    ghost names = { λ n. record { symbol = S.symbols n.symbols.now; literal = S.literals n.symbols.now; location = n.location; origin = n.origin } };
+    ghost names = { λ n. record { symbol = S.symbols n.symbols.now; literal = S.literals n.symbols.now; location = n.sizing.now.location; origin = n.sizing.now.origin } };
 
     fn symbol(&self, name: &[u8]) -> Option<Form> {
         self.symbols.symbol(name)
@@ -45,10 +45,10 @@ impl<'a, S: FinalSymbols> Names for FinalNames<'a, S> {
     }
 
     fn location(&self) -> Form {
-        self.location
+        self.sizing.location()
     }
 
     fn origin(&self) -> Form {
-        self.origin
+        self.sizing.origin()
     }
 }

@@ -4,12 +4,12 @@
 //! `size` takes a statement, the `BlockState` before it and the symbols that earlier statements
 //! define (`EarlySymbols`), and promises what the definitions settle of any such state, so an edit
 //! may begin anywhere; `size_reading` is the same for whoever has read the operand.
-//! `Sizing::effect` is what the statement does to the state. `code_read` takes what was read with
-//! the sizing, the values of all symbols and literals (`FinalSymbols`) and the bases, and gives
-//! fields and letters; `code` has the statement alone. `kept_operand` has the operand of the
+//! `Sizing::effect` is what the statement does to the state. A `KeptSizing` is a sizing in few bytes.
+//! `code_read` takes what was read with that, the values of all symbols and literals
+//! (`FinalSymbols`) and the bases, and gives fields and letters; `code` has the statement alone. `kept_operand` has the operand of the
 //! `KeptReading` that was made while the statement was sized, and what was not kept is read again.
 //! No other calls size or code, and each of the four adds one to the `Meter`. Only coding takes
-//! memory, and only for data.
+//! memory, and only for data, and what is kept of an unusual sizing.
 //!
 //! An `Item` has a width, at most one letter, and bits that are known or a form for the link: in
 //! ABS and PERIPH decks a form becomes a number here, in a REL deck one with a block or external
@@ -40,9 +40,12 @@ mod size_letters;
 
 // All of it, and what it does to the state.
 mod effects;
+mod kept_sizing;
 mod meter;
+mod same_forms;
 mod sized;
 mod sizing;
+mod usual_sizing;
 
 // What a value, a counted item or a number is in so many bits of a deck of some kind.
 mod instruction_fields;
@@ -70,12 +73,14 @@ pub use final_names::FinalSymbols;
 pub use instruction_fields::{InstructionItems, instruction_items};
 pub use items::{Content, Item, number_item, zeros_to_word};
 pub use kept_readings::KeptReading;
+pub use kept_sizing::KeptSizing;
 pub use laws::lists_keep_bits;
 pub use meter::Meter;
 pub use numbers::{BlockBases, number_coded, number_in};
 pub use operand_sources::kept_operand;
 pub use read_operands::ReadOperand;
 pub use readings::{Reading, read_operand};
+pub use same_forms::is_same_form;
 pub use six_bits::{count_item, displacement_item, shift_item};
 pub use sized::{size, size_reading};
 pub use sizing::Sizing;

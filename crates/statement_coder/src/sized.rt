@@ -1,7 +1,8 @@
 //! What a statement is once the state before it is known.
-ghost use Rattle.std.specs.Prelude.{◌≡◌, ◌≤◌, ◌==◌, ◌+◌, ◌-◌, ◌^◌, length, min};
+ghost use Rattle.std.specs.Prelude.{◌≡◌, ◌≤◌, ◌==◌, ◌+◌, ◌-◌, ◌^◌, None, length, min};
 ghost use Rattle.definitions.specs.Statements as statements;
 ghost use Rattle.definitions.specs.Statements.{is_stray};
+ghost use Rattle.definitions.specs.Counters.{counters_at};
 ghost use Rattle.definitions.specs.Operands as operands;
 ghost use Rattle.definitions.specs.Pieces.{pieces_of, subfields_of};
 ghost use Rattle.definitions.specs.Places.{asks_upper, asks_after};
@@ -9,7 +10,7 @@ ghost use Rattle.definitions.specs.Settling.{is_run, settled_from};
 ghost use Rattle.definitions.specs.States.{seen_from};
 ghost use Rattle.definitions.specs.declared.deck_kind.DeckKind as kinds;
 ghost use Rattle.operations.specs.OperationsAs.{operation_as};
-ghost use Rattle.use_blocks.specs.Changes.{IsAccepted};
+ghost use Rattle.use_blocks.specs.Changes.{IsAccepted, block_now};
 ghost use Rattle.use_blocks.specs.EffectsAs.{change_as, setting_as};
 ghost use Rattle.statement_coder.specs.Readings.{IsReading};
 ghost use Rattle.statement_coder.specs.StatementsRead.{IsRead};
@@ -97,6 +98,8 @@ fn settle<S: EarlySymbols>(
         IsSizing (S.view symbols.now) (settled_read statement.now.kind (seen_from state.now (S.view symbols.now)) (read_as statement.now given operand)) result }
     ensures accepted { IsAccepted (change_as result.change) state.now }
     ensures number_base { result.number_base ≡ state.now.number_base }
+    ensures origin { result.origin ≡ (counters_at statement.now.kind result.block result.place None).origin }
+    ensures uncounted { (block_now state.now).counting ≡ None → result.location ≡ result.origin }
 {
     let kind = statement.kind;
     let operation = statement.operation;
@@ -172,6 +175,8 @@ pub fn size_reading<S: EarlySymbols>(
         IsSizing (S.view symbols.now) (settled_read statement.now.kind (seen_from state.now (S.view symbols.now)) (read_as statement.now given operand)) result }
     ensures accepted { IsAccepted (change_as result.change) state.now }
     ensures number_base { result.number_base ≡ state.now.number_base }
+    ensures origin { result.origin ≡ (counters_at statement.now.kind result.block result.place None).origin }
+    ensures uncounted { (block_now state.now).counting ≡ None → result.location ≡ result.origin }
     ensures sized { meter.new.sized ≡ min (meter.old.sized + 1) (2 ^ 64 - 1) }
     ensures rises { meter.old.sized ≤ meter.new.sized }
     ensures coded { meter.new.coded ≡ meter.old.coded }
@@ -192,6 +197,8 @@ pub fn size<S: EarlySymbols>(
         IsSizing (S.view symbols.now) (settled_from kind (seen_from state.now (S.view symbols.now)) given) result }
     ensures accepted { IsAccepted (change_as result.change) state.now }
     ensures number_base { result.number_base ≡ state.now.number_base }
+    ensures origin { result.origin ≡ (counters_at statement.now.kind result.block result.place None).origin }
+    ensures uncounted { (block_now state.now).counting ≡ None → result.location ≡ result.origin }
     ensures sized { meter.new.sized ≡ min (meter.old.sized + 1) (2 ^ 64 - 1) }
     ensures rises { meter.old.sized ≤ meter.new.sized }
     ensures coded { meter.new.coded ≡ meter.old.coded }

@@ -10,16 +10,16 @@ use Rattle.deck_assembler.proofs.head_deck.taken_head.Goals.{in-None, in-Some+th
 pub statements-preserved : goal.statements-preserved
 statements-preserved c =
     let items = c.statements.head.items in
-    let made = c.recounted.result in
+    let made = c.in_ok-recounted-in-Some.field-0 in
     let pushed = c.in_ok-push-in-Some.ensures.items in
     let whole = ap cards_of pushed ∙ cards_of-append items (made ∷ []) in
-    let own = c.recounted.ensures.cards in
+    let own = c.in_ok-recounted-in-Some.ensures.cards in
     let so_far = c.statements.invariant.cards in
     record {
       head = λ rest h.
           subst (λ (l : List SizedStatement). AreHead c.args.counter c.args.before 0 (left c.args.deck.now) l) (sym (append_assoc items (made ∷ []) rest) ∙ ap (λ (l : List SizedStatement). l ++ rest) (sym pushed))
           (c.statements.invariant.head (made ∷ rest) (subst (λ (l : List SizedStatement). AreHead c.args.counter c.args.before c.statements.cards l (made ∷ rest)) (sym c.in-Some.ensures.next)
-          (c.is_of_head.ensures.yes c.if-not-is_of_head.false, (c.recounted.ensures, h))));
+          (c.is_of_head.ensures.yes c.if-not-is_of_head.false, (c.in_ok-recounted-in-Some.ensures, h))));
       cards = omega (arith, whole, own, so_far);
     }
 

@@ -7,5 +7,5 @@ returns-clause-line c =
     λ kind rows view settled before told operation block is.
     let items = c.line_fields.new.items.items in
     line-coded kind rows view settled c.args.sizing.now c.args.told before c.args.items.now.items items told
-    (record { operation = c.args.operation; block = c.args.block; place = c.args.sizing.now.place; end = c.args.sizing.now.end; begins_run = c.args.sizing.now.begins_run; fields = c.in_ok-fields.fields })
-    operation block refl refl refl is (c.in_ok-fields.ensures.kept kind settled.read.operand c.args.sizing.now before told is.are_told) c.in_ok-fields.ensures.zeros
+    (record { operation = c.args.operation; block = c.args.block; place = c.place.result; end = c.end.result; begins_run = c.begins_run.result; fields = c.in_ok-fields.fields })
+    operation block c.place.ensures c.end.ensures c.begins_run.ensures is (c.in_ok-fields.ensures.kept kind settled.read.operand c.args.sizing.now before told is.are_told) c.in_ok-fields.ensures.zeros

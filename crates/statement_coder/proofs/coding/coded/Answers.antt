@@ -35,5 +35,5 @@ returns-clause-letters g c =
     let entries : List Letter = entry_letters read.kind all settled.read.operation operand in
     let entries_are : c.entry_letters-entries.result ≡ in_order entries =
     c.entry_letters-entries.ensures all operand symbols taken.operand ∙ ap (λ operation. in_order (entry_letters read.kind all operation operand)) (sym taken.operation) in
-    c.union-letters.ensures settled.letters (entries ++ field_letters fields) is.letters
+    c.union-letters.ensures settled.letters (entries ++ field_letters fields) (c.letters.ensures ∙ is.letters)
     (c.union.ensures entries (field_letters fields) entries_are (c.told_letters-fields.ensures read.kind operand sizing before fields in_list))

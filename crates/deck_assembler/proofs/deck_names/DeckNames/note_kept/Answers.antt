@@ -16,7 +16,7 @@ returns-in-Nothing-clause-noted c =
     silent-noted whole earlier given c.args.self.now
     (ap₂ enters (sym same) sized.operation ∙ sym c.enters.ensures ∙ c.if-enters.false)
     (ap is_ext sized.operation ∙ sym c.is_ext.ensures ∙ c.if-is_ext.false)
-    (ap (defined_by (λ name. defined name before) settled.read.fields.location settled.read.operand) (sym c.in-Nothing.is) ∙ sized.sizing.definitions) noted
+    (ap (defined_by (λ name. defined name before) settled.read.fields.location settled.read.operand) (sym c.in-Nothing.is ∙ c.defines.ensures) ∙ sized.sizing.definitions) noted
 
 pub returns-in_ok-define-in-Some-clause-noted : goal.returns-in_ok-define-in-Some-clause-noted
 returns-in_ok-define-in-Some-clause-noted c =
@@ -28,5 +28,5 @@ returns-in_ok-define-in-Some-clause-noted c =
     symbol-noted whole earlier given c.args.self.now _ c.in-Symbol.form
     (ap₂ enters (sym same) sized.operation ∙ sym c.enters.ensures ∙ c.if-enters.false)
     (ap is_ext sized.operation ∙ sym c.is_ext.ensures ∙ c.if-is_ext.false)
-    (ap (defined_by (λ name. defined name before) location settled.read.operand) (sym c.in-Symbol.is) ∙ sized.sizing.definitions)
+    (ap (defined_by (λ name. defined name before) location settled.read.operand) (sym c.in-Symbol.is ∙ c.defines.ensures) ∙ sized.sizing.definitions)
     (c.in_ok-define-in-Some.ensures.defined ∙ ap (λ (name : List ℕ). with_symbol name c.in-Symbol.form (symbol_in c.args.self.now.externals.seen)) label) noted

@@ -4,6 +4,9 @@ use Rattle.definitions.specs.Settling.{settle, settled_all}
 use Rattle.definitions.specs.declared.deck_kind.DeckKind.{DeckKind}
 use Rattle.statement_coder.specs.StatementsRead.{IsRead}
 use Rattle.statement_coder.proofs.CodingLaws.{read_again}
+use Rattle.definitions.specs.Operands.{operand_of}
+use Rattle.operations.specs.OperationsAs.{operation_as}
+use Rattle.statement_coder.specs.Readings.{IsReading}
 use Rattle.deck_assembler.specs.Walks.{whole_of}
 use Rattle.deck_assembler.proofs.FormerLaws.{beside-step}
 use Rattle.deck_assembler.proofs.ResultLaws.{on_ok_both}
@@ -20,8 +23,10 @@ returns-clause-walked c =
     let read : IsRead whole.deck.kind given.cards c.read-statement.result =
     subst (λ (cards : List Card). IsRead whole.deck.kind cards c.read-statement.result) (c.next_cards-cards.ensures.cards next.few next.within ∙ next.cards)
     (subst (λ (kind : DeckKind). IsRead kind c.next_cards-cards.result.now c.read-statement.result) c.kind.ensures c.read-statement.ensures) in
+    let code = c.read-statement.result in
     let codes = settle-codable whole.deck.kind (settled_all whole.deck.kind earlier) given c.read-statement.result sized.sizing read next.number_base in
-    let again = read_again c.read-statement.result sized.sizing (settle whole.deck.kind (settled_all whole.deck.kind earlier) given) c.read_operand-read.result codes c.read_operand-read.ensures.operation c.read_operand-read.ensures.reading in
+    let again = read_again c.read-statement.result sized.sizing (settle whole.deck.kind (settled_all whole.deck.kind earlier) given) c.read_operand-read.result codes c.read_operand-read.ensures.operation
+    (subst (λ b. IsReading c.read_operand-read.result.reading (operand_of code.kind b (operation_as code.operation) code.name.now code.variable.now)) c.number_base.ensures c.read_operand-read.ensures.reading) in
     record {
       lined = lined known others earlier given is (c.read_operand-read.ensures.kind ∙ read.kind) again next has was so_far;
       noted = c.in_ok-note.ensures known others earlier given is read next.number_base next.sizing noted;
@@ -35,6 +40,8 @@ returns-clause-kept c = λ known others earlier given old one is next found boun
     let read : IsRead whole.deck.kind given.cards c.read-statement.result =
     subst (λ (cards : List Card). IsRead whole.deck.kind cards c.read-statement.result) (c.next_cards-cards.ensures.cards next.few next.within ∙ next.cards)
     (subst (λ (kind : DeckKind). IsRead kind c.next_cards-cards.result.now c.read-statement.result) c.kind.ensures c.read-statement.ensures) in
+    let code = c.read-statement.result in
     let codes = settle-codable whole.deck.kind (settled_all whole.deck.kind earlier) given c.read-statement.result sized.sizing read next.number_base in
-    let again = read_again c.read-statement.result sized.sizing (settle whole.deck.kind (settled_all whole.deck.kind earlier) given) c.read_operand-read.result codes c.read_operand-read.ensures.operation c.read_operand-read.ensures.reading in
+    let again = read_again c.read-statement.result sized.sizing (settle whole.deck.kind (settled_all whole.deck.kind earlier) given) c.read_operand-read.result codes c.read_operand-read.ensures.operation
+    (subst (λ b. IsReading c.read_operand-read.result.reading (operand_of code.kind b (operation_as code.operation) code.name.now code.variable.now)) c.number_base.ensures c.read_operand-read.ensures.reading) in
     c.put.ensures.kept known others earlier given old one is again next found bound rebound

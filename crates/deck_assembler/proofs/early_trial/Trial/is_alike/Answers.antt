@@ -5,6 +5,7 @@ use Rattle.definitions.specs.Settling.{settle, settled_all}
 use Rattle.operations.specs.OperationsAs.{operation_as}
 use Rattle.statement_coder.specs.Readings.{IsReading}
 use Rattle.statement_coder.specs.declared.readings.Reading.{Reading}
+use Rattle.deck_assembler.specs.Agreements.{AreExternalsAlike}
 use Rattle.deck_assembler.specs.FirstSymbols.{symbol_in}
 use Rattle.deck_assembler.proofs.AlikeLaws.{alike-parts, operand-of, own-of}
 use Rattle.deck_assembler.proofs.TrialLaws.{both-alike}
@@ -22,7 +23,7 @@ returns-clause-alike c = λ e earlier stood given is.
     subst (λ (r : Option Reading). MatchOption r ⊤ (λ reading. IsReading reading settled.read.operand)) (sym c.reading.ensures ∙ c.in-Some-reading.is) is.kept in
     both-alike v w settled.read sized.sizing.defines (operation_as sized.operation) c.as_slice.result.now (sym is.operation) (c.as_slice.ensures.name ∙ label)
     (c.is_own_alike.ensures.0 c.if-not-is_own_alike.false)
-    (c.is_operand_alike.ensures.early e settled.read.operand operand) (c.is_operand_alike.ensures.externals e settled.read.operand operand)
+    (c.is_operand_alike.ensures.early e settled.read.operand operand) (subst (AreExternalsAlike v w settled.read.operand) c.defines-defines.ensures (c.is_operand_alike.ensures.externals e settled.read.operand operand))
 
 pub returns-then-not-is_own_alike-clause-all : goal.returns-then-not-is_own_alike-clause-all
 returns-then-not-is_own_alike-clause-all c = λ later s.
@@ -46,4 +47,4 @@ returns-clause-all c = λ later s.
     let settled = settle trial.kind (settled_all trial.kind here.earlier) here.given in
     let operand : IsReading c.in-Some-reading.reading settled.read.operand =
     subst (λ (r : Option Reading). MatchOption r ⊤ (λ reading. IsReading reading settled.read.operand)) (sym c.reading.ensures ∙ c.in-Some-reading.is) here.is.kept in
-    c.is_operand_alike.ensures.all settled.read.operand operand (operand-of v w settled.read sized.sizing.defines (operation_as sized.operation) (sym here.is.operation) here.alike) here.alike.externals
+    c.is_operand_alike.ensures.all settled.read.operand operand (operand-of v w settled.read sized.sizing.defines (operation_as sized.operation) (sym here.is.operation) here.alike) (subst (AreExternalsAlike v w settled.read.operand) (sym c.defines-defines.ensures) here.alike.externals)

@@ -5,6 +5,7 @@ use Rattle.definitions.specs.Settling.{settle, settled_all}
 use Rattle.operations.specs.OperationsAs.{operation_as}
 use Rattle.statement_coder.specs.Readings.{IsReading}
 use Rattle.statement_coder.specs.StatementsRead.{IsRead}
+use Rattle.deck_assembler.specs.Agreements.{AreExternalsAlike}
 use Rattle.deck_assembler.specs.FirstSymbols.{symbol_in}
 use Rattle.deck_assembler.proofs.AlikeLaws.{alike-parts, operand-of, own-of}
 use Rattle.deck_assembler.proofs.SizerSteps.{settled-operand}
@@ -20,10 +21,10 @@ returns-clause-alike c = λ e earlier stood given is.
     let code = c.read-statement.result in
     let settled = settle kind (settled_all kind earlier) given in
     let read : IsRead kind given.cards code = subst (λ (cards : List Card). IsRead kind cards code) (c.next_cards-cards.ensures.cards is.few is.within ∙ is.cards) c.read-statement.ensures in
-    let operand : IsReading c.read_operand-read.result.reading settled.read.operand = settled-operand kind earlier given code sized.sizing.number_base c.read_operand-read.result.reading read is.number_base c.read_operand-read.ensures.reading in
+    let operand : IsReading c.read_operand-read.result.reading settled.read.operand = settled-operand kind earlier given code c.number_base.result c.read_operand-read.result.reading read (c.number_base.ensures ∙ is.number_base) c.read_operand-read.ensures.reading in
     both-alike v w settled.read sized.sizing.defines (operation_as code.operation) code.location.now read.operation read.location
     (c.is_own_alike.ensures.0 c.if-not-is_own_alike.false)
-    (c.is_operand_alike.ensures.early e settled.read.operand operand) (c.is_operand_alike.ensures.externals e settled.read.operand operand)
+    (c.is_operand_alike.ensures.early e settled.read.operand operand) (subst (AreExternalsAlike v w settled.read.operand) c.defines-defines.ensures (c.is_operand_alike.ensures.externals e settled.read.operand operand))
 
 pub returns-then-not-is_own_alike-clause-all : goal.returns-then-not-is_own_alike-clause-all
 returns-then-not-is_own_alike-clause-all c = λ later s.
@@ -51,5 +52,5 @@ returns-clause-all c = λ later s.
     let read : IsRead trial.kind here.given.cards code =
     subst (λ (cards : List Card). IsRead trial.kind cards code) (c.next_cards-cards.ensures.cards here.is.few here.is.within ∙ here.is.cards) c.read-statement.ensures in
     let operand : IsReading c.read_operand-read.result.reading settled.read.operand =
-    settled-operand trial.kind here.earlier here.given code sized.sizing.number_base c.read_operand-read.result.reading read here.is.number_base c.read_operand-read.ensures.reading in
-    c.is_operand_alike.ensures.all settled.read.operand operand (operand-of v w settled.read sized.sizing.defines (operation_as code.operation) read.operation here.alike) here.alike.externals
+    settled-operand trial.kind here.earlier here.given code c.number_base.result c.read_operand-read.result.reading read (c.number_base.ensures ∙ here.is.number_base) c.read_operand-read.ensures.reading in
+    c.is_operand_alike.ensures.all settled.read.operand operand (operand-of v w settled.read sized.sizing.defines (operation_as code.operation) read.operation here.alike) (subst (AreExternalsAlike v w settled.read.operand) (sym c.defines-defines.ensures) here.alike.externals)

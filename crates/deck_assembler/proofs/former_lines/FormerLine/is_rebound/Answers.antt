@@ -7,10 +7,10 @@ use Rattle.deck_assembler.proofs.former_lines.FormerLine.is_rebound.Goals as goa
 pub returns : goal.returns
 returns c =
     λ old new settled bound symbols literals rows taken location origin.
-    let rebinding : Rebinding = record { old = c.args.self.now.bindings; new = c.bindings.result; location = c.args.sizing.now.location; origin = c.args.sizing.now.origin } in
+    let rebinding : Rebinding = record { old = c.args.self.now.bindings; new = c.bindings.result; location = c.location.result; origin = c.origin.result } in
     c.differs.ensures ∙ test-rebound rebinding old new settled c.args.read.now (record {
       of_old = bound;
       of_new = record { symbols = ap symbol_in c.bindings.ensures.symbols ∙ symbols; literals = c.bindings.ensures.literals ∙ literals; rows = c.bindings.ensures.rows ∙ rows };
-      location = location;
-      origin = origin;
+      location = c.location.ensures ∙ location;
+      origin = c.origin.ensures ∙ origin;
     }) taken

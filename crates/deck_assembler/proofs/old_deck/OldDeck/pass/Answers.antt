@@ -34,10 +34,10 @@ returns-clause-front c = λ cards later has.
     let within = subst (λ (l : List Card). sized.cards ≤ length l) (sym has.ahead) next.is.within in
     let taken = c.next_cards.ensures.cards next.is.few within ∙ ap (take sized.cards) has.ahead ∙ next.is.cards in
     let read : IsRead old.kind next.statement.cards code = subst (λ (l : List Card). IsRead old.kind l code) taken c.read-statement.ensures in
-    let operand : IsReading c.read_operand-read.result.reading settled.read.operand = settled-operand old.kind has.front next.statement code sized.sizing.number_base c.read_operand-read.result.reading read next.is.number_base c.read_operand-read.ensures.reading in
+    let operand : IsReading c.read_operand-read.result.reading settled.read.operand = settled-operand old.kind has.front next.statement code c.number_base.result c.read_operand-read.result.reading read (c.number_base.ensures ∙ next.is.number_base) c.read_operand-read.ensures.reading in
     front-step cards sized later old (record { kind = old.kind; ahead = c.later_cards-self.result; statements = old.statements; pieces = old.pieces; before = old.before; behind = old.behind; stage = old.stage; state = c.advance.new.self; symbols = c.define.new.symbols; missed = old.missed }) has (effect_as c.effect.result) refl
     (c.later_cards-self.ensures within)
     (c.effect.ensures.effect old.kind next.statement (number_base_of all) _ settled read refl next.is.sizing)
     c.in_ok-advance.ensures.advanced
     (lawful-shape settled.read.operand c.read_operand-read.result.reading operand c.read_operand-read.ensures.lawful)
-    (c.in_ok-define.ensures settled.read.operand operand ∙ ap (λ location. with_defined location settled.read.operand sized.sizing.defines (symbol_in old.symbols)) read.location)
+    (c.in_ok-define.ensures settled.read.operand operand ∙ (λ i. with_defined (read.location i) settled.read.operand (c.defines-defines.ensures i) (symbol_in old.symbols)))

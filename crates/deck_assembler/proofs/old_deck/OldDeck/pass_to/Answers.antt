@@ -37,6 +37,26 @@ statements-preserved c =
       stage = c.pass.ensures.stage ∙ here.stage ∙ so_far.stage;
     }
 
+-- the same where what was passed had memory of its own
+pub statements-preserved-in_ok-pass-in-Some : goal.statements-preserved-in_ok-pass-in-Some
+statements-preserved-in_ok-pass-in-Some c =
+    let here = c.next.ensures.same in
+    let so_far = c.statements.invariant in
+    let some = so_far.some in
+    let after : (cards : List Card) → HasFront cards (left c.statements.self) c.statements.self → HasFront cards (left c.pass.new.self) c.pass.new.self = λ cards has. subst (λ (l : List SizedStatement). HasFront cards l c.pass.new.self) (sym c.pass.ensures.rest)
+    (c.in_ok-pass-in-Some.ensures.front cards (left c.next.new.self)
+    (front-same cards (left c.statements.self) (c.in-Some.sized ∷ left c.next.new.self) c.statements.self c.next.new.self c.in-Some.ensures.next here has)) in
+    record {
+      some = (some.0, after some.0 some.1);
+      front = λ cards has. after cards (so_far.front cards has);
+      piece = λ tail rest few piece.
+          let more = c.if-self-count.false in
+          piece-more c.statements.self c.next.new.self c.pass.new.self c.in-Some.sized tail rest c.in-Some.ensures.some here.ahead (ap (λ v. v.items) c.pass.ensures.begun) (ap (λ v. v.items) c.pass.ensures.pieces)
+          c.in_ok-pass-in-Some.ensures.ahead (omega (arith, few, more)) (so_far.piece tail rest few piece);
+      deck = same-again (same-again so_far.deck here.deck) c.pass.ensures.deck;
+      stage = c.pass.ensures.stage ∙ here.stage ∙ so_far.stage;
+    }
+
 pub returns-in-None-clause-piece : goal.returns-in-None-clause-piece
 returns-in-None-clause-piece c = λ tail rest few piece.
     let none = c.in-None.ensures.none refl in

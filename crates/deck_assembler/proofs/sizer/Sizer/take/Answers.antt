@@ -46,6 +46,8 @@ returns-clause-taken c = λ kind cards earlier given read next is.
         lengths = c.put.ensures.lengths ∙ noted.lengths;
         same_blocks = ap (λ lengths. block_names lengths) c.put.ensures.lengths ∙ noted.same_blocks;
       };
-      pieces = c.in_ok-put.ensures.pieces ∙ (λ i. with_statement (c.note.ensures.state i) sized (reverse (c.note.ensures.pieces i).items));
+      pieces = c.in_ok-put.ensures.pieces ∙ (λ i. with_statement (c.note.ensures.state i)
+          (record { cards = c.args.count; operation = code.operation; label = c.label_of.result; kept = c.kept.result; sizing = c.in_ok-kept_sizing.ensures.kept i })
+          (reverse (c.note.ensures.pieces i).items));
       state = c.in_ok-put.ensures.state ∙ ap (advanced effect) c.note.ensures.state;
     })

@@ -53,6 +53,12 @@ returns-in-None-clause-kept c = λ old earlier on goes.
     let front = c.in_ok-kept.ensures.front c.args.kind old earlier on goes in
     absurd (true≢false (sym front.some ∙ ap is_some c.in-None.is))
 
+pub returns-in-Some-clause-all : goal.returns-in-Some-clause-all
+returns-in-Some-clause-all c = on_ok_any c.keep_span.result (λ over.
+    let none = c.in_ok-kept.ensures.none over in
+    let some = c.in-Some.is in
+    absurd (cc))
+
 pub returns-in-Some-clause-due : goal.returns-in-Some-clause-due
 returns-in-Some-clause-due c = on_ok_any c.keep_span.result (λ old earlier limit on next will. (c.in_ok-kept.ensures.due c.args.kind old earlier limit on next will).will)
 

@@ -1,6 +1,6 @@
 use Rattle.expr_forms.specs.FormsAs.{relocation_as}
 use Rattle.use_blocks.proofs.SameLaws.{same_relocation-Decides}
-use Rattle.deck_assembler.proofs.early_symbols.is_same_relocation.Goals as goal
+use Rattle.statement_coder.proofs.same_forms.is_same_relocation.Goals as goal
 
 pub returns : goal.returns
 returns c = rw c.is_same.ensures (same_relocation-Decides (relocation_as c.args.relocation) (relocation_as c.args.other))
