@@ -123,7 +123,7 @@ placed : (count place : ℕ) → is_place count place ≡ true → (1 ≤ place)
 placed count place is = let both = and_parts (nat_le 1 place) (nat_le place count) is in (leb-true 1 place both.0, leb-true place count both.1)
 
 -- cards before the one that an edit is of and cards behind it are no more than all, before the edit and after it
-apart-one : (edit : Edit) (cards : List Card) (before behind : ℕ) → fault_of edit cards ≡ None → before ≤ front_of edit → behind ≤ count_behind edit (length cards) →
+pub apart-one : (edit : Edit) (cards : List Card) (before behind : ℕ) → fault_of edit cards ≡ None → before ≤ front_of edit → behind ≤ count_behind edit (length cards) →
     (before + behind ≤ length cards) × (before + behind ≤ length (edited cards edit))
 apart-one (Insert place card) cards before behind none few many =
     let within = placed (length cards + 1) place (first-absent _ _ _ none) in

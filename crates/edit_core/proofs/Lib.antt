@@ -6,3 +6,10 @@ pub mod EditLaws
 pub mod EndLaws
 -- And what is sized for them.
 pub mod DueLaws
+-- Where two edits leave a deck as it was, and where it agrees behind both.
+pub mod JoinLaws
+-- What both bind otherwise.
+pub mod ReboundJoins
+-- What is due for both, and for any number of edits.
+pub mod JoinedEdits
+pub mod SumLaws

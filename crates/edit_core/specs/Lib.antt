@@ -1,3 +1,4 @@
 pub mod Records
 pub mod Faults
 pub mod Edited
+pub mod Sums

@@ -10,6 +10,7 @@ ghost use Rattle.deck_assembler.specs.SizedDecks.{IsSizedDeck};
 ghost use Rattle.edit_core.specs.Edited.{edits_bound, statement_count, IsRecordOf, RisesBehindFront, RisesToDue, RisesToDueCode, RisesWithinDue, RisesWithinDueCode};
 ghost use Rattle.edit_core.specs.Faults.{against, against_all};
 ghost use Rattle.edit_core.specs.Records.{ArePieces};
+ghost use Rattle.edit_core.specs.Sums.{cards_between, RisesWithinSum, RisesWithinSumCode};
 
 use crate::assembling::{edited_object, object_of};
 use crate::faults::{RecordFault, record_fault};
@@ -144,6 +145,8 @@ impl Kept {
         ensures sized_front { RisesBehindFront edits.now self.old.cards meter.old.sized meter.new.sized }
         ensures sized_due { against_all edits.now self.old.is_spent self.old.cards ≡ None → RisesWithinDue edits.now self.old.cards meter.old.sized meter.new.sized }
         ensures coded_due { against_all edits.now self.old.is_spent self.old.cards ≡ None → RisesWithinDueCode edits.now self.old.cards meter.old.coded meter.new.coded }
+        ensures sized_sum { against_all edits.now self.old.is_spent self.old.cards ≡ None → RisesWithinSum (128 + cards_between edits.now (length self.old.cards)) edits.now self.old.cards meter.old.sized meter.new.sized }
+        ensures coded_sum { against_all edits.now self.old.is_spent self.old.cards ≡ None → RisesWithinSumCode (128 + cards_between edits.now (length self.old.cards)) edits.now self.old.cards meter.old.coded meter.new.coded }
         ensures sized_rises { meter.old.sized ≤ meter.new.sized }
         ensures coded { meter.new.coded ≤ meter.old.coded + edits_bound edits.now self.old.cards }
         ensures coded_rises { meter.old.coded ≤ meter.new.coded }

@@ -1,0 +1,82 @@
+-- What is due for edits, one after the other (ours).
+use Rattle.std.specs.Prelude.{ℕ, ⊤, ◌≡◌, ◌+◌, ◌-◌, ◌≤◌, List, [], ◌∷◌, length, min}
+use Rattle.definitions.specs.Cards.{Card}
+use Rattle.definitions.specs.DeckKinds.{kind_of_statements}
+use Rattle.definitions.specs.Edits.{Edited, IsUntouched, Split, DoAgree}
+use Rattle.definitions.specs.Rebound.{rebound_front, rebound_tail}
+use Rattle.definitions.specs.Statements.{Statement}
+use Rattle.cards.specs.Counts.{count_after}
+use Rattle.cards.specs.Edits.{edited}
+use Rattle.cards.specs.declared.edits.Edit.{Edit}
+use Rattle.edit_core.specs.Edited.{front_of, count_behind, AreDecksOf, StandUnchanged}
+
+-- where that ends what is due for an edit: with the deck, or where both decks agree
+pub data Ends (decks : Edited) : Type 0 where
+  AtEnd : Ends decks
+  Agreeing : (split : Split) → DoAgree decks split → Ends decks
+
+-- how many statements of the new deck stand in front of that
+abbrev pub in_front : (decks : Edited) → Ends decks → ℕ
+in_front decks AtEnd = length decks.new
+in_front decks (Agreeing split agree) = length split.new_front
+
+-- how many of those behind it are bound otherwise
+abbrev pub rebound_behind : (decks : Edited) → Ends decks → ℕ
+rebound_behind decks AtEnd = 0
+rebound_behind decks (Agreeing split agree) = rebound_tail decks split.new_front split.new_tail
+
+-- one way to tell what is due for an edit of these cards that leaves the kind of the deck: both decks, statements that stand untouched in front, and an end
+pub record DueFor (edit : Edit) (cards : List Card) : Type 0 where
+  pub decks : Edited
+  pub are : AreDecksOf (edit ∷ []) cards decks
+  pub kinds : kind_of_statements decks.old ≡ kind_of_statements decks.new
+  pub stand : StandUnchanged (edit ∷ []) cards decks
+  pub front : List Statement
+  pub untouched : IsUntouched decks front
+  pub ends : Ends decks
+
+-- one for each of edits in order, of the decks before that edit and behind it
+abbrev pub DueForEach : List Edit → List Card → Type 0
+DueForEach [] cards = ⊤
+DueForEach (edit ∷ edits) cards = DueFor edit cards × DueForEach edits (edited cards edit)
+
+-- how many statements stand in all of these fronts
+abbrev pub fronts_sum : (edits : List Edit) (cards : List Card) → DueForEach edits cards → ℕ
+fronts_sum [] cards each = 0
+fronts_sum (edit ∷ edits) cards each = length each.0.front + fronts_sum edits (edited cards edit) each.1
+
+-- how many in front of all of these ends
+abbrev pub ends_sum : (edits : List Edit) (cards : List Card) → DueForEach edits cards → ℕ
+ends_sum [] cards each = 0
+ends_sum (edit ∷ edits) cards each = in_front each.0.decks each.0.ends + ends_sum edits (edited cards edit) each.1
+
+-- how many in all of these fronts, and behind all of these ends, are bound otherwise
+abbrev pub rebound_sum : (edits : List Edit) (cards : List Card) → DueForEach edits cards → ℕ
+rebound_sum [] cards each = 0
+rebound_sum (edit ∷ edits) cards each =
+    (rebound_front each.0.decks each.0.front + rebound_behind each.0.decks each.0.ends) + rebound_sum edits (edited cards edit) each.1
+
+-- of so many cards, with so many before those that some edits are of and so many behind them: how many stand between those and the ones that others are of, which have so many before them and behind them
+abbrev pub apart : ℕ → ℕ → ℕ → ℕ → ℕ → ℕ
+apart count before behind other_before other_behind = (other_before - (count - behind)) + (before - (count - other_behind))
+
+-- how many stand between the card of each of these edits and those that the ones before it are of
+abbrev pub between_from : ℕ → ℕ → List Edit → ℕ → ℕ
+between_from before behind [] count = 0
+between_from before behind (edit ∷ edits) count =
+    apart count before behind (front_of edit) (count_behind edit count)
+    + between_from (min before (front_of edit)) (min behind (count_behind edit count)) edits (count_after edit count)
+
+-- how many cards stand between edits of so many
+abbrev pub cards_between : List Edit → ℕ → ℕ
+cards_between [] count = 0
+cards_between (edit ∷ edits) count = between_from (front_of edit) (count_behind edit count) edits (count_after edit count)
+
+-- a count rises by no more than is due for each edit, one after the other, however that is told, and so many more
+abbrev pub RisesWithinSum : ℕ → List Edit → List Card → ℕ → ℕ → Type 0
+RisesWithinSum more edits cards count now = (each : DueForEach edits cards) → fronts_sum edits cards each + now ≤ ends_sum edits cards each + more + count
+
+-- the same, where what is counted is coded
+abbrev pub RisesWithinSumCode : ℕ → List Edit → List Card → ℕ → ℕ → Type 0
+RisesWithinSumCode more edits cards count now =
+    (each : DueForEach edits cards) → fronts_sum edits cards each + now ≤ ends_sum edits cards each + rebound_sum edits cards each + more + count
