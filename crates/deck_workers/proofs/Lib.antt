@@ -2,3 +2,5 @@ pub mod Seen
 pub mod Turns
 pub mod Unchanged
 pub mod IdleDesk
+-- What edits count.
+pub mod Counts

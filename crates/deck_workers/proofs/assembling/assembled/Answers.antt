@@ -1,6 +1,8 @@
 -- What beginning counts, and what the edits count.
-use Rattle.std.proofs.Common.{Result, Ok, Err, OnOk, ap, arith}
-use Rattle.deck_workers.specs.Language.{edits_bound}
+use Rattle.std.proofs.Common.{◌≡◌, inr, None, Result, Ok, Err, OnOk, ap, arith, rules}
+use Rattle.deck_workers.specs.Language.{edits_bound, edits_fault}
+use Rattle.deck_workers.specs.Jobs.{start_cards, start_deck}
+use Rattle.deck_workers.proofs.Counts.{counts-edits}
 use Rattle.deck_workers.proofs.assembling.assembled.Goals as goal
 
 -- what holds in any case
@@ -27,3 +29,27 @@ returns-clause-all c =
       sized_all = λ room. let first = all.0 (omega (arith, room)) in omega (arith, first, sized_rises);
       coded_all = λ room. let first = all.1 (omega (arith, room)) in omega (arith, first, coded_rises);
     })
+
+pub returns-in_err-edit_all-clause-due : goal.returns-in_err-edit_all-clause-due
+returns-in_err-edit_all-clause-due c =
+    let none : edits_fault c.args.edits.now (start_cards c.args.start) ≡ None = first_of (search rules, cc) in
+    let kept = c.in_ok-kept.kept in
+    let counted = c.edit_all.ensures in
+    inr (
+      c.begun.new.meter,
+      c.begun.ensures.meter,
+      counts-edits c.args.edits.now kept.cards (start_cards c.args.start) (start_deck c.args.name c.args.start).cards kept.is_spent c.begun.new.meter c.edit_all.new.meter c.in_ok-kept.ensures.cards c.in_ok-kept.ensures.deck.1
+          c.in_ok-kept.ensures.unspent none counted.sized_due counted.coded_due counted.sized_sum counted.coded_sum,
+    )
+
+pub returns-clause-due : goal.returns-clause-due
+returns-clause-due c =
+    let none : edits_fault c.args.edits.now (start_cards c.args.start) ≡ None = first_of (search rules, cc) in
+    let kept = c.in_ok-kept.kept in
+    let counted = c.edit_all.ensures in
+    inr (
+      c.begun.new.meter,
+      c.begun.ensures.meter,
+      counts-edits c.args.edits.now kept.cards (start_cards c.args.start) (start_deck c.args.name c.args.start).cards kept.is_spent c.begun.new.meter c.edit_all.new.meter c.in_ok-kept.ensures.cards c.in_ok-kept.ensures.deck.1
+          c.in_ok-kept.ensures.unspent none counted.sized_due counted.coded_due counted.sized_sum counted.coded_sum,
+    )
