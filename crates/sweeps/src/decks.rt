@@ -2,6 +2,7 @@
 
 use asm_main::asm_run;
 use cards::{Card, DeckName};
+use deck_linker::{ListedPublication, Publication};
 use std::alloc::{AllocError, Global};
 use text_ports::Counted;
 
@@ -75,13 +76,26 @@ pub fn cards_of(alloc: Global, lines: &str) -> Result<Vec<Card>, AllocError> {
     Ok(cards)
 }
 
+/// Puts cards as lines behind others.
+pub fn push_lines(lines: &mut Vec<u8>, cards: &[Card]) -> Result<(), AllocError> {
+    for card in cards {
+        lines.extend_from_slice(card.as_slice())?;
+        lines.extend_from_slice(b"\n")?;
+    }
+    Ok(())
+}
+
 /// Whether both are the same cards.
 pub fn are_same(cards: &[Card], others: &[Card]) -> bool {
-    cards.len() == others.len()
-        && cards
-            .iter()
-            .zip(others.iter())
-            .all(|(card, other)| card.as_slice() == other.as_slice())
+    if cards.len() != others.len() {
+        return false;
+    }
+    for (card, other) in cards.iter().zip(others.iter()) {
+        if card.as_slice() != other.as_slice() {
+            return false;
+        }
+    }
+    true
 }
 
 /// What `asm_run` writes for decks.
@@ -93,10 +107,21 @@ pub fn asm_answer(alloc: Global, input: &[u8]) -> Result<Vec<u8>, AllocError> {
     }
 }
 
-/// Whether a text is these two, one behind the other.
-pub fn is_both(text: &[u8], first: &[u8], second: &[u8]) -> bool {
-    match text.strip_prefix(first) {
-        Some(rest) => rest == second,
+/// Whether a text is listing and image of a publication, one behind the other.
+pub fn is_answer(text: &[u8], publication: &Publication) -> bool {
+    match text.strip_prefix(publication.listing()) {
+        Some(rest) => rest == publication.image(),
         None => false,
     }
+}
+
+/// Listing and image of a publication, one behind the other.
+pub fn listed_text(alloc: Global, publication: &ListedPublication) -> Result<Vec<u8>, AllocError> {
+    let mut output = Counted::new(Vec::new(alloc));
+    if publication.write_listing(&mut output).is_err() {
+        return Err(AllocError);
+    }
+    let mut text = output.into_inner();
+    text.extend_from_slice(publication.image())?;
+    Ok(text)
 }

@@ -1,52 +1,34 @@
 //! Jobs of a desk: claimed, run, delivered and given up, and made again where they find no memory.
 
-use crate::desk_state::state_of;
-use crate::journal::{Called, Journal};
-use crate::steps::refusal_in;
+use crate::journal::Called;
+use crate::scene::{Scene, ask};
 use deck_workers::{Job, Made, Runs, job_in};
-use desk_core::{Call, Desk, Refusal, Reply};
+use desk_core::{Call, Refusal, Reply};
 use edit_core::RecordFault;
 use statement_coder::Meter;
-use std::alloc::{AllocError, Global};
-
-/// What a claim gives.
-#[derive(Drop)]
-pub enum Claimed {
-    Job(Job),
-    /// All of the present version is published.
-    Idle,
-    /// Something else than is wanted.
-    Other,
-}
-
-/// What a reply to a claim gives; nothing where it found no memory.
-fn claimed_in(reply: Reply) -> Option<Claimed> {
-    match reply {
-        Reply::Refused(Refusal::OutOfMemory) => None,
-        Reply::Idle(_) => Some(Claimed::Idle),
-        other => match job_in(other) {
-            Some(job) => Some(Claimed::Job(job)),
-            None => Some(Claimed::Other),
-        },
-    }
-}
 
 /// Claims what is due, once more where that finds no memory: then names, versions and cards are as
-/// before.
-pub fn claim(alloc: Global, journal: &mut Journal, desk: &mut Desk) -> Result<Claimed, AllocError> {
+/// before. There is no job where all of the present version is published.
+fn claim(scene: &mut Scene) -> Option<Job> {
+    let before = scene.state();
     for _ in 0..2 {
-        let before = state_of(alloc, desk)?;
-        let claimed = claimed_in(desk.step(Call::Claim));
-        let is_kept = state_of(alloc, desk)? == before;
-        match claimed {
-            Some(claimed) => {
-                journal.kept(Called::Claim, is_kept);
-                return Ok(claimed);
+        let reply = ask(&mut scene.desk, Call::Claim);
+        let is_kept = scene.state() == before;
+        match reply {
+            Reply::Refused(Refusal::OutOfMemory) => scene.journal.refused(Called::Claim, is_kept),
+            Reply::Idle(_) => {
+                scene.journal.kept(Called::Claim, is_kept);
+                return None;
             }
-            None => journal.refused(Called::Claim, is_kept),
+            other => {
+                let job = job_in(other);
+                scene.journal.kept(Called::Claim, is_kept && job.is_some());
+                return job;
+            }
         }
     }
-    Ok(Claimed::Other)
+    scene.journal.kept(Called::Claim, false);
+    None
 }
 
 /// Whether a job was lost for want of memory.
@@ -62,19 +44,16 @@ fn is_lost(made: &Made) -> bool {
 
 /// Hands in what was made of a job, or gives up its lease: names, versions and cards stay as they are
 /// whatever the reply is.
-pub fn hand_in(
-    alloc: Global,
-    journal: &mut Journal,
-    desk: &mut Desk,
-    made: Made,
-    refusal: Option<Refusal>,
-) -> Result<(), AllocError> {
-    let before = state_of(alloc, desk)?;
-    let reply = desk.step(made.into_call());
-    let is_wanted = refusal_in(&reply) == refusal;
-    let is_kept = state_of(alloc, desk)? == before;
-    journal.kept(Called::HandIn, is_wanted && is_kept);
-    Ok(())
+fn hand_in(scene: &mut Scene, made: Made, is_foreign: bool) {
+    let before = scene.state();
+    let reply = ask(&mut scene.desk, made.into_call());
+    let is_kept = scene.state() == before;
+    let is_wanted = match reply {
+        Reply::Refused(Refusal::Foreign) => is_foreign,
+        Reply::Refused(_) => false,
+        _ => !is_foreign,
+    };
+    scene.journal.kept(Called::HandIn, is_wanted && is_kept);
 }
 
 /// A job whose result is not one of its lease: it has another version.
@@ -102,68 +81,46 @@ pub enum End {
     GivenUp,
 }
 
-/// What ends a job.
-fn made_of(alloc: Global, job: Job, meter: &mut Meter, end: End) -> Made {
+/// What ends a job, and whether that is foreign.
+fn made_of(scene: &Scene, job: Job, end: End) -> (Made, bool) {
+    let mut meter = Meter { sized: 0, coded: 0 };
     match end {
-        End::Delivered => job.run(alloc, meter),
-        End::Foreign => foreign(job).run(alloc, meter),
-        End::GivenUp => Made::Lost {
-            lease: job.lease(),
-            fault: RecordFault::Spent,
-        },
-    }
-}
-
-/// The refusal with which a job ends.
-fn refusal_of(end: End) -> Option<Refusal> {
-    match end {
-        End::Foreign => Some(Refusal::Foreign),
-        End::Delivered | End::GivenUp => None,
+        End::Delivered => (job.run(scene.alloc, &mut meter), false),
+        End::Foreign => (foreign(job).run(scene.alloc, &mut meter), true),
+        End::GivenUp => {
+            let lease = job.lease();
+            let fault = RecordFault::Spent;
+            (Made::Lost { lease, fault }, false)
+        }
     }
 }
 
 /// Claims a job and ends it, once more where it is lost for want of memory; whether there was one.
-fn end_next(
-    alloc: Global,
-    journal: &mut Journal,
-    desk: &mut Desk,
-    meter: &mut Meter,
-    end: End,
-) -> Result<bool, AllocError> {
+fn end_next(scene: &mut Scene, end: End) -> bool {
     for _ in 0..2 {
-        let job = match claim(alloc, journal, desk)? {
-            Claimed::Job(job) => job,
-            Claimed::Idle => return Ok(false),
-            Claimed::Other => break,
+        let Some(job) = claim(scene) else {
+            return false;
         };
-        let made = made_of(alloc, job, meter, end);
-        if !is_lost(&made) {
-            hand_in(alloc, journal, desk, made, refusal_of(end))?;
-            journal.made(Called::RunJob, true);
-            return Ok(true);
+        let (made, is_foreign) = made_of(scene, job, end);
+        let is_lost = is_lost(&made);
+        hand_in(scene, made, is_foreign && !is_lost);
+        if !is_lost {
+            scene.journal.made(Called::RunJob, true);
+            return true;
         }
-        journal.refused(Called::RunJob, true);
-        hand_in(alloc, journal, desk, made, None)?;
+        scene.journal.refused(Called::RunJob, true);
     }
-    journal.made(Called::RunJob, false);
-    Ok(false)
+    scene.journal.made(Called::RunJob, false);
+    false
 }
 
 /// Does the jobs that are due, each ended in these ways one after the other, so many at most.
-pub fn do_jobs(
-    alloc: Global,
-    journal: &mut Journal,
-    desk: &mut Desk,
-    ends: &[End],
-    most: usize,
-) -> Result<(), AllocError> {
-    let mut meter = Meter { sized: 0, coded: 0 };
+pub fn do_jobs(scene: &mut Scene, ends: &[End], most: usize) {
     for _ in 0..most {
         for end in ends {
-            if !end_next(alloc, journal, desk, &mut meter, *end)? {
-                return Ok(());
+            if !end_next(scene, *end) {
+                return;
             }
         }
     }
-    Ok(())
 }

@@ -1,10 +1,7 @@
-//! What a scenario notes: the calls that it made, those that were refused for want of memory, and the
-//! checks that failed.
+//! What a scenario notes: the calls that it made, those that were refused for want of memory, the checks
+//! that failed, and whether its own memory was refused.
 
 use std::alloc::{AllocError, Global};
-
-/// How many notes there is room for from the start.
-const ROOM: usize = 64;
 
 /// What is called.
 #[derive(Clone, Copy)]
@@ -19,20 +16,24 @@ pub enum Called {
     Load,
     Save,
     AddDeck,
+    LoadDeck,
     PutDeck,
     DropDeck,
     EditDeck,
     Batch,
     Cards,
-    Show,
+    Find,
+    SaveDeck,
     Status,
+    Bye,
+    Show,
     Claim,
     RunJob,
     HandIn,
     Settle,
     ReplyText,
     WriteReply,
-    ServeOne,
+    Session,
     OpenOffice,
     CallSeat,
     Meet,
@@ -54,21 +55,25 @@ impl Called {
             Called::AsmRun => "asm_run",
             Called::Load => "load",
             Called::Save => "save",
-            Called::AddDeck => "AddDeck",
-            Called::PutDeck => "PutDeck",
-            Called::DropDeck => "DropDeck",
-            Called::EditDeck => "EditDeck",
-            Called::Batch => "Batch",
-            Called::Cards => "Cards",
-            Called::Show => "Show",
-            Called::Status => "Status",
+            Called::AddDeck => "ADD",
+            Called::LoadDeck => "LOAD",
+            Called::PutDeck => "PUT",
+            Called::DropDeck => "DROP",
+            Called::EditDeck => "INS, REP or DEL",
+            Called::Batch => "BATCH",
+            Called::Cards => "CARDS",
+            Called::Find => "FIND",
+            Called::SaveDeck => "SAVE",
+            Called::Status => "STATUS",
+            Called::Bye => "BYE",
+            Called::Show => "LIST, IMAGE, MAP or ERRORS",
             Called::Claim => "Claim",
             Called::RunJob => "Job::run",
             Called::HandIn => "DeliverDeck, DeliverLink or GiveUp",
             Called::Settle => "settle",
             Called::ReplyText => "reply_text",
             Called::WriteReply => "write_reply",
-            Called::ServeOne => "serve_one",
+            Called::Session => "serve_one",
             Called::OpenOffice => "Office::open",
             Called::CallSeat => "Seat::call",
             Called::Meet => "meet",
@@ -91,16 +96,18 @@ pub struct Note {
 pub struct Journal {
     calls: u64,
     failed: u64,
+    is_lacking: bool,
     notes: Vec<Note>,
 }
 
 impl Journal {
-    pub fn new(alloc: Global) -> Result<Journal, AllocError> {
-        Ok(Journal {
+    pub fn new(alloc: Global) -> Journal {
+        Journal {
             calls: 0,
             failed: 0,
-            notes: Vec::with_capacity(alloc, ROOM)?,
-        })
+            is_lacking: false,
+            notes: Vec::new(alloc),
+        }
     }
 
     /// How many calls there were, those that were made again counted once: the same in each run.
@@ -113,6 +120,11 @@ impl Journal {
         self.failed
     }
 
+    /// Whether the scenario's own memory was refused, so that it is to be begun again.
+    pub fn is_lacking(&self) -> bool {
+        self.is_lacking
+    }
+
     pub fn notes(&self) -> &[Note] {
         self.notes.as_slice()
     }
@@ -120,47 +132,55 @@ impl Journal {
     /// A call was made, with what is wanted of it or not.
     pub fn made(&mut self, call: Called, holds: bool) {
         self.calls = self.calls.saturating_add(1);
-        if !holds {
-            self.note(call, holds);
-        }
-    }
-
-    /// A call was refused for want of memory, and what stands there is as it is to be then or not.
-    pub fn refused(&mut self, call: Called, holds: bool) {
-        self.note(call, holds);
+        self.kept(call, holds);
     }
 
     /// What stands there is as it was before a call, as is wanted, or not.
     pub fn kept(&mut self, call: Called, holds: bool) {
         if !holds {
-            self.note(call, holds);
+            self.refused(call, holds);
         }
     }
 
-    fn note(&mut self, call: Called, holds: bool) {
+    /// A call was refused for want of memory, and what stands there is as it is to be then or not. What
+    /// is found after the scenario's own memory was refused tells nothing.
+    pub fn refused(&mut self, call: Called, holds: bool) {
+        if self.is_lacking {
+            return;
+        }
         if !holds {
             self.failed = self.failed.saturating_add(1);
         }
         let _ = self.notes.push(Note { call, holds });
     }
-}
 
-/// What a call gives that changes nothing, made once more where it finds no memory.
-pub fn twice<T: Drop, F: Fn() -> Result<T, AllocError>>(
-    journal: &mut Journal,
-    call: Called,
-    make: F,
-) -> Result<T, AllocError>
-    requires { F.IsAlwaysCallable make }
-{
-    for _ in 0..2 {
-        match make() {
-            Ok(made) => {
-                journal.made(call, true);
-                return Ok(made);
-            }
-            Err(_) => journal.refused(call, true),
+    /// The scenario's own memory was refused.
+    pub fn lack(&mut self) {
+        self.is_lacking = true;
+    }
+
+    /// Notes whether the scenario's own memory was refused.
+    pub fn keep(&mut self, done: Result<(), AllocError>) {
+        if done.is_err() {
+            self.is_lacking = true;
         }
     }
-    Err(AllocError)
+
+    /// What a call gave that changes nothing. Where it found no memory, the scenario is begun again.
+    pub fn got<T: Drop>(
+        &mut self,
+        call: Called,
+        made: Result<T, AllocError>,
+    ) -> Result<T, AllocError> {
+        match made {
+            Ok(made) => {
+                self.made(call, true);
+                Ok(made)
+            }
+            Err(fault) => {
+                self.refused(call, true);
+                Err(fault)
+            }
+        }
+    }
 }

@@ -1,59 +1,98 @@
 //! Scenarios of much: a hundred edits that go with one job, and a desk with as many decks as it may
 //! have.
 
-use crate::decks::DECKS;
-use crate::desk_state::settle_as_asm;
 use crate::jobs::{End, do_jobs};
-use crate::journal::Journal;
-use crate::steps::{Asked, accepted, add_all, make_all, refused};
-use desk_core::{Desk, Refusal};
+use crate::journal::Called;
+use crate::scene::{Command, Scene};
 use std::alloc::{AllocError, Global};
 
 /// How many decks a desk has at most.
-const DECK_COUNT: u8 = 64;
+const DECK_COUNT: u64 = 64;
 
 /// In how many turns they are settled at most.
 const TURNS: u32 = 200;
 
 /// Edits of the first deck, which leave it with one card more.
-const LINES: &str = "INS 5           SA4    =77\nREP 5           SA4    =78,X\nINS 6 *A\nDEL 6";
+const LINES: &str = "INS 5           SA4    =77\nREP 5           SA4    =78,X\nINS 6 *A\nDEL 6\n";
 
 /// How often they are in the batch: a hundred edits, as many as it may have.
 const TIMES: usize = 25;
 
+/// The batch of a hundred edits.
+fn batch(alloc: Global) -> Result<Vec<u8>, AllocError> {
+    let mut lines = Vec::from_slice(alloc, b"BATCH MAIN 1 100\n")?;
+    for _ in 0..TIMES {
+        lines.extend_from_slice(LINES.as_bytes())?;
+    }
+    Ok(lines)
+}
+
 /// A job of a hundred edits on a record.
-pub fn edits(alloc: Global, journal: &mut Journal) -> Result<(), AllocError> {
-    let mut desk = Desk::new(alloc);
-    add_all(alloc, journal, &mut desk, &DECKS)?;
-    settle_as_asm(alloc, journal, &mut desk, TURNS)?;
-    let batch = Asked::Batch {
-        name: "MAIN",
-        seen: 1,
-        lines: LINES,
-        times: TIMES,
-    };
-    make_all(alloc, journal, &mut desk, &[accepted(batch)])?;
-    do_jobs(alloc, journal, &mut desk, &[End::Delivered], 2)?;
-    settle_as_asm(alloc, journal, &mut desk, TURNS)
+pub fn edits(scene: &mut Scene) -> Result<(), AllocError> {
+    scene.load_decks();
+    scene.settle_as_asm(TURNS)?;
+    let lines = batch(scene.alloc)?;
+    scene.say(Called::Batch, &lines, b"OK 4\n");
+    do_jobs(scene, &[End::Delivered], 2);
+    scene.settle_as_asm(TURNS)
+}
+
+/// Puts a deck of a few cards whose name has a number, as one of these versions.
+fn put_numbered(scene: &mut Scene, number: u64) -> Result<(), AllocError> {
+    let lines = format!(in scene.alloc;
+        "PUT D{number} 0 3\n          IDENT  D{number}\nLAB       SA1    =7\n          END\n"
+    )?;
+    let reply = format!(in scene.alloc; "OK {number}\n")?;
+    scene.say(Called::PutDeck, lines.as_bytes(), reply.as_bytes());
+    Ok(())
+}
+
+/// What is said to the desk of 64 decks that is published.
+const FULL: [Command; 2] = [
+    (Called::AddDeck, "ADD MORE\n", "NO TooManyDecks\n"),
+    (Called::EditDeck, "INS D1 1 2 *A\n", "OK 65\n"),
+];
+
+/// What it shows when that edit is published, too.
+const SHOWN: [Command; 2] = [
+    (
+        Called::Show,
+        "LIST D64\n",
+        "OK 65 8
+DECK D64 REL
+00001           IDENT  D64
+00002 LAB       SA1    =7
+  000000 0 5110000001
+00003           END
+BLOCK 0 00000000 00000001
+BLOCK = 00000001 00000001
+ERRORS 0
+",
+    ),
+    (Called::Show, "ERRORS\n", "OK 65 1\nEND\n"),
+];
+
+/// Asks how the desk stands before its decks are assembled.
+fn ask_status(scene: &mut Scene) -> Result<(), AllocError> {
+    let mut reply = Vec::from_slice(scene.alloc, b"OK 64 65\nPUBLISHED NONE\n")?;
+    for before in 0..DECK_COUNT {
+        let number = before.saturating_add(1);
+        let row = format!(in scene.alloc; "D{number} {number} 3 BEHIND\n")?;
+        reply.extend_from_slice(row.as_bytes())?;
+    }
+    scene.say(Called::Status, b"STATUS\n", &reply);
+    Ok(())
 }
 
 /// A desk of 64 decks that is claimed from, by a job of a deck and by that of their link, and shown.
-pub fn decks(alloc: Global, journal: &mut Journal) -> Result<(), AllocError> {
-    let mut desk = Desk::new(alloc);
-    for number in 0..DECK_COUNT {
-        let step = accepted(Asked::AddNumbered { number });
-        make_all(alloc, journal, &mut desk, &[step])?;
+pub fn decks(scene: &mut Scene) -> Result<(), AllocError> {
+    for before in 0..DECK_COUNT {
+        put_numbered(scene, before.saturating_add(1))?;
     }
-    let full = refused(Asked::Add { deck: DECKS[0] }, Refusal::TooManyDecks);
-    make_all(alloc, journal, &mut desk, &[full, accepted(Asked::Status)])?;
-    settle_as_asm(alloc, journal, &mut desk, TURNS)?;
-    let edit = Asked::Edit {
-        name: "DAA",
-        seen: 1,
-        line: "INS 2 *A",
-    };
-    make_all(alloc, journal, &mut desk, &[accepted(edit)])?;
-    do_jobs(alloc, journal, &mut desk, &[End::Delivered], 2)?;
-    make_all(alloc, journal, &mut desk, &[accepted(Asked::Show)])?;
-    settle_as_asm(alloc, journal, &mut desk, TURNS)
+    ask_status(scene)?;
+    scene.settle_as_asm(TURNS)?;
+    scene.say_all(&FULL);
+    do_jobs(scene, &[End::Delivered], 2);
+    scene.say_all(&SHOWN);
+    scene.settle_as_asm(TURNS)
 }

@@ -10,11 +10,10 @@
 
 // What scenarios are made of.
 mod decks;
-mod desk_state;
 mod jobs;
 mod journal;
 mod pieces;
-mod steps;
+mod scene;
 
 // Scenarios, lowest first.
 mod desks;
@@ -27,6 +26,7 @@ mod replies;
 mod sessions;
 
 use journal::Journal;
+use scene::Scene;
 use std::alloc::{AllocError, AllocGlobal};
 use std::process::ExitCode;
 use std::rt::{Env, Files};
@@ -112,21 +112,16 @@ impl Ended {
 }
 
 /// Goes through a scenario of records, of decks and of ports.
-fn go_through_lower<R: AllocGlobal>(
-    rt: &R,
-    scenario: Scenario,
-    journal: &mut Journal,
-) -> Result<(), AllocError> {
-    let alloc = rt.alloc();
+fn go_through_lower(scenario: Scenario, scene: &mut Scene) -> Result<(), AllocError> {
     match scenario {
-        Scenario::Records => records::records(alloc, journal),
-        Scenario::Texts => records::texts(alloc, journal),
-        Scenario::Runs => ports::runs(alloc, journal),
-        Scenario::Ports => ports::ports(alloc, journal),
-        Scenario::Calls => desks::calls(alloc, journal),
-        Scenario::Jobs => desks::delivered(alloc, journal),
-        Scenario::Foreign => desks::foreign(alloc, journal),
-        Scenario::Settle => desks::settled(alloc, journal),
+        Scenario::Records => records::records(scene),
+        Scenario::Texts => records::texts(scene),
+        Scenario::Runs => ports::runs(scene),
+        Scenario::Ports => ports::ports(scene),
+        Scenario::Calls => desks::calls(scene),
+        Scenario::Jobs => desks::delivered(scene),
+        Scenario::Foreign => desks::foreign(scene),
+        Scenario::Settle => desks::settled(scene),
         _ => Ok(()),
     }
 }
@@ -135,29 +130,26 @@ fn go_through_lower<R: AllocGlobal>(
 fn go_through<R: AllocGlobal + Files + Wait>(
     rt: &R,
     scenario: Scenario,
-    journal: &mut Journal,
+    scene: &mut Scene,
 ) -> Result<(), AllocError> {
-    let alloc = rt.alloc();
     match scenario {
-        Scenario::Replies => replies::replies(alloc, journal),
-        Scenario::Session => sessions::session(alloc, journal),
-        Scenario::SessionPorts => sessions::failing(alloc, journal),
-        Scenario::Office => offices::office(rt, alloc, journal),
-        Scenario::Folder => folders::folder(rt, alloc, journal),
-        Scenario::ManyEdits => large::edits(alloc, journal),
-        Scenario::ManyDecks => large::decks(alloc, journal),
-        lower => go_through_lower(rt, lower, journal),
+        Scenario::Replies => replies::replies(scene),
+        Scenario::Session => sessions::session(scene),
+        Scenario::SessionPorts => sessions::failing(scene),
+        Scenario::Office => offices::office(rt, scene),
+        Scenario::Folder => folders::folder(rt, scene),
+        Scenario::ManyEdits => large::edits(scene),
+        Scenario::ManyDecks => large::decks(scene),
+        lower => go_through_lower(lower, scene),
     }
 }
 
 /// The journal of a scenario.
-fn journal_of<R: AllocGlobal + Files + Wait>(
-    rt: &R,
-    scenario: Scenario,
-) -> Result<Journal, AllocError> {
-    let mut journal = Journal::new(rt.alloc())?;
-    go_through(rt, scenario, &mut journal)?;
-    Ok(journal)
+fn journal_of<R: AllocGlobal + Files + Wait>(rt: &R, scenario: Scenario) -> Journal {
+    let mut scene = Scene::new(rt.alloc());
+    let done = go_through(rt, scenario, &mut scene);
+    scene.journal.keep(done);
+    scene.journal
 }
 
 /// Tells on standard error what was refused and what failed, each on a line.
@@ -175,7 +167,6 @@ fn tell_notes<R: Eprint>(rt: &R, name: &str, journal: &Journal) -> io::Result<()
 
 /// Tells what came of a scenario.
 fn tell<R: Print + Eprint>(rt: &R, name: &str, journal: &Journal) -> io::Result<Ended> {
-    tell_notes(rt, name, journal)?;
     let calls = journal.calls();
     if journal.failed() == 0 {
         println!(rt; "{name}: {calls} calls, all as wanted")?;
@@ -192,10 +183,12 @@ fn run_one<R: AllocGlobal + Files + Wait + Print + Eprint>(
     scenario: Scenario,
 ) -> io::Result<Ended> {
     for _ in 0..2 {
-        match journal_of(rt, scenario) {
-            Ok(journal) => return tell(rt, name, &journal),
-            Err(_) => eprintln!(rt; "{name}: begun again")?,
+        let journal = journal_of(rt, scenario);
+        tell_notes(rt, name, &journal)?;
+        if !journal.is_lacking() {
+            return tell(rt, name, &journal);
         }
+        eprintln!(rt; "{name}: begun again")?;
     }
     Ok(Ended::Lacking)
 }

@@ -3,75 +3,88 @@ ghost use Rattle.std.specs.Prelude.{◌≡◌, IfOk};
 ghost use Rattle.turn_office.specs.Seats.{new_seats};
 
 use crate::decks::{DECKS, DeckText, cards_of, name_of};
-use crate::desk_state::{settle_as_asm, state_of};
-use crate::journal::{Called, Journal};
-use crate::steps::{add_all, refusal_in};
+use crate::journal::Called;
+use crate::scene::{Scene, state_of};
 use desk_core::{Call, Desk, NewDeck, Refusal, Reply};
 use std::alloc::{AllocError, Global};
+use std::mem;
 use std::sync::Wait;
 use turn_office::{Office, Seat, SeatList};
 
 /// In how many turns the desk is settled at most.
 const TURNS: u32 = 8;
 
-/// A desk with one deck.
-fn desk_of_one(alloc: Global, journal: &mut Journal) -> Result<Desk, AllocError> {
-    let mut desk = Desk::new(alloc);
-    add_all(alloc, journal, &mut desk, DECKS.split_at(1).0)?;
-    Ok(desk)
-}
-
 /// An office of two seats, opened once more where there is no memory: the desk comes back as it was.
-fn open(
-    alloc: Global,
-    journal: &mut Journal,
-    mut desk: Desk,
-) -> Result<(Office<Desk>, SeatList<Desk>), AllocError>
+fn open(scene: &mut Scene, mut desk: Desk) -> Result<(Office<Desk>, SeatList<Desk>), AllocError>
     ensures { IfOk result (λ opened. opened.1.items ≡ new_seats opened.0.id 2) }
 {
-    let before = state_of(alloc, &mut desk)?;
-    match Office::open(alloc, desk, 2) {
+    let before = state_of(scene.alloc, &mut desk)?;
+    match Office::open(scene.alloc, desk, 2) {
         Ok(opened) => Ok(opened),
         Err(failed) => {
             let mut desk = failed.value;
-            journal.refused(Called::OpenOffice, state_of(alloc, &mut desk)? == before);
-            Ok(Office::open(alloc, desk, 2)?)
+            let is_kept = state_of(scene.alloc, &mut desk)? == before;
+            scene.journal.refused(Called::OpenOffice, is_kept);
+            Ok(Office::open(scene.alloc, desk, 2)?)
         }
     }
 }
 
-/// The version of the desk.
-fn version_of<R: Wait>(rt: &R, office: &Office<Desk>, seat: &mut Seat<Desk>) -> Option<u64>
+/// The call that adds a deck.
+fn addition(alloc: Global, deck: &DeckText) -> Result<Call, AllocError> {
+    let cards = cards_of(alloc, deck.lines)?;
+    Ok(Call::AddDeck(NewDeck::new(name_of(deck.name)?, cards)))
+}
+
+/// One call from a seat. What it answers is looked at and no contract of it.
+fn ask<R: Wait>(rt: &R, office: &Office<Desk>, seat: &mut Seat<Desk>, call: Call) -> Reply
     requires { seat.old.office ≡ office.now.id }
     ensures { seat.new.office ≡ seat.old.office }
 {
-    match seat.call(rt, office, Call::Status) {
-        Reply::StatusIs(version, _, _) => Some(version),
-        _ => None,
+    seat.call(rt, office, call)
+}
+
+/// The version in the reply to a change or to the question how the desk stands; 0 in others.
+fn version_in(reply: &Reply) -> u64 {
+    match reply {
+        Reply::StatusIs(version, _, _) => *version,
+        Reply::Changed(version) => *version,
+        _ => 0,
     }
 }
 
-/// Adds a deck from a seat, and answers why that is refused, if it is.
-fn add_once<R: Wait>(
-    rt: &R,
-    alloc: Global,
-    office: &Office<Desk>,
-    seat: &mut Seat<Desk>,
-    deck: &DeckText,
-) -> Result<Option<Refusal>, AllocError>
+/// The version of the desk.
+fn version_of<R: Wait>(rt: &R, office: &Office<Desk>, seat: &mut Seat<Desk>) -> u64
     requires { seat.old.office ≡ office.now.id }
     ensures { seat.new.office ≡ seat.old.office }
 {
-    let new_deck = NewDeck::new(name_of(deck.name)?, cards_of(alloc, deck.lines)?);
-    let reply = seat.call(rt, office, Call::AddDeck(new_deck));
-    Ok(refusal_in(&reply))
+    version_in(&ask(rt, office, seat, Call::Status))
 }
 
-/// Adds a deck from a seat, once more where there is no memory: the version is as before then.
+/// Adds a deck from a seat, and answers whether it did. Without memory the version is as before.
+fn add_once<R: Wait>(
+    rt: &R,
+    scene: &mut Scene,
+    office: &Office<Desk>,
+    seat: &mut Seat<Desk>,
+    call: Call,
+) -> bool
+    requires { seat.old.office ≡ office.now.id }
+    ensures { seat.new.office ≡ seat.old.office }
+{
+    let before = version_of(rt, office, seat);
+    let reply = ask(rt, office, seat, call);
+    let after = version_of(rt, office, seat);
+    if let Reply::Refused(Refusal::OutOfMemory) = &reply {
+        scene.journal.refused(Called::CallSeat, before == after);
+    }
+    before < after && version_in(&reply) == after
+}
+
+/// Adds a deck from a seat, once more where there is no memory.
 fn add<R: Wait>(
     rt: &R,
-    alloc: Global,
-    journal: &mut Journal,
+    scene: &mut Scene,
     office: &Office<Desk>,
     seat: &mut Seat<Desk>,
     deck: &DeckText,
@@ -79,22 +92,18 @@ fn add<R: Wait>(
     requires { seat.old.office ≡ office.now.id }
     ensures { seat.new.office ≡ seat.old.office }
 {
-    let before = version_of(rt, office, seat);
-    let mut refusal = add_once(rt, alloc, office, seat, deck)?;
-    if refusal == Some(Refusal::OutOfMemory) {
-        let after = version_of(rt, office, seat);
-        journal.refused(Called::CallSeat, before == after);
-        refusal = add_once(rt, alloc, office, seat, deck)?;
-    }
-    journal.made(Called::CallSeat, refusal.is_none());
+    let call = addition(scene.alloc, deck)?;
+    let again = addition(scene.alloc, deck)?;
+    let is_added = add_once(rt, scene, office, seat, call)
+        || add_once(rt, scene, office, seat, again);
+    scene.journal.made(Called::CallSeat, is_added);
     Ok(())
 }
 
 /// Both seats add a deck, and meet.
 fn call_and_meet<R: Wait>(
     rt: &R,
-    alloc: Global,
-    journal: &mut Journal,
+    scene: &mut Scene,
     office: &Office<Desk>,
     first: &mut Seat<Desk>,
     second: &mut Seat<Desk>,
@@ -104,18 +113,17 @@ fn call_and_meet<R: Wait>(
     ensures first { first.new.office ≡ first.old.office }
     ensures second { second.new.office ≡ second.old.office }
 {
-    let [_, second_deck, third_deck] = DECKS;
-    add(rt, alloc, journal, office, first, &second_deck)?;
-    add(rt, alloc, journal, office, second, &third_deck)?;
-    journal.made(Called::Meet, first.meet(rt, office, second).is_ok());
+    add(rt, scene, office, first, &DECKS[1])?;
+    add(rt, scene, office, second, &DECKS[2])?;
+    let have_met = first.meet(rt, office, second).is_ok();
+    scene.journal.made(Called::Meet, have_met);
     Ok(())
 }
 
 /// Calls from both seats, and closes the office: the desk.
 fn use_office<R: Wait>(
     rt: &R,
-    alloc: Global,
-    journal: &mut Journal,
+    scene: &mut Scene,
     office: Office<Desk>,
     mut seats: SeatList<Desk>,
 ) -> Result<Desk, AllocError>
@@ -124,7 +132,7 @@ fn use_office<R: Wait>(
     let (Some(mut second), Some(mut first)) = (seats.pop(), seats.pop()) else {
         return Err(AllocError);
     };
-    call_and_meet(rt, alloc, journal, &office, &mut first, &mut second)?;
+    call_and_meet(rt, scene, &office, &mut first, &mut second)?;
     seats.push(first)?;
     seats.push(second)?;
     match office.close(seats) {
@@ -134,10 +142,11 @@ fn use_office<R: Wait>(
 }
 
 /// An office from its opening to its end, and what its desk then has.
-pub fn office<R: Wait>(rt: &R, alloc: Global, journal: &mut Journal) -> Result<(), AllocError> {
-    let desk = desk_of_one(alloc, journal)?;
-    let (office, seats) = open(alloc, journal, desk)?;
-    let mut desk = use_office(rt, alloc, journal, office, seats)?;
-    journal.made(Called::Close, true);
-    settle_as_asm(alloc, journal, &mut desk, TURNS)
+pub fn office<R: Wait>(rt: &R, scene: &mut Scene) -> Result<(), AllocError> {
+    scene.load_first();
+    let desk = mem::replace(&mut scene.desk, Desk::new(scene.alloc));
+    let (office, seats) = open(scene, desk)?;
+    scene.desk = use_office(rt, scene, office, seats)?;
+    scene.journal.made(Called::Close, true);
+    scene.settle_as_asm(TURNS)
 }

@@ -1,17 +1,19 @@
 //! Scenarios of records and of texts: a record that is edited is spent for want of memory, and its
-//! cards are as they were; texts and links that found none are made again.
+//! cards are as they were; texts and links are made of them.
 
-use crate::decks::{DECKS, DeckText, are_same, asm_answer, cards_of, is_both, name_of};
-use crate::journal::{Called, Journal, twice};
-use crate::steps::edit_of;
+use crate::decks::{
+    DECKS, DeckText, are_same, asm_answer, cards_of, is_answer, name_of, push_lines,
+};
+use crate::journal::Called;
+use crate::scene::Scene;
 use cards::{Card, DeckName, Edit, MOST_CARDS, copied_cards};
 use deck_assembler::SharedObject;
 use deck_linker::{Publication, link};
 use deck_listing::{image, listing};
 use edit_core::{FinishFault, Kept, RecordFault};
+use session_line::read_batch_line;
 use statement_coder::Meter;
 use std::alloc::{AllocError, Global};
-use text_ports::Text;
 
 /// Edits of a deck, and the fault of each where there is memory.
 const EDITS: [(&str, Option<RecordFault>); 5] = [
@@ -22,77 +24,106 @@ const EDITS: [(&str, Option<RecordFault>); 5] = [
     ("DEL 2", None),
 ];
 
-/// A new record of copies of these cards.
-fn record_of(alloc: Global, name: &DeckName, cards: &[Card]) -> Result<Kept, AllocError> {
-    let mut meter = Meter { sized: 0, coded: 0 };
-    let cards = copied_cards(alloc, cards)?;
+/// The edit of a line.
+fn edit_of(line: &str) -> Result<Edit, AllocError> {
+    match read_batch_line(line.as_bytes()) {
+        Ok(edit) => Ok(edit),
+        Err(_) => Err(AllocError),
+    }
+}
+
+/// A new record of these cards.
+fn record_of(alloc: Global, name: DeckName, cards: Vec<Card>) -> Result<Kept, AllocError> {
     if cards.len() > MOST_CARDS {
         return Err(AllocError);
     }
-    Kept::new(alloc, name.copied(), cards, &mut meter)
+    let mut meter = Meter { sized: 0, coded: 0 };
+    Kept::new(alloc, name, cards, &mut meter)
+}
+
+/// Edits a record, and answers its fault, if there is one.
+fn fault_of_edit(alloc: Global, kept: &mut Kept, edit: &Edit) -> Option<RecordFault> {
+    let mut meter = Meter { sized: 0, coded: 0 };
+    match kept.edit(alloc, edit, &mut meter) {
+        Ok(()) => None,
+        Err(fault) => Some(fault),
+    }
+}
+
+/// Whether nothing comes of a record, since it is spent.
+fn gives_nothing(kept: &Kept) -> bool {
+    match kept.finish() {
+        Ok(_) => false,
+        Err(fault) => fault == FinishFault::Spent,
+    }
 }
 
 /// Whether a record has these cards, and is spent: nothing is edited and nothing comes of it.
 fn is_spent_with(alloc: Global, kept: &mut Kept, cards: &[Card], edit: &Edit) -> bool {
-    let mut meter = Meter { sized: 0, coded: 0 };
-    kept.is_spent()
-        && kept.edit(alloc, edit, &mut meter) == Err(RecordFault::Spent)
-        && matches!(kept.finish(), Err(FinishFault::Spent))
-        && are_same(kept.cards(), cards)
+    let is_spent = kept.is_spent() && gives_nothing(kept);
+    let is_fault = fault_of_edit(alloc, kept, edit) == Some(RecordFault::Spent);
+    is_spent && is_fault && are_same(kept.cards(), cards)
 }
 
-/// Edits a record. Where that finds no memory, it is spent, and a new one takes its place.
+/// Edits a record, and answers its fault, if there is one. Where there is no memory, the record is
+/// spent, and a new one takes its place.
 fn edit_once(
-    alloc: Global,
-    journal: &mut Journal,
+    scene: &mut Scene,
     kept: &mut Kept,
     edit: &Edit,
 ) -> Result<Option<RecordFault>, AllocError> {
-    let before = copied_cards(alloc, kept.cards())?;
-    let mut meter = Meter { sized: 0, coded: 0 };
-    let Err(fault) = kept.edit(alloc, edit, &mut meter) else {
-        return Ok(None);
-    };
-    if fault == RecordFault::OutOfMemory {
-        journal.refused(Called::Edit, is_spent_with(alloc, kept, &before, edit));
-        *kept = record_of(alloc, &kept.name().copied(), &before)?;
+    let before = copied_cards(scene.alloc, kept.cards())?;
+    let fault = fault_of_edit(scene.alloc, kept, edit);
+    if fault.is_none() {
+        return Ok(fault);
     }
-    journal.kept(
-        Called::Edit,
-        !kept.is_spent() && are_same(kept.cards(), &before),
-    );
-    Ok(Some(fault))
+    if fault == Some(RecordFault::OutOfMemory) {
+        let holds = is_spent_with(scene.alloc, kept, &before, edit);
+        scene.journal.refused(Called::Edit, holds);
+        let cards = copied_cards(scene.alloc, &before)?;
+        *kept = record_of(scene.alloc, kept.name().copied(), cards)?;
+    }
+    let is_kept = !kept.is_spent() && are_same(kept.cards(), &before);
+    scene.journal.kept(Called::Edit, is_kept);
+    Ok(fault)
 }
 
 /// Edits a record, once more where that finds no memory.
 fn edit(
-    alloc: Global,
-    journal: &mut Journal,
+    scene: &mut Scene,
     kept: &mut Kept,
     line: &str,
     wanted: Option<RecordFault>,
 ) -> Result<(), AllocError> {
     let edit = edit_of(line)?;
-    for _ in 0..2 {
-        let fault = edit_once(alloc, journal, kept, &edit)?;
-        if fault != Some(RecordFault::OutOfMemory) {
-            journal.made(Called::Edit, fault == wanted);
-            return Ok(());
-        }
+    let mut fault = edit_once(scene, kept, &edit)?;
+    if fault == Some(RecordFault::OutOfMemory) {
+        fault = edit_once(scene, kept, &edit)?;
     }
-    journal.made(Called::Edit, false);
+    scene.journal.made(Called::Edit, fault == wanted);
     Ok(())
 }
 
+/// The record of a deck.
+fn record(scene: &mut Scene, deck: &DeckText) -> Result<Kept, AllocError> {
+    let name = name_of(deck.name)?;
+    let cards = cards_of(scene.alloc, deck.lines)?;
+    let kept = record_of(scene.alloc, name, cards);
+    scene.journal.got(Called::NewRecord, kept)
+}
+
 /// The object of a record, once more where that finds no memory: it is not spent by it.
-fn finish(journal: &mut Journal, kept: &Kept) -> Result<SharedObject, AllocError> {
+fn finish(scene: &mut Scene, kept: &Kept) -> Result<SharedObject, AllocError> {
     for _ in 0..2 {
         match kept.finish() {
             Ok(object) => {
-                journal.made(Called::Finish, true);
+                scene.journal.made(Called::Finish, true);
                 return Ok(object);
             }
-            Err(fault) => journal.refused(Called::Finish, fault == FinishFault::OutOfMemory),
+            Err(fault) => {
+                let holds = fault == FinishFault::OutOfMemory;
+                scene.journal.refused(Called::Finish, holds);
+            }
         }
     }
     Err(AllocError)
@@ -100,102 +131,85 @@ fn finish(journal: &mut Journal, kept: &Kept) -> Result<SharedObject, AllocError
 
 /// A deck's record after all edits, and its cards behind those of the decks before.
 fn edited(
-    alloc: Global,
-    journal: &mut Journal,
+    scene: &mut Scene,
     deck: &DeckText,
     input: &mut Vec<u8>,
 ) -> Result<SharedObject, AllocError> {
-    let name = name_of(deck.name)?;
-    let cards = cards_of(alloc, deck.lines)?;
-    let mut kept = twice(
-        journal,
-        Called::NewRecord,
-        || record_of(alloc, &name, &cards),
-    )?;
+    let mut kept = record(scene, deck)?;
     for (line, fault) in EDITS {
-        edit(alloc, journal, &mut kept, line, fault)?;
+        edit(scene, &mut kept, line, fault)?;
     }
     push_lines(input, kept.cards())?;
-    finish(journal, &kept)
+    finish(scene, &kept)
 }
 
-/// Puts cards as lines behind others.
-fn push_lines(input: &mut Vec<u8>, cards: &[Card]) -> Result<(), AllocError> {
-    for card in cards {
-        input.extend_from_slice(card.as_slice())?;
-        input.extend_from_slice(b"\n")?;
-    }
+/// What was made of objects holds what `asm_run` writes for these decks.
+fn compare(
+    scene: &mut Scene,
+    found: Result<Publication, AllocError>,
+    input: &[u8],
+) -> Result<(), AllocError> {
+    let found = scene.journal.got(Called::Link, found)?;
+    let answer = asm_answer(scene.alloc, input);
+    let wanted = scene.journal.got(Called::AsmRun, answer)?;
+    scene.journal.made(Called::Link, is_answer(&wanted, &found));
     Ok(())
-}
-
-/// The objects of all decks once more, linked.
-fn published(alloc: Global, objects: &[SharedObject]) -> Result<Publication, AllocError> {
-    let mut same = Vec::new(alloc);
-    for object in objects {
-        same.push(object.share()?)?;
-    }
-    link(alloc, same, 7)
 }
 
 /// A record of each deck, edited and linked with the others: the bytes of `asm_run` for the edited
 /// cards.
-pub fn records(alloc: Global, journal: &mut Journal) -> Result<(), AllocError> {
-    let mut input = Vec::new(alloc);
-    let mut objects = Vec::new(alloc);
+pub fn records(scene: &mut Scene) -> Result<(), AllocError> {
+    let mut input = Vec::new(scene.alloc);
+    let mut objects = Vec::new(scene.alloc);
     for deck in &DECKS {
-        objects.push(edited(alloc, journal, deck, &mut input)?)?;
+        objects.push(edited(scene, deck, &mut input)?)?;
     }
-    let wanted = twice(journal, Called::AsmRun, || asm_answer(alloc, &input))?;
-    let found = twice(journal, Called::Link, || published(alloc, &objects))?;
-    let is_same = is_both(&wanted, found.listing(), found.image());
-    journal.made(Called::Link, is_same);
-    Ok(())
+    let found = link(scene.alloc, objects, 7);
+    compare(scene, found, &input)
 }
 
 /// Where a deck alone stands.
 const BASE: u64 = 64;
 
-/// Which text of an object.
-#[derive(Clone, Copy)]
-enum Of {
-    Listing,
-    Image,
-}
-
-/// A text of an object alone.
-fn text_of(alloc: Global, object: &SharedObject, of: Of) -> Result<Text, AllocError> {
-    match of {
-        Of::Listing => listing(alloc, object.object()),
-        Of::Image => image(alloc, object.object(), BASE),
-    }
-}
-
-/// Both texts of an object, each of which is the same a second time.
-fn texts_twice(
-    alloc: Global,
-    journal: &mut Journal,
-    object: &SharedObject,
-) -> Result<(), AllocError> {
-    for (of, call) in [(Of::Listing, Called::Listing), (Of::Image, Called::Image)] {
-        let first = twice(journal, call, || text_of(alloc, object, of))?;
-        let second = twice(journal, call, || text_of(alloc, object, of))?;
-        journal.made(call, first.as_slice() == second.as_slice());
-    }
+/// The listing of an object, which is the same a second time.
+fn listing_twice(scene: &mut Scene, object: &SharedObject) -> Result<(), AllocError> {
+    let text = listing(scene.alloc, object.object());
+    let first = scene.journal.got(Called::Listing, text)?;
+    let text = listing(scene.alloc, object.object());
+    let second = scene.journal.got(Called::Listing, text)?;
+    let is_same = first.as_slice() == second.as_slice();
+    scene.journal.made(Called::Listing, is_same);
     Ok(())
 }
 
+/// The image of an object alone, which is the same a second time.
+fn image_twice(scene: &mut Scene, object: &SharedObject) -> Result<(), AllocError> {
+    let text = image(scene.alloc, object.object(), BASE);
+    let first = scene.journal.got(Called::Image, text)?;
+    let text = image(scene.alloc, object.object(), BASE);
+    let second = scene.journal.got(Called::Image, text)?;
+    let is_same = first.as_slice() == second.as_slice();
+    scene.journal.made(Called::Image, is_same);
+    Ok(())
+}
+
+/// The object of a deck.
+fn object(scene: &mut Scene, deck: &DeckText) -> Result<SharedObject, AllocError> {
+    let kept = record(scene, deck)?;
+    finish(scene, &kept)
+}
+
+/// The texts of a deck alone.
+fn texts_of(scene: &mut Scene, deck: &DeckText) -> Result<(), AllocError> {
+    let object = object(scene, deck)?;
+    listing_twice(scene, &object)?;
+    image_twice(scene, &object)
+}
+
 /// The texts of each deck alone.
-pub fn texts(alloc: Global, journal: &mut Journal) -> Result<(), AllocError> {
+pub fn texts(scene: &mut Scene) -> Result<(), AllocError> {
     for deck in &DECKS {
-        let name = name_of(deck.name)?;
-        let cards = cards_of(alloc, deck.lines)?;
-        let kept = twice(
-            journal,
-            Called::NewRecord,
-            || record_of(alloc, &name, &cards),
-        )?;
-        let object = finish(journal, &kept)?;
-        texts_twice(alloc, journal, &object)?;
+        texts_of(scene, deck)?;
     }
     Ok(())
 }

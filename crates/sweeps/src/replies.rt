@@ -3,7 +3,8 @@ ghost use Rattle.std.specs.Prelude.{◌≡◌, true};
 ghost use Rattle.session_line.specs.Replies.{IsWithinLimits};
 
 use crate::decks::{DECKS, cards_of, name_of};
-use crate::journal::{Called, Journal, twice};
+use crate::journal::Called;
+use crate::scene::Scene;
 use cards::{CardFault, MOST_CARDS};
 use desk_core::{Row, State};
 use session_line::{Refusal, Reply, reply_text, write_reply};
@@ -65,10 +66,12 @@ fn text_of(alloc: Global, reply: &Reply<'_>) -> Result<Vec<u8>, AllocError> {
 }
 
 /// A reply as a text and as it is written, which are the same.
-fn compare(alloc: Global, journal: &mut Journal, reply: &Reply<'_>) -> Result<(), AllocError> {
-    let text = twice(journal, Called::ReplyText, || text_of(alloc, reply))?;
-    let other = twice(journal, Called::WriteReply, || written(alloc, reply))?;
-    journal.made(Called::ReplyText, text == other);
+fn compare(scene: &mut Scene, reply: &Reply<'_>) -> Result<(), AllocError> {
+    let text = text_of(scene.alloc, reply);
+    let text = scene.journal.got(Called::ReplyText, text)?;
+    let other = written(scene.alloc, reply);
+    let other = scene.journal.got(Called::WriteReply, other)?;
+    scene.journal.made(Called::ReplyText, text == other);
     Ok(())
 }
 
@@ -82,36 +85,41 @@ fn row_of(name: &str, cards: usize, state: State) -> Result<Row, AllocError> {
     })
 }
 
-/// The replies that show decks.
-fn compare_decks(alloc: Global, journal: &mut Journal) -> Result<(), AllocError> {
-    let cards = cards_of(alloc, DECKS[0].lines)?;
-    let rows = [
-        row_of("MAIN", cards.len(), State::Behind)?,
-        row_of("N", 20_000, State::Out)?,
-    ];
+/// The replies that show cards.
+fn compare_cards(scene: &mut Scene) -> Result<(), AllocError> {
+    let cards = cards_of(scene.alloc, DECKS[0].lines)?;
     let many = Reply::Cards {
         version: 5,
         cards: &cards,
-    };
-    let status = Reply::Status {
-        version: 12,
-        published: Some(11),
-        decks: &rows,
     };
     let found = Reply::Found {
         version: 5,
         cards: &cards,
         text: b"A",
     };
-    compare(alloc, journal, &many)?;
-    compare(alloc, journal, &found)?;
-    compare(alloc, journal, &status)
+    compare(scene, &many)?;
+    compare(scene, &found)
+}
+
+/// The reply that shows how decks stand.
+fn compare_status(scene: &mut Scene) -> Result<(), AllocError> {
+    let rows = [
+        row_of("MAIN", 12, State::Behind)?,
+        row_of("N", 20_000, State::Out)?,
+    ];
+    let status = Reply::Status {
+        version: 12,
+        published: Some(11),
+        decks: &rows,
+    };
+    compare(scene, &status)
 }
 
 /// Each sort of reply.
-pub fn replies(alloc: Global, journal: &mut Journal) -> Result<(), AllocError> {
+pub fn replies(scene: &mut Scene) -> Result<(), AllocError> {
     for reply in &few() {
-        compare(alloc, journal, reply)?;
+        compare(scene, reply)?;
     }
-    compare_decks(alloc, journal)
+    compare_cards(scene)?;
+    compare_status(scene)
 }
