@@ -2,7 +2,7 @@
 
 use asm_main::asm_run;
 use cards::{Card, DeckName};
-use deck_linker::{ListedPublication, Publication};
+use deck_linker::Publication;
 use std::alloc::{AllocError, Global};
 use text_ports::Counted;
 
@@ -113,15 +113,4 @@ pub fn is_answer(text: &[u8], publication: &Publication) -> bool {
         Some(rest) => rest == publication.image(),
         None => false,
     }
-}
-
-/// Listing and image of a publication, one behind the other.
-pub fn listed_text(alloc: Global, publication: &ListedPublication) -> Result<Vec<u8>, AllocError> {
-    let mut output = Counted::new(Vec::new(alloc));
-    if publication.write_listing(&mut output).is_err() {
-        return Err(AllocError);
-    }
-    let mut text = output.into_inner();
-    text.extend_from_slice(publication.image())?;
-    Ok(text)
 }

@@ -13,7 +13,7 @@ const TURNS: u32 = 8;
 const JOBS: usize = 8;
 
 /// Commands behind the loading of the three decks, which has the versions 1 to 3.
-const CHANGES: [Command; 21] = [
+const CHANGES: [Command; 22] = [
     (Called::EditDeck, "INS MAIN 1 5 *A\n", "OK 4\n"),
     (Called::EditDeck, "INS MAIN 1 5 *B\n", "NO OldVersion 4\n"),
     (Called::EditDeck, "DEL MAIN 4 99\n", "NO NoSuchCard\n"),
@@ -53,6 +53,7 @@ BUF       BSSZ   3
         "STATUS\n",
         "OK 5 4\nPUBLISHED NONE\nMAIN 4 13 BEHIND\nDATAS 5 9 BEHIND\nCONST 3 8 BEHIND\n",
     ),
+    (Called::Wait, "WAIT 5\n", "OK 5 1\nPUBLISHED NONE\n"),
     (Called::Show, "LIST\n", "NO NoPublication\n"),
     (Called::Show, "ERRORS\n", "NO NoPublication\n"),
     (Called::PutDeck, "PUT MAIN 1 1\n*P\n", "NO OldVersion 4\n"),
@@ -78,11 +79,40 @@ BUF       BSSZ   3
     (Called::DropDeck, "DROP LATE 8\n", "OK 11\n"),
 ];
 
+/// What is shown behind them, once it is published.
+const SHOWN: [Command; 5] = [
+    (Called::Wait, "WAIT 11\n", "OK 11 1\nPUBLISHED 11\n"),
+    (
+        Called::Show,
+        "LIST NEW\n",
+        "OK 11 5
+DECK NEW REL
+00001           IDENT  NEW
+00002           END
+BLOCK 0 00000000 00000000
+ERRORS 0
+",
+    ),
+    (
+        Called::Show,
+        "IMAGE MAIN\n",
+        "OK 11 2\nDECK MAIN REL 000100\n000100 71100000004600046000\n",
+    ),
+    (
+        Called::Show,
+        "ERRORS MAIN\n",
+        "OK 11 1\nLINK U MAIN LIMIT\n",
+    ),
+    (Called::Show, "ERRORS CONST\n", "NO NoDeck\n"),
+];
+
 /// Every call of a desk by which people change it and look at it.
 pub fn calls(scene: &mut Scene) -> Result<(), AllocError> {
     scene.load_decks();
     scene.say_all(&CHANGES);
-    scene.settle_as_asm(TURNS)
+    scene.settle_as_asm(TURNS)?;
+    scene.say_all(&SHOWN);
+    Ok(())
 }
 
 /// The edits of a deck that has a record.

@@ -1,34 +1,55 @@
 //! Jobs of a desk: claimed, run, delivered and given up, and made again where they find no memory.
 
 use crate::journal::Called;
-use crate::scene::{Scene, ask};
+use crate::scene::Scene;
 use deck_workers::{Job, Made, Runs, job_in};
-use desk_core::{Call, Refusal, Reply};
+use desk_core::{Call, Desk, Refusal, Reply};
 use edit_core::RecordFault;
 use statement_coder::Meter;
+
+/// What a reply of the desk tells, but for what it gives.
+#[derive(Clone, Copy, PartialEq, Eq)]
+pub enum Told {
+    /// The desk has this version.
+    Version(u64),
+    /// All of the present version is published.
+    Idle,
+    Refused(Refusal),
+    Other,
+}
+
+/// What a reply tells.
+pub fn told_in(reply: &Reply) -> Told {
+    match reply {
+        Reply::StatusIs(version, _, _) => Told::Version(*version),
+        Reply::Changed(version) => Told::Version(*version),
+        Reply::Idle(_) => Told::Idle,
+        Reply::Refused(refusal) => Told::Refused(*refusal),
+        _ => Told::Other,
+    }
+}
+
+/// Asks a desk. What it answers is looked at and no contract of it, and so who asks has no facts of it.
+fn ask(desk: &mut Desk, call: Call) -> Reply {
+    desk.step(call)
+}
 
 /// Claims what is due, once more where that finds no memory: then names, versions and cards are as
 /// before. There is no job where all of the present version is published.
 fn claim(scene: &mut Scene) -> Option<Job> {
     let before = scene.state();
-    for _ in 0..2 {
-        let reply = ask(&mut scene.desk, Call::Claim);
+    let mut reply = ask(&mut scene.desk, Call::Claim);
+    if told_in(&reply) == Told::Refused(Refusal::OutOfMemory) {
         let is_kept = scene.state() == before;
-        match reply {
-            Reply::Refused(Refusal::OutOfMemory) => scene.journal.refused(Called::Claim, is_kept),
-            Reply::Idle(_) => {
-                scene.journal.kept(Called::Claim, is_kept);
-                return None;
-            }
-            other => {
-                let job = job_in(other);
-                scene.journal.kept(Called::Claim, is_kept && job.is_some());
-                return job;
-            }
-        }
+        scene.journal.refused(Called::Claim, is_kept);
+        reply = ask(&mut scene.desk, Call::Claim);
     }
-    scene.journal.kept(Called::Claim, false);
-    None
+    let is_idle = told_in(&reply) == Told::Idle;
+    let is_kept = scene.state() == before;
+    let job = job_in(reply);
+    let is_wanted = is_idle || job.is_some();
+    scene.journal.kept(Called::Claim, is_kept && is_wanted);
+    job
 }
 
 /// Whether a job was lost for want of memory.
@@ -46,11 +67,11 @@ fn is_lost(made: &Made) -> bool {
 /// whatever the reply is.
 fn hand_in(scene: &mut Scene, made: Made, is_foreign: bool) {
     let before = scene.state();
-    let reply = ask(&mut scene.desk, made.into_call());
+    let told = told_in(&ask(&mut scene.desk, made.into_call()));
     let is_kept = scene.state() == before;
-    let is_wanted = match reply {
-        Reply::Refused(Refusal::Foreign) => is_foreign,
-        Reply::Refused(_) => false,
+    let is_wanted = match told {
+        Told::Refused(Refusal::Foreign) => is_foreign,
+        Told::Refused(_) => false,
         _ => !is_foreign,
     };
     scene.journal.kept(Called::HandIn, is_wanted && is_kept);

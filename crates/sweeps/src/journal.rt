@@ -25,6 +25,7 @@ pub enum Called {
     Find,
     SaveDeck,
     Status,
+    Wait,
     Bye,
     Show,
     Claim,
@@ -42,44 +43,51 @@ pub enum Called {
     SaveShelf,
 }
 
+/// What each is called where it is told, in the order of the calls above.
+const NAMES: [&str; 35] = [
+    "Kept::new",
+    "edit",
+    "finish",
+    "listing",
+    "image",
+    "link",
+    "asm_run",
+    "load",
+    "save",
+    "ADD",
+    "LOAD",
+    "PUT",
+    "DROP",
+    "INS, REP or DEL",
+    "BATCH",
+    "CARDS",
+    "FIND",
+    "SAVE",
+    "STATUS",
+    "WAIT",
+    "BYE",
+    "LIST, IMAGE, MAP or ERRORS",
+    "Claim",
+    "Job::run",
+    "DeliverDeck, DeliverLink or GiveUp",
+    "settle",
+    "reply_text",
+    "write_reply",
+    "serve_one",
+    "Office::open",
+    "Seat::call",
+    "meet",
+    "close",
+    "Shelf::load",
+    "Shelf::save",
+];
+
 impl Called {
     /// What it is called where it is told.
     pub fn text(self) -> &'static str {
-        match self {
-            Called::NewRecord => "Kept::new",
-            Called::Edit => "edit",
-            Called::Finish => "finish",
-            Called::Listing => "listing",
-            Called::Image => "image",
-            Called::Link => "link",
-            Called::AsmRun => "asm_run",
-            Called::Load => "load",
-            Called::Save => "save",
-            Called::AddDeck => "ADD",
-            Called::LoadDeck => "LOAD",
-            Called::PutDeck => "PUT",
-            Called::DropDeck => "DROP",
-            Called::EditDeck => "INS, REP or DEL",
-            Called::Batch => "BATCH",
-            Called::Cards => "CARDS",
-            Called::Find => "FIND",
-            Called::SaveDeck => "SAVE",
-            Called::Status => "STATUS",
-            Called::Bye => "BYE",
-            Called::Show => "LIST, IMAGE, MAP or ERRORS",
-            Called::Claim => "Claim",
-            Called::RunJob => "Job::run",
-            Called::HandIn => "DeliverDeck, DeliverLink or GiveUp",
-            Called::Settle => "settle",
-            Called::ReplyText => "reply_text",
-            Called::WriteReply => "write_reply",
-            Called::Session => "serve_one",
-            Called::OpenOffice => "Office::open",
-            Called::CallSeat => "Seat::call",
-            Called::Meet => "meet",
-            Called::Close => "close",
-            Called::LoadShelf => "Shelf::load",
-            Called::SaveShelf => "Shelf::save",
+        match NAMES.get(self as usize) {
+            Some(name) => name,
+            None => "",
         }
     }
 }
@@ -94,39 +102,23 @@ pub struct Note {
 /// The notes of a scenario.
 #[derive(Drop)]
 pub struct Journal {
-    calls: u64,
-    failed: u64,
-    is_lacking: bool,
-    notes: Vec<Note>,
+    /// How many calls there were, those that were made again counted once: the same in each run.
+    pub calls: u64,
+    /// Whether a check failed.
+    pub has_failed: bool,
+    /// Whether the scenario's own memory was refused, so that it is to be begun again.
+    pub is_lacking: bool,
+    pub notes: Vec<Note>,
 }
 
 impl Journal {
     pub fn new(alloc: Global) -> Journal {
         Journal {
             calls: 0,
-            failed: 0,
+            has_failed: false,
             is_lacking: false,
             notes: Vec::new(alloc),
         }
-    }
-
-    /// How many calls there were, those that were made again counted once: the same in each run.
-    pub fn calls(&self) -> u64 {
-        self.calls
-    }
-
-    /// How many checks failed.
-    pub fn failed(&self) -> u64 {
-        self.failed
-    }
-
-    /// Whether the scenario's own memory was refused, so that it is to be begun again.
-    pub fn is_lacking(&self) -> bool {
-        self.is_lacking
-    }
-
-    pub fn notes(&self) -> &[Note] {
-        self.notes.as_slice()
     }
 
     /// A call was made, with what is wanted of it or not.
@@ -149,14 +141,9 @@ impl Journal {
             return;
         }
         if !holds {
-            self.failed = self.failed.saturating_add(1);
+            self.has_failed = true;
         }
         let _ = self.notes.push(Note { call, holds });
-    }
-
-    /// The scenario's own memory was refused.
-    pub fn lack(&mut self) {
-        self.is_lacking = true;
     }
 
     /// Notes whether the scenario's own memory was refused.

@@ -53,27 +53,32 @@ enum Scenario {
     ManyDecks,
 }
 
-/// The scenarios that are gone through where none is named.
-const SMALL: [(&str, Scenario); 13] = [
-    ("records", Scenario::Records),
-    ("texts", Scenario::Texts),
-    ("runs", Scenario::Runs),
-    ("ports", Scenario::Ports),
-    ("calls", Scenario::Calls),
-    ("jobs", Scenario::Jobs),
-    ("foreign", Scenario::Foreign),
-    ("settle", Scenario::Settle),
-    ("replies", Scenario::Replies),
-    ("session", Scenario::Session),
-    ("session_ports", Scenario::SessionPorts),
-    ("office", Scenario::Office),
-    ("folder", Scenario::Folder),
-];
+/// Where a scenario is gone through.
+#[derive(Clone, Copy)]
+enum Size {
+    /// Where it or none is named.
+    Small,
+    /// Where it is named.
+    Large,
+}
 
-/// The large ones.
-const LARGE: [(&str, Scenario); 2] = [
-    ("many_edits", Scenario::ManyEdits),
-    ("many_decks", Scenario::ManyDecks),
+/// All scenarios with their names.
+const SCENARIOS: [(&str, Scenario, Size); 15] = [
+    ("records", Scenario::Records, Size::Small),
+    ("texts", Scenario::Texts, Size::Small),
+    ("runs", Scenario::Runs, Size::Small),
+    ("ports", Scenario::Ports, Size::Small),
+    ("calls", Scenario::Calls, Size::Small),
+    ("jobs", Scenario::Jobs, Size::Small),
+    ("foreign", Scenario::Foreign, Size::Small),
+    ("settle", Scenario::Settle, Size::Small),
+    ("replies", Scenario::Replies, Size::Small),
+    ("session", Scenario::Session, Size::Small),
+    ("session_ports", Scenario::SessionPorts, Size::Small),
+    ("office", Scenario::Office, Size::Small),
+    ("folder", Scenario::Folder, Size::Small),
+    ("many_edits", Scenario::ManyEdits, Size::Large),
+    ("many_decks", Scenario::ManyDecks, Size::Large),
 ];
 
 /// The status where a check failed.
@@ -82,14 +87,16 @@ const FAILED_STATUS: u8 = 1;
 /// The status where nothing can be said.
 const NOTHING_STATUS: u8 = 2;
 
-/// How a scenario ended.
-#[derive(Clone, Copy, PartialEq, Eq)]
+/// How what was gone through ended.
+#[derive(Clone, Copy)]
 enum Ended {
     AsWanted,
     /// A check failed.
     Failed,
-    /// Its own memory was refused twice.
+    /// A scenario's own memory was refused.
     Lacking,
+    /// There is no such scenario.
+    Unknown,
 }
 
 impl Ended {
@@ -97,16 +104,15 @@ impl Ended {
         match self {
             Ended::AsWanted => 0,
             Ended::Failed => FAILED_STATUS,
-            Ended::Lacking => NOTHING_STATUS,
+            Ended::Lacking | Ended::Unknown => NOTHING_STATUS,
         }
     }
 
-    /// How both ended: the worse of the two.
-    fn with(self, other: Ended) -> Ended {
-        if self.status() < other.status() {
-            other
-        } else {
-            self
+    /// How it ended with what was gone through before: as the first that was not as wanted.
+    fn behind(self, before: Ended) -> Ended {
+        match before {
+            Ended::Failed | Ended::Lacking => before,
+            Ended::AsWanted | Ended::Unknown => self,
         }
     }
 }
@@ -154,7 +160,7 @@ fn journal_of<R: AllocGlobal + Files + Wait>(rt: &R, scenario: Scenario) -> Jour
 
 /// Tells on standard error what was refused and what failed, each on a line.
 fn tell_notes<R: Eprint>(rt: &R, name: &str, journal: &Journal) -> io::Result<()> {
-    for note in journal.notes() {
+    for note in &journal.notes {
         let found = if note.holds {
             "as wanted"
         } else {
@@ -167,13 +173,28 @@ fn tell_notes<R: Eprint>(rt: &R, name: &str, journal: &Journal) -> io::Result<()
 
 /// Tells what came of a scenario.
 fn tell<R: Print + Eprint>(rt: &R, name: &str, journal: &Journal) -> io::Result<Ended> {
-    let calls = journal.calls();
-    if journal.failed() == 0 {
-        println!(rt; "{name}: {calls} calls, all as wanted")?;
-        return Ok(Ended::AsWanted);
+    if journal.is_lacking {
+        eprintln!(rt; "{name}: begun again")?;
+        return Ok(Ended::Lacking);
     }
-    println!(rt; "{name}: {calls} calls, {} NOT AS WANTED", journal.failed())?;
-    Ok(Ended::Failed)
+    let (found, ended) = if journal.has_failed {
+        ("NOT ALL AS WANTED", Ended::Failed)
+    } else {
+        ("all as wanted", Ended::AsWanted)
+    };
+    println!(rt; "{name}: {} calls, {found}", journal.calls)?;
+    Ok(ended)
+}
+
+/// Goes through a scenario.
+fn run_once<R: AllocGlobal + Files + Wait + Print + Eprint>(
+    rt: &R,
+    name: &str,
+    scenario: Scenario,
+) -> io::Result<Ended> {
+    let journal = journal_of(rt, scenario);
+    tell_notes(rt, name, &journal)?;
+    tell(rt, name, &journal)
 }
 
 /// Goes through a scenario, once more where its own memory is refused.
@@ -182,53 +203,40 @@ fn run_one<R: AllocGlobal + Files + Wait + Print + Eprint>(
     name: &str,
     scenario: Scenario,
 ) -> io::Result<Ended> {
-    for _ in 0..2 {
-        let journal = journal_of(rt, scenario);
-        tell_notes(rt, name, &journal)?;
-        if !journal.is_lacking() {
-            return tell(rt, name, &journal);
-        }
-        eprintln!(rt; "{name}: begun again")?;
+    match run_once(rt, name, scenario)? {
+        Ended::Lacking => run_once(rt, name, scenario),
+        ended => Ok(ended),
     }
-    Ok(Ended::Lacking)
 }
 
-/// Goes through all scenarios that are not large.
-fn run_small<R: AllocGlobal + Files + Wait + Print + Eprint>(rt: &R) -> io::Result<Ended> {
-    let mut ended = Ended::AsWanted;
-    for (name, scenario) in SMALL {
-        ended = ended.with(run_one(rt, name, scenario)?);
+/// Whether a word, or none, chooses a scenario.
+fn is_chosen(word: &str, name: &str, size: Size) -> bool {
+    match size {
+        Size::Small => word.is_empty() || word == name,
+        Size::Large => word == name,
     }
-    Ok(ended)
 }
 
-/// The scenario of a name, if there is one.
-fn scenario_named(word: &str) -> Option<Scenario> {
-    for (name, scenario) in SMALL.iter().chain(LARGE.iter()) {
-        if *name == word {
-            return Some(*scenario);
-        }
-    }
-    None
-}
-
-/// Goes through the scenario of a name.
-fn run_named<R: AllocGlobal + Files + Wait + Print + Eprint>(
+/// Goes through the scenarios that a word chooses.
+fn run_chosen<R: AllocGlobal + Files + Wait + Print + Eprint>(
     rt: &R,
     word: &str,
 ) -> io::Result<Ended> {
-    match scenario_named(word) {
-        Some(scenario) => run_one(rt, word, scenario),
-        None => Err(io::Error::other("no such scenario")),
+    let mut ended = Ended::Unknown;
+    for (name, scenario, size) in &SCENARIOS {
+        if is_chosen(word, name, *size) {
+            ended = run_one(rt, name, *scenario)?.behind(ended);
+        }
     }
+    Ok(ended)
 }
 
 /// Goes through what the arguments name.
 fn run<R: AllocGlobal + Env + Files + Wait + Print + Eprint>(rt: &R) -> io::Result<Ended> {
     let words: Vec<String> = env::args(rt)?.collect(rt.alloc())?;
     match words.get(1) {
-        Some(word) => run_named(rt, word.as_str()),
-        None => run_small(rt),
+        Some(word) => run_chosen(rt, word.as_str()),
+        None => run_chosen(rt, ""),
     }
 }
 

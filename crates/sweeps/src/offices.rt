@@ -3,9 +3,10 @@ ghost use Rattle.std.specs.Prelude.{◌≡◌, IfOk};
 ghost use Rattle.turn_office.specs.Seats.{new_seats};
 
 use crate::decks::{DECKS, DeckText, cards_of, name_of};
+use crate::jobs::{Told, told_in};
 use crate::journal::Called;
-use crate::scene::{Scene, state_of};
-use desk_core::{Call, Desk, NewDeck, Refusal, Reply};
+use crate::scene::Scene;
+use desk_core::{Call, Desk, NewDeck, Refusal};
 use std::alloc::{AllocError, Global};
 use std::mem;
 use std::sync::Wait;
@@ -14,18 +15,31 @@ use turn_office::{Office, Seat, SeatList};
 /// In how many turns the desk is settled at most.
 const TURNS: u32 = 8;
 
-/// An office of two seats, opened once more where there is no memory: the desk comes back as it was.
-fn open(scene: &mut Scene, mut desk: Desk) -> Result<(Office<Desk>, SeatList<Desk>), AllocError>
+/// An office of two seats; or the desk comes back where there is no memory.
+fn open_once(scene: &mut Scene) -> Result<(Office<Desk>, SeatList<Desk>), AllocError>
     ensures { IfOk result (λ opened. opened.1.items ≡ new_seats opened.0.id 2) }
 {
-    let before = state_of(scene.alloc, &mut desk)?;
+    let desk = mem::replace(&mut scene.desk, Desk::new(scene.alloc));
     match Office::open(scene.alloc, desk, 2) {
         Ok(opened) => Ok(opened),
         Err(failed) => {
-            let mut desk = failed.value;
-            let is_kept = state_of(scene.alloc, &mut desk)? == before;
+            scene.desk = failed.value;
+            Err(AllocError)
+        }
+    }
+}
+
+/// An office of two seats, opened once more where there is no memory: the desk comes back as it was.
+fn open(scene: &mut Scene) -> Result<(Office<Desk>, SeatList<Desk>), AllocError>
+    ensures { IfOk result (λ opened. opened.1.items ≡ new_seats opened.0.id 2) }
+{
+    let before = scene.state();
+    match open_once(scene) {
+        Ok(opened) => Ok(opened),
+        Err(_) => {
+            let is_kept = scene.state() == before;
             scene.journal.refused(Called::OpenOffice, is_kept);
-            Ok(Office::open(scene.alloc, desk, 2)?)
+            open_once(scene)
         }
     }
 }
@@ -36,29 +50,31 @@ fn addition(alloc: Global, deck: &DeckText) -> Result<Call, AllocError> {
     Ok(Call::AddDeck(NewDeck::new(name_of(deck.name)?, cards)))
 }
 
-/// One call from a seat. What it answers is looked at and no contract of it.
-fn ask<R: Wait>(rt: &R, office: &Office<Desk>, seat: &mut Seat<Desk>, call: Call) -> Reply
+/// What one call from a seat tells. It is looked at and no contract of it.
+fn ask<R: Wait>(rt: &R, office: &Office<Desk>, seat: &mut Seat<Desk>, call: Call) -> Told
     requires { seat.old.office ≡ office.now.id }
     ensures { seat.new.office ≡ seat.old.office }
 {
-    seat.call(rt, office, call)
+    told_in(&seat.call(rt, office, call))
 }
 
-/// The version in the reply to a change or to the question how the desk stands; 0 in others.
-fn version_in(reply: &Reply) -> u64 {
-    match reply {
-        Reply::StatusIs(version, _, _) => *version,
-        Reply::Changed(version) => *version,
-        _ => 0,
+/// The version of the desk, unless the scenario's own memory was refused.
+fn version_of<R: Wait>(
+    rt: &R,
+    scene: &mut Scene,
+    office: &Office<Desk>,
+    seat: &mut Seat<Desk>,
+) -> u64
+    requires { seat.old.office ≡ office.now.id }
+    ensures { seat.new.office ≡ seat.old.office }
+{
+    match ask(rt, office, seat, Call::Status) {
+        Told::Version(version) => version,
+        _ => {
+            scene.journal.is_lacking = true;
+            0
+        }
     }
-}
-
-/// The version of the desk.
-fn version_of<R: Wait>(rt: &R, office: &Office<Desk>, seat: &mut Seat<Desk>) -> u64
-    requires { seat.old.office ≡ office.now.id }
-    ensures { seat.new.office ≡ seat.old.office }
-{
-    version_in(&ask(rt, office, seat, Call::Status))
 }
 
 /// Adds a deck from a seat, and answers whether it did. Without memory the version is as before.
@@ -72,13 +88,13 @@ fn add_once<R: Wait>(
     requires { seat.old.office ≡ office.now.id }
     ensures { seat.new.office ≡ seat.old.office }
 {
-    let before = version_of(rt, office, seat);
-    let reply = ask(rt, office, seat, call);
-    let after = version_of(rt, office, seat);
-    if let Reply::Refused(Refusal::OutOfMemory) = &reply {
+    let before = version_of(rt, scene, office, seat);
+    let told = ask(rt, office, seat, call);
+    let after = version_of(rt, scene, office, seat);
+    if told == Told::Refused(Refusal::OutOfMemory) {
         scene.journal.refused(Called::CallSeat, before == after);
     }
-    before < after && version_in(&reply) == after
+    before < after && told == Told::Version(after)
 }
 
 /// Adds a deck from a seat, once more where there is no memory.
@@ -144,8 +160,7 @@ fn use_office<R: Wait>(
 /// An office from its opening to its end, and what its desk then has.
 pub fn office<R: Wait>(rt: &R, scene: &mut Scene) -> Result<(), AllocError> {
     scene.load_first();
-    let desk = mem::replace(&mut scene.desk, Desk::new(scene.alloc));
-    let (office, seats) = open(scene, desk)?;
+    let (office, seats) = open(scene)?;
     scene.desk = use_office(rt, scene, office, seats)?;
     scene.journal.made(Called::Close, true);
     scene.settle_as_asm(TURNS)

@@ -136,8 +136,8 @@ fn edited(
     input: &mut Vec<u8>,
 ) -> Result<SharedObject, AllocError> {
     let mut kept = record(scene, deck)?;
-    for (line, fault) in EDITS {
-        edit(scene, &mut kept, line, fault)?;
+    for (line, fault) in &EDITS {
+        edit(scene, &mut kept, *line, *fault)?;
     }
     push_lines(input, kept.cards())?;
     finish(scene, &kept)

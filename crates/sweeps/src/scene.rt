@@ -1,19 +1,21 @@
 //! What a scenario goes through: a desk and a shelf, the commands that a session says there, and the
 //! desk settled as `asm_run` has it.
 
-use crate::decks::{DECKS, asm_answer, listed_text, name_of, push_lines};
+use crate::decks::{DECKS, asm_answer, name_of};
 use crate::journal::{Called, Journal};
-use cards::{Card, DeckName};
-use deck_files::MemoryShelf;
+use deck_files::{MemoryShelf, Shelf};
 use deck_workers::{Settled, settle};
-use desk_core::{Call, Desk, Listed, Refusal, Reply, Row};
-use session_line::serve_one;
+use desk_core::Desk;
+use session_line::{Calls, serve_one};
 use statement_coder::Meter;
 use std::alloc::{AllocError, Global};
 use text_ports::Counted;
 
-/// How many bytes the reply to one command has at most.
+/// How many bytes most replies have at most.
 const ROOM: usize = 4000;
+
+/// How the reply of a command begins that is refused.
+const REFUSED: &[u8] = b"NO ";
 
 /// The reply of a command that found no memory.
 const LACKING: &[u8] = b"NO OutOfMemory\n";
@@ -21,66 +23,34 @@ const LACKING: &[u8] = b"NO OutOfMemory\n";
 /// What a command calls, its lines, and its reply.
 pub type Command = (Called, &'static str, &'static str);
 
-/// Asks a desk. What it answers is looked at and no contract of it, and so who asks has no facts of it.
-pub fn ask(desk: &mut Desk, call: Call) -> Reply {
-    desk.step(call)
-}
-
-/// The version of a deck, and its cards.
-fn cards_in(desk: &mut Desk, name: &DeckName) -> Result<(u64, Listed<Card>), AllocError> {
-    match ask(desk, Call::Cards(name.copied())) {
-        Reply::CardsAre(version, cards) => Ok((version, cards)),
-        _ => Err(AllocError),
-    }
-}
-
-/// A row for each deck.
-fn rows(desk: &mut Desk) -> Result<Listed<Row>, AllocError> {
-    match ask(desk, Call::Status) {
-        Reply::StatusIs(_, _, rows) => Ok(rows),
-        _ => Err(AllocError),
-    }
-}
-
-/// Puts the name, the version and the cards of a deck behind those of others; where it is a file that is
-/// wanted, the cards alone.
-fn push_deck(
+/// The reply to a command. The error is that there is no memory to write it to.
+fn replied<C: Calls, S: Shelf>(
     alloc: Global,
-    texts: &mut Vec<u8>,
-    desk: &mut Desk,
-    row: &Row,
-    is_file: bool,
-) -> Result<(), AllocError> {
-    let (version, cards) = cards_in(desk, &row.name)?;
-    if !is_file {
-        let version = format!(in alloc; "{version} ")?;
-        texts.extend_from_slice(row.name.as_slice())?;
-        texts.extend_from_slice(version.as_bytes())?;
+    desk: &mut C,
+    shelf: &mut S,
+    lines: &[u8],
+) -> Result<Vec<u8>, AllocError> {
+    let mut output = Counted::new(Vec::with_capacity(alloc, ROOM)?);
+    serve_one(alloc, &mut Counted::new(lines), &mut output, desk, shelf);
+    if output.faults() > 0 {
+        return Err(AllocError);
     }
-    push_lines(texts, cards.as_slice())
+    Ok(output.into_inner())
 }
 
-/// The texts of all decks.
-fn texts_of(alloc: Global, desk: &mut Desk, is_file: bool) -> Result<Vec<u8>, AllocError> {
-    let rows = rows(desk)?;
-    let mut texts = Vec::new(alloc);
-    for row in rows.as_slice() {
-        push_deck(alloc, &mut texts, desk, row, is_file)?;
+/// What stands behind the first line of a text.
+fn behind_line(text: &str) -> &str {
+    match text.split_once('\n') {
+        Some((_, rest)) => rest,
+        None => text,
     }
-    Ok(texts)
 }
 
-/// The name, the version and the cards of each deck.
-pub fn state_of(alloc: Global, desk: &mut Desk) -> Result<Vec<u8>, AllocError> {
-    texts_of(alloc, desk, false)
-}
-
-/// What a desk has published: listing and image, one behind the other.
-fn shown_by(alloc: Global, desk: &mut Desk) -> Result<Vec<u8>, AllocError> {
-    match ask(desk, Call::Show) {
-        Reply::Shown(shown) => listed_text(alloc, shown.publication()),
-        Reply::Refused(Refusal::OutOfMemory) => Err(AllocError),
-        _ => Ok(Vec::new(alloc)),
+/// The name in front of the row of a status.
+fn name_in(row: &str) -> &str {
+    match row.split_once(' ') {
+        Some((name, _)) => name,
+        None => row,
     }
 }
 
@@ -134,48 +104,89 @@ impl Scene {
         match found {
             Ok(found) => found,
             Err(_) => {
-                self.journal.lack();
+                self.journal.is_lacking = true;
                 Vec::new(self.alloc)
             }
         }
     }
 
-    /// The name, the version and the cards of each deck, and the file of M.
-    pub fn state(&mut self) -> Vec<u8> {
-        let found = self.state_with_file();
-        self.own(found)
+    /// The reply to a command.
+    fn replied(&mut self, lines: &[u8]) -> Result<Vec<u8>, AllocError> {
+        replied(self.alloc, &mut self.desk, &mut self.shelf, lines)
     }
 
+    /// The reply to a question of the scenario's own. Where it is refused, there is no memory for it.
+    fn told(&mut self, lines: &[u8]) -> Result<Vec<u8>, AllocError> {
+        let reply = self.replied(lines)?;
+        if reply.starts_with(REFUSED) {
+            return Err(AllocError);
+        }
+        Ok(reply)
+    }
+
+    /// Puts the cards of a deck behind those of others, with its name and its version unless a file is
+    /// wanted.
+    fn push_deck(
+        &mut self,
+        texts: &mut Vec<u8>,
+        row: &str,
+        is_file: bool,
+    ) -> Result<(), AllocError> {
+        let question = format!(in self.alloc; "CARDS {}\n", name_in(row))?;
+        let reply = self.told(question.as_bytes())?;
+        let mut text = str::from_utf8(&reply).unwrap_or("");
+        if is_file {
+            text = behind_line(text);
+        } else {
+            texts.extend_from_slice(question.as_bytes())?;
+        }
+        texts.extend_from_slice(text.as_bytes())
+    }
+
+    /// The texts of all decks.
+    fn texts(&mut self, is_file: bool) -> Result<Vec<u8>, AllocError> {
+        let status = self.told(b"STATUS\n")?;
+        let status = str::from_utf8(&status).unwrap_or("");
+        let mut texts = Vec::new(self.alloc);
+        for row in behind_line(behind_line(status)).lines() {
+            self.push_deck(&mut texts, row, is_file)?;
+        }
+        Ok(texts)
+    }
+
+    /// The names, the versions and the cards of all decks, and the file of M.
     fn state_with_file(&mut self) -> Result<Vec<u8>, AllocError> {
-        let mut state = state_of(self.alloc, &mut self.desk)?;
+        let mut state = self.texts(false)?;
         if let Some(file) = self.shelf.file(&name_of("M")?) {
             state.extend_from_slice(file)?;
         }
         Ok(state)
     }
 
-    /// The reply to a command.
-    pub fn reply(&mut self, lines: &[u8]) -> Vec<u8> {
-        let room = Vec::with_capacity(self.alloc, ROOM);
-        let mut output = Counted::new(self.own(room));
-        serve_one(
-            self.alloc,
-            &mut Counted::new(lines),
-            &mut output,
-            &mut self.desk,
-            &mut self.shelf,
-        );
-        output.into_inner()
+    /// The same, or nothing where the scenario's own memory was refused.
+    pub fn state(&mut self) -> Vec<u8> {
+        let found = self.state_with_file();
+        self.own(found)
     }
 
-    /// Says a command, once more where there is no memory for it: then decks and files are as before.
+    /// The reply to a command. Where it is refused, decks and files are as before.
+    fn reply(&mut self, call: Called, lines: &[u8], before: &[u8]) -> Vec<u8> {
+        let found = self.replied(lines);
+        let reply = self.own(found);
+        if reply.starts_with(REFUSED) {
+            let is_kept = self.state().as_slice() == before;
+            self.journal.kept(call, is_kept);
+        }
+        reply
+    }
+
+    /// Says a command, once more where there is no memory for it.
     pub fn say(&mut self, call: Called, lines: &[u8], wanted: &[u8]) {
         let before = self.state();
-        let mut reply = self.reply(lines);
+        let mut reply = self.reply(call, lines, &before);
         if reply.as_slice() == LACKING {
-            let is_kept = self.state() == before;
-            self.journal.refused(call, is_kept);
-            reply = self.reply(lines);
+            self.journal.refused(call, true);
+            reply = self.reply(call, lines, &before);
         }
         self.journal.made(call, reply.as_slice() == wanted);
     }
@@ -197,44 +208,56 @@ impl Scene {
 
     /// Loads the first of them.
     pub fn load_first(&mut self) {
-        let [first, _, _] = DECKS;
-        self.put(first.name, first.lines);
+        self.put(DECKS[0].name, DECKS[0].lines);
         self.say_all(LOADS.split_at(1).0);
     }
 
-    /// Settles the desk in so many turns, once more where that finds no memory: then cards and versions
-    /// are as before.
-    fn settle(&mut self, turns: u32) {
-        let before = self.state();
-        for _ in 0..2 {
-            let is_settled = is_settled(self.alloc, &mut self.desk, turns);
-            let is_kept = self.state() == before;
-            if is_settled {
-                return self.journal.made(Called::Settle, is_kept);
-            }
-            self.journal.refused(Called::Settle, is_kept);
+    /// Settles the desk in so many turns: whether all of it is published then. Cards and versions are as
+    /// before, whether it is or not.
+    fn settle_once(&mut self, turns: u32, before: &[u8]) -> bool {
+        let is_settled = is_settled(self.alloc, &mut self.desk, turns);
+        let is_kept = self.state().as_slice() == before;
+        self.journal.kept(Called::Settle, is_kept);
+        if !is_settled {
+            self.journal.refused(Called::Settle, true);
         }
-        self.journal.made(Called::Settle, false);
+        is_settled
     }
 
-    /// Shows what the desk has published, once more where there is no memory for it: it is this text.
-    fn show(&mut self, wanted: &[u8]) {
-        let mut found = shown_by(self.alloc, &mut self.desk);
-        if found.is_err() {
+    /// Settles the desk in so many turns, once more where that finds no memory.
+    fn settle(&mut self, turns: u32) {
+        let before = self.state();
+        let is_settled = self.settle_once(turns, &before) || self.settle_once(turns, &before);
+        self.journal.made(Called::Settle, is_settled);
+    }
+
+    /// Puts what a command shows of the publication behind another text.
+    fn push_shown(&mut self, text: &mut Vec<u8>, lines: &[u8]) -> Result<(), AllocError> {
+        let mut reply = self.replied(lines)?;
+        if reply.as_slice() == LACKING {
             self.journal.refused(Called::Show, true);
-            found = shown_by(self.alloc, &mut self.desk);
+            reply = self.replied(lines)?;
         }
-        let holds = matches!(&found, Ok(text) if text.as_slice() == wanted);
-        self.journal.made(Called::Show, holds);
+        let reply = str::from_utf8(&reply).unwrap_or("");
+        text.extend_from_slice(behind_line(reply).as_bytes())
+    }
+
+    /// Listing, map and image that the desk has published, one behind the other.
+    fn shown(&mut self) -> Result<Vec<u8>, AllocError> {
+        let mut text = Vec::new(self.alloc);
+        self.push_shown(&mut text, b"LIST\n")?;
+        self.push_shown(&mut text, b"IMAGE\n")?;
+        Ok(text)
     }
 
     /// Settles the desk in so many turns, and finds that it shows what `asm_run` writes for its decks.
     pub fn settle_as_asm(&mut self, turns: u32) -> Result<(), AllocError> {
         self.settle(turns);
-        let input = texts_of(self.alloc, &mut self.desk, true)?;
+        let input = self.texts(true)?;
         let answer = asm_answer(self.alloc, &input);
         let wanted = self.journal.got(Called::AsmRun, answer)?;
-        self.show(&wanted);
+        let found = self.shown()?;
+        self.journal.made(Called::Show, found == wanted);
         Ok(())
     }
 }

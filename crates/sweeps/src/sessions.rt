@@ -78,39 +78,22 @@ pub fn session(scene: &mut Scene) -> Result<(), AllocError> {
 /// The lines of all commands, or all replies.
 fn all(alloc: Global, is_replies: bool) -> Result<Vec<u8>, AllocError> {
     let mut texts = Vec::new(alloc);
-    for (_, lines, reply) in COMMANDS {
+    for (_, lines, reply) in &COMMANDS {
         let text = if is_replies { reply } else { lines };
         texts.extend_from_slice(text.as_bytes())?;
     }
     Ok(texts)
 }
 
-/// A scene with the file, unless its own memory was refused.
-fn with_file(alloc: Global) -> Result<Scene, AllocError> {
-    let mut place = Scene::new(alloc);
-    place.put("N", FILE);
-    found(&place)?;
-    Ok(place)
-}
-
-/// Whether a scene found all of its own memory.
-fn found(place: &Scene) -> Result<(), AllocError> {
-    if place.journal.is_lacking() {
-        return Err(AllocError);
-    }
-    Ok(())
-}
-
 /// What there is behind each command, and in front of them all.
-fn states(alloc: Global) -> Result<Vec<Vec<u8>>, AllocError> {
-    let mut place = with_file(alloc)?;
-    let mut states = Vec::new(alloc);
-    states.push(place.state())?;
-    for (_, lines, _) in COMMANDS {
-        place.reply(lines.as_bytes());
-        states.push(place.state())?;
+fn states(scene: &mut Scene) -> Result<Vec<Vec<u8>>, AllocError> {
+    scene.put("N", FILE);
+    let mut states = Vec::new(scene.alloc);
+    states.push(scene.state())?;
+    for (call, lines, reply) in &COMMANDS {
+        scene.say(*call, lines.as_bytes(), reply.as_bytes());
+        states.push(scene.state())?;
     }
-    found(&place)?;
     Ok(states)
 }
 
@@ -141,16 +124,6 @@ fn serve_all(
     (outcome, executed)
 }
 
-/// Whether a line of the replies says that there was no memory.
-fn is_lacking(replies: &str) -> bool {
-    for line in replies.lines() {
-        if line == "NO OutOfMemory" {
-            return true;
-        }
-    }
-    false
-}
-
 /// What a session is held against: its lines, its replies, and what there is behind each command.
 #[derive(Drop)]
 struct Dialogue {
@@ -168,7 +141,8 @@ impl Dialogue {
             Some(left) => left.as_slice() == state,
             None => is_over,
         };
-        if is_lacking(str::from_utf8(taken).unwrap_or("")) {
+        let replies = str::from_utf8(taken).unwrap_or("");
+        if replies.find("NO OutOfMemory\n").is_some() {
             Came::Lacking
         } else if !self.replies.starts_with(taken) || !is_left || is_over != is_whole {
             Came::Wrong
@@ -182,13 +156,16 @@ impl Dialogue {
 
 impl Tries for Dialogue {
     fn try_once(&self, alloc: Global, failing: Failing) -> Result<Came, AllocError> {
-        let mut place = with_file(alloc)?;
+        let mut place = Scene::new(alloc);
+        place.put("N", FILE);
         let mut input = Counted::new(failing.reader(&self.lines));
         let mut output = failing.writer(alloc);
         let (outcome, executed) = serve_all(&mut place, &mut input, &mut output);
         let writer = output.into_inner();
         let state = place.state();
-        found(&place)?;
+        if place.journal.is_lacking {
+            return Err(AllocError);
+        }
         Ok(self.came(writer.taken(), &state, outcome, executed))
     }
 }
@@ -198,7 +175,7 @@ pub fn failing(scene: &mut Scene) -> Result<(), AllocError> {
     let dialogue = Dialogue {
         lines: all(scene.alloc, false)?,
         replies: all(scene.alloc, true)?,
-        states: states(scene.alloc)?,
+        states: states(scene)?,
     };
     fail_all(scene, Called::Session, &dialogue, &[true, false])
 }
