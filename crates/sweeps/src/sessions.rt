@@ -2,7 +2,7 @@
 //! write fails in turn.
 
 use crate::journal::Called;
-use crate::pieces::{Came, Failing, Tries, fail_all};
+use crate::pieces::{Came, Failing, Tries, fail_all, held};
 use crate::scene::{Command, Scene};
 use session_line::{Outcome, serve_one};
 use std::alloc::{AllocError, Global};
@@ -17,6 +17,9 @@ GO        SA1    =7
 
 /// In how many turns the desk of the session is settled at most.
 const TURNS: u32 = 8;
+
+/// The reply of a command that found no memory.
+const LACKING: &str = "NO OutOfMemory\n";
 
 /// Commands with their lines, and their replies.
 const COMMANDS: [Command; 18] = [
@@ -132,7 +135,33 @@ struct Dialogue {
     states: Vec<Vec<u8>>,
 }
 
+/// What stands behind the last line feed.
+fn cut_line(text: &str) -> &str {
+    match text.rsplit_once('\n') {
+        Some((_, cut)) => cut,
+        None => text,
+    }
+}
+
 impl Dialogue {
+    /// Whether all is as before the last of so many commands.
+    fn is_before(&self, state: &[u8], executed: usize) -> bool {
+        match self.states.get(executed.saturating_sub(1)) {
+            Some(before) => before.as_slice() == state,
+            None => false,
+        }
+    }
+
+    /// Whether the reply that there is no memory began to go out, and the writer failed in it.
+    fn is_cut(&self, text: &str, state: &[u8], outcome: Outcome, executed: usize) -> bool {
+        match outcome {
+            Outcome::WriteFault { .. } => {
+                LACKING.starts_with(cut_line(text)) && self.is_before(state, executed)
+            }
+            _ => false,
+        }
+    }
+
     /// What came of a session that ended so behind so many commands: what went out, and what there is.
     fn came(&self, taken: &[u8], state: &[u8], outcome: Outcome, executed: usize) -> Came {
         let is_over = outcome == Outcome::Ended;
@@ -141,11 +170,13 @@ impl Dialogue {
             Some(left) => left.as_slice() == state,
             None => is_over,
         };
-        let replies = str::from_utf8(taken).unwrap_or("");
-        if replies.find("NO OutOfMemory\n").is_some() {
+        let is_wanted = self.replies.starts_with(taken) && is_left && is_over == is_whole;
+        let text = str::from_utf8(taken).unwrap_or("");
+        if text.find(LACKING).is_some() {
             Came::Lacking
-        } else if !self.replies.starts_with(taken) || !is_left || is_over != is_whole {
-            Came::Wrong
+        } else if !is_wanted {
+            let is_cut = self.is_cut(text, state, outcome, executed);
+            held(is_cut, Came::Lacking)
         } else if is_over {
             Came::Whole
         } else {
