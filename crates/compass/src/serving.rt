@@ -36,8 +36,8 @@ const EXAMPLE: &str = "Example:
   compass serve --root decks --port 7070 --workers 2 --sessions 4 &
   printf 'ADD M\\nINS M 1 1 *A\\nCARDS M\\nBYE\\n' | nc 127.0.0.1 7070";
 
-/// The words of `compass serve`.
-pub(crate) fn serve_words<'a>(alloc: Global) -> Result<Command<'a>, AllocError> {
+/// The command with the words of where the decks lie, and of where it listens.
+fn with_places<'a>(alloc: Global, command: Command<'a>) -> Result<Command<'a>, AllocError> {
     let root = Arg::new(alloc, "root")
         .long("root")
         .value_name("DIR")
@@ -59,6 +59,11 @@ pub(crate) fn serve_words<'a>(alloc: Global) -> Result<Command<'a>, AllocError> 
         .action(ArgAction::Set)
         .value_parser(clap::value_parser!(u16))
         .conflicts_with("once")?;
+    command.arg(root)?.arg(port)?.arg(page)
+}
+
+/// The command with the words of how many threads it has, and of how long it waits for a client.
+fn with_threads<'a>(alloc: Global, command: Command<'a>) -> Result<Command<'a>, AllocError> {
     let workers = Arg::new(alloc, "workers")
         .long("workers")
         .value_name("W")
@@ -77,6 +82,11 @@ pub(crate) fn serve_words<'a>(alloc: Global) -> Result<Command<'a>, AllocError> 
         .help("How long a client may be silent before its session ends; 900 unless said")
         .action(ArgAction::Set)
         .value_parser(clap::value_parser!(u64).range(1..1_000_000_000));
+    command.arg(workers)?.arg(sessions)?.arg(idle)
+}
+
+/// The command with the words of its journal, and of when it ends.
+fn with_journal<'a>(alloc: Global, command: Command<'a>) -> Result<Command<'a>, AllocError> {
     let journal = Arg::new(alloc, "journal")
         .long("journal")
         .value_name("FILE")
@@ -92,18 +102,17 @@ pub(crate) fn serve_words<'a>(alloc: Global) -> Result<Command<'a>, AllocError> 
         .long("once")
         .help("Ends when each session has served one connection")
         .action(ArgAction::SetTrue);
-    Command::new(alloc, "serve")
+    command.arg(journal)?.arg(compact)?.arg(once)
+}
+
+/// The words of `compass serve`.
+pub(crate) fn serve_words<'a>(alloc: Global) -> Result<Command<'a>, AllocError> {
+    let command = Command::new(alloc, "serve")
         .about("Serves a desk of decks that several people edit over TCP")
-        .after_help(EXAMPLE)
-        .arg(root)?
-        .arg(port)?
-        .arg(page)?
-        .arg(workers)?
-        .arg(sessions)?
-        .arg(idle)?
-        .arg(journal)?
-        .arg(compact)?
-        .arg(once)
+        .after_help(EXAMPLE);
+    let command = with_places(alloc, command)?;
+    let command = with_threads(alloc, command)?;
+    with_journal(alloc, command)
 }
 
 /// Where the words want the journal.
