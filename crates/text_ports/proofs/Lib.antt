@@ -7,3 +7,5 @@ pub mod LineLaws
 pub mod HeldLines
 -- The steps of writing digits from the last one on.
 pub mod DigitSteps
+-- What the proofs by hand of a history share.
+mod Walks

@@ -1,11 +1,13 @@
 //! Bytes in and out: texts in memory, octal and decimal digits, display code, lines, ports that count
 //! their faults, and ports over memory that fail on purpose. Nothing here knows what a card is, and only
-//! `Text` and `FaultyWriter` take memory.
+//! `Text`, `Piece` and `FaultyWriter` take memory.
 //!
 //! Contracts see a `Counted` port as the port with its count of faults. `next_held_line` answers as
 //! `next_line` does and asks for a reader that shows what it holds: a line that lies there whole is
 //! taken at once. `Text` takes what it appends in one call, so without memory it is as it was;
-//! `ShortText` is an array on the stack that grows at its front, for a line that is appended whole.
+//! `ShortText` is an array on the stack that grows at its front, for a line that is appended whole. A
+//! `Piece` takes all bytes and tells at its end whether it has them: so a text can be put to it by
+//! functions that have no want of memory to tell.
 #![tactic(auto)]
 
 // Characters and numbers.
@@ -14,6 +16,8 @@ mod digits;
 mod octal_text;
 
 // Texts in memory, and short ones on the stack.
+mod history;
+mod piece;
 mod short_text;
 mod text;
 
@@ -35,6 +39,7 @@ pub use faulty_writer::FaultyWriter;
 pub use held_lines::next_held_line;
 pub use lines::{LineBuf, LineIs, next_line, next_whole_line};
 pub use octal_text::{OctalText, octal};
+pub use piece::Piece;
 pub use short_text::ShortText;
 pub use text::Text;
 pub use writing::{Broken, put_all};
