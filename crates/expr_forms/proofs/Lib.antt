@@ -6,6 +6,7 @@ pub mod LinkLaws
 pub mod ParseLaws
 pub mod LoneLaws
 pub mod ElementListLaws
+pub mod PlainLaws
 pub mod SubfieldLaws
 pub mod OperandLaws
 pub mod SumLaws

@@ -4,8 +4,8 @@ pub mod PiecesFound
 pub mod Elements
 pub mod Links
 pub mod LoneRegisters
-pub mod Parsed
 pub mod ElementLists
+pub mod Parsed
 pub mod NamesInline
 pub mod FormsAs
 pub mod Ranges

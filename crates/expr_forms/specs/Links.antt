@@ -1,11 +1,12 @@
 -- Links of the code, in the words of the definitions.
 use Rattle.std.specs.Prelude.{ℕ, List, [], ◌∷◌, Option, Some, None, ⊤, unwrap_or, ◌≡◌, true, is_some}
-use Rattle.definitions.specs.Pieces.{Mark, Comma, Plus, Minus, Star, Slash, Equals, Inside, pieces_at}
+use Rattle.definitions.specs.Pieces.{Mark, Plus, Minus, Star, Slash, Inside, pieces_at}
 use Rattle.definitions.specs.Expressions.{Operator, Times, Divide, Add, Subtract, OperatorElement, AnOperator, onto_pairs, pairs_of}
 use Rattle.definitions.specs.declared.number_base.NumberBase.{NumberBase}
 use Rattle.expr_forms.specs.Elements.{element_as}
 use Rattle.expr_forms.specs.declared.links.Operator as operators
 use Rattle.expr_forms.specs.declared.links.Operator.TheVariants as operator
+use Rattle.expr_forms.specs.declared.elements.Element as elements
 use Rattle.expr_forms.specs.declared.links.Link as code
 use Rattle.expr_forms.specs.declared.links.LinkFound as links
 use Rattle.expr_forms.specs.declared.links.LinkFound.TheVariants as found
@@ -34,6 +35,10 @@ links_found base (found.Link link rest) = onto_pairs (operator_as link.operator)
 -- the operator and its element
 abbrev pub link_as : code.Link → OperatorElement
 link_as link = record { operator = operator_as link.operator; element = element_as link.element }
+
+-- the same, of an operator and an element by themselves
+abbrev pub link_made : operators.Operator → elements.Element → OperatorElement
+link_made operator element = record { operator = operator_as operator; element = element_as element }
 
 -- the pairs that a text behind an element spells, if it does
 abbrev pub pairs_behind : NumberBase → List ℕ → Option (List OperatorElement)

@@ -38,6 +38,11 @@ abbrev pub has_no_factors : List OperatorElement → Bool
 has_no_factors [] = true
 has_no_factors (pair ∷ pairs) = false
 
+-- whether there is a term
+abbrev pub has_terms : List Term → Bool
+has_terms [] = false
+has_terms (term ∷ terms) = true
+
 -- the terms that are more than one register
 abbrev pub other_terms : List Term → List Term
 other_terms [] = []

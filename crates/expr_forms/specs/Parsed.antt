@@ -1,10 +1,12 @@
 -- What an expression of the code is, in the words of the definitions.
-use Rattle.std.specs.Prelude.{ℕ, ◌≤◌, List, [], ◌∷◌, length}
-use Rattle.definitions.specs.Expressions.{Sign, OperatorElement, Expression, grouped}
+use Rattle.std.specs.Prelude.{ℕ, ◌≡◌, ◌≤◌, List, [], ◌∷◌, Bool, true, false, length}
+use Rattle.std.specs.List.{list_all}
+use Rattle.definitions.specs.Expressions.{Sign, OperatorElement, Expression, grouped, is_allowed, is_plain}
 use Rattle.definitions.specs.declared.number_base.NumberBase.{NumberBase}
 use Rattle.definitions.proofs.TermLaws.{JoinsTerms, links_in}
+use Rattle.expr_forms.specs.ElementLists.{elements_in}
 use Rattle.expr_forms.specs.Links.{IsLawful, links_behind}
-use Rattle.expr_forms.specs.LoneRegisters.{terms_left_by}
+use Rattle.expr_forms.specs.LoneRegisters.{has_terms, terms_left_by}
 use Rattle.expr_forms.specs.declared.links.LoneRegisters.{LoneRegisters}
 
 -- the expression of a sign, its first link and those that a text spells behind it, with the terms of one register or without them
@@ -25,3 +27,17 @@ links_of e = links_in e.terms
 abbrev pub BeginsTerm : List OperatorElement → Type 0
 BeginsTerm [] = Unit {0}
 BeginsTerm (pair ∷ pairs) = JoinsTerms pair.operator
+
+-- no link has a register or a literal
+abbrev pub are_plain : List OperatorElement → Bool
+are_plain pairs = list_all (is_allowed false) (elements_in pairs)
+
+-- an expression without registers and literals, of at least one term
+pub record IsPlainSum (e : Expression) : Type 0 where
+  pub plain : is_plain false e ≡ true
+  pub some : has_terms e.terms ≡ true
+
+-- an expression that was read, and is plain where that is known
+pub record AreRead (base : NumberBase) (sign : Sign) (first : OperatorElement) (rest : List ℕ) (registers : LoneRegisters) (known_plain : Bool) : Type 0 where
+  pub lawful : AreLawful base first rest
+  pub plain : known_plain ≡ true → IsPlainSum (expression_behind base sign first rest registers)

@@ -2,7 +2,7 @@
 use Rattle.std.specs.Prelude.{ℕ, ◌≡◌, ◌+◌, ◌<◌, List, [], ◌∷◌, ◌++◌, length, Option, Some, None, Bool, true, false}
 use Rattle.definitions.specs.Characters.{zero_digit}
 use Rattle.definitions.specs.Symbols.{Register}
-use Rattle.definitions.specs.Expressions.{Sign, Expression, Operator, OperatorElement, Term, grouped}
+use Rattle.definitions.specs.Expressions.{Sign, Expression, Operator, OperatorElement, grouped}
 use Rattle.definitions.specs.Matching as matching
 use Rattle.definitions.specs.Matching.{Field, NoField, OfK, sign_text, is_none_yet, onto_sum, sum_field}
 use Rattle.expr_forms.specs.declared.sums.SumRegisters.{SumRegisters}
@@ -10,7 +10,7 @@ use Rattle.expr_forms.specs.declared.sums.SumRegisters.TheVariants as registers
 use Rattle.expr_forms.specs.declared.sums.Sum.{Sum}
 use Rattle.expr_forms.specs.declared.sums.Parts.{Parts}
 use Rattle.expr_forms.specs.Elements.{sign_as}
-use Rattle.expr_forms.specs.LoneRegisters.{joins_terms}
+use Rattle.expr_forms.specs.LoneRegisters.{joins_terms, has_terms}
 
 -- a text of registers with one more
 abbrev pub with_register : List ℕ → Operator → Register → List ℕ
@@ -37,11 +37,6 @@ onto_sum_by true pair factors sum = onto_sum (record { operator = pair.operator;
 
 abbrev pub onto_sum_link : OperatorElement → List OperatorElement → matching.Sum → matching.Sum
 onto_sum_link pair behind sum = onto_sum_by (joins_terms pair.operator) pair (grouped behind).factors sum
-
--- whether there is a term
-abbrev pub has_terms : List Term → Bool
-has_terms [] = false
-has_terms (term ∷ terms) = true
 
 -- what is found so far is a sum: its sign, its registers, and whether it has other terms
 abbrev pub HasParts : Parts → matching.Sum → Type 0

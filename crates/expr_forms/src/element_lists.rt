@@ -110,6 +110,11 @@ impl<'a> Expr<'a> {
     pub fn literals(&self) -> Literals<'a>
         ensures { result ≡ literals_in self.now }
     {
+        if self.known_plain {
+            return Literals {
+                links: Links::none(),
+            };
+        }
         Literals {
             links: self.links(),
         }

@@ -1,31 +1,34 @@
 //! One expression: a subfield's text that was read once, and its elements from left to right
 //! (COMPASS 60492600, address expressions).
-ghost use Rattle.std.specs.Prelude.{◌≡◌, ◌≤◌, ◌<◌, ◌∷◌, [], length, is_some, MatchOption, MatchResult, Some, None};
+ghost use Rattle.std.specs.Prelude.{◌≡◌, ◌≤◌, ◌<◌, ◌∷◌, [], length, option_map, MatchOption, MatchResult, Some, None};
 ghost use Rattle.definitions.specs.Pieces.{Inside, pieces_at, pieces_of};
 ghost use Rattle.definitions.specs.Expressions.{ElementOf, AnOperator, pairs_of, grouped, with_sign, expression_of};
 ghost use Rattle.definitions.specs.Grammar.{operator_of};
 ghost use Rattle.definitions.specs.declared.number_base.NumberBase.{NumberBase};
-ghost use Rattle.definitions.proofs.GrammarLaws.{link_of};
-ghost use Rattle.expr_forms.specs.Elements.{sign_as, element_as};
-ghost use Rattle.expr_forms.specs.Links.{link_as};
+ghost use Rattle.expr_forms.specs.Elements.{sign_as};
+ghost use Rattle.expr_forms.specs.Links.{operator_as};
 ghost use Rattle.expr_forms.specs.LoneRegisters.{other_terms};
-ghost use Rattle.expr_forms.specs.Parsed.{links_of, BeginsTerm};
+ghost use Rattle.expr_forms.specs.Parsed.{are_plain, links_of, BeginsTerm};
 
 use crate::elements::{Element, Sign, next_element};
 use crate::links::{Link, LinkFound, Links, LoneRegisters, Operator, TextLinks, next_link};
+use crate::plain::is_allowed;
 use definitions::{Letter, NumberBase};
 use std::marker::Model;
 
-/// An expression without registers or with them, not longer than a statement: its first element, and
-/// the text behind it, which is known to be lawful. The terms that are one register may be left out,
-/// so that it is K of a sum. Contracts see the definitions' expression.
+/// An expression without registers or with them, not longer than a statement: its first element with
+/// the operator before it, and the text behind it, which is known to be lawful. The terms that are one register may be left out,
+/// so that it is K of a sum. Where it is known to have no register and no literal, nobody goes over it
+/// for them once more. Contracts see the definitions' expression.
 #[derive(Drop)]
 pub struct Expr<'a> {
     pub(crate) base: NumberBase,
     pub(crate) sign: Sign,
-    pub(crate) first: Link<'a>,
-    pub(crate) rest: &'a [u8],
     pub(crate) registers: LoneRegisters,
+    pub(crate) known_plain: bool,
+    pub(crate) operator: Operator,
+    pub(crate) element: Element<'a>,
+    pub(crate) rest: &'a [u8],
 }
 
 impl<'a> Model for Expr<'a> {
@@ -35,12 +38,12 @@ impl<'a> Model for Expr<'a> {
     ghost Value = { Expression };
 
     ghost use Rattle.expr_forms.specs.Elements.{sign_as};
-    ghost use Rattle.expr_forms.specs.Links.{link_as};
-    ghost use Rattle.expr_forms.specs.Parsed.{expression_behind, AreLawful};
+    ghost use Rattle.expr_forms.specs.Links.{link_made};
+    ghost use Rattle.expr_forms.specs.Parsed.{expression_behind, AreRead};
 
-    ghost view = { λ e. expression_behind e.base (sign_as e.sign) (link_as e.first) e.rest.now e.registers };
+    ghost view = { λ e. expression_behind e.base (sign_as e.sign) (link_made e.operator e.element) e.rest.now e.registers };
 
-    ghost invariant = { λ e. AreLawful e.base (link_as e.first) e.rest.now };
+    ghost invariant = { λ e. AreRead e.base (sign_as e.sign) (link_made e.operator e.element) e.rest.now e.registers e.known_plain };
 }
 
 /// The sign that begins a text, and what follows it.
@@ -82,37 +85,33 @@ fn sign_in_front(text: &[u8]) -> Signed<'_>
     }
 }
 
-/// Whether a text behind an element is links and nothing else.
-fn are_links(base: NumberBase, text: &[u8]) -> bool
-    ensures { result ≡ is_some (pairs_of base AnOperator (pieces_at Inside 0 text.now)) }
+/// Whether the links that a text behind an element is have neither registers nor literals; nothing
+/// where it is not links and nothing else.
+fn are_plain(base: NumberBase, text: &[u8]) -> Option<bool>
+    ensures { result ≡ option_map are_plain (pairs_of base AnOperator (pieces_at Inside 0 text.now)) }
 {
     let mut rest = text;
+    let mut plain = true;
     'links: loop {
         match next_link(base, rest) {
-            LinkFound::End => return true,
-            LinkFound::Unlawful => return false,
-            LinkFound::Link(_, behind) => rest = behind,
+            LinkFound::End => return Some(plain),
+            LinkFound::Unlawful => return None,
+            LinkFound::Link(link, behind) => {
+                plain = plain & is_allowed(false, link.element);
+                rest = behind;
+            }
         }
     }
 }
 
-/// The first element of an expression, behind the operator that its sign is.
-fn first_link(sign: Sign, element: Element<'_>) -> Link<'_>
-    ensures { link_as result ≡ link_of (operator_of (sign_as sign)) (element_as element.entry) }
+/// The operator that a sign is to the element behind it.
+fn first_operator(sign: Sign) -> Operator
+    ensures { operator_as result ≡ operator_of (sign_as sign) }
 {
     match sign {
-        Sign::Absent => Link {
-            operator: Operator::Add,
-            element,
-        },
-        Sign::Plus => Link {
-            operator: Operator::Add,
-            element,
-        },
-        Sign::Minus => Link {
-            operator: Operator::Subtract,
-            element,
-        },
+        Sign::Absent => Operator::Add,
+        Sign::Plus => Operator::Add,
+        Sign::Minus => Operator::Subtract,
     }
 }
 
@@ -128,19 +127,18 @@ impl<'a> Expr<'a> {
         let signed = sign_in_front(text);
         match next_element(base, signed.body) {
             None => Err(Letter::V),
-            Some(found) => {
-                if are_links(base, found.rest) {
-                    Ok(Expr {
-                        base,
-                        sign: signed.sign,
-                        first: first_link(signed.sign, found.element),
-                        rest: found.rest,
-                        registers: LoneRegisters::Kept,
-                    })
-                } else {
-                    Err(Letter::V)
-                }
-            }
+            Some(found) => match are_plain(base, found.rest) {
+                None => Err(Letter::V),
+                Some(plain) => Ok(Expr {
+                    base,
+                    sign: signed.sign,
+                    registers: LoneRegisters::Kept,
+                    known_plain: plain & is_allowed(false, found.element),
+                    operator: first_operator(signed.sign),
+                    element: found.element,
+                    rest: found.rest,
+                }),
+            },
         }
     }
 
@@ -152,7 +150,11 @@ impl<'a> Expr<'a> {
         ensures few { length result ≤ 356 }
         ensures begins { BeginsTerm result }
     {
-        let all = TextLinks::new(self.base, self.first, self.rest);
+        let first = Link {
+            operator: self.operator,
+            element: self.element,
+        };
+        let all = TextLinks::new(self.base, first, self.rest);
         Links::new(all, self.registers)
     }
 
@@ -163,9 +165,11 @@ impl<'a> Expr<'a> {
         Expr {
             base: self.base,
             sign: self.sign,
-            first: self.first,
-            rest: self.rest,
             registers: self.registers,
+            known_plain: self.known_plain,
+            operator: self.operator,
+            element: self.element,
+            rest: self.rest,
         }
     }
 
@@ -183,9 +187,11 @@ impl<'a> Expr<'a> {
         Expr {
             base: self.base,
             sign,
-            first: self.first,
-            rest: self.rest,
             registers: LoneRegisters::LeftOut,
+            known_plain: false,
+            operator: self.operator,
+            element: self.element,
+            rest: self.rest,
         }
     }
 }

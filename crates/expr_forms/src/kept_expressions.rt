@@ -6,7 +6,7 @@ ghost use Rattle.expr_forms.specs.Kept.{kept_element_as};
 use crate::elements::{Element, Literal, Sign};
 use crate::expressions::Expr;
 use crate::kept_texts::KeptText;
-use crate::links::{Link, LoneRegisters, Operator};
+use crate::links::{LoneRegisters, Operator};
 use crate::magnitude::Magnitude;
 use crate::names::Name;
 use crate::numbers::Number;
@@ -115,9 +115,9 @@ pub struct KeptExpr {
     base: NumberBase,
     sign: Sign,
     operator: Operator,
+    registers: LoneRegisters,
     first: KeptElement,
     rest: KeptText,
-    registers: LoneRegisters,
 }
 
 impl Model for KeptExpr {
@@ -142,15 +142,16 @@ impl Expr<'_> {
     pub fn kept(&self) -> Option<KeptExpr>
         ensures { IfSome result (λ kept. kept ≡ self.now) }
     {
-        let first = kept_element(self.first.element)?;
+        let first = kept_element(self.element)?;
         let rest = KeptText::of(self.rest)?;
+        let operator = self.operator;
         Some(KeptExpr {
             base: self.base,
             sign: self.sign,
-            operator: self.first.operator,
+            operator,
+            registers: self.registers,
             first,
             rest,
-            registers: self.registers,
         })
     }
 }
@@ -164,12 +165,11 @@ impl KeptExpr {
         Expr {
             base: self.base,
             sign: self.sign,
-            first: Link {
-                operator: self.operator,
-                element: self.first.element(),
-            },
-            rest: self.rest.as_slice(),
             registers: self.registers,
+            known_plain: false,
+            operator: self.operator,
+            element: self.first.element(),
+            rest: self.rest.as_slice(),
         }
     }
 }

@@ -156,6 +156,18 @@ impl<'a> TextLinks<'a> {
         }
     }
 
+    /// No links.
+    #[inline(always)]
+    fn none() -> TextLinks<'a>
+        ensures { result ≡ [] }
+    {
+        TextLinks {
+            base: NumberBase::Decimal,
+            first: None,
+            rest: &[],
+        }
+    }
+
     /// The next link, if one is left.
     #[inline(always)]
     fn next(&mut self) -> Option<Link<'a>>
@@ -242,6 +254,17 @@ impl<'a> Links<'a> {
         ensures { result ≡ links_left_by registers all.entry }
     {
         Links { all, registers }
+    }
+
+    /// No links.
+    #[inline(always)]
+    pub(crate) fn none() -> Links<'a>
+        ensures { result ≡ [] }
+    {
+        Links {
+            all: TextLinks::none(),
+            registers: LoneRegisters::Kept,
+        }
     }
 
     /// The next link, if one is left.

@@ -42,7 +42,9 @@ fn is_allowed_literal(literals: bool, literal: Literal<'_>) -> bool
     }
 }
 
-fn is_allowed(literals: bool, element: Element<'_>) -> bool
+/// Whether an element is no register, and no literal where none are allowed.
+#[inline(always)]
+pub(crate) fn is_allowed(literals: bool, element: Element<'_>) -> bool
     ensures { result ≡ is_allowed literals (element_as element.entry) }
 {
     match element {
@@ -126,6 +128,9 @@ impl<'a> Expr<'a> {
     pub fn is_plain(&self, literals: bool) -> bool
         ensures { result ≡ is_plain literals self.now }
     {
+        if self.known_plain {
+            return true;
+        }
         are_allowed(literals, self.links())
     }
 

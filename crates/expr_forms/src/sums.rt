@@ -233,6 +233,12 @@ impl<'a> Expr<'a> {
     pub fn take_apart(&self) -> Sum<'a>
         ensures { IsSum result (sum_of self.now.terms (sum_from self.now.sign)) }
     {
+        if self.known_plain {
+            return Sum {
+                registers: SumRegisters::Text(RegisterText::new()),
+                others: Some(self.copied()),
+            };
+        }
         let parts = parts_of(self.sign(), self.links());
         let others = if parts.others {
             Some(self.without_registers(parts.sign))

@@ -1,13 +1,24 @@
-use Rattle.std.proofs.Common.{List, ◌∙◌, ap, sym, subst}
+use Rattle.std.proofs.Common.{◌≡◌, List, [], ◌∙◌, ap, sym, subst}
 use Rattle.definitions.specs.Expressions.{Sign, Term}
-use Rattle.definitions.specs.Matching.{Sum, sum_of}
+use Rattle.definitions.specs.Matching.{Sum, sum_of, sum_field}
 use Rattle.definitions.proofs.ExpressionLaws.{expression_with}
 use Rattle.expr_forms.specs.Elements.{sign_as}
 use Rattle.expr_forms.specs.LoneRegisters.{other_terms}
+use Rattle.expr_forms.specs.Parsed.{IsPlainSum}
+use Rattle.expr_forms.proofs.PlainLaws.{plain-sum}
 use Rattle.expr_forms.specs.Sums.{HasParts, sum_from, field_of}
 use Rattle.expr_forms.proofs.SumLaws.{sum-others, field-some, field-none}
 use Rattle.expr_forms.proofs.expressions.Expr.take_apart.Goals as goal
 use Rattle.expr_forms.proofs.expressions.Expr.take_apart.Goals.{then-parts, else-parts}
+
+pub returns-then-self : goal.returns-then-self
+returns-then-self c =
+    let e = c.args.self.now in
+    let is : IsPlainSum e = subst IsPlainSum c.self.view_is (c.self.invariant.plain c.if-self.true) in
+    let same : sum_of e.terms (sum_from e.sign) ≡ record { sign = e.sign; registers = []; others = e.terms } = plain-sum e.terms (sum_from e.sign) is.plain in (
+      c.new.ensures ∙ sym (ap (λ (s : Sum). s.registers) same),
+      field-some e.sign e.terms c.copied.result is.some c.copied.ensures ∙ sym (ap (λ (s : Sum). sum_field s.sign s.others) same),
+    )
 
 pub returns : goal.returns
 returns c =

@@ -2,7 +2,7 @@ use Rattle.std.proofs.Common.{◌∷◌, ◌∙◌, ap, sym}
 use Rattle.definitions.specs.Expressions.{Expression, grouped}
 use Rattle.definitions.proofs.ExpressionLaws.{expression_with}
 use Rattle.expr_forms.specs.Elements.{sign_as}
-use Rattle.expr_forms.specs.Links.{link_as, links_behind}
+use Rattle.expr_forms.specs.Links.{link_made, links_behind}
 use Rattle.expr_forms.specs.LoneRegisters.{other_terms}
 use Rattle.expr_forms.proofs.LoneLaws.{left-again}
 use Rattle.expr_forms.proofs.expressions.Expr.without_registers.Goals as goal
@@ -11,5 +11,5 @@ pub returns : goal.returns
 returns c =
     let self = c.self.inside in
     ap (expression_with (sign_as c.args.sign))
-    (sym (left-again self.registers (grouped (link_as self.first ∷ links_behind self.base self.rest.now)).terms)
+    (sym (left-again self.registers (grouped (link_made self.operator self.element ∷ links_behind self.base self.rest.now)).terms)
     ∙ ap (λ (e : Expression). other_terms e.terms) c.self.view_is)

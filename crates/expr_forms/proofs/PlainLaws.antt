@@ -1,0 +1,133 @@
+-- What is known of an expression without registers and literals.
+use Rattle.std.proofs.Common.{◌≡◌, ℕ, Some, None, Option, List, [], ◌∷◌, ◌++◌, Bool, true, false, ◌&&◌, refl, sym, ◌∙◌, ap, append_assoc}
+use Rattle.std.specs.Prelude.{map, flat_map, filter_map, option_map, unwrap_or, is_some}
+use Rattle.std.specs.List.{cons_option, list_all}
+use Rattle.std.proofs.lemmas.List.{append-nil}
+use Rattle.std.proofs.lemmas.List.Folds.{list_all-append}
+use Rattle.definitions.proofs.TestLaws.{and_left, and_right}
+use Rattle.definitions.proofs.TermLaws.{JoinsTerms}
+use Rattle.definitions.specs.Expressions.{Sign, NoSign, PlusSign, MinusSign, Literal, OfNumber, OfCountedItem, Element, ANumber, ACountedItem, ASymbol, ARegister, LocationCounter, OriginCounter, ALiteral, Operator, Times, Divide, Add, Subtract, OperatorElement, Term, Grouped, onto_grouped, grouped, onto_pairs, is_allowed}
+use Rattle.definitions.specs.Grammar.{operator_of}
+use Rattle.definitions.specs.Literals.{literal_in}
+use Rattle.definitions.specs.Matching.{Sum, onto_sum, sum_of}
+use Rattle.definitions.specs.declared.number_base.NumberBase.{NumberBase}
+use Rattle.expr_forms.specs.Links.{links_behind}
+use Rattle.expr_forms.specs.LoneRegisters.{has_terms}
+use Rattle.expr_forms.specs.Parsed.{are_plain, expression_behind, IsPlainSum}
+use Rattle.expr_forms.specs.declared.links.LoneRegisters.TheVariants.{Kept}
+use Rattle.expr_forms.proofs.ElementListLaws.{elements_in-links}
+use Rattle.expr_forms.proofs.LoneLaws.{left-links}
+
+-- what is allowed without literals is allowed with them
+allowed-more : (literals : Bool) (e : Element) → is_allowed false e ≡ true → is_allowed literals e ≡ true
+allowed-more literals (ANumber n) allowed = refl
+allowed-more literals (ACountedItem i) allowed = refl
+allowed-more literals (ASymbol s) allowed = refl
+allowed-more literals (ARegister r) allowed = cc
+allowed-more literals LocationCounter allowed = refl
+allowed-more literals OriginCounter allowed = refl
+allowed-more literals (ALiteral (OfNumber sign number)) allowed = cc
+allowed-more literals (ALiteral (OfCountedItem item)) allowed = cc
+
+pub all-allowed : (literals : Bool) (es : List Element) → list_all (is_allowed false) es ≡ true → list_all (is_allowed literals) es ≡ true
+all-allowed literals [] plain = refl
+all-allowed literals (e ∷ es) plain =
+    ap (λ (b : Bool). b && list_all (is_allowed literals) es) (allowed-more literals e (and_left (is_allowed false e) (list_all (is_allowed false) es) plain))
+    ∙ all-allowed literals es (and_right (is_allowed false e) (list_all (is_allowed false) es) plain)
+
+literal-none : (e : Element) → is_allowed false e ≡ true → literal_in e ≡ None
+literal-none (ANumber n) allowed = refl
+literal-none (ACountedItem i) allowed = refl
+literal-none (ASymbol s) allowed = refl
+literal-none (ARegister r) allowed = refl
+literal-none LocationCounter allowed = refl
+literal-none OriginCounter allowed = refl
+literal-none (ALiteral (OfNumber sign number)) allowed = cc
+literal-none (ALiteral (OfCountedItem item)) allowed = cc
+
+-- there are no literals among what is plain
+pub no-literals : (es : List Element) → list_all (is_allowed false) es ≡ true → filter_map literal_in es ≡ []
+no-literals [] plain = refl
+no-literals (e ∷ es) plain =
+    ap (λ (o : Option Literal). cons_option o (filter_map literal_in es))
+    (literal-none e (and_left (is_allowed false e) (list_all (is_allowed false) es) plain))
+    ∙ no-literals es (and_right (is_allowed false e) (list_all (is_allowed false) es) plain)
+
+-- the elements of terms
+abbrev in_terms : List Term → List Element
+in_terms terms = flat_map (λ (term : Term). term.element ∷ map (λ (pair : OperatorElement). pair.element) term.factors) terms
+
+-- a term that begins with no register joins the others
+onto-other : (term : Term) (element : Element) (factors : List OperatorElement) (sum : Sum) → is_allowed false element ≡ true →
+    onto_sum term element factors sum ≡ record { sign = sum.sign; registers = sum.registers; others = sum.others ++ term ∷ [] }
+onto-other term (ANumber n) factors sum allowed = refl
+onto-other term (ACountedItem i) factors sum allowed = refl
+onto-other term (ASymbol s) factors sum allowed = refl
+onto-other term (ARegister r) factors sum allowed = cc
+onto-other term LocationCounter factors sum allowed = refl
+onto-other term OriginCounter factors sum allowed = refl
+onto-other term (ALiteral l) factors sum allowed = refl
+
+-- the sum of terms without registers is those terms
+pub plain-sum : (terms : List Term) (sum : Sum) → list_all (is_allowed false) (in_terms terms) ≡ true →
+    sum_of terms sum ≡ record { sign = sum.sign; registers = sum.registers; others = sum.others ++ terms }
+plain-sum [] sum plain = ap (λ (l : List Term). record { sign = sum.sign; registers = sum.registers; others = l }) (sym (append-nil sum.others))
+plain-sum (term ∷ terms) sum plain =
+    let own : List Element = term.element ∷ map (λ (pair : OperatorElement). pair.element) term.factors in
+    let both : (list_all (is_allowed false) own && list_all (is_allowed false) (in_terms terms)) ≡ true = sym (list_all-append (is_allowed false) own (in_terms terms)) ∙ plain in
+    let first : is_allowed false term.element ≡ true = and_left (is_allowed false term.element) (list_all (is_allowed false) (map (λ (pair : OperatorElement). pair.element) term.factors)) (and_left (list_all (is_allowed false) own) (list_all (is_allowed false) (in_terms terms)) both) in
+    ap (λ (s : Sum). sum_of terms s) (onto-other term term.element term.factors sum first)
+    ∙ plain-sum terms (record { sign = sum.sign; registers = sum.registers; others = sum.others ++ term ∷ [] }) (and_right (list_all (is_allowed false) own) (list_all (is_allowed false) (in_terms terms)) both)
+    ∙ ap (λ (l : List Term). record { sign = sum.sign; registers = sum.registers; others = l }) (append_assoc sum.others (term ∷ []) terms)
+
+-- a first link that begins a term makes one
+first-onto : (first : OperatorElement) (o : Operator) (group : Grouped) → JoinsTerms o → has_terms (onto_grouped first o group).terms ≡ true
+first-onto first Times group joins = absurd joins
+first-onto first Divide group joins = absurd joins
+first-onto first Add group joins = refl
+first-onto first Subtract group joins = refl
+
+pub first-some : (first : OperatorElement) (pairs : List OperatorElement) → JoinsTerms first.operator → has_terms (grouped (first ∷ pairs)).terms ≡ true
+first-some first pairs joins = first-onto first first.operator (grouped pairs) joins
+
+-- one element more, in front of links that are left
+pub plain-link : (plain : Bool) (o : Operator) (e : Element) (x : Option (List OperatorElement)) →
+    option_map (λ (pairs : List OperatorElement). plain && are_plain pairs) (onto_pairs o (Some e) x)
+    ≡ option_map (λ (pairs : List OperatorElement). (plain && is_allowed false e) && are_plain pairs) x
+plain-link plain o e None = refl
+plain-link true o e (Some pairs) = refl
+plain-link false o e (Some pairs) = refl
+
+-- links that are told plain are some, and plain
+pub told-some : (x : Option (List OperatorElement)) (plain : Bool) → Some plain ≡ option_map are_plain x → is_some x ≡ true
+told-some None plain told = cc
+told-some (Some pairs) plain told = refl
+
+pub told-plain : (x : Option (List OperatorElement)) (plain : Bool) → Some plain ≡ option_map are_plain x → plain ≡ are_plain (unwrap_or x [])
+told-plain None plain told = cc
+told-plain (Some pairs) plain told = cc
+
+pub told-none : (x : Option (List OperatorElement)) → None ≡ option_map are_plain x → is_some x ≡ false
+told-none None told = refl
+told-none (Some pairs) told = cc
+
+-- the operator in front of a first element begins a term
+pub joins-sign : (sign : Sign) → JoinsTerms (operator_of sign)
+joins-sign NoSign = tt
+joins-sign PlusSign = tt
+joins-sign MinusSign = tt
+
+-- a first element and links behind it that are all allowed
+pub read-plain : (base : NumberBase) (sign : Sign) (first : OperatorElement) (rest : List ℕ) (plain allowed : Bool) → JoinsTerms first.operator →
+    plain ≡ are_plain (links_behind base rest) → allowed ≡ is_allowed false first.element → (plain && allowed) ≡ true →
+    IsPlainSum (expression_behind base sign first rest Kept)
+read-plain base sign first rest plain allowed joins links element both =
+    let more : List OperatorElement = links_behind base rest in
+    let front : is_allowed false first.element ≡ true = sym element ∙ and_right plain allowed both in
+    let behind : are_plain more ≡ true = sym links ∙ and_left plain allowed both in
+    record {
+      plain =
+          sym (ap (list_all (is_allowed false)) (elements_in-links (first ∷ more) (expression_behind base sign first rest Kept) (left-links Kept first more joins)))
+          ∙ (ap (λ (b : Bool). b && are_plain more) front ∙ behind);
+      some = first-some first more joins;
+    }

@@ -1,0 +1,16 @@
+use Rattle.std.proofs.Common.{◌∙◌, ◌&&◌, Bool, List, ap, sym}
+use Rattle.std.specs.Prelude.{option_map}
+use Rattle.definitions.specs.Expressions.{OperatorElement}
+use Rattle.expr_forms.specs.Links.{operator_as, pairs_behind}
+use Rattle.expr_forms.specs.Elements.{element_as}
+use Rattle.expr_forms.specs.Parsed.{are_plain}
+use Rattle.expr_forms.proofs.PlainLaws.{plain-link}
+use Rattle.expr_forms.proofs.expressions.are_plain.Goals as goal
+
+pub links-preserved : goal.links-preserved
+links-preserved c =
+    let link = c.in-Link.link in
+    let behind = pairs_behind c.args.base c.in-Link.behind.now in
+    ap (λ (b : Bool). option_map (λ (pairs : List OperatorElement). (c.links.plain && b) && are_plain pairs) behind) c.is_allowed-plain.ensures
+    ∙ (sym (plain-link c.links.plain (operator_as link.operator) (element_as link.element) behind)
+    ∙ (ap (option_map (λ (pairs : List OperatorElement). c.links.plain && are_plain pairs)) (sym c.in-Link.ensures.links) ∙ c.links.invariant))
