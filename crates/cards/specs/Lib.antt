@@ -4,6 +4,7 @@ pub mod Spans
 pub mod Befores
 pub mod ItemLengths
 pub mod FieldParts
+pub mod CardParts
 pub mod Readings
 pub mod Causes
 pub mod Edits

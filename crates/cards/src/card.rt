@@ -1,10 +1,14 @@
 //! One card.
-ghost use Rattle.std.specs.Prelude.{◌≡◌, ◌≤◌, ◌||◌, length, take, position, is_none, is_some};
+ghost use Rattle.std.specs.Prelude.{◌≡◌, ◌≤◌, ◌||◌, ◌∷◌, [], length, take, position, is_none, is_some};
 ghost use Rattle.std.specs.List.{list_all};
 ghost use Rattle.definitions.specs.Cards.{card_of, is_comma_card, is_comment, padded, trimmed};
 ghost use Rattle.definitions.specs.Characters.{display_code_of};
+ghost use Rattle.definitions.specs.Fields.{fields_of};
 ghost use Rattle.cards.specs.CardReads.{read_as};
+ghost use Rattle.cards.specs.FieldParts.{AreWithin, fields_at};
 
+use crate::card_parts::{CardParts, parts_on};
+use crate::field_parts::Parts;
 use std::fmt;
 use std::marker::Model;
 use text_ports::has_display_code;
@@ -15,23 +19,25 @@ const COLUMNS: usize = 80;
 /// How many of its columns a statement is read from; the others are only listed.
 const READ_COLUMNS: usize = 72;
 
-/// A card: 0 to 80 columns, each a character with a display code, without trailing blanks.
+/// A card: 0 to 80 columns, each a character with a display code, without trailing blanks. Where the
+/// fields lie in it is found once, when it is read, and has the place that its length leaves.
 /// Contracts see it as the list of its columns (COMPASS 60492600, statement format).
 #[derive(Drop)]
 pub struct Card {
     columns: [u8; COLUMNS],
-    len: usize,
+    len: u8,
+    parts: CardParts,
 }
 
 impl Model for Card {
     ghost use Rattle.std.specs.Prelude.{ℕ, List, take};
-    ghost use Rattle.cards.specs.Columns.{IsPadded};
+    ghost use Rattle.cards.specs.CardParts.{IsCard};
 
     ghost Value = { List ℕ };
 
     ghost view = { λ c. take c.len c.columns };
 
-    ghost invariant = { λ c. IsPadded c.len c.columns };
+    ghost invariant = { λ c. IsCard c.len c.columns c.parts };
 }
 
 /// Why a line is no card.
@@ -79,9 +85,11 @@ impl Card {
     {
         let mut columns = [b' '; COLUMNS];
         columns.split_at_mut(text.len()).0.copy_from_slice(text);
+        let parts = parts_on(text, columns.split_at(READ_COLUMNS).0);
         Card {
             columns,
-            len: text.len(),
+            len: text.len() as u8,
+            parts,
         }
     }
 
@@ -92,6 +100,7 @@ impl Card {
         Card {
             columns: self.columns,
             len: self.len,
+            parts: self.parts,
         }
     }
 
@@ -100,7 +109,7 @@ impl Card {
         ensures columns { result.now ≡ self.now }
         ensures short { length self.now ≤ 80 }
     {
-        self.columns.split_at(self.len).0
+        self.columns.split_at(usize::from(self.len)).0
     }
 
     /// Columns 1 to 72, padded with blanks.
@@ -108,6 +117,14 @@ impl Card {
         ensures { result.now ≡ padded 72 self.now }
     {
         self.columns.split_at(READ_COLUMNS).0
+    }
+
+    /// The parts of those columns that are the fields of a statement of this card alone.
+    pub(crate) fn parts(&self) -> Parts
+        ensures within { AreWithin 72 result }
+        ensures fields { fields_at (padded 72 self.now) result ≡ fields_of (self.now ∷ []) }
+    {
+        self.parts.parts()
     }
 
     /// Whether `*` in column 1 makes this a comment.

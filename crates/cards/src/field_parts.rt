@@ -122,15 +122,6 @@ fn variable_at(text: &[u8], operation: &[u8], start: usize) -> Part
     }
 }
 
-/// The part of a text that is its operation field, which is found without the variable field.
-pub(crate) fn operation_part(text: &[u8]) -> Part
-    ensures within { result.start + result.len ≤ length text.now }
-    ensures operation { part_of text.now result ≡ (fields_of_text text.now).operation }
-{
-    let location = word_at(text, location_start(text));
-    word_at(text, start_behind(text, location.start + location.len))
-}
-
 /// The parts of a text that are its fields.
 pub(crate) fn cut(text: &[u8]) -> Parts
     ensures within { AreWithin (length text.now) result }

@@ -1,9 +1,10 @@
 //! The fields of a statement.
 ghost use Rattle.std.specs.Prelude.{◌≡◌, ◌≤◌, ◌∷◌, [], length};
 ghost use Rattle.definitions.specs.Fields.{fields_of, fields_of_text, no_fields};
+ghost use Rattle.cards.specs.FieldParts.{AreWithin, fields_at};
 
 use crate::card::Card;
-use crate::field_parts::{cut, operation_part, part_text};
+use crate::field_parts::{Parts, cut, part_text};
 use std::marker::Model;
 
 /// The fields of a statement, as parts of its text of at most 711 characters. Contracts see the
@@ -32,22 +33,14 @@ impl<'a> Fields<'a> {
     pub fn of_card(card: &'a Card) -> Fields<'a>
         ensures { result ≡ fields_of (card.now ∷ []) }
     {
-        if card.is_unread() {
-            Fields::none()
-        } else {
-            Fields::of_text(card.read_columns())
-        }
+        Fields::at(card.read_columns(), card.parts())
     }
 
-    /// The operation field of a statement of one card; no other field is looked for.
+    /// The operation field of a statement of one card.
     pub fn operation_of_card(card: &'a Card) -> &'a [u8]
         ensures { result.now ≡ (fields_of (card.now ∷ [])).operation }
     {
-        if card.is_unread() {
-            return &[];
-        }
-        let text = card.read_columns();
-        part_text(text, operation_part(text))
+        part_text(card.read_columns(), card.parts().operation)
     }
 
     /// The fields of a statement that is not read.
@@ -61,17 +54,25 @@ impl<'a> Fields<'a> {
         }
     }
 
-    /// The fields of a statement's text.
-    pub(crate) fn of_text(text: &'a [u8]) -> Fields<'a>
-        requires { length text.now ≤ 711 }
-        ensures { result ≡ fields_of_text text.now }
+    /// The fields that these parts of a text are.
+    fn at(text: &'a [u8], parts: Parts) -> Fields<'a>
+        requires short { length text.now ≤ 711 }
+        requires within { AreWithin (length text.now) parts }
+        ensures { result ≡ fields_at text.now parts }
     {
-        let parts = cut(text);
         Fields {
             location: part_text(text, parts.location),
             operation: part_text(text, parts.operation),
             variable: part_text(text, parts.variable),
         }
+    }
+
+    /// The fields of a statement's text.
+    pub(crate) fn of_text(text: &'a [u8]) -> Fields<'a>
+        requires { length text.now ≤ 711 }
+        ensures { result ≡ fields_of_text text.now }
+    {
+        Fields::at(text, cut(text))
     }
 
     pub fn location(&self) -> &'a [u8]
