@@ -1,5 +1,5 @@
 //! Counted items: a count, one of H A L R C, and that many characters.
-ghost use Rattle.std.specs.Prelude.{◌≡◌, ◌≤◌, ◌<◌, ◌+◌, ◌^◌, min, length, codes, IfSome};
+ghost use Rattle.std.specs.Prelude.{◌≡◌, ◌≤◌, ◌<◌, ◌+◌, ◌^◌, ℕ, false, None, min, length, codes, IfSome};
 ghost use Rattle.std.specs.List.{prefix_len};
 ghost use Rattle.definitions.specs.Characters.{is_digit, is_among};
 ghost use Rattle.definitions.specs.Numerals.{number_of};
@@ -59,6 +59,16 @@ fn len_behind(digits: usize, count: usize, text: &[u8]) -> Option<usize>
     }
 }
 
+/// Whether the letter of an item begins a text, so that the count before it is asked for.
+fn begins_with_letter(text: &[u8]) -> bool
+    ensures { result ≡ false → (digits count : ℕ) → counted_item_behind digits count text.now ≡ None }
+{
+    match text.split_first() {
+        None => false,
+        Some((letter, _)) => is_item_letter(*letter),
+    }
+}
+
 /// How many characters the item takes that begins this text, if one does.
 pub(crate) fn item_len(text: &[u8]) -> Option<usize>
     ensures len { result ≡ taken_by (counted_item_at text.now) }
@@ -69,5 +79,8 @@ pub(crate) fn item_len(text: &[u8]) -> Option<usize>
         return None;
     }
     let (count, rest) = text.split_at(digits);
+    if !begins_with_letter(rest) {
+        return None;
+    }
     len_behind(digits, capped_number(count), rest)
 }

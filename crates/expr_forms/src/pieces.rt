@@ -1,6 +1,6 @@
 //! The pieces of a variable field, one at a time: marks, counted items and runs of other characters
 //! (COMPASS 60492600, subfields and data items).
-ghost use Rattle.std.specs.Prelude.{◌≡◌, ◌≤◌, ◌<◌, ◌+◌, ◌^◌, length, slice_index, codes, None, Some, option_map, is_none, IfSome};
+ghost use Rattle.std.specs.Prelude.{◌≡◌, ◌≤◌, ◌<◌, ◌+◌, ◌^◌, ℕ, false, length, slice_index, codes, None, Some, option_map, is_none, IfSome};
 ghost use Rattle.std.specs.List.{prefix_len};
 ghost use Rattle.definitions.specs.Characters.{is_among};
 ghost use Rattle.definitions.specs.CountedItems.{counted_item_at, counted_item_behind};
@@ -109,6 +109,17 @@ fn item_behind(digits: usize, count: u64, text: &[u8]) -> Option<ItemSpan<'_>>
     })
 }
 
+/// Whether the letter of an item begins a text, so that the count before it is asked for.
+#[inline(always)]
+fn begins_with_letter(text: &[u8]) -> bool
+    ensures { result ≡ false → (digits count : ℕ) → counted_item_behind digits count text.now ≡ None }
+{
+    match text.split_first() {
+        None => false,
+        Some((letter, _)) => is_item_letter(*letter),
+    }
+}
+
 /// The item that begins a text, if one does.
 #[inline(always)]
 pub(crate) fn item_at(text: &[u8]) -> Option<ItemSpan<'_>>
@@ -121,6 +132,9 @@ pub(crate) fn item_at(text: &[u8]) -> Option<ItemSpan<'_>>
         return None;
     }
     let (count, rest) = text.split_at(digits);
+    if !begins_with_letter(rest) {
+        return None;
+    }
     item_behind(digits, capped_number(NumberBase::Decimal, count), rest)
 }
 
