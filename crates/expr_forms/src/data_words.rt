@@ -31,6 +31,7 @@ pub enum Datum<'a> {
 }
 
 /// The number of DATA that a run of characters is, where nothing is behind it.
+#[inline(always)]
 fn lone_number<'a>(
     base: NumberBase,
     sign: Sign,
@@ -49,6 +50,7 @@ fn lone_number<'a>(
 }
 
 /// The item of DATA, where nothing is behind it.
+#[inline(always)]
 fn lone_item<'a>(item: ItemText<'a>, behind: &'a [u8]) -> Option<Datum<'a>>
     ensures { option_map datum_as result ≡ alone (Some (CountedItemWords (item_as item.entry))) (pieces_at Inside 0 behind.now) }
 {
@@ -88,6 +90,7 @@ fn data_behind(base: NumberBase, mark: Mark, text: &[u8]) -> Option<Datum<'_>>
 
 /// What a subfield of DATA is, if it is lawful: nothing, a number with or without a sign, or an
 /// item.
+#[inline(always)]
 fn data_word(base: NumberBase, text: &[u8]) -> Option<Datum<'_>>
     ensures { option_map datum_as result ≡ data_word base (pieces_of text.now) }
 {

@@ -28,6 +28,7 @@ impl<'a> Model for Subfields<'a> {
 }
 
 /// How long the item is that begins a text where no literal begins; 0 where none does.
+#[inline(always)]
 fn item_len(text: &[u8]) -> usize
     ensures len { subfield_len AtEquals 0 text.now ≡ result + subfield_len Inside 0 (drop result text.now) }
     ensures within { result ≤ length text.now }
@@ -39,6 +40,7 @@ fn item_len(text: &[u8]) -> usize
 }
 
 /// How long the item and the run are that stand in front of the next mark, where no literal begins.
+#[inline(always)]
 fn unmarked_len(text: &[u8]) -> usize
     ensures len { subfield_len AtEquals 0 text.now ≡ result + len_to_mark (drop result text.now) }
     ensures within { result ≤ length text.now }
@@ -48,6 +50,7 @@ fn unmarked_len(text: &[u8]) -> usize
 }
 
 /// How long a part of a field is up to the next mark; an equals sign in front begins a literal.
+#[inline(always)]
 fn part_len(text: &[u8]) -> usize
     ensures len { subfield_len AtStart 0 text.now ≡ result + len_to_mark (drop result text.now) }
     ensures within { result ≤ length text.now }
