@@ -1,5 +1,5 @@
 -- What is due for edits that are made at once is at most the sum of what is due for each, and what stands between them.
-use Rattle.std.proofs.Common.{◌≡◌, ◌+◌, ◌-◌, ◌≤◌, inl, inr, ℕ, List, ◌++◌, min, length, refl, sym, ap, ◌∙◌, arith, length-append}
+use Rattle.std.proofs.Common.{◌≡◌, ◌+◌, ◌-◌, ◌≤◌, inl, inr, ℕ, List, ◌++◌, min, length, refl, sym, ap, ◌∙◌, subst, arith, length-append}
 use Rattle.std.proofs.lemmas.Bool.{cases_lt}
 use Rattle.definitions.specs.Statements.{Statement, cards_in}
 use Rattle.definitions.specs.DeckKinds.{kind_of_statements}
@@ -13,6 +13,8 @@ use Rattle.definitions.proofs.StateSteps.{settled_all-in_use}
 use Rattle.definitions.proofs.TailLaws.{tails-agree}
 use Rattle.edit_core.specs.Sums.{Ends, AtEnd, Agreeing, in_front, rebound_behind, apart}
 use Rattle.edit_core.proofs.JoinLaws.{HaveCards, fronts-apart, same-count, agree-joined, lasts-in-new, lasts-in-old, shorter-of}
+use Rattle.deck_assembler.proofs.NeutralLaws.{AreNeutral, front-neutral}
+use Rattle.edit_core.proofs.NeutralJoins.{same-kind, neutral-within, neutral-unbound}
 use Rattle.edit_core.proofs.ReboundJoins.{rebounds, rebounds-counted, rebounds-both, rebounds-alike, front-rebounds, tail-rebounds}
 
 -- two decks, so many cards of which stand before those that edits are of, and so many behind them
@@ -131,7 +133,6 @@ join-ends old mid new old_count count new_count before behind other_before other
 
 -- what is due for some edits made at once: a front and an end, told by those of each of them
 pub record IsDueAtOnce (old new : List Statement) (old_count new_count before behind fronts ends_at between others : ℕ) : Type 0 where
-  pub kinds : kind_of_statements old ≡ kind_of_statements new
   pub few_old : before + behind ≤ old_count
   pub few_new : before + behind ≤ new_count
   pub front : List Statement
@@ -180,6 +181,21 @@ fewer-in-front kind old new front shorter is =
     let parts = front-rebounds kind (context_from old) (context_from new) is.0 shorter in
     omega (arith, whole, parts)
 
+-- nor are more of them in a deck of another kind: there the front of both decks is made of neutral statements, none of which is bound
+fewer-behind : (old mid new front other shorter : List Statement) → (behind : List Statement) × (mid ≡ behind ++ other) → (behind : List Statement) × (new ≡ behind ++ other) →
+    (behind : List Statement) × (front ≡ behind ++ shorter) → (behind : List Statement) × (other ≡ behind ++ shorter) →
+    rebounds (context_from old) (context_from mid) (settled_all (kind_of_statements new) shorter) ≤ rebounds (context_from old) (context_from mid) (settled_all (kind_of_statements mid) front)
+fewer-behind old mid new front other shorter of_mid of_new in_front in_other = elim (same-kind (kind_of_statements mid) (kind_of_statements new)) [
+  | inl same ↦
+      let fewer = fewer-in-front (kind_of_statements mid) old mid front shorter in_front in
+      let moved = ap (λ (k : DeckKind). rebounds (context_from old) (context_from mid) (settled_all k shorter)) same in
+      omega (arith, fewer, moved)
+  | inr others ↦
+      let are = neutral-within in_other.0 shorter (subst AreNeutral in_other.1 (front-neutral other of_mid.0 of_new.0 mid new of_mid.1 of_new.1 others)) in
+      let none = neutral-unbound (kind_of_statements new) (context_from old) (context_from mid) shorter are in
+      omega (arith, none)
+]
+
 -- some edits, and others behind them
 pub join : (old mid new : List Statement) (old_count count new_count before behind fronts ends_at between others other_before other_behind other_fronts other_ends other_between other_others : ℕ) →
     HaveCards mid → IsDueAtOnce old mid old_count count before behind fronts ends_at between others → IsDueAtOnce mid new count new_count other_before other_behind other_fronts other_ends other_between other_others →
@@ -209,9 +225,8 @@ join old mid new old_count count new_count before behind fronts ends_at between 
     let own = front-within-old second two.front other_before two.ends have two.untouched.of_old two_cards in
     let kind = kind_of_statements new in
     let both = rebounds-both (context_from old) (context_from mid) (context_from new) (settled_all kind found.shorter) in
-    let fewer = fewer-in-front kind old mid one.front found.shorter found.in_front in
+    let fewer = fewer-behind old mid new one.front two.front found.shorter two.untouched.of_old two.untouched.of_new found.in_front found.in_other in
     let other_fewer = fewer-in-front kind mid new two.front found.shorter found.in_other in
-    let moved = ap (λ (k : DeckKind). rebounds (context_from old) (context_from mid) (settled_all k one.front)) two.kinds in
     let whole_front = bound-front (decks_of old new old_count new_count (min before other_before) (min behind other_behind)) found.shorter in
     let first_front = bound-front first one.front in
     let second_front = bound-front second two.front in
@@ -219,7 +234,6 @@ join old mid new old_count count new_count before behind fronts ends_at between 
     let one_rebound = one.rebound in
     let two_rebound = two.rebound in
     record {
-      kinds = one.kinds ∙ two.kinds;
       few_old = omega (arith, few_old);
       few_new = omega (arith, few_new);
       front = found.shorter;
@@ -227,7 +241,7 @@ join old mid new old_count count new_count before behind fronts ends_at between 
       ends = ends.ends;
       within = omega (arith, reach, one_within, two_within, one_ordered, two_ordered, behind_one, before_two, own, least, few);
       ordered = omega (arith, one_ordered, two_ordered);
-      rebound = omega (arith, both, fewer, other_fewer, moved, whole_front, first_front, second_front, tails, one_rebound, two_rebound);
+      rebound = omega (arith, both, fewer, other_fewer, whole_front, first_front, second_front, tails, one_rebound, two_rebound);
     }
   where
     first : Edited

@@ -11,5 +11,6 @@ pub mod JoinLaws
 -- What both bind otherwise.
 pub mod ReboundJoins
 -- What is due for both, and for any number of edits.
+pub mod NeutralJoins
 pub mod JoinedEdits
 pub mod SumLaws

@@ -3,7 +3,6 @@ use Rattle.std.specs.Prelude.{option_map}
 use Rattle.std.proofs.Common.{◌≡◌, ◌+◌, ◌-◌, ◌≤◌, ℕ, Bool, true, false, List, [], ◌∷◌, min, length, All, Option, Some, None, refl, sym, ap, ap₂, ◌∙◌, subst, arith}
 use Rattle.std.proofs.lemmas.List.Elements.{All-cons, All-head, All-nil}
 use Rattle.definitions.specs.Cards.{Card}
-use Rattle.definitions.specs.DeckKinds.{kind_of_statements}
 use Rattle.definitions.specs.Edits.{Edited, IsWithinDue, IsUntouched, DoAgree}
 use Rattle.definitions.specs.Rebound.{rebound_front, rebound_tail, IsWithinDueCode}
 use Rattle.definitions.specs.Statements.{Statement}
@@ -29,7 +28,6 @@ told-otherwise old new old_count new_count before behind fronts ends between oth
     let ordered = is.ordered in
     let rebound = is.rebound in
     record {
-      kinds = is.kinds;
       few_old = is.few_old;
       few_new = is.few_new;
       front = is.front;
@@ -103,7 +101,6 @@ single edit cards none due =
     let ordered = front-ordered due.decks due.front (front_of edit) due.ends (subst HaveCards (sym due.are.new) (known-cards (edited cards edit))) due.untouched.of_new (omega (arith, unchanged, before))
     (omega (arith, most, new_behind, new_room)) in
     record {
-      kinds = ap kind_of_statements (sym due.are.old) ∙ due.kinds ∙ ap kind_of_statements due.are.new;
       few_old = old_room;
       few_new = new_room;
       front = due.front;

@@ -1,7 +1,6 @@
 -- What is due for edits, one after the other (ours).
 use Rattle.std.specs.Prelude.{ℕ, ⊤, ◌≡◌, ◌+◌, ◌-◌, ◌≤◌, List, [], ◌∷◌, length, min}
 use Rattle.definitions.specs.Cards.{Card}
-use Rattle.definitions.specs.DeckKinds.{kind_of_statements}
 use Rattle.definitions.specs.Edits.{Edited, IsUntouched, Split, DoAgree}
 use Rattle.definitions.specs.Rebound.{rebound_front, rebound_tail}
 use Rattle.definitions.specs.Statements.{Statement}
@@ -25,11 +24,10 @@ abbrev pub rebound_behind : (decks : Edited) → Ends decks → ℕ
 rebound_behind decks AtEnd = 0
 rebound_behind decks (Agreeing split agree) = rebound_tail decks split.new_front split.new_tail
 
--- one way to tell what is due for an edit of these cards that leaves the kind of the deck: both decks, statements that stand untouched in front, and an end
+-- one way to tell what is due for an edit of these cards: both decks, statements that stand untouched in front, and an end; where the kind of the deck changes, that is the end of the deck
 pub record DueFor (edit : Edit) (cards : List Card) : Type 0 where
   pub decks : Edited
   pub are : AreDecksOf (edit ∷ []) cards decks
-  pub kinds : kind_of_statements decks.old ≡ kind_of_statements decks.new
   pub stand : StandUnchanged (edit ∷ []) cards decks
   pub front : List Statement
   pub untouched : IsUntouched decks front
