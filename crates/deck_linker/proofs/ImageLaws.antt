@@ -68,3 +68,7 @@ pub section-none : (layout : Layout) (common : Common) (old : List ℕ) (words :
     old ≡ old ++ common_section_by layout common
 section-none layout common old words past kept is all none =
     sym (append-nil old) ∙ ap (λ (t : List ℕ). old ++ t) (ap (common_section common) (sym none) ∙ section-by layout common common.is_past words (sym is ∙ kept) all)
+
+-- what was put to a new sheet that grows, in two steps
+pub two-put : (start middle after first second : List ℕ) → start ≡ 0 ∷ [] → middle ≡ start ++ first → after ≡ middle ++ second → after ≡ 0 ∷ (first ++ second)
+two-put start middle after first second new one two = two ∙ ap (λ (l : List ℕ). l ++ second) (one ∙ ap (λ (l : List ℕ). l ++ first) new)

@@ -19,3 +19,4 @@ pub mod PublishLaws
 pub mod ListedLaws
 pub mod ElsewhereLaws
 pub mod CommonSteps
+mod InPieceLaws

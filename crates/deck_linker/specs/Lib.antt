@@ -18,3 +18,4 @@ pub mod MapLines
 pub mod Sections
 -- Publications.
 pub mod Publishing
+pub mod InPieces

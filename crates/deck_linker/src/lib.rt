@@ -39,13 +39,17 @@ mod common_image;
 mod common_words;
 mod image;
 
-// All of them.
+// All of them: made whole, shared, or part by part.
+mod linked_decks;
 mod listed_publication;
+mod measuring;
 mod publication;
+mod sending;
 
 pub use based::Based;
 pub use commons::Common;
 pub use layout::Layout;
+pub use linked_decks::LinkedDecks;
 pub use linking::DeckLinking;
 pub use listed_publication::{ListedPublication, publish};
 pub use name_key::NameKey;

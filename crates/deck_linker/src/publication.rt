@@ -9,7 +9,7 @@ use crate::Layout;
 use crate::image::image;
 use crate::map::with_map;
 use deck_assembler::SharedObject;
-use deck_listing::{errors, push_listing};
+use deck_listing::{Sheet, errors, push_listing};
 use std::alloc::{AllocError, Global};
 use std::marker::Model;
 use text_ports::Text;
@@ -96,7 +96,10 @@ impl Publication {
 }
 
 /// The same objects once more.
-fn shared(alloc: Global, objects: &[SharedObject]) -> Result<Vec<SharedObject>, AllocError>
+pub(crate) fn shared(
+    alloc: Global,
+    objects: &[SharedObject],
+) -> Result<Vec<SharedObject>, AllocError>
     ensures { IfOk result (λ same. same.items ≡ objects.now) }
 {
     let mut same = Vec::with_capacity(alloc, objects.len())?;
@@ -110,15 +113,15 @@ fn shared(alloc: Global, objects: &[SharedObject]) -> Result<Vec<SharedObject>, 
 fn listings(alloc: Global, objects: &[SharedObject]) -> Result<Text, AllocError>
     ensures { IfOk result (λ text. text ≡ listings objects.now) }
 {
-    let mut text = Text::new(alloc);
+    let mut text = Sheet::new(alloc);
     for object in objects {
-        push_listing(alloc, &mut text, object.object())?;
+        push_listing(&mut text, object.object());
     }
-    Ok(text)
+    text.into_text()
 }
 
 /// How many statements of decks are flagged. No memory holds so many that their number would not fit.
-fn errors_in(objects: &[SharedObject]) -> Result<u64, AllocError>
+pub(crate) fn errors_in(objects: &[SharedObject]) -> Result<u64, AllocError>
     ensures { IfOk result (λ count. count ≡ errors_in (map object_of objects.now)) }
 {
     let mut count = 0;

@@ -42,11 +42,11 @@ first_line : (kind : DeckKind) (base offset count value : ℕ) → nat_le (memor
     span_lines kind base offset (suc count) value ≡ word_line kind (record { address = base + offset; value = value }) ++ span_lines kind base (offset + 1) count value
 first_line kind base offset count value e = rw e refl
 
-is_within : (test : Bool) (n address : ℕ) → (if test then None else Some n) ≡ Some address → (test ≡ false) × (n ≡ address)
+pub is_within : (test : Bool) (n address : ℕ) → (if test then None else Some n) ≡ Some address → (test ≡ false) × (n ≡ address)
 is_within true n address e = cc
 is_within false n address e = (refl, cc)
 
-is_beyond_end : (test : Bool) (n : ℕ) → (if test then None else Some n) ≡ None → test ≡ true
+pub is_beyond_end : (test : Bool) (n : ℕ) → (if test then None else Some n) ≡ None → test ≡ true
 is_beyond_end true n e = refl
 is_beyond_end false n e = cc
 

@@ -27,3 +27,5 @@ pub mod BlockSteps
 mod WalkSteps
 mod ImageLineSteps
 mod AloneSteps
+mod SectionSteps
+pub mod SheetSteps

@@ -1,33 +1,47 @@
--- The literals as stored words, one after the other.
-use Rattle.std.proofs.Common.{◌≡◌, ℕ, zero, suc, ◌+◌, ◌<◌, List, [], ◌∷◌, ◌++◌, length, take, get_or, refl, sym, ap, ◌∙◌, arith, append_assoc}
-use Rattle.definitions.specs.Link.{literal_stored}
-use Rattle.definitions.specs.Words.{StoredWord}
-use Rattle.deck_listing.specs.Filling.{as_stored, words_from}
-use Rattle.deck_listing.specs.declared.packing.word_spans.WordSpan.{WordSpan}
+-- The lines of literals, one after the other.
+use Rattle.std.proofs.Common.{◌≡◌, ℕ, ◌+◌, ◌<◌, ◌≤◌, true, false, List, [], ◌∷◌, ◌++◌, length, drop, get_or, refl, sym, ap, ◌∙◌, append_assoc, append-nil, Some, None, nat_le, arith, inl, inr, true≢false}
+use Rattle.std.specs.Prelude.{if◌then◌else◌}
+use Rattle.std.proofs.lemmas.Bool.Decides.{leb_tells}
+use Rattle.std.proofs.lemmas.List.{drop_more}
+use Rattle.definitions.specs.Image.{word_line}
+use Rattle.definitions.specs.Kinds.{memory_end}
+use Rattle.definitions.specs.declared.deck_kind.DeckKind.{DeckKind}
+use Rattle.deck_listing.specs.ImageWordLines.{literal_lines}
+use Rattle.deck_listing.proofs.ImageLineSteps.{is_within, is_beyond_end}
 
-stored_more : (words : List WordSpan) (offset value : ℕ) → as_stored (words ++ record { offset = offset; count = 1; value = value } ∷ []) ≡ as_stored words ++ record { offset = offset; value = value } ∷ []
-stored_more [] offset value = refl
-stored_more (w ∷ words) offset value =
-    ap (λ (rest : List StoredWord). words_from w.offset w.count w.value ++ rest) (stored_more words offset value)
-    ∙ sym (append_assoc (words_from w.offset w.count w.value) (as_stored words) (record { offset = offset; value = value } ∷ []))
+-- the lines of literals, the first of which lies within the memory
+first_literal : (kind : DeckKind) (base offset value : ℕ) (literals : List ℕ) → nat_le (memory_end kind) (base + offset) ≡ false →
+    literal_lines kind base offset (value ∷ literals) ≡ word_line kind (record { address = base + offset; value = value }) ++ literal_lines kind base (offset + 1) literals
+first_literal kind base offset value literals e = rw e refl
 
-literals_suc : (offset : ℕ) (words : List ℕ) (i : ℕ) (d : ℕ) → i < length words →
-    literal_stored offset (take (suc i) words) ≡ literal_stored offset (take i words) ++ record { offset = offset + i; value = get_or words i d } ∷ []
-literals_suc offset [] i d h = absurd (omega arith)
-literals_suc offset (word ∷ words) zero d h = ap (λ n. record { offset = n; value = word } ∷ []) (omega arith)
-literals_suc offset (word ∷ words) (suc i) d h =
-    ap (λ (rest : List StoredWord). record { offset = offset; value = word } ∷ rest)
-    (literals_suc (offset + 1) words i d (omega arith) ∙ ap (λ n. literal_stored (offset + 1) (take i words) ++ record { offset = n; value = get_or words i d } ∷ []) (omega arith))
+-- one literal
+pub literal_more : (kind : DeckKind) (base : ℕ) (literals : List ℕ) (i address : ℕ) (before after all : List ℕ) → i < length literals →
+    before ++ literal_lines kind base i (drop i literals) ≡ all →
+    (if nat_le (memory_end kind) (base + i) then None else Some (base + i)) ≡ Some address →
+    after ≡ before ++ word_line kind (record { address = address; value = get_or literals i 0 }) → after ++ literal_lines kind base (i + 1) (drop (i + 1) literals) ≡ all
+literal_more kind base literals i address before after all h lines within a =
+    let value = get_or literals i 0 in
+    let behind = drop (i + 1) literals in
+    let rest = literal_lines kind base (i + 1) behind in
+    let inside = is_within (nat_le (memory_end kind) (base + i)) (base + i) address within in
+    ap (λ t. t ++ rest) (a ∙ ap (λ (m : ℕ). before ++ word_line kind (record { address = m; value = value })) (sym inside.1))
+    ∙ append_assoc before (word_line kind (record { address = base + i; value = value })) rest
+    ∙ ap (λ t. before ++ t) (sym (first_literal kind base i value behind inside.0))
+    ∙ ap (λ l. before ++ literal_lines kind base i l) (sym (drop_more literals i 0 h))
+    ∙ lines
 
-literals_more : (words : List ℕ) (i : ℕ) (d : ℕ) → i < length words →
-    literal_stored 0 (take (i + 1) words) ≡ literal_stored 0 (take i words) ++ record { offset = 0 + i; value = get_or words i d } ∷ []
-literals_more words i d h = let one : i + 1 ≡ suc i = omega arith in ap (λ n. literal_stored 0 (take n words)) one ∙ literals_suc 0 words i d h
+-- literals beyond the memory have no lines
+beyond_none : (kind : DeckKind) (base offset : ℕ) (literals : List ℕ) → memory_end kind ≤ base + offset → literal_lines kind base offset literals ≡ []
+beyond_none kind base offset [] h = refl
+beyond_none kind base offset (value ∷ literals) h = elim (leb_tells (memory_end kind) (base + offset)) [
+  | inl e ↦ rw e.0 (beyond_none kind base (offset + 1) literals (omega arith))
+  | inr e ↦ let k = e.1 in absurd (omega arith)
+]
 
--- one literal more is one word more
-pub literal_put : (words new : List WordSpan) (literals : List ℕ) (i offset d : ℕ) → as_stored words ≡ literal_stored 0 (take i literals) → i < length literals → offset ≡ i →
-    new ≡ words ++ record { offset = offset; count = 1; value = get_or literals i d } ∷ [] → as_stored new ≡ literal_stored 0 (take (i + 1) literals)
-literal_put words new literals i offset d before h at_place n =
-    ap as_stored n ∙ stored_more words offset (get_or literals i d)
-    ∙ ap (λ (ws : List StoredWord). ws ++ record { offset = offset; value = get_or literals i d } ∷ []) before
-    ∙ ap (λ m. literal_stored 0 (take i literals) ++ record { offset = m; value = get_or literals i d } ∷ []) (omega arith)
-    ∙ sym (literals_more literals i d h)
+-- the literals that are left lie beyond the memory
+pub literal_none : (kind : DeckKind) (base : ℕ) (literals : List ℕ) (i : ℕ) (before all : List ℕ) → before ++ literal_lines kind base i (drop i literals) ≡ all →
+    (if nat_le (memory_end kind) (base + i) then None else Some (base + i)) ≡ None → before ≡ all
+literal_none kind base literals i before all h beyond = elim (leb_tells (memory_end kind) (base + i)) [
+  | inl e ↦ sym (append-nil before) ∙ ap (λ t. before ++ t) (sym (beyond_none kind base i (drop i literals) e.1)) ∙ h
+  | inr e ↦ absurd (true≢false (sym (is_beyond_end (nat_le (memory_end kind) (base + i)) (base + i) beyond) ∙ e.0))
+]

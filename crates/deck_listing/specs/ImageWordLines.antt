@@ -4,7 +4,7 @@ use Rattle.definitions.specs.Blocks.{is_common}
 use Rattle.definitions.specs.Image.{word_line}
 use Rattle.definitions.specs.Kinds.{kind_text}
 use Rattle.definitions.specs.Lengths.{BlockRow}
-use Rattle.definitions.specs.Link.{AddressedWord, addressed, block_words, is_beyond}
+use Rattle.definitions.specs.Link.{AddressedWord, addressed, block_words, is_beyond, literal_stored}
 use Rattle.definitions.specs.Listing.{line}
 use Rattle.definitions.specs.Numerals.{octal_of}
 use Rattle.definitions.specs.Objects.{Object}
@@ -24,6 +24,10 @@ span_lines kind base offset count value = lines_of kind (addressed base (words_f
 -- the lines of the words of a block that stands at a place behind a base
 abbrev pub block_lines : DeckKind → ℕ → ℕ → List WordSpan → List ℕ
 block_lines kind base block words = lines_of kind (addressed (base + block) (as_stored words))
+
+-- the lines of literals that stand at an offset of their block, which stands at a base
+abbrev pub literal_lines : DeckKind → ℕ → ℕ → List ℕ → List ℕ
+literal_lines kind base offset literals = lines_of kind (addressed base (literal_stored offset literals))
 
 -- the words of one of an object's own blocks with their addresses; a common block has none there
 abbrev pub row_words : Linking → Object → ℕ → BlockRow → List AddressedWord

@@ -9,8 +9,8 @@ pub mod ListedParts
 -- Fields that are put, and the runs of the statements so far.
 pub mod Putting
 pub mod Walking
--- Texts, the lines of words, and how a deck is linked alone.
-pub mod Texts
+-- What lines are put to, the lines of words, and how a deck is linked alone.
+pub mod Sheets
 pub mod ImageWordLines
 pub mod BlockWords
 pub mod Alone

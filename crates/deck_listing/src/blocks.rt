@@ -1,5 +1,5 @@
 //! The words of all blocks of an object, from one walk over its lines.
-ghost use Rattle.std.specs.Prelude.{List, IfOk};
+ghost use Rattle.std.specs.Prelude.{◌≡◌, List, length, IfOk};
 ghost use Rattle.std.specs.List.{AllZip};
 ghost use Rattle.definitions.specs.Cards.{Card};
 ghost use Rattle.definitions.specs.Objects as definitions;
@@ -63,7 +63,8 @@ pub fn words_of_blocks<L: Linking>(
     object: &Object,
     linking: &L,
 ) -> Result<Vec<Vec<WordSpan>>, AllocError>
-    ensures { IfOk result (λ blocks. AreBlockWords (L.linking linking.now) (object_of object.now) blocks.items) }
+    ensures words { IfOk result (λ blocks. AreBlockWords (L.linking linking.now) (object_of object.now) blocks.items) }
+    ensures each { IfOk result (λ blocks. length blocks.items ≡ length (object_of object.now).rows) }
 {
     words_of_parts(alloc, object.parts(), linking)
 }

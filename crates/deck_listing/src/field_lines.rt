@@ -1,5 +1,5 @@
 //! The words that fields fill, a line each.
-ghost use Rattle.std.specs.Prelude.{◌≡◌, ◌≤◌, ◌<◌, ◌+◌, ◌-◌, ◌*◌, ◌/◌, ◌%◌, ◌^◌, ◌++◌, List, map, OnOk, IfOk};
+ghost use Rattle.std.specs.Prelude.{◌≡◌, ◌≤◌, ◌<◌, ◌+◌, ◌-◌, ◌*◌, ◌/◌, ◌%◌, ◌^◌, ◌++◌, List, map};
 ghost use Rattle.definitions.specs.Kinds.{word_bits};
 ghost use Rattle.definitions.specs.Listing.{unlinked};
 ghost use Rattle.definitions.specs.Words.{content_bits, cut, joined, width_of};
@@ -9,11 +9,10 @@ ghost use Rattle.statement_coder.specs.Items.{item_as};
 ghost use Rattle.definitions.specs.Filling.{HasRoom};
 
 use crate::lines::{push_central_line, push_peripheral_line};
+use crate::sheet::Sheet;
 use deck_assembler::{Unlinked, linked_bits};
 use definitions::DeckKind;
 use statement_coder::Item;
-use std::alloc::AllocError;
-use text_ports::Text;
 use use_blocks::Bases;
 
 /// A word that fields fill: its number in the block, and the bits that stand in it so far. When it
@@ -53,8 +52,8 @@ impl OpenWord {
 }
 
 /// The line of one word.
-fn push_word_line(text: &mut Text, kind: DeckKind, word: u64, bits: u64) -> Result<(), AllocError>
-    ensures { OnOk result (text.new ≡ text.old ++ word_line kind word bits) }
+fn push_word_line(text: &mut Sheet, kind: DeckKind, word: u64, bits: u64)
+    ensures { text.new ≡ text.old ++ word_line kind word bits }
 {
     match kind {
         DeckKind::Periph => push_peripheral_line(text, word, bits),
@@ -63,36 +62,36 @@ fn push_word_line(text: &mut Text, kind: DeckKind, word: u64, bits: u64) -> Resu
 }
 
 /// The line of a word that is full; what is behind it stands in the next word.
-fn push_full_word(text: &mut Text, kind: DeckKind, next: OpenWord) -> Result<OpenWord, AllocError>
+fn push_full_word(text: &mut Sheet, kind: DeckKind, next: OpenWord) -> OpenWord
     requires full { word_bits kind ≤ next.width }
     requires fits { next.bits < 2 ^ next.width }
     requires most { next.width ≤ 120 }
     requires word { next.word < 2 ^ 60 }
-    ensures text { OnOk result (text.new ≡ text.old ++ word_line kind next.word (next.bits / 2 ^ (next.width - word_bits kind))) }
-    ensures next { IfOk result (λ after. after ≡ behind_full kind next) }
+    ensures text { text.new ≡ text.old ++ word_line kind next.word (next.bits / 2 ^ (next.width - word_bits kind)) }
+    ensures next { result ≡ behind_full kind next }
 {
     let left = next.width - kind.word_bits();
-    push_word_line(text, kind, next.word, (next.bits >> left) as u64)?;
-    Ok(OpenWord {
+    push_word_line(text, kind, next.word, (next.bits >> left) as u64);
+    OpenWord {
         word: next.word + 1,
         width: left,
         bits: next.bits % (1 << left),
-    })
+    }
 }
 
 /// The lines of the words that fields fill, from a word on.
 pub(crate) fn push_word_lines(
-    text: &mut Text,
+    text: &mut Sheet,
     kind: DeckKind,
     bases: &Bases,
     word: u64,
     items: &[Item],
-) -> Result<(), AllocError>
+)
     requires short { AreShort (map item_as items.now) }
     requires whole { width_of (map item_as items.now) % word_bits kind ≡ 0 }
     requires few { word + width_of (map item_as items.now) < 2 ^ 60 }
-    ensures { OnOk result (text.new ≡ text.old ++ word_lines kind word
-        (cut (word_bits kind) (width_of (map item_as items.now) / word_bits kind) (joined (unlinked bases.now) (map item_as items.now)))) }
+    ensures { text.new ≡ text.old ++ word_lines kind word
+        (cut (word_bits kind) (width_of (map item_as items.now) / word_bits kind) (joined (unlinked bases.now) (map item_as items.now))) }
 {
     let mut next = OpenWord {
         word,
@@ -102,10 +101,10 @@ pub(crate) fn push_word_lines(
     let mut left = items;
     'fields: loop {
         if next.width >= kind.word_bits() {
-            next = push_full_word(text, kind, next)?;
+            next = push_full_word(text, kind, next);
         } else {
             match left.split_first() {
-                None => return Ok(()),
+                None => return,
                 Some((item, behind)) => {
                     next = next.with(item.width, field_bits(bases, item));
                     left = behind;

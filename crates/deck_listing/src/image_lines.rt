@@ -1,47 +1,38 @@
 //! Lines of the image.
-ghost use Rattle.std.specs.Prelude.{◌≡◌, ◌+◌, ◌++◌, ◌≤◌, codes, OnOk, OnErr, None, Some, nat_le, if◌then◌else◌};
+ghost use Rattle.std.specs.Prelude.{◌≡◌, ◌+◌, ◌++◌, ◌≤◌, codes, None, Some, nat_le, if◌then◌else◌};
 ghost use Rattle.definitions.specs.Image.{word_line};
 ghost use Rattle.definitions.specs.Kinds.{memory_end};
 ghost use Rattle.definitions.specs.Listing.{line};
 ghost use Rattle.definitions.specs.Numerals.{octal_of};
-ghost use Rattle.deck_listing.specs.Texts.{GoesOn};
 
+use crate::sheet::Sheet;
 use definitions::DeckKind;
-use std::alloc::AllocError;
-use text_ports::{ShortText, Text};
+use text_ports::ShortText;
 
 /// Appends a line of two numbers in octal, with so many digits each.
 #[inline(always)]
 fn push_octal_line(
-    text: &mut Text,
+    text: &mut Sheet,
     address_digits: u32,
     address: u64,
     value_digits: u32,
     value: u64,
-) -> Result<(), AllocError>
+)
     requires address { address_digits ≤ 20 }
     requires value { value_digits ≤ 20 }
-    ensures line { OnOk result (text.new ≡ text.old ++ line (octal_of address_digits address ++ (codes " " ++ octal_of value_digits value))) }
-    ensures without_memory { OnErr result (GoesOn text.old text.new) }
+    ensures { text.new ≡ text.old ++ line (octal_of address_digits address ++ (codes " " ++ octal_of value_digits value)) }
 {
     let mut line = ShortText::new();
     line.put_byte(b'\n');
     line.put_octal(value_digits, value);
     line.put_byte(b' ');
     line.put_octal(address_digits, address);
-    text.push_bytes(line.as_slice())
+    text.put(line.as_slice());
 }
 
-/// Appends the line of a stored word, its address and its value in octal. Without memory a part of the
-/// line may stand behind the text.
-pub fn push_image_line(
-    text: &mut Text,
-    kind: DeckKind,
-    address: u64,
-    value: u64,
-) -> Result<(), AllocError>
-    ensures line { OnOk result (text.new ≡ text.old ++ word_line kind (record { address = address; value = value })) }
-    ensures without_memory { OnErr result (GoesOn text.old text.new) }
+/// Appends the line of a stored word, its address and its value in octal.
+pub fn push_image_line(text: &mut Sheet, kind: DeckKind, address: u64, value: u64)
+    ensures { text.new ≡ text.old ++ word_line kind (record { address = address; value = value }) }
 {
     match kind {
         DeckKind::Rel | DeckKind::Abs => push_octal_line(text, 6, address, 20, value),

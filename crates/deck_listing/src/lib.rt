@@ -5,9 +5,14 @@
 //! The listing walks lines and cards together; an instruction has one line, other fields are
 //! gathered until a word is full, and a BSSZ has none. The stored words of a block are the same in
 //! whatever link but for the bits that the link makes. A section leaves out words beyond memory and
-//! common blocks, whose words the link shows. Each text is made apart and appended in one call, so
-//! without memory the text before is as it was.
+//! common blocks, whose words the link shows. What stored words are, and their lines, are made apart:
+//! `words_of_blocks` asks for memory, and `push_section` puts these words to a text. A text is put to a
+//! `Sheet`, which takes all bytes: what fits in the room that was asked for before needs no memory, and
+//! a sheet that grows tells at its end where it lacked some.
 #![tactic(auto)]
+
+// What lines are put to.
+mod sheet;
 
 // The listing.
 mod field_lines;
@@ -33,4 +38,5 @@ pub use blocks::words_of_blocks;
 pub use image_lines::push_image_line;
 pub use listed_object::ListedObject;
 pub use sections::{image, push_section};
+pub use sheet::Sheet;
 pub use whole::{errors, listing, push_listing};

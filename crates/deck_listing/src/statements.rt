@@ -1,5 +1,5 @@
 //! The lines of one statement: its cards, its letters, and what it stores.
-ghost use Rattle.std.specs.Prelude.{◌≡◌, ◌≢◌, ◌≤◌, ◌<◌, ◌+◌, ◌/◌, ◌%◌, ◌^◌, ◌++◌, List, map, length, take, drop, true, false, OnOk};
+ghost use Rattle.std.specs.Prelude.{◌≡◌, ◌≢◌, ◌≤◌, ◌<◌, ◌+◌, ◌/◌, ◌%◌, ◌^◌, ◌++◌, List, map, length, take, drop, true, false};
 ghost use Rattle.definitions.specs.Kinds.{units, word_bits};
 ghost use Rattle.definitions.specs.Listing.{central_lines, unlinked};
 ghost use Rattle.definitions.specs.Operations as op;
@@ -13,13 +13,12 @@ ghost use Rattle.operations.specs.OperationsAs.{operation_as};
 use crate::field_lines::{joined_fields, push_word_lines};
 use crate::kept_fields::{known_field, listed};
 use crate::lines::{push_card_lines, push_central_line, push_letters_line};
+use crate::sheet::Sheet;
 use cards::Card;
 use deck_assembler::{CodedLine, Line, LineFields, ObjectParts};
 use definitions::DeckKind;
 use operations::Operation;
 use statement_coder::Item;
-use std::alloc::AllocError;
-use text_ports::Text;
 use use_blocks::Bases;
 
 /// Whether the fields of a statement have one line together: an instruction's, in a deck of central
@@ -34,85 +33,76 @@ fn has_one_line(kind: DeckKind, operation: Operation) -> bool
 }
 
 /// The line of the fields of an instruction, at most 60 bits together.
-fn push_instruction(
-    text: &mut Text,
-    bases: &Bases,
-    place: u32,
-    items: &[Item],
-) -> Result<(), AllocError>
+fn push_instruction(text: &mut Sheet, bases: &Bases, place: u32, items: &[Item])
     requires fields { AreShort (map item_as items.now) }
     requires short { width_of (map item_as items.now) ≤ 60 }
-    ensures { OnOk result (text.new ≡ text.old ++ central_lines (unlinked bases.now) op.Instruction place (map item_as items.now)) }
+    ensures { text.new ≡ text.old ++ central_lines (unlinked bases.now) op.Instruction place (map item_as items.now) }
 {
     if items.is_empty() {
-        return Ok(());
+        return;
     }
     let (width, bits) = joined_fields(bases, items);
     let place = place as u64;
-    push_central_line(text, place / 4, place % 4, width, bits)
+    push_central_line(text, place / 4, place % 4, width, bits);
 }
 
 /// The lines of the fields of a statement.
-fn push_fields(
-    text: &mut Text,
-    parts: &ObjectParts,
-    stored: &CodedLine,
-    items: &[Item],
-) -> Result<(), AllocError>
+fn push_fields(text: &mut Sheet, parts: &ObjectParts, stored: &CodedLine, items: &[Item])
     requires stored { operation_as stored.now.operation ≢ op.Bssz }
     requires fields { AreShort (map item_as items.now) }
     requires short { has_one_line parts.now.kind (operation_as stored.now.operation) ≡ true → width_of (map item_as items.now) ≤ 60 }
     requires whole { has_one_line parts.now.kind (operation_as stored.now.operation) ≡ false → width_of (map item_as items.now) % word_bits parts.now.kind ≡ 0 }
     requires few { width_of (map item_as items.now) < 2 ^ 40 }
-    ensures { OnOk result (text.new ≡ text.old
-        ++ fields_text parts.now.kind (unlinked parts.now.bases) (operation_as stored.now.operation) stored.now.place (map item_as items.now)) }
+    ensures { text.new ≡ text.old
+        ++ fields_text parts.now.kind (unlinked parts.now.bases) (operation_as stored.now.operation) stored.now.place (map item_as items.now) }
 {
     let kind = parts.kind;
     if has_one_line(kind, stored.operation) {
-        return push_instruction(text, &parts.bases, stored.place, items);
+        push_instruction(text, &parts.bases, stored.place, items);
+        return;
     }
     let word = stored.place / kind.units();
-    push_word_lines(text, kind, &parts.bases, word as u64, items)
+    push_word_lines(text, kind, &parts.bases, word as u64, items);
 }
 
 /// The lines of what a statement stores; the zeros of a BSSZ have none.
-fn push_stored(text: &mut Text, parts: &ObjectParts, stored: &CodedLine) -> Result<(), AllocError>
+fn push_stored(text: &mut Sheet, parts: &ObjectParts, stored: &CodedLine)
     requires { IsListable parts.now.kind parts.now.items.items stored.now }
-    ensures { OnOk result (text.new ≡ text.old ++ stored_text parts.now.kind parts.now.bases parts.now.items.items (Some stored.now)) }
+    ensures { text.new ≡ text.old ++ stored_text parts.now.kind parts.now.bases parts.now.items.items (Some stored.now) }
 {
     match stored.fields {
-        LineFields::Absent | LineFields::Zeros => Ok(()),
+        LineFields::Absent | LineFields::Zeros => {}
         LineFields::Known(bits) => {
             push_fields(
                 text,
                 parts,
                 stored,
                 &[known_field(parts.kind, stored, bits)],
-            )
+            );
         }
         LineFields::Listed { first, count } => {
             let fields = listed(parts.items.as_slice(), first, count);
-            push_fields(text, parts, stored, fields)
+            push_fields(text, parts, stored, fields);
         }
     }
 }
 
 /// The lines of a statement that has these cards, where so many stand before it.
 fn push_statement(
-    text: &mut Text,
+    text: &mut Sheet,
     parts: &ObjectParts,
     before: usize,
     cards: &[Card],
     shown: &Line,
-) -> Result<(), AllocError>
+)
     requires few { before + length cards.now < 2 ^ 60 }
     requires listable { IsListableLine parts.now.kind parts.now.items.items shown.now.coded }
-    ensures { OnOk result (text.new ≡ text.old ++ line_text parts.now.kind parts.now.bases parts.now.items.items before cards.now shown.now) }
+    ensures { text.new ≡ text.old ++ line_text parts.now.kind parts.now.bases parts.now.items.items before cards.now shown.now }
 {
-    push_card_lines(text, before, cards)?;
-    push_letters_line(text, &shown.letters)?;
+    push_card_lines(text, before, cards);
+    push_letters_line(text, &shown.letters);
     match &shown.coded {
-        None => Ok(()),
+        None => {}
         Some(stored) => push_stored(text, parts, stored),
     }
 }
@@ -126,22 +116,17 @@ fn split_cards(cards: &[Card], count: u32) -> (&[Card], &[Card])
 }
 
 /// The lines of all statements of a deck with these cards.
-pub(crate) fn push_statements(
-    text: &mut Text,
-    cards: &[Card],
-    parts: &ObjectParts,
-) -> Result<(), AllocError>
+pub(crate) fn push_statements(text: &mut Sheet, cards: &[Card], parts: &ObjectParts)
     requires few { length cards.now < 2 ^ 60 }
     requires listable { AreListable parts.now.kind parts.now.items.items parts.now.lines.items }
-    ensures { OnOk result (text.new ≡ text.old ++ lines_text parts.now.kind parts.now.bases parts.now.items.items 0 cards.now parts.now.lines.items) }
+    ensures { text.new ≡ text.old ++ lines_text parts.now.kind parts.now.bases parts.now.items.items 0 cards.now parts.now.lines.items }
 {
     let mut before = 0;
     let mut ahead = cards;
     for shown in &parts.lines {
         let (own, behind) = split_cards(ahead, shown.cards);
-        push_statement(text, parts, before, own, shown)?;
+        push_statement(text, parts, before, own, shown);
         before += own.len();
         ahead = behind;
     }
-    Ok(())
 }

@@ -1,10 +1,11 @@
 //! The listing of a deck.
-ghost use Rattle.std.specs.Prelude.{◌≡◌, ◌<◌, ◌^◌, ◌++◌, length, OnOk, OnErr, IfOk};
+ghost use Rattle.std.specs.Prelude.{◌≡◌, ◌<◌, ◌^◌, ◌++◌, length, IfOk};
 ghost use Rattle.definitions.specs.Listing.{deck_listing, errors_of};
 ghost use Rattle.definitions.specs.Objects.{object_of};
 ghost use Rattle.deck_listing.specs.ListedParts.{AreListable, flagged_lines, has_letters, parts_text};
 
 use crate::lines::{push_block_lines, push_deck_line, push_errors_line};
+use crate::sheet::Sheet;
 use crate::statements::push_statements;
 use cards::{Card, DeckName};
 use deck_assembler::{Line, Object, ObjectParts};
@@ -40,40 +41,39 @@ pub fn errors(object: &Object) -> u64
 }
 
 /// Appends the listing of a deck with this name and these cards, from what its object keeps.
-fn push_parts(
-    text: &mut Text,
-    name: &DeckName,
-    cards: &[Card],
-    parts: &ObjectParts,
-) -> Result<(), AllocError>
+fn push_parts(text: &mut Sheet, name: &DeckName, cards: &[Card], parts: &ObjectParts)
     requires few { length cards.now < 2 ^ 60 }
     requires listable { AreListable parts.now.kind parts.now.items.items parts.now.lines.items }
-    ensures { OnOk result (text.new ≡ text.old ++ parts_text name.now cards.now parts.now) }
+    ensures { text.new ≡ text.old ++ parts_text name.now cards.now parts.now }
 {
-    push_deck_line(text, name, parts.kind)?;
-    push_statements(text, cards, parts)?;
-    push_block_lines(text, parts.bases.rows())?;
-    push_errors_line(text, flagged_lines(parts.lines.as_slice()))
+    push_deck_line(text, name, parts.kind);
+    push_statements(text, cards, parts);
+    push_block_lines(text, parts.bases.rows());
+    push_errors_line(text, flagged_lines(parts.lines.as_slice()));
 }
 
-/// The listing of a deck alone, not linked: the deck stands at 0, and so does each external.
+/// How much room is asked for at first for the listing of a deck.
+fn listing_room(object: &Object) -> usize {
+    object
+        .cards()
+        .len()
+        .saturating_mul(CARD_ROOM)
+        .saturating_add(DECK_ROOM)
+}
+
+/// Appends the listing of a deck alone, not linked: the deck stands at 0, and so does each external.
+pub fn push_listing(text: &mut Sheet, object: &Object)
+    ensures { text.new ≡ text.old ++ deck_listing (object_of object.now) }
+{
+    text.make_room(listing_room(object));
+    push_parts(text, object.name(), object.cards(), object.parts());
+}
+
+/// The listing of a deck alone.
 pub fn listing(alloc: Global, object: &Object) -> Result<Text, AllocError>
     ensures { IfOk result (λ text. text ≡ deck_listing (object_of object.now)) }
 {
-    let cards = object.cards();
-    let room = cards
-        .len()
-        .saturating_mul(CARD_ROOM)
-        .saturating_add(DECK_ROOM);
-    let mut text = Text::with_room(alloc, room)?;
-    push_parts(&mut text, object.name(), cards, object.parts())?;
-    Ok(text)
-}
-
-/// Appends the listing of a deck alone. Without memory the text is as it was.
-pub fn push_listing(alloc: Global, text: &mut Text, object: &Object) -> Result<(), AllocError>
-    ensures ok { OnOk result (text.new ≡ text.old ++ deck_listing (object_of object.now)) }
-    ensures err { OnErr result (text.new ≡ text.old) }
-{
-    text.append(listing(alloc, object)?)
+    let mut text = Sheet::new(alloc);
+    push_listing(&mut text, object);
+    text.into_text()
 }

@@ -12,4 +12,4 @@ push_common-requires-clause-there c =
 pub loop-common-preserved : goal.loop-common-preserved
 loop-common-preserved c =
     text-step (flat_map (common_section_by c.args.layout.now)) (common_section_by c.args.layout.now) (λ x xs. refl) c.commons-common-items.result.now c.loop-common.common-index c.common-item.result c.loop-common-test.true c.common-item.is
-    c.loop-common.text c.push_common.new.text _ c.loop-common.invariant c.in_ok-push_common.ensures
+    c.loop-common.text c.push_common.new.text _ c.loop-common.invariant c.push_common.ensures

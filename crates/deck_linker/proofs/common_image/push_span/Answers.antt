@@ -12,4 +12,4 @@ loop-index-preserved c =
     let sum : c.args.base + span.offset + i ≡ c.args.base + (span.offset + i) = omega arith in
     word-written c.loop-index.text c.push_image_line.new.text _ c.args.base (span.offset + i) (span.count - i) span.value _ (span.offset + (i + 1)) (span.count - (i + 1))
     (ap₂ (λ a b. a + b) (ap₂ (λ a b. a + b) c.from.ensures c.from-in-loop-index.ensures) c.from-in-loop-index-2.ensures ∙ sum)
-    next left some c.loop-index.invariant c.in_ok-push_image_line.ensures.line
+    next left some c.loop-index.invariant c.push_image_line.ensures

@@ -25,7 +25,7 @@ put_rows-requires-clause-words c =
     let linking = linking_of c.args.layout.now c.args.based.now in
     let same = c.rows-rows.ensures ∙ c.parts.ensures.parts.1.rows in
     subst (λ rows. AllZip (AreWordsOf linking c.args.based.now.object) rows c.as_slice.result.now) (sym same)
-    (subst (AreBlockWords linking c.args.based.now.object) (sym c.as_slice.ensures.value) (subst (λ object. AreBlockWords linking object c.in_ok-blocks.blocks.items) c.object.ensures c.in_ok-blocks.ensures))
+    (subst (AreBlockWords linking c.args.based.now.object) (sym c.as_slice.ensures.value) (subst (λ object. AreBlockWords linking object c.in_ok-blocks.blocks.items) c.object.ensures c.in_ok-blocks.ensures.words))
 
 pub returns-then-not-has_common : goal.returns-then-not-has_common
 returns-then-not-has_common c =

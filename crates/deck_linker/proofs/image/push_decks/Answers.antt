@@ -1,10 +1,18 @@
-use Rattle.std.proofs.Common.{refl}
+use Rattle.std.proofs.Common.{◌∙◌, ap, length, refl, subst, sym}
 use Rattle.std.specs.Prelude.{flat_map}
+use Rattle.definitions.specs.Link.{linking_of}
+use Rattle.deck_listing.specs.BlockWords.{AreBlockWords}
 use Rattle.deck_linker.specs.Sections.{deck_section}
 use Rattle.deck_linker.proofs.LineLaws.{text-step}
 use Rattle.deck_linker.proofs.image.push_decks.Goals as goal
 
+pub push_deck-requires : goal.push_deck-requires
+push_deck-requires c = ap length c.as_slice.ensures.value ∙ c.in_ok-blocks.ensures.each
+
 pub loop-based-preserved : goal.loop-based-preserved
 loop-based-preserved c =
-    text-step (flat_map (deck_section c.args.layout.now)) (deck_section c.args.layout.now) (λ x xs. refl) c.args.decks.now c.loop-based.based-index c.based-item.result c.loop-based-test.true c.based-item.is
-    c.loop-based.text c.push_deck.new.text _ c.loop-based.invariant c.in_ok-push_deck.ensures
+    let layout = c.args.layout.now in
+    let based = c.based-item.result in
+    let words = subst (AreBlockWords (linking_of layout based) based.object) (sym c.as_slice.ensures.value) c.in_ok-blocks.ensures.words in
+    text-step (flat_map (deck_section layout)) (deck_section layout) (λ x xs. refl) c.args.decks.now c.loop-based.based-index based c.loop-based-test.true c.based-item.is
+    c.loop-based.text c.push_deck.new.text _ c.loop-based.invariant (c.push_deck.ensures layout words)

@@ -8,10 +8,10 @@ use Rattle.deck_listing.proofs.field_lines.push_word_lines.Goals as goal
 pub fields-preserved-then-next-word_bits : goal.fields-preserved-then-next-word_bits
 fields-preserved-then-next-word_bits c =
     let full : word_bits c.args.kind ≤ c.fields.next.width = rw c.word_bits.ensures at c.if-next-word_bits.true in
-    rw c.in_ok-next.ensures.next (record {
+    rw c.push_full_word-next.ensures.next (record {
       filled = filled-full c.args.kind c.fields.next (map item_as c.fields.left.now) c.fields.invariant.filled full;
-      text = text-full c.args.kind c.args.bases.now c.fields.next (map item_as c.fields.left.now) c.fields.text c.push_full_word.new.text _
-          c.fields.invariant.filled full c.in_ok-next.ensures.text c.fields.invariant.text;
+      text = text-full c.args.kind c.args.bases.now c.fields.next (map item_as c.fields.left.now) c.fields.text c.push_full_word-next.new.text _
+          c.fields.invariant.filled full c.push_full_word-next.ensures.text c.fields.invariant.text;
     })
 
 pub fields-preserved : goal.fields-preserved

@@ -10,7 +10,7 @@ loop-row-preserved c =
     let behind = flat_map block_line (drop (i + 1) c.args.rows.now) in
     let here : drop i c.args.rows.now ≡ row ∷ drop (i + 1) c.args.rows.now =
     drop_more c.args.rows.now i row c.loop-row-test.true ∙ ap (λ r. r ∷ drop (i + 1) c.args.rows.now) (sym c.row-item.is) in
-    ap (λ t. t ++ behind) c.in_ok-push_block_line.ensures
+    ap (λ t. t ++ behind) c.push_block_line.ensures
     ∙ append_assoc c.loop-row.text (block_line row) behind
     ∙ ap (λ rows. c.loop-row.text ++ flat_map block_line rows) (sym here)
     ∙ c.loop-row.invariant

@@ -21,7 +21,7 @@ loop-index-preserved c = λ linking cards object are_parts words.
     row_more object.kind linking object c.args.base rows i row c.args.text.now c.loop-index.text c.push_block.new.text inside
     (c.loop-index.invariant linking cards object are_parts words)
     (row_put object.kind linking object c.args.base row _ c.loop-index.text c.push_block.new.text c.index-rows-index.is
-    (c.in_ok-push_block.ensures linking cards object are_parts (ap as_stored c.as_slice.ensures.value ∙ of_row.words)))
+    (c.push_block.ensures linking cards object are_parts (ap as_stored c.as_slice.ensures.value ∙ of_row.words)))
 
 pub returns : goal.returns
 returns c = λ linking cards object are_parts words.

@@ -17,4 +17,4 @@ loop-index-preserved c =
     let left : span.count - (i + 1) ≡ span.count - i - 1 = omega arith in
     let some : 0 < span.count - i = omega arith in
     line_more c.args.kind (c.args.base + c.args.block) (span.offset + i) (span.count - i) span.value _ c.in-Some.address (span.offset + (i + 1)) (span.count - (i + 1)) c.loop-index.text c.push_image_line.new.text _
-    (ap₂ (λ a b. a + b) c.from.ensures c.from-in-loop-index.ensures) next left some c.loop-index.invariant (sym c.address_within.ensures ∙ c.in-Some.is) c.in_ok-push_image_line-in-Some.ensures.line
+    (ap₂ (λ a b. a + b) c.from.ensures c.from-in-loop-index.ensures) next left some c.loop-index.invariant (sym c.address_within.ensures ∙ c.in-Some.is) c.push_image_line.ensures

@@ -1,11 +1,27 @@
-use Rattle.std.proofs.Common.{refl}
+use Rattle.std.proofs.Common.{◌≡◌, ◌∙◌, List, ℕ, ap, sym, subst, refl}
 use Rattle.std.proofs.lemmas.Result.{IfOk-weaker}
+use Rattle.definitions.specs.Image.{image_alone}
 use Rattle.definitions.specs.Objects.{object_of}
+use Rattle.deck_listing.specs.BlockWords.{AreBlockWords}
 use Rattle.deck_listing.proofs.AloneSteps.{alone-linked, nothing, placed}
+use Rattle.deck_listing.specs.Sheets.{room_of, text_of}
+use Rattle.deck_listing.proofs.SheetSteps.{grown}
 use Rattle.deck_listing.proofs.sections.image.Goals as goal
+
+pub into_text-requires : goal.into_text-requires
+into_text-requires c =
+    let object = object_of c.args.object.now in
+    let base = c.args.base in
+    let linked = alone-linked object c.parts.result.now.bases base c.parts.ensures.rows in
+    let words = subst (λ linking. AreBlockWords linking object c.in_ok-blocks.blocks.items) linked c.in_ok-blocks.ensures.words in
+    let made = c.push_section.ensures nothing (placed object base) (subst (AreBlockWords _ object) (sym c.as_slice.ensures.value) words) refl refl in
+    ap room_of (grown c.new-text.result (image_alone object base) c.push_section.new.text made c.new-text.ensures)
 
 pub returns : goal.returns
 returns c =
     let object = object_of c.args.object.now in
     let base = c.args.base in
-    IfOk-weaker c.section_text.result _ _ (λ text holds. holds nothing (placed object base) (alone-linked object c.parts.result.now.bases base c.parts.ensures.rows) refl refl) c.section_text.ensures
+    let linked = alone-linked object c.parts.result.now.bases base c.parts.ensures.rows in
+    let words = subst (λ linking. AreBlockWords linking object c.in_ok-blocks.blocks.items) linked c.in_ok-blocks.ensures.words in
+    let made = c.push_section.ensures nothing (placed object base) (subst (AreBlockWords _ object) (sym c.as_slice.ensures.value) words) refl refl in
+    IfOk-weaker c.into_text.result _ (λ (text : List ℕ). text ≡ image_alone object base) (λ text same. same ∙ ap text_of (grown c.new-text.result (image_alone object base) c.push_section.new.text made c.new-text.ensures)) c.into_text.ensures

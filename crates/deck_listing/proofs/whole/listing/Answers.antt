@@ -1,16 +1,15 @@
-use Rattle.std.proofs.Common.{◌∙◌, ◌++◌, ap, ap₂}
+use Rattle.std.proofs.Common.{◌≡◌, ℕ, List, ◌++◌, ◌∙◌, ap}
+use Rattle.std.proofs.lemmas.Result.{IfOk-weaker}
+use Rattle.definitions.specs.Listing.{deck_listing}
 use Rattle.definitions.specs.Objects.{object_of}
-use Rattle.deck_listing.specs.ListedParts.{parts_text}
-use Rattle.deck_listing.proofs.ListableLaws.{parts-listable}
-use Rattle.deck_listing.proofs.ListingLaws.{listing-same}
+use Rattle.deck_listing.specs.Sheets.{room_of, text_of}
+use Rattle.deck_listing.proofs.SheetSteps.{grown}
 use Rattle.deck_listing.proofs.whole.listing.Goals as goal
 
-pub push_parts-requires-clause-listable : goal.push_parts-requires-clause-listable
-push_parts-requires-clause-listable c = parts-listable c.args.object.now.cards c.parts.result.now (object_of c.args.object.now) c.parts.ensures
+pub into_text-requires : goal.into_text-requires
+into_text-requires c = ap room_of (grown c.new-text.result (deck_listing (object_of c.args.object.now)) c.push_listing.new.text c.push_listing.ensures c.new-text.ensures)
 
 pub returns : goal.returns
 returns c =
-    c.in_ok-push_parts.ensures
-    ∙ ap (λ text. text ++ parts_text c.name.result.now c.cards-cards.result.now c.parts.result.now) c.in_ok-text.ensures
-    ∙ ap₂ (λ name cards. parts_text name cards c.parts.result.now) c.name.ensures c.cards-cards.ensures
-    ∙ listing-same c.args.object.now.cards c.parts.result.now (object_of c.args.object.now) c.parts.ensures
+    let whole = deck_listing (object_of c.args.object.now) in
+    IfOk-weaker c.into_text.result _ (λ (text : List ℕ). text ≡ whole) (λ text same. same ∙ ap text_of (grown c.new-text.result whole c.push_listing.new.text c.push_listing.ensures c.new-text.ensures)) c.into_text.ensures

@@ -1,0 +1,24 @@
+use Rattle.std.proofs.Common.{◌∙◌, ap, arith, subst, length, length-append, refl}
+use Rattle.definitions.specs.DeckInput.{Deck}
+use Rattle.deck_linker.specs.InPieces.{DoFit, deck_text}
+use Rattle.std.proofs.lemmas.List.{take_all}
+use Rattle.deck_linker.proofs.InPieceLaws.{fit-more}
+use Rattle.deck_linker.proofs.ListedLaws.{count-split}
+use Rattle.deck_linker.proofs.measuring.measure_listings.Goals as goal
+
+pub loop-object-preserved : goal.loop-object-preserved
+loop-object-preserved c =
+    let objects = c.args.objects.now in
+    let i = c.loop-object.object-index in
+    let deck = c.object-item.result in
+    let split = count-split length length-append objects i deck (deck_text deck) c.loop-object-test.true c.object-item.is refl in
+    let long = c.in_ok-len.ensures ∙ ap (λ (d : Deck). length (deck_text d)) c.object.ensures in
+    record {
+      all = omega (arith, c.loop-object.invariant.all, c.in_ok-measure.ensures.all, split, long);
+      most = omega (arith, c.loop-object.invariant.most, c.in_ok-measure.ensures.most);
+      fit = fit-more deck_text objects i deck c.loop-object.measure.most c.in_ok-measure.measure.most c.loop-object-test.true c.object-item.is c.loop-object.invariant.fit c.in_ok-measure.ensures.most
+          (omega (arith, c.in_ok-measure.ensures.fits, long));
+    }
+
+pub returns-clause-fit : goal.returns-clause-fit
+returns-clause-fit c = subst (λ xs. DoFit deck_text c.loop-object.measure.most xs) (take_all c.loop-object.object-index c.args.objects.now (omega arith)) c.loop-object.invariant.fit

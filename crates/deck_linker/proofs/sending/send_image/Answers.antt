@@ -1,0 +1,21 @@
+use Rattle.std.proofs.Common.{List, ◌+◌, ◌++◌, ℕ, subst}
+use Rattle.std.specs.Prelude.{flat_map}
+use Rattle.definitions.specs.Link.{Based}
+use Rattle.text_ports.proofs.SendSteps.{IsPart}
+use Rattle.deck_linker.specs.InPieces.{end_text}
+use Rattle.deck_linker.specs.Sections.{deck_section}
+use Rattle.deck_linker.proofs.InPieceLaws.{clear-text}
+use Rattle.deck_linker.proofs.ListedLaws.{part-behind-all}
+use Rattle.deck_linker.proofs.sending.send_image.Goals as goal
+
+pub returns-in-Err-clause-sends : goal.returns-in-Err-clause-sends
+returns-in-Err-clause-sends g c =
+    let layout = c.args.layout.now in
+    let old = g.W.Write.contents c.args.output.now.0 in
+    let mid = g.W.Write.contents c.send_sections.new.output.0 in
+    let new = g.W.Write.contents c.send.new.output.0 in
+    let more = c.in-Err.broken.sent in
+    let text = clear-text c.args.sheet.now c.send_sections.new.sheet c.push_end.new.text (end_text layout) c.requires.clear c.in_ok-sections.ensures.sheet c.push_end.ensures in
+    subst (λ (decks : List Based). IsPart old new (flat_map (deck_section layout) decks ++ end_text layout) (c.in_ok-sections.sections + more)) c.decks.ensures
+    (part-behind-all old mid new (flat_map (deck_section layout) c.decks.result.now) (end_text layout) c.in_ok-sections.sections more c.in_ok-sections.ensures.len c.in_ok-sections.ensures.sends
+    (subst (λ (l : List ℕ). IsPart mid new l more) text c.in-Err.ensures.sends))

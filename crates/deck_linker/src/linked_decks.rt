@@ -1,0 +1,161 @@
+//! Decks that are linked, before their texts are made: they are made part by part, each when it is
+//! written.
+ghost use Rattle.std.specs.Prelude.{◌≡◌, ◌≤◌, ◌<◌, ◌^◌, ◌+◌, flat_map, length, IfOk};
+ghost use Rattle.std.specs.List.{AllZip};
+ghost use Rattle.definitions.specs.Build.{build_of};
+ghost use Rattle.text_ports.specs.Sending.{Sends, count_after_sending};
+ghost use Rattle.deck_linker.specs.CommonWords.{AreCommonWords};
+ghost use Rattle.deck_linker.specs.InPieces.{AreDeckWords, DoFit, deck_text, end_text};
+ghost use Rattle.deck_linker.specs.Publishing.{listings};
+ghost use Rattle.deck_linker.specs.Sections.{deck_section};
+
+use crate::common_words::words_of_commons;
+use crate::image::deck_words;
+use crate::map::with_map;
+use crate::measuring::{Measure, measure_end, measure_listings, measure_sections};
+use crate::publication::{errors_in, shared, sum};
+use crate::sending::send_all;
+use crate::{Based, Layout};
+use deck_assembler::SharedObject;
+use deck_listing::Sheet;
+use deck_listing::packing::WordSpan;
+use std::alloc::{AllocError, Global};
+use std::io::Write;
+use std::marker::Model;
+use text_ports::{Broken, Counted, Text};
+
+/// No memory holds so many bytes.
+const TOO_MANY: u64 = 1 << 63;
+
+/// Decks that are linked, and a sheet with room for the longest part of their texts. Contracts see the
+/// decks: that all is there which their texts are made of is the invariant of the type.
+#[derive(Drop)]
+pub struct LinkedDecks {
+    objects: Vec<SharedObject>,
+    layout: Layout,
+    words: Vec<Vec<Vec<WordSpan>>>,
+    commons: Vec<Vec<WordSpan>>,
+    map: Text,
+    sheet: Sheet,
+    errors: u64,
+    links: usize,
+}
+
+impl Model for LinkedDecks {
+    ghost use Rattle.std.specs.Prelude.{List};
+    ghost use Rattle.definitions.specs.DeckInput.{Deck};
+    ghost use Rattle.deck_linker.specs.InPieces.{AreLinked};
+
+    ghost Value = { List Deck };
+
+    ghost view = { λ l. l.objects.items };
+
+    ghost invariant = { λ l. AreLinked l.objects.items l.layout l.words.items l.commons.items l.map l.sheet l.errors l.links };
+}
+
+impl LinkedDecks {
+    /// Links decks in this order. All memory is asked for here that their texts need.
+    pub fn new(alloc: Global, objects: Vec<SharedObject>) -> Result<LinkedDecks, AllocError>
+        ensures { IfOk result (λ linked. linked ≡ objects.items) }
+    {
+        let layout = Layout::new(alloc, shared(alloc, objects.as_slice())?)?;
+        let mapped = with_map(alloc, Text::new(alloc), &layout)?;
+        let words = words_of_decks(alloc, &layout, layout.decks())?;
+        let commons = words_of_commons(alloc, &layout)?;
+        let front = measure_listings(alloc, objects.as_slice(), Measure { all: 0, most: 0 })?;
+        let most = image_room(
+            alloc,
+            &layout,
+            words.as_slice(),
+            commons.as_slice(),
+            front,
+            mapped.text.len(),
+        )?;
+        let sheet = Sheet::with_room(alloc, most)?;
+        let errors = errors_in(objects.as_slice())?;
+        Ok(LinkedDecks {
+            objects,
+            layout,
+            words,
+            commons,
+            map: mapped.text,
+            sheet,
+            errors,
+            links: mapped.links,
+        })
+    }
+
+    /// How many statements are flagged.
+    pub fn errors(&self) -> u64
+        ensures { result ≡ (build_of self.now).errors }
+    {
+        self.errors
+    }
+
+    /// How many LINK lines there are.
+    pub fn links(&self) -> usize
+        ensures { result ≡ (build_of self.now).links }
+    {
+        self.links
+    }
+
+    /// Writes listings, map and image in this order, or exactly the first `sent` bytes of them up to the
+    /// first fault. Takes no memory.
+    pub fn write<W: Write>(self, output: &mut Counted<W>) -> Result<(), Broken>
+        ensures sends { Sends (W.contents output.old.0) (W.contents output.new.0) (build_of self).text result }
+        ensures count { output.new.1 ≡ count_after_sending result output.old.1 }
+    {
+        let mut sheet = self.sheet;
+        send_all(
+            output,
+            &mut sheet,
+            self.objects.as_slice(),
+            self.map.as_slice(),
+            &self.layout,
+            self.words.as_slice(),
+            self.commons.as_slice(),
+        )
+    }
+}
+
+/// The words that decks in their places store in their blocks.
+fn words_of_decks(
+    alloc: Global,
+    layout: &Layout,
+    decks: &[Based],
+) -> Result<Vec<Vec<Vec<WordSpan>>>, AllocError>
+    ensures { IfOk result (λ words. AllZip (AreDeckWords layout.now) decks.now words.items) }
+{
+    let mut words = Vec::with_capacity(alloc, decks.len())?;
+    for based in decks {
+        let blocks = deck_words(alloc, layout, based)?;
+        words.push(blocks)?;
+    }
+    Ok(words)
+}
+
+/// How much room the longest part of the texts needs, those of the image and those that are measured. No
+/// memory holds so many bytes that their number would not fit.
+fn image_room(
+    alloc: Global,
+    layout: &Layout,
+    words: &[Vec<Vec<WordSpan>>],
+    commons: &[Vec<WordSpan>],
+    front: Measure,
+    map_len: usize,
+) -> Result<usize, AllocError>
+    requires words { AllZip (AreDeckWords layout.now) layout.now.decks words.now }
+    requires commons { AreCommonWords layout.now commons.now }
+    ensures most { IfOk result (λ room. front.most ≤ room) }
+    ensures fit { IfOk result (λ room. DoFit (deck_section layout.now) room layout.now.decks) }
+    ensures end_fits { IfOk result (λ room. length (end_text layout.now) ≤ room) }
+    ensures few { IfOk result (λ room. front.all + (length (flat_map (deck_section layout.now) layout.now.decks) + (length (end_text layout.now) + map_len)) < 2 ^ 63) }
+{
+    let sections = measure_sections(alloc, layout, layout.decks(), words, front)?;
+    let image = measure_end(alloc, layout, commons, sections)?;
+    let all = sum(image.all, map_len as u64)?;
+    if all >= TOO_MANY {
+        return Err(AllocError);
+    }
+    Ok(image.most)
+}

@@ -1,0 +1,15 @@
+use Rattle.std.proofs.Common.{◌∙◌, ap, length, sym}
+use Rattle.definitions.specs.Link.{linking_of}
+use Rattle.definitions.specs.Objects.{object_of}
+use Rattle.deck_listing.proofs.SectionSteps.{section_put}
+use Rattle.deck_listing.proofs.sections.push_section.Goals as goal
+
+pub push_object_words-requires : goal.push_object_words-requires
+push_object_words-requires c = c.requires ∙ sym (ap length c.parts-parts.ensures.rows)
+
+pub returns : goal.returns
+returns c = λ layout based words same placed.
+    let object = object_of c.args.object.now in
+    section_put layout based object c.args.base c.as_slice.result.now c.parts-parts.result.now.kind c.args.text.now c.push_head.new.text c.push_object_words.new.text same placed
+    (c.as_slice.ensures.name ∙ c.name.ensures) c.parts-parts.ensures.kind c.push_head.ensures
+    (c.push_object_words.ensures (linking_of layout based) c.args.object.now.cards object c.parts-parts.ensures words)

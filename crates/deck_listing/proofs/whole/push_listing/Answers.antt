@@ -1,0 +1,17 @@
+use Rattle.std.proofs.Common.{◌∙◌, ◌++◌, ap, ap₂}
+use Rattle.definitions.specs.Objects.{object_of}
+use Rattle.deck_listing.specs.ListedParts.{parts_text}
+use Rattle.deck_listing.proofs.ListableLaws.{parts-listable}
+use Rattle.deck_listing.proofs.ListingLaws.{listing-same}
+use Rattle.deck_listing.proofs.whole.push_listing.Goals as goal
+
+pub push_parts-requires-clause-listable : goal.push_parts-requires-clause-listable
+push_parts-requires-clause-listable c = parts-listable c.args.object.now.cards c.parts.result.now (object_of c.args.object.now) c.parts.ensures
+
+pub returns : goal.returns
+returns c =
+    c.push_parts.ensures
+    ∙ ap (λ text. text ++ parts_text c.name.result.now c.cards.result.now c.parts.result.now) c.make_room.ensures
+    ∙ ap (λ text. c.args.text.now ++ text)
+    (ap₂ (λ name cards. parts_text name cards c.parts.result.now) c.name.ensures c.cards.ensures
+    ∙ listing-same c.args.object.now.cards c.parts.result.now (object_of c.args.object.now) c.parts.ensures)
