@@ -8,3 +8,4 @@ pub mod Outputs
 pub mod FaultWords
 pub mod Flags
 pub mod Filters
+pub mod Ways

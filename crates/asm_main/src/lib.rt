@@ -2,8 +2,9 @@
 //! octal image.
 //!
 //! `read_decks` reads all lines up to the end or the first fault and puts each card to its deck,
-//! `publish` makes both texts in memory, `write_texts` sends them: so nothing is written before all
-//! is read. The contract of `asm_run` has two halves. Where the bytes of the ports are known,
+//! and what is built of the decks has all memory that their texts need: short texts are made whole, of
+//! longer ones each part is measured, and made once more when it is sent. So nothing is written before
+//! all is read, and nothing asks for memory behind the first byte. The contract of `asm_run` has two halves. Where the bytes of the ports are known,
 //! `answer`, `told` and `part` say that what went out, the fault's text and the status are those of
 //! `answer_of`. The other clauses say what was read and in which order, which faults are told, and
 //! when the ports' counts of faults rise.
@@ -15,6 +16,7 @@ mod deck_cut;
 mod deck_input;
 
 // From decks to texts, and out.
+mod built;
 mod publishing;
 mod texts;
 mod writing;

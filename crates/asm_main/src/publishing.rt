@@ -18,7 +18,7 @@ fn object_of(alloc: Global, deck: Deck, meter: &mut Meter) -> Result<SharedObjec
 }
 
 /// All decks, assembled in order.
-fn objects_of(alloc: Global, decks: Vec<Deck>) -> Result<Vec<SharedObject>, AllocError>
+pub(crate) fn objects_of(alloc: Global, decks: Vec<Deck>) -> Result<Vec<SharedObject>, AllocError>
     ensures { IfOk result (λ objects. objects.items ≡ decks.items) }
 {
     let mut meter = Meter { sized: 0, coded: 0 };

@@ -5,12 +5,13 @@ ghost use Rattle.definitions.specs.Answer.{answer_of};
 ghost use Rattle.definitions.specs.Build.{build_of};
 ghost use Rattle.asm_main.specs.Builds.{IsBuilt, IsOutputAfter, Gives, IsToldBy, IsPartOf, Counts};
 ghost use Rattle.asm_main.specs.Inputs.{input_in, AreDecksOf, TellsFaultOf, ReadsToFault, IsSoundBefore};
+ghost use Rattle.asm_main.specs.Ways.{decks_of};
 ghost use Rattle.asm_main.specs.Runs.{IsBeforeWriting, IsReadBefore, input_count_after, output_count_after, run_status};
 
 use crate::asm_fault::AsmFault;
+use crate::built::Built;
 use crate::deck_input::read_decks;
 use crate::publishing::publish;
-use crate::writing::write_texts;
 use deck_linker::Publication;
 use std::alloc::Global;
 use std::io::{BufRead, Write};
@@ -82,6 +83,32 @@ pub fn asm_publish<R: BufRead>(
     asm_publish_with(alloc, input, &mut LineBuf::new())
 }
 
+/// Reads decks of cards, and builds what is written of them: all of a run but its output.
+fn asm_build<R: BufRead>(alloc: Global, input: &mut Counted<R>) -> Result<Built, AsmFault>
+    // Where the bytes of the input are known, the decks are those of the definitions, or the fault of
+    // the input is told, its text and its status.
+    ensures decks { IfOk result (λ built.
+        IfSome (R.remaining input.old.0) (λ bytes. AreDecksOf (input_in bytes) (decks_of built))) }
+    ensures told { IfErr result (λ fault.
+        IfSome (R.remaining input.old.0) (λ bytes. IsToldBy (answer_of bytes) fault)) }
+
+    // What was read are lines that show no fault, and then one line at most.
+    ensures read { ReadsToFault (R.remaining input.old.0) (R.remaining input.new.0) }
+    ensures fault { IfErr result (λ fault.
+        IfSome (R.remaining input.old.0) (λ bytes. TellsFaultOf (input_in bytes) fault)) }
+
+    // Want of memory is told only where what was read shows no fault.
+    ensures memory { IfErr result (λ fault. IsSoundBefore fault (R.remaining input.old.0) (R.remaining input.new.0)) }
+
+    ensures all_read { OnOk result (IsAtEnd (R.remaining input.new.0)) }
+    ensures before_writing { IfErr result IsBeforeWriting }
+    ensures count_ok { OnOk result (input.new.1 ≡ input.old.1) }
+    ensures count { IfErr result (λ fault. input.new.1 ≡ input_count_after fault input.old.1) }
+{
+    let decks = read_decks(alloc, input, &mut LineBuf::new())?;
+    Ok(Built::new(alloc, decks)?)
+}
+
 /// What a publication counts.
 pub fn tally_of(publication: &Publication) -> Tally
     ensures { Counts (build_of publication.now.decks) result }
@@ -134,9 +161,10 @@ pub fn asm_run<R: BufRead, W: Write>(
     ensures input_count { IfErr result (λ fault. input.new.1 ≡ input_count_after fault input.old.1) }
     ensures output_count { IfErr result (λ fault. output.new.1 ≡ output_count_after fault output.old.1) }
 {
-    let publication = asm_publish(alloc, input)?;
-    match write_texts(output, &publication) {
-        Ok(()) => Ok(tally_of(&publication)),
+    let built = asm_build(alloc, input)?;
+    let tally = built.tally();
+    match built.write(output) {
+        Ok(()) => Ok(tally),
         Err(broken) => Err(AsmFault::WriteFault { sent: broken.sent }),
     }
 }
