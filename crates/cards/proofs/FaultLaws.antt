@@ -1,6 +1,6 @@
 -- The first edit that does not apply is told by the number of cards.
 use Rattle.std.specs.Prelude.{remove}
-use Rattle.std.proofs.Common.{ℕ, zero, suc, ◌≡◌, ◌+◌, ◌-◌, ◌≤◌, ◌<◌, Bool, true, false, not, List, [], ◌∷◌, ◌++◌, length, take, drop, get_or, Option, Some, None, refl, sym, ap, ◌∙◌, arith, option_map, nat_le}
+use Rattle.std.proofs.Common.{ℕ, zero, suc, ◌≡◌, ◌+◌, ◌-◌, ◌≤◌, ◌<◌, Bool, true, false, not, List, [], ◌∷◌, ◌++◌, length, take, drop, get_or, Option, Some, None, refl, sym, ap, subst, ◌∙◌, arith, option_map, nat_le}
 use Rattle.std.proofs.lemmas.Bool.{leb-true, leb-false, and_parts}
 use Rattle.std.proofs.lemmas.List.{length-set, at_drop_more, take-set, take-take, take-append-le, length-take-le}
 use Rattle.std.proofs.lemmas.List.Edits.{length-insert, length-remove}
@@ -11,6 +11,8 @@ use Rattle.cards.specs.declared.edits.EditFault.{EditFault}
 use Rattle.cards.specs.Causes.{when, first_cause}
 use Rattle.cards.specs.Counts.{fault_at, count_after, fault_from}
 use Rattle.cards.specs.Edits.{is_place, fault_of, edited, edited_by, first_fault}
+use Rattle.cards.specs.CarrySteps.{place_in}
+use Rattle.cards.specs.Converging.{HasPlace, HavePlaces}
 
 -- a cause that is absent
 absent : {A : Type 0} (b : Bool) (cause : A) → when (not b) cause ≡ None → b ≡ true
@@ -152,3 +154,32 @@ pub made-in : (edits : List Edit) (place : ℕ) (edit : Edit) (cards : List Card
 made-in edits place edit cards within is =
     let more = at_drop_more (λ (es : List Edit). edited_by es cards) edits place edit within in
     more ∙ ap (λ (one : Edit). edited_by (one ∷ drop (place + 1) edits) cards) (sym is)
+
+-- the place of an edit that applies is one of a deck's, or the one behind them
+pub place-low : (edit : Edit) (cards : List Card) → fault_of edit cards ≡ None → length cards ≤ 20000 → place_in edit ≤ 20001
+place-low (Insert place card) cards none few = let within = placed (length cards + 1) place (first-absent _ _ _ none) in omega arith
+place-low (Replace place card) cards none few = let within = placed (length cards) place (absent _ _ none) in omega arith
+place-low (Remove place) cards none few = let within = placed (length cards) place (absent _ _ none) in omega arith
+
+-- so are those of edits of which each applies to what the ones before it leave
+pub places-low : (edits : List Edit) (cards : List Card) → first_fault edits cards ≡ None → length cards ≤ 20000 → (k : ℕ) (edit : Edit) → k < length edits → edit ≡ get_or edits k edit → place_in edit ≤ 20001
+places-low [] cards none few k edit within is = absurd (omega arith)
+places-low (first ∷ edits) cards none few zero edit within is =
+    let both = first-applies (fault_of first cards) (first_fault edits (edited cards first)) none in
+    subst (λ (one : Edit). place_in one ≤ 20001) (sym is) (place-low first cards both.0 few)
+places-low (first ∷ edits) cards none few (suc k) edit within is =
+    let both = first-applies (fault_of first cards) (first_fault edits (edited cards first)) none in
+    places-low edits (edited cards first) both.1 (edited-few first cards both.0 few) k edit (omega arith) is
+
+-- an edit that applies names a place
+has-place : (edit : Edit) (cards : List Card) → fault_of edit cards ≡ None → HasPlace edit cards
+has-place (Insert place card) cards none = placed (length cards + 1) place (first-absent _ _ _ none)
+has-place (Replace place card) cards none = placed (length cards) place (absent _ _ none)
+has-place (Remove place) cards none = placed (length cards) place (absent _ _ none)
+
+-- so does each of edits of which each applies to what the ones before it leave
+pub have-places : (edits : List Edit) (cards : List Card) → first_fault edits cards ≡ None → HavePlaces edits cards
+have-places [] cards none = tt
+have-places (edit ∷ edits) cards none =
+    let both = first-applies (fault_of edit cards) (first_fault edits (edited cards edit)) none in
+    (has-place edit cards both.0, have-places edits (edited cards edit) both.1)

@@ -9,3 +9,6 @@ pub mod Readings
 pub mod Causes
 pub mod Edits
 pub mod Counts
+pub mod Carrying
+pub mod CarrySteps
+pub mod Converging

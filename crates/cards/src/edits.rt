@@ -1,5 +1,6 @@
 //! What an edit is, and why one does not apply.
 ghost use Rattle.std.specs.Prelude.{◌≡◌};
+ghost use Rattle.cards.specs.Carrying.{placed};
 
 use crate::Card;
 
@@ -38,6 +39,17 @@ impl Edit {
                 card: card.copied(),
             },
             Edit::Remove { at } => Edit::Remove { at: *at },
+        }
+    }
+
+    /// The edit is of another place.
+    pub(crate) fn move_to(&mut self, place: u64)
+        ensures { self.new ≡ placed place self.old }
+    {
+        match self {
+            Edit::Insert { at, .. } => *at = place,
+            Edit::Replace { at, .. } => *at = place,
+            Edit::Remove { at } => *at = place,
         }
     }
 }

@@ -6,7 +6,8 @@
 //! or in a `StatementRoom` that the caller lends where the statement has comma cards. A variable
 //! field has at most 711 characters. Which edit does not apply, and why, rests on the number of
 //! cards alone: `fault_of` and `first_fault` count along, take no memory, and cost nothing by the
-//! deck.
+//! deck. `carry` takes no memory either: an edit goes at most twice over those that others made
+//! since, and over those before it in its batch.
 #![tactic(auto)]
 
 // Cards, and the names of decks.
@@ -15,9 +16,11 @@ mod deck_name;
 
 // Edits of a deck's cards.
 mod applying;
+mod carrying;
 mod copies;
 mod edits;
 mod faults;
+mod laws;
 
 // Which cards are one statement, and its text.
 mod statement_list;
@@ -34,10 +37,12 @@ mod variable_fields;
 pub use applying::apply;
 pub use card::{Card, CardFault};
 pub use card_fields::fields;
+pub use carrying::{MOST_CARRIED, MadeEdit, Touched, carry};
 pub use copies::{copied_cards, copied_edits, edited_copy};
 pub use deck_name::{BadName, DeckName};
 pub use edits::{Edit, EditFault};
 pub use faults::{MOST_CARDS, fault_of, first_fault};
+pub use laws::{carried_edits_converge, touched_cards_were_changed};
 pub use statement_fields::Fields;
 pub use statement_list::{Span, StatementList, statements};
 pub use statement_room::StatementRoom;

@@ -1,0 +1,9 @@
+use Rattle.cards.specs.Carrying.{seen_before}
+use Rattle.cards.specs.Converging.{edits_in}
+use Rattle.cards.proofs.FaultLaws.{have-places}
+use Rattle.cards.proofs.Batches.{seen-tells, converges}
+use Rattle.cards.proofs.laws.carried_edits_converge.Goals as goal
+
+pub returns : goal.returns
+returns c = λ seen made edits all made_apply apply ok.
+    converges edits (seen_before made) (edits_in made) seen all (seen-tells made) (have-places (edits_in made) seen made_apply) (have-places edits seen apply) ok
