@@ -36,6 +36,8 @@ pub fn job_in(reply: Reply) -> Option<Job>
         Reply::LinkJob(work) => Some(Job::Link(work)),
         Reply::Changed(_)
         | Reply::CardsAre(..)
+        | Reply::ChangesAre(..)
+        | Reply::CardsBefore(..)
         | Reply::Shown(_)
         | Reply::StatusIs(..)
         | Reply::Idle(_)

@@ -64,6 +64,8 @@ fn end_job(desk: &mut Desk, made: Made) -> Option<Settled>
         Reply::Refused(refusal) => Some(Settled::Refused { refusal }),
         Reply::Changed(_)
         | Reply::CardsAre(..)
+        | Reply::ChangesAre(..)
+        | Reply::CardsBefore(..)
         | Reply::Shown(_)
         | Reply::StatusIs(..)
         | Reply::DeckJob(_)
@@ -85,6 +87,8 @@ fn end_of_claim(claimed: &Reply) -> Option<Settled>
         Reply::Refused(refusal) => Some(Settled::Refused { refusal: *refusal }),
         Reply::Changed(_)
         | Reply::CardsAre(..)
+        | Reply::ChangesAre(..)
+        | Reply::CardsBefore(..)
         | Reply::Shown(_)
         | Reply::StatusIs(..)
         | Reply::DeckJob(_)

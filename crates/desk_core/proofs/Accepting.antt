@@ -27,11 +27,11 @@ pub drop_comes : (name : List ℕ) (seen : ℕ) (desk : Desk) → Comes desk (Dr
 drop_comes name seen desk = unless_comes desk (DropDeck name seen) (against_drop seen desk (deck_named name desk)) (accepted (dropped name desk))
     (by_changing (record { change = Dropped name; asked = refl; told = refl; version = refl; decks = decks_of-dropped name desk.decks; publication = refl }))
 
-edited_comes : (name : List ℕ) (edits : List Edit) (desk : Desk) (call : Call) → change_asked call ≡ Some (Edited name edits) → Comes desk call (accepted (edited name edits desk))
-edited_comes name edits desk call asked = by_changing (record { change = Edited name edits; asked = asked; told = refl; version = refl; decks = decks_of-edited name (desk.version + 1) edits desk.decks; publication = refl })
+edited_comes : (name who : List ℕ) (edits : List Edit) (desk : Desk) (call : Call) → change_asked call ≡ Some (Edited name edits) → Comes desk call (accepted (edited name who edits desk))
+edited_comes name who edits desk call asked = by_changing (record { change = Edited name edits; asked = asked; told = refl; version = refl; decks = decks_of-edited name (desk.version + 1) who edits desk.decks; publication = refl })
 
-pub edit_comes : (name : List ℕ) (seen : ℕ) (edit : Edit) (desk : Desk) → Comes desk (EditDeck name seen edit) (edit_deck name seen edit desk)
-edit_comes name seen edit desk = unless_comes desk (EditDeck name seen edit) (against_edit seen edit desk (deck_named name desk)) _ (edited_comes name (edit ∷ []) desk (EditDeck name seen edit) refl)
+pub edit_comes : (name : List ℕ) (seen : ℕ) (edit : Edit) (who : List ℕ) (desk : Desk) → Comes desk (EditDeck name seen edit who) (edit_deck name seen edit who desk)
+edit_comes name seen edit who desk = unless_comes desk (EditDeck name seen edit who) (against_edit seen edit desk (deck_named name desk)) _ (edited_comes name who (edit ∷ []) desk (EditDeck name seen edit who) refl)
 
-pub batch_comes : (name : List ℕ) (seen : ℕ) (edits : List Edit) (desk : Desk) → Comes desk (Batch name seen edits) (batch name seen edits desk)
-batch_comes name seen edits desk = unless_comes desk (Batch name seen edits) (against_batch seen edits desk (deck_named name desk)) _ (edited_comes name edits desk (Batch name seen edits) refl)
+pub batch_comes : (name : List ℕ) (seen : ℕ) (edits : List Edit) (who : List ℕ) (desk : Desk) → Comes desk (Batch name seen edits who) (batch name seen edits who desk)
+batch_comes name seen edits who desk = unless_comes desk (Batch name seen edits who) (against_batch seen edits desk (deck_named name desk)) _ (edited_comes name who edits desk (Batch name seen edits who) refl)

@@ -9,7 +9,7 @@ abbrev later : ℕ × EditFault → ℕ × EditFault
 later fault = (fault.0 + 1, fault.1)
 
 -- the first of edits of which each applies
-first-applies : (found : Option EditFault) (more : Option (ℕ × EditFault)) →
+pub first-applies : (found : Option EditFault) (more : Option (ℕ × EditFault)) →
     elim found as (λ x. Option (ℕ × EditFault)) [ Some fault ↦ Some (1, fault) | None ↦ option_map later more ] ≡ None → (found ≡ None) × (more ≡ None)
 first-applies None None e = (refl, refl)
 first-applies None (Some fault) e = cc

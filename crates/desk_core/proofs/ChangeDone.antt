@@ -26,26 +26,26 @@ drop-done name seen desk place is clear =
     done _ desk (accepted (dropped name desk)) _ _ (ap (against_drop seen desk) both.0 ∙ clear) (refl, ap (next_with desk) (sym same))
 
 -- the decks with edits
-edited-same : (name : List ℕ) (edits : List Edit) (desk : Desk) (place : ℕ) → IsPlaceOf (is_named name) (Some place) desk.decks →
-    edited name edits desk ≡ changed_at place (edited_deck (desk.version + 1) edits) (next_with desk desk.decks)
-edited-same name edits desk place is =
+edited-same : (name who : List ℕ) (edits : List Edit) (desk : Desk) (place : ℕ) → IsPlaceOf (is_named name) (Some place) desk.decks →
+    edited name who edits desk ≡ changed_at place (edited_deck (desk.version + 1) who edits) (next_with desk desk.decks)
+edited-same name who edits desk place is =
     let both = is.some place refl in
     let there = element-at desk.decks place both.1 in
-    ap (next_with desk) (found-with name (edited_deck (desk.version + 1) edits) desk.decks place there.0 is.own (both.0 ∙ there.1) there.1)
+    ap (next_with desk) (found-with name (edited_deck (desk.version + 1) who edits) desk.decks place there.0 is.own (both.0 ∙ there.1) there.1)
 
 -- an edit
-pub edit-done : (name : List ℕ) (seen : ℕ) (edit : Edit) (desk : Desk) (place : ℕ) → IsPlaceOf (is_named name) (Some place) desk.decks → against_edit seen edit desk (slice_get desk.decks place) ≡ None →
-    IsAnswer (edit_deck name seen edit desk) (Changed (desk.version + 1)) (changed_at place (edited_deck (desk.version + 1) (edit ∷ [])) (next_with desk desk.decks))
-edit-done name seen edit desk place is clear =
+pub edit-done : (name : List ℕ) (seen : ℕ) (edit : Edit) (who : List ℕ) (desk : Desk) (place : ℕ) → IsPlaceOf (is_named name) (Some place) desk.decks → against_edit seen edit desk (slice_get desk.decks place) ≡ None →
+    IsAnswer (edit_deck name seen edit who desk) (Changed (desk.version + 1)) (changed_at place (edited_deck (desk.version + 1) who (edit ∷ [])) (next_with desk desk.decks))
+edit-done name seen edit who desk place is clear =
     let both = is.some place refl in
-    done _ desk (accepted (edited name (edit ∷ []) desk)) _ _ (ap (against_edit seen edit desk) both.0 ∙ clear) (refl, sym (edited-same name (edit ∷ []) desk place is))
+    done _ desk (accepted (edited name who (edit ∷ []) desk)) _ _ (ap (against_edit seen edit desk) both.0 ∙ clear) (refl, sym (edited-same name who (edit ∷ []) desk place is))
 
 -- a batch
-pub batch-done : (name : List ℕ) (seen : ℕ) (edits : List Edit) (desk : Desk) (place : ℕ) → IsPlaceOf (is_named name) (Some place) desk.decks → against_batch seen edits desk (slice_get desk.decks place) ≡ None →
-    IsAnswer (batch name seen edits desk) (Changed (desk.version + 1)) (changed_at place (edited_deck (desk.version + 1) edits) (next_with desk desk.decks))
-batch-done name seen edits desk place is clear =
+pub batch-done : (name : List ℕ) (seen : ℕ) (edits : List Edit) (who : List ℕ) (desk : Desk) (place : ℕ) → IsPlaceOf (is_named name) (Some place) desk.decks → against_batch seen edits desk (slice_get desk.decks place) ≡ None →
+    IsAnswer (batch name seen edits who desk) (Changed (desk.version + 1)) (changed_at place (edited_deck (desk.version + 1) who edits) (next_with desk desk.decks))
+batch-done name seen edits who desk place is clear =
     let both = is.some place refl in
-    done _ desk (accepted (edited name edits desk)) _ _ (ap (against_batch seen edits desk) both.0 ∙ clear) (refl, sym (edited-same name edits desk place is))
+    done _ desk (accepted (edited name who edits desk)) _ _ (ap (against_batch seen edits desk) both.0 ∙ clear) (refl, sym (edited-same name who edits desk place is))
 
 -- what is put where no deck has the name: one more where none was seen
 module _ (new : Deck) (seen : ℕ) (desk : Desk) (none : deck_named new.name desk ≡ None) where

@@ -151,15 +151,15 @@ module _ (history : History) (by : ℕ) (desk : Desk) (told : IsDeskTold history
   since_edited false waiting edits = refl
 
   -- accepted edits of a deck that is there
-  next_edited : (call : Call) (name : List ℕ) (edits : List Edit) (deck : DeskDeck) → deck_named name desk ≡ Some deck →
+  next_edited : (call : Call) (name who : List ℕ) (edits : List Edit) (deck : DeskDeck) → deck_named name desk ≡ Some deck →
       ((identity : ℕ) → identity_of name history ≡ Some identity → Touches history desk.leases identity (Edits edits) (entry by call (Changed (desk.version + 1)))) →
-      Next call (accepted (edited name edits desk))
-  next_edited call name edits deck found touches =
+      Next call (accepted (edited name who edits desk))
+  next_edited call name who edits deck found touches =
       let e = entry by call (Changed (desk.version + 1)) in
       let here = found_told (IsDeckTold history desk.version desk.leases) (is_named name) desk.decks deck told.decks found in
       let meant : IsMeant history name deck.identity = subst (λ n. IsMeant history n deck.identity) (sym (equal_texts name deck.name here.1)) here.0.meant in
       let touch = touches deck.identity meant.identity_is in
-      told_touched history e desk (edited name edits desk) deck.identity name (Edits edits) (edited_deck (desk.version + 1) edits) touch
+      told_touched history e desk (edited name who edits desk) deck.identity name (Edits edits) (edited_deck (desk.version + 1) who edits) touch
       (record {
         names = λ d. refl;
         identities = λ d. refl;
@@ -168,20 +168,20 @@ module _ (history : History) (by : ℕ) (desk : Desk) (told : IsDeskTold history
       }) meant here.0.reached told (omega arith) (omega arith) refl refl
 
   -- nothing speaks against an edit only where the deck is there
-  next_edit : (name : List ℕ) (seen : ℕ) (edit : Edit) (found : Option DeskDeck) → deck_named name desk ≡ found → against_edit seen edit desk found ≡ None → Next (EditDeck name seen edit) (accepted (edited name (edit ∷ []) desk))
-  next_edit name seen edit None found free = cc
-  next_edit name seen edit (Some deck) found free = next_edited (EditDeck name seen edit) name (edit ∷ []) deck found
+  next_edit : (name : List ℕ) (seen : ℕ) (edit : Edit) (who : List ℕ) (found : Option DeskDeck) → deck_named name desk ≡ found → against_edit seen edit desk found ≡ None → Next (EditDeck name seen edit who) (accepted (edited name who (edit ∷ []) desk))
+  next_edit name seen edit who None found free = cc
+  next_edit name seen edit who (Some deck) found free = next_edited (EditDeck name seen edit who) name who (edit ∷ []) deck found
       (λ identity is. record { adds_none = record { identities = λ n. refl; names = λ i. refl }; leases_none = λ n few. refl; effects = λ d. ap (λ (o : Option ℕ). effect_if d o (Edits (edit ∷ []))) is })
 
-  pub edit_next : (name : List ℕ) (seen : ℕ) (edit : Edit) → Next (EditDeck name seen edit) (edit_deck name seen edit desk)
-  edit_next name seen edit = next_unless (EditDeck name seen edit) (against_edit seen edit desk (deck_named name desk)) (accepted (edited name (edit ∷ []) desk)) (λ r. quiet _ _ _ (λ n. refl) (λ i. refl) (λ n. refl) (λ d. refl))
-      (next_edit name seen edit (deck_named name desk) refl)
+  pub edit_next : (name : List ℕ) (seen : ℕ) (edit : Edit) (who : List ℕ) → Next (EditDeck name seen edit who) (edit_deck name seen edit who desk)
+  edit_next name seen edit who = next_unless (EditDeck name seen edit who) (against_edit seen edit desk (deck_named name desk)) (accepted (edited name who (edit ∷ []) desk)) (λ r. quiet _ _ _ (λ n. refl) (λ i. refl) (λ n. refl) (λ d. refl))
+      (next_edit name seen edit who (deck_named name desk) refl)
 
-  next_batch : (name : List ℕ) (seen : ℕ) (edits : List Edit) (found : Option DeskDeck) → deck_named name desk ≡ found → against_batch seen edits desk found ≡ None → Next (Batch name seen edits) (accepted (edited name edits desk))
-  next_batch name seen edits None found free = cc
-  next_batch name seen edits (Some deck) found free = next_edited (Batch name seen edits) name edits deck found
+  next_batch : (name : List ℕ) (seen : ℕ) (edits : List Edit) (who : List ℕ) (found : Option DeskDeck) → deck_named name desk ≡ found → against_batch seen edits desk found ≡ None → Next (Batch name seen edits who) (accepted (edited name who edits desk))
+  next_batch name seen edits who None found free = cc
+  next_batch name seen edits who (Some deck) found free = next_edited (Batch name seen edits who) name who edits deck found
       (λ identity is. record { adds_none = record { identities = λ n. refl; names = λ i. refl }; leases_none = λ n few. refl; effects = λ d. ap (λ (o : Option ℕ). effect_if d o (Edits edits)) is })
 
-  pub batch_next : (name : List ℕ) (seen : ℕ) (edits : List Edit) → Next (Batch name seen edits) (batch name seen edits desk)
-  batch_next name seen edits = next_unless (Batch name seen edits) (against_batch seen edits desk (deck_named name desk)) (accepted (edited name edits desk)) (λ r. quiet _ _ _ (λ n. refl) (λ i. refl) (λ n. refl) (λ d. refl))
-      (next_batch name seen edits (deck_named name desk) refl)
+  pub batch_next : (name : List ℕ) (seen : ℕ) (edits : List Edit) (who : List ℕ) → Next (Batch name seen edits who) (batch name seen edits who desk)
+  batch_next name seen edits who = next_unless (Batch name seen edits who) (against_batch seen edits desk (deck_named name desk)) (accepted (edited name who edits desk)) (λ r. quiet _ _ _ (λ n. refl) (λ i. refl) (λ n. refl) (λ d. refl))
+      (next_batch name seen edits who (deck_named name desk) refl)

@@ -17,16 +17,16 @@ pub decks_of-kept : (name : List ℕ) (form : DeskDeck → DeskDeck) → ((deck 
 decks_of-kept name form same [] = refl
 decks_of-kept name form same (deck ∷ decks) = ap₂ (λ (d : Deck) (ds : List Deck). d ∷ ds) (kept_head (is_named name deck) (form deck) deck (same deck)) (decks_of-kept name form same decks)
 
-edited_head : (named : Bool) (version : ℕ) (edits : List Edit) (deck : DeskDeck) →
-    deck_of (cond named (edited_deck version edits deck) deck) ≡ cond named (record { name = deck.name; cards = edited_by edits deck.cards }) (deck_of deck)
-edited_head true version edits deck = refl
-edited_head false version edits deck = refl
+edited_head : (named : Bool) (version : ℕ) (who : List ℕ) (edits : List Edit) (deck : DeskDeck) →
+    deck_of (cond named (edited_deck version who edits deck) deck) ≡ cond named (record { name = deck.name; cards = edited_by edits deck.cards }) (deck_of deck)
+edited_head true version who edits deck = refl
+edited_head false version who edits deck = refl
 
 -- edits of the deck of a name are those of the decks that are seen
-pub decks_of-edited : (name : List ℕ) (version : ℕ) (edits : List Edit) (decks : List DeskDeck) →
-    map deck_of (map (put_if_named name (edited_deck version edits)) decks) ≡ map (edited_if_named name edits) (map deck_of decks)
-decks_of-edited name version edits [] = refl
-decks_of-edited name version edits (deck ∷ decks) = ap₂ (λ (d : Deck) (ds : List Deck). d ∷ ds) (edited_head (is_named name deck) version edits deck) (decks_of-edited name version edits decks)
+pub decks_of-edited : (name : List ℕ) (version : ℕ) (who : List ℕ) (edits : List Edit) (decks : List DeskDeck) →
+    map deck_of (map (put_if_named name (edited_deck version who edits)) decks) ≡ map (edited_if_named name edits) (map deck_of decks)
+decks_of-edited name version who edits [] = refl
+decks_of-edited name version who edits (deck ∷ decks) = ap₂ (λ (d : Deck) (ds : List Deck). d ∷ ds) (edited_head (is_named name deck) version who edits deck) (decks_of-edited name version who edits decks)
 
 dropped_head : (named : Bool) (deck : DeskDeck) (left : List DeskDeck) (seen : List Deck) → map deck_of left ≡ seen →
     map deck_of (cond (not named) (deck ∷ left) left) ≡ cond (not named) (deck_of deck ∷ seen) seen

@@ -56,8 +56,8 @@ fits_job deck other edits history fits false same = tt
 module _ (history : History) (by : ℕ) (desk : Desk) (told : IsDeskTold history desk) (next : Desk) (deck : ℕ) where
   -- each step hands out what the record lacks, or nothing
   step_fits : (call : Call) (reply : Reply) → Steps desk call reply next → Fits (effect_on deck history call reply) (since_job deck history)
-  step_fits (EditDeck name seen edit) (Changed version) step = fits_if deck (identity_of name history) (Edits (edit ∷ [])) (since_job deck history) tt
-  step_fits (Batch name seen edits) (Changed version) step = fits_if deck (identity_of name history) (Edits edits) (since_job deck history) tt
+  step_fits (EditDeck name seen edit who) (Changed version) step = fits_if deck (identity_of name history) (Edits (edit ∷ [])) (since_job deck history) tt
+  step_fits (Batch name seen edits who) (Changed version) step = fits_if deck (identity_of name history) (Edits edits) (since_job deck history) tt
   step_fits Claim (DeckJob job) step = fits_job deck job.deck job.edits history (fits_due job.start job.edits (since_job job.deck history) (step_due history by desk told next job step)) (job.deck == deck) refl
   step_fits (DeliverDeck done) (Refused Foreign) step = fits_if deck (deck_of_lease done.lease history) Loses (since_job deck history) tt
   step_fits (GiveUp lease) Cleared step = fits_if deck (deck_of_lease lease history) Loses (since_job deck history) tt

@@ -1,28 +1,44 @@
 -- Each deck job is what the history before it makes due.
-use Rattle.std.proofs.Common.{◌≡◌, inl, inr, ℕ, [], ◌∷◌, ◌++◌, reverse, refl, sym, ap, ◌∙◌, subst, append_assoc, append-nil}
+use Rattle.std.proofs.Common.{◌≡◌, inl, inr, ℕ, List, Option, Some, None, [], ◌∷◌, ◌++◌, reverse, refl, sym, ap, ◌∙◌, subst, append_assoc, append-nil}
 use Rattle.std.proofs.lemmas.List.{reverse-append}
 use Rattle.turn_office.specs.declared.history.Entry.{Entry}
 use Rattle.turn_office.specs.Histories.{Leads, entry}
-use Rattle.desk_core.specs.Desks.{Desk, deck_named, new_desk_at}
-use Rattle.desk_core.specs.Calls.{Call, AddDeck, PutDeck, DropDeck, EditDeck, Batch, Cards, Show, Status, Claim, DeliverDeck, DeliverLink, GiveUp, DeckWork, Reply, DeckJob, Refused, OutOfMemory}
+use Rattle.desk_core.specs.Desks.{Desk, DeskDeck, deck_named, new_desk_at}
+use Rattle.desk_core.specs.Past.{backs_of}
+use Rattle.desk_core.specs.Answers.{answers}
+use Rattle.desk_core.specs.Earlier.{against_since, edits_behind, changes_of, cards_at_of}
+use Rattle.desk_core.specs.Calls.{Call, AddDeck, PutDeck, DropDeck, EditDeck, Batch, Changes, CardsAt, Cards, Show, Status, Claim, DeliverDeck, DeliverLink, GiveUp, DeckWork, Reply, DeckJob, ChangesAre, CardsBefore, Refused, OutOfMemory, NoDeck}
 use Rattle.desk_core.specs.Reading.{cards_reply, show_reply}
 use Rattle.desk_core.specs.Steps.{answer, Steps}
 use Rattle.desk_core.specs.Runs.{History, Runs}
 use Rattle.desk_core.specs.Jobs.{IsDue}
 use Rattle.desk_core.proofs.JobsTold.{IsDeskTold, desk_told_first}
 use Rattle.desk_core.proofs.QuietSteps.{quiet, starved_quiet}
-use Rattle.desk_core.proofs.ChangeSteps.{Next, next_quiet, add_next, put_next, drop_next, edit_next, batch_next}
+use Rattle.desk_core.proofs.ChangeSteps.{Next, next_quiet, next_unless, add_next, put_next, drop_next, edit_next, batch_next}
 use Rattle.desk_core.proofs.ClaimSteps.{claim_next, claim_due}
 use Rattle.desk_core.proofs.ResultSteps.{deliver_deck_next, deliver_link_next, give_up_next}
 
 module _ (history : History) (by : ℕ) (desk : Desk) (told : IsDeskTold history desk) where
+  -- what reads a past means nothing
+  changes_next : (name : List ℕ) (since : ℕ) (found : Option DeskDeck) → Next history by desk told (Changes name since) (changes_of since desk found)
+  changes_next name since None = next_quiet history by desk told (Changes name since) (Refused NoDeck) (quiet _ _ _ (λ n. refl) (λ i. refl) (λ n. refl) (λ d. refl))
+  changes_next name since (Some deck) = next_unless history by desk told (Changes name since) (against_since since deck) (answers (ChangesAre deck.version (edits_behind since deck)) desk) (λ r. quiet _ _ _ (λ n. refl) (λ i. refl) (λ n. refl) (λ d. refl))
+      (λ free. next_quiet history by desk told (Changes name since) (ChangesAre deck.version (edits_behind since deck)) (quiet _ _ _ (λ n. refl) (λ i. refl) (λ n. refl) (λ d. refl)))
+
+  cards_at_next : (name : List ℕ) (version : ℕ) (found : Option DeskDeck) → Next history by desk told (CardsAt name version) (cards_at_of version desk found)
+  cards_at_next name version None = next_quiet history by desk told (CardsAt name version) (Refused NoDeck) (quiet _ _ _ (λ n. refl) (λ i. refl) (λ n. refl) (λ d. refl))
+  cards_at_next name version (Some deck) = next_unless history by desk told (CardsAt name version) (against_since version deck) (answers (CardsBefore version deck.cards (backs_of (edits_behind version deck))) desk) (λ r. quiet _ _ _ (λ n. refl) (λ i. refl) (λ n. refl) (λ d. refl))
+      (λ free. next_quiet history by desk told (CardsAt name version) (CardsBefore version deck.cards (backs_of (edits_behind version deck))) (quiet _ _ _ (λ n. refl) (λ i. refl) (λ n. refl) (λ d. refl)))
+
   -- what is told after each answer
   answer_next : (call : Call) → Next history by desk told call (answer call desk)
   answer_next (AddDeck deck) = add_next history by desk told deck
   answer_next (PutDeck deck seen) = put_next history by desk told deck seen
   answer_next (DropDeck name seen) = drop_next history by desk told name seen
-  answer_next (EditDeck name seen edit) = edit_next history by desk told name seen edit
-  answer_next (Batch name seen edits) = batch_next history by desk told name seen edits
+  answer_next (EditDeck name seen edit who) = edit_next history by desk told name seen edit who
+  answer_next (Batch name seen edits who) = batch_next history by desk told name seen edits who
+  answer_next (Changes name since) = changes_next name since (deck_named name desk)
+  answer_next (CardsAt name version) = cards_at_next name version (deck_named name desk)
   answer_next (Cards name) = next_quiet history by desk told (Cards name) (cards_reply (deck_named name desk)) (quiet _ _ _ (λ n. refl) (λ i. refl) (λ n. refl) (λ d. refl))
   answer_next Show = next_quiet history by desk told Show (show_reply desk.publication) (quiet _ _ _ (λ n. refl) (λ i. refl) (λ n. refl) (λ d. refl))
   answer_next Status = next_quiet history by desk told Status _ (quiet _ _ _ (λ n. refl) (λ i. refl) (λ n. refl) (λ d. refl))

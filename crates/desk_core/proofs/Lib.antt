@@ -37,3 +37,4 @@ pub mod RoundsLeft
 pub mod DeckRounds
 pub mod LinkRounds
 pub mod WorkEnds
+pub mod PastSteps

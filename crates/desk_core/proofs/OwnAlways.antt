@@ -7,9 +7,10 @@ use Rattle.desk_core.specs.Language.{Deck, same_text}
 use Rattle.desk_core.specs.Causes.{when, first_cause}
 use Rattle.desk_core.specs.Edits.{Edit}
 use Rattle.desk_core.specs.Desks.{Desk, DeskDeck, Publication, new_desk_at, is_named, deck_named, put_if_named, is_leased, is_leased_at, decks_of}
-use Rattle.desk_core.specs.Calls.{Call, AddDeck, PutDeck, DropDeck, EditDeck, Batch, Cards, Show, Status, Claim, DeliverDeck, DeliverLink, GiveUp, Done, Reply, Refusal, NameTaken}
+use Rattle.desk_core.specs.Calls.{Call, AddDeck, PutDeck, DropDeck, EditDeck, Batch, Changes, CardsAt, Cards, Show, Status, Claim, DeliverDeck, DeliverLink, GiveUp, Done, Reply, Refusal, NameTaken}
 use Rattle.desk_core.specs.Answers.{Answer, unless, against_next}
 use Rattle.desk_core.specs.Changing.{accepted, against_add, added_deck, added, add_deck, against_put, replaced_deck, put, put_where, against_drop, dropped, drop_deck, edited_deck, edited, against_edit, edit_deck, against_batch, batch}
+use Rattle.desk_core.specs.Earlier.{against_since, changes_of, cards_at_of}
 use Rattle.desk_core.specs.Claiming.{claim, claim_deck, claim_link, hand_out, hand_out_link, given, is_behind, is_free, is_published}
 use Rattle.desk_core.specs.Delivering.{deliver_to, take_result, deck_leased, lost, given_back, stored, is_for, is_sound, same_decks, deliver_link, give_up_of}
 use Rattle.desk_core.specs.Steps.{answer, Steps}
@@ -84,14 +85,14 @@ module _ (desk : Desk) (own : HaveOwnNames desk.decks) where
   own-drop : (name : List ℕ) (seen : ℕ) → Own (drop_deck name seen desk)
   own-drop name seen = own-unless desk (against_drop seen desk (deck_named name desk)) (accepted (dropped name desk)) own (λ clear. own-left (λ deck. not (is_named name deck)) desk.decks own)
 
-  own-edited : (name : List ℕ) (edits : List Edit) → Own (accepted (edited name edits desk))
-  own-edited name edits = own-put name (edited_deck (desk.version + 1) edits) desk.decks (λ d. refl) own
+  own-edited : (name who : List ℕ) (edits : List Edit) → Own (accepted (edited name who edits desk))
+  own-edited name who edits = own-put name (edited_deck (desk.version + 1) who edits) desk.decks (λ d. refl) own
 
-  own-edit : (name : List ℕ) (seen : ℕ) (edit : Edit) → Own (edit_deck name seen edit desk)
-  own-edit name seen edit = own-unless desk (against_edit seen edit desk (deck_named name desk)) (accepted (edited name (edit ∷ []) desk)) own (λ clear. own-edited name (edit ∷ []))
+  own-edit : (name : List ℕ) (seen : ℕ) (edit : Edit) (who : List ℕ) → Own (edit_deck name seen edit who desk)
+  own-edit name seen edit who = own-unless desk (against_edit seen edit desk (deck_named name desk)) (accepted (edited name who (edit ∷ []) desk)) own (λ clear. own-edited name who (edit ∷ []))
 
-  own-batch : (name : List ℕ) (seen : ℕ) (edits : List Edit) → Own (batch name seen edits desk)
-  own-batch name seen edits = own-unless desk (against_batch seen edits desk (deck_named name desk)) (accepted (edited name edits desk)) own (λ clear. own-edited name edits)
+  own-batch : (name : List ℕ) (seen : ℕ) (edits : List Edit) (who : List ℕ) → Own (batch name seen edits who desk)
+  own-batch name seen edits who = own-unless desk (against_batch seen edits desk (deck_named name desk)) (accepted (edited name who edits desk)) own (λ clear. own-edited name who edits)
 
   own-claim-deck : (found : Option DeskDeck) → Own (claim_deck desk found)
   own-claim-deck None = own
@@ -128,13 +129,23 @@ module _ (desk : Desk) (own : HaveOwnNames desk.decks) where
   own-give-up-of number None = cond_both (is_leased number desk.link) _ _ Own (λ out. own) (λ unknown. own)
   own-give-up-of number (Some deck) = own-put deck.name lost desk.decks (λ d. refl) own
 
+  own-changes : (since : ℕ) (found : Option DeskDeck) → Own (changes_of since desk found)
+  own-changes since None = own
+  own-changes since (Some deck) = own-unless desk (against_since since deck) _ own (λ clear. own)
+
+  own-cards-at : (version : ℕ) (found : Option DeskDeck) → Own (cards_at_of version desk found)
+  own-cards-at version None = own
+  own-cards-at version (Some deck) = own-unless desk (against_since version deck) _ own (λ clear. own)
+
   -- after each answer
   pub own-answer : (call : Call) → Own (answer call desk)
   own-answer (AddDeck deck) = own-add deck
   own-answer (PutDeck deck seen) = own-put-where deck seen (deck_named deck.name desk) refl
   own-answer (DropDeck name seen) = own-drop name seen
-  own-answer (EditDeck name seen edit) = own-edit name seen edit
-  own-answer (Batch name seen edits) = own-batch name seen edits
+  own-answer (EditDeck name seen edit who) = own-edit name seen edit who
+  own-answer (Batch name seen edits who) = own-batch name seen edits who
+  own-answer (Changes name since) = own-changes since (deck_named name desk)
+  own-answer (CardsAt name version) = own-cards-at version (deck_named name desk)
   own-answer (Cards name) = own
   own-answer Show = own
   own-answer Status = own

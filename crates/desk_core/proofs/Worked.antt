@@ -36,6 +36,10 @@ runs_through calls = leads_through calls new_desk
 abbrev pub M : List ℕ
 M = codes "M"
 
+-- the name of who edits
+abbrev pub me : List ℕ
+me = codes "7"
+
 -- the deck of that name, with these cards
 abbrev pub deck_m : List Card → Deck
 deck_m cards = record { name = M; cards = cards }
@@ -67,4 +71,4 @@ D = codes "*D" ∷ []
 
 -- the first card of M is replaced, by one who has seen this version
 abbrev pub replace : ℕ → List ℕ → Call
-replace seen card = EditDeck M seen (Replace 1 card)
+replace seen card = EditDeck M seen (Replace 1 card) me

@@ -2,42 +2,43 @@
 use Rattle.std.proofs.Common.{◌≡◌, ℕ, true, false, List, [], ◌∷◌, ◌++◌, replicate, map, codes, None, refl}
 use Rattle.std.specs.List.{range_with_len}
 use Rattle.desk_core.specs.Edits as E
+use Rattle.desk_core.specs.Past.{begun_at}
 use Rattle.desk_core.specs.Desks.{Desk, new_desk}
 use Rattle.desk_core.specs.Calls.{Call, AddDeck, DropDeck, EditDeck, Batch, Cards, Show, Status, Claim, GiveUp, Reply, Changed, StatusIs, Idle, AllOut, Cleared, NoPublication, CardsAre, Refused, NoSuchCard, DeckFull, NameTaken, NoDeck, OldVersion, TooManyDecks, VersionsSpent, BadEdit, BatchSize}
 use Rattle.desk_core.specs.Steps.{takes_memory}
-use Rattle.desk_core.proofs.Worked.{replies_to, desk_after, M, deck_m}
+use Rattle.desk_core.proofs.Worked.{replies_to, desk_after, M, me, deck_m}
 
 -- two people edit one deck: who has not seen the latest version is refused
 pub two_at_one_deck : replies_to (
-    AddDeck (deck_m []) ∷ EditDeck M 1 (E.Insert 1 (codes "*ONE")) ∷ EditDeck M 2 (E.Insert 2 (codes "*TWO")) ∷ EditDeck M 3 (E.Insert 1 (codes "*A"))
-    ∷ EditDeck M 3 (E.Insert 1 (codes "*B")) ∷ EditDeck M 4 (E.Insert 1 (codes "*B")) ∷ Cards M ∷ []) new_desk
+    AddDeck (deck_m []) ∷ EditDeck M 1 (E.Insert 1 (codes "*ONE")) me ∷ EditDeck M 2 (E.Insert 2 (codes "*TWO")) me ∷ EditDeck M 3 (E.Insert 1 (codes "*A")) me
+    ∷ EditDeck M 3 (E.Insert 1 (codes "*B")) me ∷ EditDeck M 4 (E.Insert 1 (codes "*B")) me ∷ Cards M ∷ []) new_desk
     ≡ Changed 1 ∷ Changed 2 ∷ Changed 3 ∷ Changed 4 ∷ Refused (OldVersion 4) ∷ Changed 5 ∷ CardsAre 5 (codes "*B" ∷ codes "*A" ∷ codes "*ONE" ∷ codes "*TWO" ∷ []) ∷ []
 two_at_one_deck = refl
 
 -- the deck M with two cards, at version 3
 abbrev at_three : Desk
-at_three = desk_after (AddDeck (deck_m []) ∷ EditDeck M 1 (E.Insert 1 (codes "*A")) ∷ EditDeck M 2 (E.Insert 2 (codes "*B")) ∷ []) new_desk
+at_three = desk_after (AddDeck (deck_m []) ∷ EditDeck M 1 (E.Insert 1 (codes "*A")) me ∷ EditDeck M 2 (E.Insert 2 (codes "*B")) me ∷ []) new_desk
 
 -- a batch is one change, and each of its edits applies to what the ones before it leave; with one that does not apply nothing is changed
 pub batches : replies_to (
-    Batch M 3 (E.Insert 1 (codes "*X") ∷ E.Remove 3 ∷ E.Replace 2 (codes "*Y") ∷ []) ∷ Cards M ∷ Batch M 4 (E.Remove 1 ∷ E.Remove 2 ∷ []) ∷ Cards M
-    ∷ Batch M 3 (E.Remove 1 ∷ []) ∷ Batch M 4 [] ∷ Batch M 4 (replicate 101 (E.Remove 9)) ∷ Batch (codes "N") 4 [] ∷ []) at_three
+    Batch M 3 (E.Insert 1 (codes "*X") ∷ E.Remove 3 ∷ E.Replace 2 (codes "*Y") ∷ []) me ∷ Cards M ∷ Batch M 4 (E.Remove 1 ∷ E.Remove 2 ∷ []) me ∷ Cards M
+    ∷ Batch M 3 (E.Remove 1 ∷ []) me ∷ Batch M 4 [] me ∷ Batch M 4 (replicate 101 (E.Remove 9)) me ∷ Batch (codes "N") 4 [] me ∷ []) at_three
     ≡ Changed 4 ∷ CardsAre 4 (codes "*X" ∷ codes "*Y" ∷ []) ∷ Refused (BadEdit 2 E.NoSuchCard) ∷ CardsAre 4 (codes "*X" ∷ codes "*Y" ∷ [])
     ∷ Refused (OldVersion 4) ∷ Refused BatchSize ∷ Refused BatchSize ∷ Refused NoDeck ∷ []
 batches = refl
 
 -- places count from 1, and a card may be inserted behind the last
 pub places : replies_to (
-    EditDeck M 3 (E.Insert 0 []) ∷ EditDeck M 3 (E.Insert 4 []) ∷ EditDeck M 3 (E.Replace 0 []) ∷ EditDeck M 3 (E.Replace 3 []) ∷ EditDeck M 3 (E.Remove 0) ∷ EditDeck M 3 (E.Remove 3)
-    ∷ EditDeck (codes "N") 3 (E.Remove 1) ∷ EditDeck M 3 (E.Insert 3 (codes "*C")) ∷ EditDeck M 4 (E.Remove 2) ∷ EditDeck M 5 (E.Replace 2 (codes "*D")) ∷ Cards M ∷ []) at_three
+    EditDeck M 3 (E.Insert 0 []) me ∷ EditDeck M 3 (E.Insert 4 []) me ∷ EditDeck M 3 (E.Replace 0 []) me ∷ EditDeck M 3 (E.Replace 3 []) me ∷ EditDeck M 3 (E.Remove 0) me ∷ EditDeck M 3 (E.Remove 3) me
+    ∷ EditDeck (codes "N") 3 (E.Remove 1) me ∷ EditDeck M 3 (E.Insert 3 (codes "*C")) me ∷ EditDeck M 4 (E.Remove 2) me ∷ EditDeck M 5 (E.Replace 2 (codes "*D")) me ∷ Cards M ∷ []) at_three
     ≡ Refused NoSuchCard ∷ Refused NoSuchCard ∷ Refused NoSuchCard ∷ Refused NoSuchCard ∷ Refused NoSuchCard ∷ Refused NoSuchCard
     ∷ Refused NoDeck ∷ Changed 4 ∷ Changed 5 ∷ Changed 6 ∷ CardsAre 6 (codes "*A" ∷ codes "*D" ∷ []) ∷ []
 places = refl
 
 -- a deck has at most 20,000 cards, when it is added and when it is edited; a full one can still be edited otherwise
 pub full_deck : replies_to (
-    AddDeck (deck_m (replicate 20001 [])) ∷ AddDeck (deck_m (replicate 20000 [])) ∷ EditDeck M 1 (E.Insert 20002 []) ∷ EditDeck M 1 (E.Insert 20001 [])
-    ∷ Batch M 1 (E.Remove 1 ∷ E.Insert 1 [] ∷ E.Insert 1 [] ∷ []) ∷ EditDeck M 1 (E.Remove 20000) ∷ []) new_desk
+    AddDeck (deck_m (replicate 20001 [])) ∷ AddDeck (deck_m (replicate 20000 [])) ∷ EditDeck M 1 (E.Insert 20002 []) me ∷ EditDeck M 1 (E.Insert 20001 []) me
+    ∷ Batch M 1 (E.Remove 1 ∷ E.Insert 1 [] ∷ E.Insert 1 [] ∷ []) me ∷ EditDeck M 1 (E.Remove 20000) me ∷ []) new_desk
     ≡ Refused DeckFull ∷ Changed 1 ∷ Refused NoSuchCard ∷ Refused DeckFull ∷ Refused (BadEdit 3 E.DeckFull) ∷ Changed 2 ∷ []
 full_deck = refl
 
@@ -53,9 +54,9 @@ full_desk = refl
 
 -- a desk that has come to the last version, or given the last lease
 abbrev pub worn : ℕ → ℕ → Desk
-worn version leases = record { version = version; leases = leases; decks = (record { name = M; cards = []; identity = 1; version = 1; built = false; kept = None; waiting = []; lease = None }) ∷ []; link = None; publication = None }
+worn version leases = record { version = version; leases = leases; decks = (record { name = M; cards = []; identity = 1; version = 1; built = false; kept = None; waiting = []; lease = None; past = begun_at 1 }) ∷ []; link = None; publication = None }
 
-pub spent : replies_to (AddDeck (deck_m []) ∷ AddDeck (record { name = []; cards = [] }) ∷ DropDeck M 2 ∷ DropDeck M 1 ∷ EditDeck M 1 (E.Remove 1) ∷ EditDeck M 1 (E.Insert 1 []) ∷ Batch M 1 (E.Remove 1 ∷ []) ∷ Batch M 1 (E.Insert 1 [] ∷ []) ∷ Claim ∷ [])
+pub spent : replies_to (AddDeck (deck_m []) ∷ AddDeck (record { name = []; cards = [] }) ∷ DropDeck M 2 ∷ DropDeck M 1 ∷ EditDeck M 1 (E.Remove 1) me ∷ EditDeck M 1 (E.Insert 1 []) me ∷ Batch M 1 (E.Remove 1 ∷ []) me ∷ Batch M 1 (E.Insert 1 [] ∷ []) me ∷ Claim ∷ [])
     (worn 4611686018427387904 4611686018427387904)
     ≡ Refused NameTaken ∷ Refused VersionsSpent ∷ Refused (OldVersion 1) ∷ Refused VersionsSpent ∷ Refused NoSuchCard ∷ Refused VersionsSpent ∷ Refused (BadEdit 1 E.NoSuchCard) ∷ Refused VersionsSpent ∷ Refused VersionsSpent ∷ []
 spent = refl
@@ -63,6 +64,6 @@ spent = refl
 -- a drop takes no memory, nor does what stores or clears; other changes, what is read and jobs do
 pub memory_of_calls : map (λ (step : Call × Reply). takes_memory step.0 step.1) (
     (DropDeck M 1, Changed 2) ∷ (GiveUp 1, Cleared) ∷ (Claim, AllOut) ∷ (Claim, Idle 0) ∷ (Show, Refused NoPublication)
-    ∷ (EditDeck M 1 (E.Remove 1), Changed 2) ∷ (Cards M, CardsAre 1 []) ∷ (Status, StatusIs 0 None []) ∷ [])
+    ∷ (EditDeck M 1 (E.Remove 1) me, Changed 2) ∷ (Cards M, CardsAre 1 []) ∷ (Status, StatusIs 0 None []) ∷ [])
     ≡ false ∷ false ∷ false ∷ false ∷ false ∷ true ∷ true ∷ true ∷ []
 memory_of_calls = refl

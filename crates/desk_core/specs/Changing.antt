@@ -3,6 +3,7 @@ use Rattle.std.specs.Prelude.{ℕ, ◌+◌, ◌==◌, Bool, false, not, ◌&&◌
 use Rattle.desk_core.specs.Language.{Card, Deck}
 use Rattle.desk_core.specs.Causes.{when, first_cause}
 use Rattle.desk_core.specs.Edits as E
+use Rattle.desk_core.specs.Past.{begun_at, past_after}
 use Rattle.desk_core.specs.Desks.{Desk, DeskDeck, most_decks, is_named, deck_named, with_deck}
 use Rattle.desk_core.specs.Calls.{Changed, Refusal, NoSuchCard, DeckFull, NameTaken, NoDeck, OldVersion, TooManyDecks, BadEdit, BatchSize}
 use Rattle.desk_core.specs.Answers.{Answer, answers, unless, against_next}
@@ -24,9 +25,9 @@ against_add deck desk = first_cause (
     ∷ against_next desk.version
     ∷ [])
 
--- an added deck: it has no object, no record, no waiting edits and no lease
+-- an added deck: it has no object, no record, no waiting edits, no lease, and its past begins
 abbrev pub added_deck : ℕ → Deck → DeskDeck
-added_deck version deck = record { name = deck.name; cards = deck.cards; identity = version; version = version; built = false; kept = None; waiting = []; lease = None }
+added_deck version deck = record { name = deck.name; cards = deck.cards; identity = version; version = version; built = false; kept = None; waiting = []; lease = None; past = begun_at version }
 
 -- the desk with a deck more
 abbrev pub added : Deck → Desk → Desk
@@ -75,13 +76,13 @@ drop_deck name seen desk = unless (against_drop seen desk (deck_named name desk)
 abbrev pub waiting_after : List E.Edit → DeskDeck → List E.Edit
 waiting_after edits deck = if is_some deck.kept || is_some deck.lease then deck.waiting ++ edits else deck.waiting
 
--- an edited deck: it has a new version, and no object of that
-abbrev pub edited_deck : ℕ → List E.Edit → DeskDeck → DeskDeck
-edited_deck version edits deck = record deck { cards = E.edited_by edits deck.cards; version = version; built = false; waiting = waiting_after edits deck }
+-- a deck with edits by who has this name: it has a new version, and no object of that, and the edits are kept
+abbrev pub edited_deck : ℕ → List ℕ → List E.Edit → DeskDeck → DeskDeck
+edited_deck version by edits deck = record deck { cards = E.edited_by edits deck.cards; version = version; built = false; waiting = waiting_after edits deck; past = past_after version by edits deck.cards deck.past }
 
 -- the desk with edits of the deck of a name
-abbrev pub edited : List ℕ → List E.Edit → Desk → Desk
-edited name edits desk = with_deck name (edited_deck (desk.version + 1) edits) (record desk { version = desk.version + 1 })
+abbrev pub edited : List ℕ → List ℕ → List E.Edit → Desk → Desk
+edited name by edits desk = with_deck name (edited_deck (desk.version + 1) by edits) (record desk { version = desk.version + 1 })
 
 -- the refusal that tells the fault of an edit
 abbrev pub refusal_of : E.EditFault → Refusal
@@ -94,8 +95,8 @@ against_edit seen edit desk None = Some NoDeck
 against_edit seen edit desk (Some deck) = first_cause (against_seen seen deck ∷ option_map refusal_of (E.fault_of edit deck.cards) ∷ against_next desk.version ∷ [])
 
 -- an edit
-abbrev pub edit_deck : List ℕ → ℕ → E.Edit → Desk → Answer
-edit_deck name seen edit desk = unless (against_edit seen edit desk (deck_named name desk)) desk (accepted (edited name (edit ∷ []) desk))
+abbrev pub edit_deck : List ℕ → ℕ → E.Edit → List ℕ → Desk → Answer
+edit_deck name seen edit by desk = unless (against_edit seen edit desk (deck_named name desk)) desk (accepted (edited name by (edit ∷ []) desk))
 
 -- how many edits a batch may have
 abbrev pub most_edits : ℕ
@@ -116,5 +117,5 @@ against_batch seen edits desk (Some deck) = first_cause (
     ∷ [])
 
 -- Batch: all its edits or none, as one change
-abbrev pub batch : List ℕ → ℕ → List E.Edit → Desk → Answer
-batch name seen edits desk = unless (against_batch seen edits desk (deck_named name desk)) desk (accepted (edited name edits desk))
+abbrev pub batch : List ℕ → ℕ → List E.Edit → List ℕ → Desk → Answer
+batch name seen edits by desk = unless (against_batch seen edits desk (deck_named name desk)) desk (accepted (edited name by edits desk))

@@ -2,6 +2,7 @@
 use Rattle.std.specs.Prelude.{ℕ, ◌==◌, Bool, false, List, [], map, find, Option, Some, None, if◌then◌else◌}
 use Rattle.desk_core.specs.Language.{Card, Deck, same_text}
 use Rattle.desk_core.specs.Edits.{Edit}
+use Rattle.desk_core.specs.Past.{Past}
 pub use Rattle.desk_core.specs.declared.leases.Lease.{Lease}
 
 -- a record that an assembler keeps from edit to edit: the deck that it is of
@@ -14,7 +15,7 @@ pub record Publication : Type 0 where
   pub decks : List Deck
 
 -- a deck on the desk: its identity is the version that its addition made, or that of the last deck put in its place, its version that of the last change of it; whether it has an object of that version;
--- its record, where the desk has one; the edits that the record lacks; the lease, where one is out
+-- its record, where the desk has one; the edits that the record lacks; the lease, where one is out; and what is kept of its changes
 pub record DeskDeck : Type 0 where
   pub name : List ℕ
   pub cards : List Card
@@ -24,6 +25,7 @@ pub record DeskDeck : Type 0 where
   pub kept : Option Kept
   pub waiting : List Edit
   pub lease : Option Lease
+  pub past : Past
 
 -- a desk: how many changes it accepted, how many leases it gave, its decks in order of addition, the lease of a link, and the last publication
 pub record Desk : Type 0 where

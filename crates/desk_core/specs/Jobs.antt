@@ -42,8 +42,8 @@ effect_if deck (Some other) effect = if other == deck then effect else Leaves
 
 -- the effect of a call with its reply on a deck: a foreign result loses the record, and so does giving up
 abbrev pub effect_on : ℕ → History → Call → Reply → Effect
-effect_on deck earlier (EditDeck name seen edit) (Changed version) = effect_if deck (identity_of name earlier) (Edits (edit ∷ []))
-effect_on deck earlier (Batch name seen edits) (Changed version) = effect_if deck (identity_of name earlier) (Edits edits)
+effect_on deck earlier (EditDeck name seen edit by) (Changed version) = effect_if deck (identity_of name earlier) (Edits (edit ∷ []))
+effect_on deck earlier (Batch name seen edits by) (Changed version) = effect_if deck (identity_of name earlier) (Edits edits)
 effect_on deck earlier Claim (DeckJob job) = effect_if deck (Some job.deck) (HandsOut job.edits)
 effect_on deck earlier (DeliverDeck done) (Refused Foreign) = effect_if deck (deck_of_lease done.lease earlier) Loses
 effect_on deck earlier (GiveUp lease) Cleared = effect_if deck (deck_of_lease lease earlier) Loses

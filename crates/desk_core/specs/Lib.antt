@@ -2,12 +2,14 @@ pub mod Language
 pub mod Causes
 pub mod Edits
 pub mod Changes
+pub mod Past
 pub mod Desks
 pub mod Held
 pub mod Calls
 pub mod Answers
 pub mod Changing
 pub mod Reading
+pub mod Earlier
 pub mod Claiming
 pub mod Delivering
 pub mod Steps

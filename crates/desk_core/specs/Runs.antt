@@ -21,8 +21,8 @@ abbrev pub change_asked : Call → Option Change
 change_asked (AddDeck deck) = Some (Added deck)
 change_asked (PutDeck deck seen) = Some (Put deck)
 change_asked (DropDeck name seen) = Some (Dropped name)
-change_asked (EditDeck name seen edit) = Some (Edited name (edit ∷ []))
-change_asked (Batch name seen edits) = Some (Edited name edits)
+change_asked (EditDeck name seen edit by) = Some (Edited name (edit ∷ []))
+change_asked (Batch name seen edits by) = Some (Edited name edits)
 change_asked _ = None
 
 -- whether a reply accepts a change

@@ -33,17 +33,29 @@ pub enum Call {
         name: DeckName,
         seen: u64,
     },
-    /// One edit of the deck.
+    /// One edit of the deck, by who has this name.
     EditDeck {
         name: DeckName,
         seen: u64,
         edit: Edit,
+        by: DeckName,
     },
     /// Edits of the deck, 1 to 100, all or none.
     Batch {
         name: DeckName,
         seen: u64,
         edits: Listed<Edit>,
+        by: DeckName,
+    },
+    /// The changes of the deck behind a version.
+    Changes {
+        name: DeckName,
+        since: u64,
+    },
+    /// The cards that the deck had at a version.
+    CardsAt {
+        name: DeckName,
+        version: u64,
     },
     /// Version and cards of the deck.
     Cards(DeckName),

@@ -152,8 +152,14 @@ impl Desk {
     }
 
     /// One edit of the deck.
-    pub(crate) fn edit_deck(&mut self, name: &DeckName, seen: u64, edit: &Edit) -> Reply
-        ensures { MayAnswer self.old (edit_deck name.now seen edit.now self.old) result self.new }
+    pub(crate) fn edit_deck(
+        &mut self,
+        name: &DeckName,
+        seen: u64,
+        edit: &Edit,
+        by: &DeckName,
+    ) -> Reply
+        ensures { MayAnswer self.old (edit_deck name.now seen edit.now by.now self.old) result self.new }
     {
         let Some(place) = self.place_of(name) else {
             return Reply::Refused(Refusal::NoDeck);
@@ -161,7 +167,7 @@ impl Desk {
         if let Some(refusal) = self.against_edit(place, seen, edit) {
             return Reply::Refused(refusal);
         }
-        match self.edit_at(place, edit) {
+        match self.edit_at(place, by, edit) {
             Ok(version) => Reply::Changed(version),
             Err(_) => Reply::Refused(Refusal::OutOfMemory),
         }
@@ -183,22 +189,28 @@ impl Desk {
     }
 
     /// Makes an edit that applies to the deck at a place, as the next change.
-    fn edit_at(&mut self, place: usize, edit: &Edit) -> Result<u64, AllocError>
+    fn edit_at(&mut self, place: usize, by: &DeckName, edit: &Edit) -> Result<u64, AllocError>
         requires within { place < length self.old.decks }
         requires applies { ForSome (slice_get self.old.decks place) (λ deck. fault_of edit.now deck.cards ≡ None) }
         requires room { against_next self.old.version ≡ None }
-        ensures desk { self.new ≡ (if is_ok result then changed_at place (edited_deck (self.old.version + 1) (edit.now ∷ [])) (record self.old { version = self.old.version + 1 }) else self.old) }
+        ensures desk { self.new ≡ (if is_ok result then changed_at place (edited_deck (self.old.version + 1) by.now (edit.now ∷ [])) (record self.old { version = self.old.version + 1 }) else self.old) }
         ensures version { IfOk result (λ version. version ≡ self.old.version + 1) }
     {
         let version = self.version + 1;
-        self.decks.edit_at(place, version, edit)?;
+        self.decks.edit_at(place, version, by, edit)?;
         self.version = version;
         Ok(version)
     }
 
     /// Edits of the deck, all or none, as one change.
-    pub(crate) fn batch(&mut self, name: &DeckName, seen: u64, edits: &[Edit]) -> Reply
-        ensures { MayAnswer self.old (batch name.now seen edits.now self.old) result self.new }
+    pub(crate) fn batch(
+        &mut self,
+        name: &DeckName,
+        seen: u64,
+        edits: &[Edit],
+        by: &DeckName,
+    ) -> Reply
+        ensures { MayAnswer self.old (batch name.now seen edits.now by.now self.old) result self.new }
     {
         let Some(place) = self.place_of(name) else {
             return Reply::Refused(Refusal::NoDeck);
@@ -206,7 +218,7 @@ impl Desk {
         if let Some(refusal) = self.against_batch(place, seen, edits) {
             return Reply::Refused(refusal);
         }
-        match self.edit_all_at(place, edits) {
+        match self.edit_all_at(place, by, edits) {
             Ok(version) => Reply::Changed(version),
             Err(_) => Reply::Refused(Refusal::OutOfMemory),
         }
@@ -230,15 +242,21 @@ impl Desk {
     }
 
     /// Makes edits of which each applies to the deck at a place, as the next change.
-    fn edit_all_at(&mut self, place: usize, edits: &[Edit]) -> Result<u64, AllocError>
+    fn edit_all_at(
+        &mut self,
+        place: usize,
+        by: &DeckName,
+        edits: &[Edit],
+    ) -> Result<u64, AllocError>
         requires within { place < length self.old.decks }
         requires applies { ForSome (slice_get self.old.decks place) (λ deck. first_fault edits.now deck.cards ≡ None) }
         requires room { against_next self.old.version ≡ None }
-        ensures desk { self.new ≡ (if is_ok result then changed_at place (edited_deck (self.old.version + 1) edits.now) (record self.old { version = self.old.version + 1 }) else self.old) }
+        ensures desk { self.new ≡ (if is_ok result then changed_at place (edited_deck (self.old.version + 1) by.now edits.now) (record self.old { version = self.old.version + 1 }) else self.old) }
         ensures version { IfOk result (λ version. version ≡ self.old.version + 1) }
     {
         let version = self.version + 1;
-        self.decks.edit_all_at(self.alloc, place, version, edits)?;
+        self.decks
+            .edit_all_at(self.alloc, place, version, by, edits)?;
         self.version = version;
         Ok(version)
     }

@@ -119,14 +119,15 @@ impl DeckList {
         &mut self,
         place: usize,
         version: u64,
+        by: &DeckName,
         edit: &Edit,
     ) -> Result<(), AllocError>
         requires within { place < length self.old }
         requires applies { ForSome (slice_get self.old place) (λ deck. fault_of edit.now deck.cards ≡ None) }
-        ensures { self.new ≡ (if is_ok result then with_at place (edited_deck version (edit.now ∷ [])) self.old else self.old) }
+        ensures { self.new ≡ (if is_ok result then with_at place (edited_deck version by.now (edit.now ∷ [])) self.old else self.old) }
     {
         let deck = &mut self.decks[place];
-        deck.edit(version, edit)
+        deck.edit(version, by, edit)
     }
 
     /// Makes edits of which each applies to the deck at a place, as one change.
@@ -135,14 +136,15 @@ impl DeckList {
         alloc: Global,
         place: usize,
         version: u64,
+        by: &DeckName,
         edits: &[Edit],
     ) -> Result<(), AllocError>
         requires within { place < length self.old }
         requires applies { ForSome (slice_get self.old place) (λ deck. first_fault edits.now deck.cards ≡ None) }
-        ensures { self.new ≡ (if is_ok result then with_at place (edited_deck version edits.now) self.old else self.old) }
+        ensures { self.new ≡ (if is_ok result then with_at place (edited_deck version by.now edits.now) self.old else self.old) }
     {
         let deck = &mut self.decks[place];
-        deck.edit_all(alloc, version, edits)
+        deck.edit_all(alloc, version, by, edits)
     }
 
     /// Gives the deck at a place out.

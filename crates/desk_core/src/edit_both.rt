@@ -1,16 +1,12 @@
 //! An edit of cards that is kept for later too.
 ghost use Rattle.std.specs.Prelude.{◌≡◌, None, [], ◌∷◌, ◌++◌, is_ok, if◌then◌else◌};
-ghost use Rattle.desk_core.specs.Edits.{fault_of, first_fault, edited, edited_by};
+ghost use Rattle.desk_core.specs.Edits.{fault_of, edited};
 
-use cards::{Card, Edit, apply, copied_edits, edited_copy};
+use cards::{Card, Edit, apply, copied_edits};
 use std::alloc::{AllocError, Global};
 
 /// Makes an edit that applies, and keeps it with those that wait. Without memory nothing changes.
-pub(crate) fn edit_both(
-    cards: &mut Vec<Card>,
-    waiting: &mut Vec<Edit>,
-    edit: &Edit,
-) -> Result<(), AllocError>
+fn edit_both(cards: &mut Vec<Card>, waiting: &mut Vec<Edit>, edit: &Edit) -> Result<(), AllocError>
     requires { fault_of edit.now cards.old.items ≡ None }
     ensures cards { cards.new.items ≡ (if is_ok result then edited cards.old.items edit.now else cards.old.items) }
     ensures waiting { waiting.new.items ≡ (if is_ok result then waiting.old.items ++ edit.now ∷ [] else waiting.old.items) }
@@ -25,24 +21,36 @@ pub(crate) fn edit_both(
     }
 }
 
-/// Makes edits of which each applies, and keeps them with those that wait. Without memory nothing
-/// changes.
-pub(crate) fn edit_all(
-    alloc: Global,
+/// Makes an edit that applies, and keeps it for later where edits wait. Without memory nothing changes.
+pub(crate) fn edit_waiting(
     cards: &mut Vec<Card>,
+    waiting: &mut Vec<Edit>,
+    keeps: bool,
+    edit: &Edit,
+) -> Result<(), AllocError>
+    requires { fault_of edit.now cards.old.items ≡ None }
+    ensures cards { cards.new.items ≡ (if is_ok result then edited cards.old.items edit.now else cards.old.items) }
+    ensures waiting { waiting.new.items ≡ (if is_ok result then (if keeps then waiting.old.items ++ edit.now ∷ [] else waiting.old.items) else waiting.old.items) }
+{
+    if keeps {
+        edit_both(cards, waiting, edit)
+    } else {
+        apply(cards, edit)
+    }
+}
+
+/// Keeps edits for later where edits wait. Without memory nothing changes.
+pub(crate) fn wait_all(
+    alloc: Global,
     waiting: &mut Vec<Edit>,
     keeps: bool,
     edits: &[Edit],
 ) -> Result<(), AllocError>
-    requires { first_fault edits.now cards.old.items ≡ None }
-    ensures cards { cards.new.items ≡ (if is_ok result then edited_by edits.now cards.old.items else cards.old.items) }
-    ensures waiting { waiting.new.items ≡ (if is_ok result then (if keeps then waiting.old.items ++ edits.now else waiting.old.items) else waiting.old.items) }
+    ensures { waiting.new.items ≡ (if is_ok result then (if keeps then waiting.old.items ++ edits.now else waiting.old.items) else waiting.old.items) }
 {
-    let copies = edited_copy(alloc, cards, edits)?;
     if keeps {
         let mut more = copied_edits(alloc, edits)?;
         waiting.append(&mut more)?;
     }
-    *cards = copies;
     Ok(())
 }

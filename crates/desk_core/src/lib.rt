@@ -3,7 +3,7 @@
 //! that makes each step. Nothing here assembles, links, reads or writes.
 //!
 //! `specs/Lib.antt` has what a desk may answer: `Changes` the decks that accepted changes leave,
-//! `Answers`, `Changing`, `Reading`, `Claiming` and `Delivering` the answer to each call, `Steps` a
+//! `Past` what is kept of them, `Answers`, `Changing`, `Reading`, `Earlier`, `Claiming` and `Delivering` the answer to each call, `Steps` a
 //! step, which is the answer, or, where that takes memory, the refusal for want of it; `Runs` and
 //! `Jobs` what is promised of each run (`every_run`, `jobs_once`), `Progress`, `Making` and `Rounds`
 //! that work is handed out, and ends (`work_is_handed_out`, `work_ends`). `Stored`, `OwnNames`,
@@ -27,6 +27,7 @@ mod shared_publication;
 mod deck_list;
 mod desk;
 mod leases;
+mod past;
 mod stored_deck;
 
 // Calls.
@@ -34,6 +35,7 @@ mod changing;
 mod claiming;
 mod comparing;
 mod delivering;
+mod earlier;
 mod edit_both;
 mod reading;
 mod sequence;
@@ -50,6 +52,7 @@ pub use laws::{every_run, jobs_once, work_ends, work_is_handed_out};
 pub use leases::Lease;
 pub use listed::Listed;
 pub use new_deck::NewDeck;
+pub use past::KeptEdit;
 pub use replies::{Refusal, Reply, Row, State};
 pub use shared_publication::SharedPublication;
 pub use stored_deck::StoredDeck;

@@ -2,8 +2,9 @@
 
 use crate::jobs::{DeckWork, LinkWork};
 use crate::listed::Listed;
+use crate::past::KeptEdit;
 use crate::shared_publication::SharedPublication;
-use cards::{Card, DeckName, EditFault};
+use cards::{Card, DeckName, Edit, EditFault};
 
 /// The state of a deck.
 #[derive(Clone, Copy, Debug, PartialEq, Eq)]
@@ -59,6 +60,8 @@ pub enum Refusal {
     BatchSize,
     /// The change is not on the disk. A desk never tells this; who keeps a record of its changes does.
     NotKept,
+    /// The changes of the deck are kept from this version on.
+    Forgotten(u64),
 }
 
 /// What a desk answers.
@@ -68,6 +71,11 @@ pub enum Reply {
     Changed(u64),
     /// A deck's version and cards.
     CardsAre(u64, Listed<Card>),
+    /// A deck's version, and its edits behind the one that was asked for.
+    ChangesAre(u64, Listed<KeptEdit>),
+    /// The version that was asked for, the deck's cards of now, and the edits that make of them those of
+    /// that version.
+    CardsBefore(u64, Listed<Card>, Listed<Edit>),
     /// The publication.
     Shown(SharedPublication),
     /// The desk's version, the published one, and a row for each deck.

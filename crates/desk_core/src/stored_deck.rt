@@ -5,19 +5,22 @@ ghost use Rattle.desk_core.specs.Edits.{fault_of, first_fault};
 ghost use Rattle.desk_core.specs.Changing.{added_deck, replaced_deck, edited_deck};
 ghost use Rattle.desk_core.specs.Claiming.{is_behind, is_free, given, deck_work};
 ghost use Rattle.desk_core.specs.Delivering.{is_for, same_deck, lost, given_back, stored};
+ghost use Rattle.desk_core.specs.Past.{backs_of};
+ghost use Rattle.desk_core.specs.Earlier.{edits_behind};
 ghost use Rattle.desk_core.specs.Reading.{row_of, state_of};
 
 use crate::calls::Done;
 use crate::comparing::{same_cards, same_name};
 use crate::deck_cards::DeckCards;
-use crate::edit_both::{edit_all, edit_both};
+use crate::edit_both::{edit_waiting, wait_all};
 use crate::held::Held;
 use crate::jobs::{DeckWork, Start};
 use crate::leases::{Lease, is_leased, is_leased_at};
 use crate::listed::Listed;
 use crate::new_deck::NewDeck;
+use crate::past::{Back, KeptEdit, Past, edited_copy, made_edits, undo_of};
 use crate::replies::{Row, State};
-use cards::{Card, DeckName, Edit, apply, copied_cards};
+use cards::{Card, DeckName, Edit, copied_cards};
 use deck_listing::ListedObject;
 use std::alloc::{AllocError, Global};
 use std::marker::Model;
@@ -26,7 +29,8 @@ use std::mem::replace;
 /// A deck on the desk: its name and cards; its identity, which is the version that its addition made, or
 /// that of the last deck put in its place;
 /// the version of the last change of it; its object, if it has one of that version; its record, if it
-/// is here, and the edits that the record lacks; the lease, if one is out. It has at most 20,000 cards.
+/// is here, and the edits that the record lacks; the lease, if one is out; and what is kept of its changes.
+/// It has at most 20,000 cards.
 #[derive(Drop)]
 pub struct StoredDeck {
     name: DeckName,
@@ -37,6 +41,7 @@ pub struct StoredDeck {
     kept: Option<Held>,
     waiting: Vec<Edit>,
     lease: Option<Lease>,
+    past: Past,
 }
 
 impl Model for StoredDeck {
@@ -45,7 +50,7 @@ impl Model for StoredDeck {
 
     ghost Value = { DeskDeck };
 
-    ghost view = { λ d. stored_deck d.name d.cards.items d.identity d.version d.object d.kept d.waiting.items d.lease };
+    ghost view = { λ d. stored_deck d.name d.cards.items d.identity d.version d.object d.kept d.waiting.items d.lease d.past };
 
     ghost invariant = { λ d. IsStored d.name d.cards.items d.object };
 }
@@ -65,6 +70,7 @@ impl StoredDeck {
             kept: None,
             waiting: Vec::new(alloc),
             lease: None,
+            past: Past::begun_at(alloc, version),
         }
     }
 
@@ -107,33 +113,57 @@ impl StoredDeck {
         self.kept.is_some() || self.lease.is_some()
     }
 
-    /// Makes an edit that applies, as the change of this version. Without memory nothing changes.
-    pub(crate) fn edit(&mut self, version: u64, edit: &Edit) -> Result<(), AllocError>
+    /// Makes an edit that applies, as the change of this version by who has this name. Without memory
+    /// nothing changes.
+    pub(crate) fn edit(
+        &mut self,
+        version: u64,
+        by: &DeckName,
+        edit: &Edit,
+    ) -> Result<(), AllocError>
         requires { fault_of edit.now self.old.cards ≡ None }
-        ensures { self.new ≡ (if is_ok result then edited_deck version (edit.now ∷ []) self.old else self.old) }
+        ensures { self.new ≡ (if is_ok result then edited_deck version by.now (edit.now ∷ []) self.old else self.old) }
     {
-        if self.keeps_edits() {
-            edit_both(&mut self.cards, &mut self.waiting, edit)?;
-        } else {
-            apply(&mut self.cards, edit)?;
+        let keeps = self.keeps_edits();
+        let count = self.past.len();
+        let back = Back {
+            edit: undo_of(edit, &self.cards),
+            by: by.copied(),
+        };
+        self.past.push(version, edit.copied(), back)?;
+        if let Err(fault) = edit_waiting(&mut self.cards, &mut self.waiting, keeps, edit) {
+            self.past.truncate(count);
+            return Err(fault);
         }
+        self.past.trim();
         self.version = version;
         self.object = None;
         Ok(())
     }
 
-    /// Makes edits of which each applies, as one change of this version. Without memory nothing changes.
+    /// Makes edits of which each applies, as one change of this version by who has this name. Without
+    /// memory nothing changes.
     pub(crate) fn edit_all(
         &mut self,
         alloc: Global,
         version: u64,
+        by: &DeckName,
         edits: &[Edit],
     ) -> Result<(), AllocError>
         requires { first_fault edits.now self.old.cards ≡ None }
-        ensures { self.new ≡ (if is_ok result then edited_deck version edits.now self.old else self.old) }
+        ensures { self.new ≡ (if is_ok result then edited_deck version by.now edits.now self.old else self.old) }
     {
         let keeps = self.keeps_edits();
-        edit_all(alloc, &mut self.cards, &mut self.waiting, keeps, edits)?;
+        let count = self.past.len();
+        let made = made_edits(alloc, version, edits)?;
+        let (cards, backs) = edited_copy(alloc, &self.cards, edits, by)?;
+        self.past.append(made, backs)?;
+        if let Err(fault) = wait_all(alloc, &mut self.waiting, keeps, edits) {
+            self.past.truncate(count);
+            return Err(fault);
+        }
+        self.past.trim();
+        self.cards = cards;
         self.version = version;
         self.object = None;
         Ok(())
@@ -151,6 +181,32 @@ impl StoredDeck {
         self.kept = None;
         self.waiting.clear();
         self.lease = None;
+        self.past.begin(version);
+    }
+
+    /// The version behind which all its changes are kept.
+    pub(crate) fn since(&self) -> u64
+        ensures { result ≡ self.now.past.since }
+    {
+        self.past.since()
+    }
+
+    /// Its edits behind a version once more.
+    pub(crate) fn edits_behind(
+        &self,
+        alloc: Global,
+        version: u64,
+    ) -> Result<Vec<KeptEdit>, AllocError>
+        ensures { IfOk result (λ edits. edits.items ≡ edits_behind version self.now) }
+    {
+        self.past.edits_behind(alloc, version)
+    }
+
+    /// What takes its edits behind a version back, the last first.
+    pub(crate) fn backs_behind(&self, alloc: Global, version: u64) -> Result<Vec<Edit>, AllocError>
+        ensures { IfOk result (λ backs. backs.items ≡ backs_of (edits_behind version self.now)) }
+    {
+        self.past.backs_behind(alloc, version)
     }
 
     /// Its row in the status of the desk.

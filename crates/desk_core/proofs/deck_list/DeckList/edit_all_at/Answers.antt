@@ -7,9 +7,9 @@ use Rattle.desk_core.proofs.deck_list.DeckList.edit_all_at.Goals as goal
 
 pub invariant_of-self : goal.invariant_of-self
 invariant_of-self c =
-    (formed-if (is_ok c.edit_all.result) (edited_deck c.args.version c.args.edits.now) c.self.inside.decks.items c.args.place c.index_mut-deck.result.now c.edit_all.new.self (λ d. refl) c.self.invariant (omega (arith, ap length c.self.view_is)) c.index_mut-deck.ensures.value c.edit_all.ensures).0
+    (formed-if (is_ok c.edit_all.result) (edited_deck c.args.version c.args.by.now c.args.edits.now) c.self.inside.decks.items c.args.place c.index_mut-deck.result.now c.edit_all.new.self (λ d. refl) c.self.invariant (omega (arith, ap length c.self.view_is)) c.index_mut-deck.ensures.value c.edit_all.ensures).0
 
 pub returns : goal.returns
 returns c =
-    (formed-if (is_ok c.edit_all.result) (edited_deck c.args.version c.args.edits.now) c.self.inside.decks.items c.args.place c.index_mut-deck.result.now c.edit_all.new.self (λ d. refl) c.self.invariant (omega (arith, ap length c.self.view_is)) c.index_mut-deck.ensures.value c.edit_all.ensures).1
-    ∙ ap (λ (decks : List DeskDeck). cond (is_ok c.edit_all.result) (with_at c.args.place (edited_deck c.args.version c.args.edits.now) decks) decks) c.self.view_is
+    (formed-if (is_ok c.edit_all.result) (edited_deck c.args.version c.args.by.now c.args.edits.now) c.self.inside.decks.items c.args.place c.index_mut-deck.result.now c.edit_all.new.self (λ d. refl) c.self.invariant (omega (arith, ap length c.self.view_is)) c.index_mut-deck.ensures.value c.edit_all.ensures).1
+    ∙ ap (λ (decks : List DeskDeck). cond (is_ok c.edit_all.result) (with_at c.args.place (edited_deck c.args.version c.args.by.now c.args.edits.now) decks) decks) c.self.view_is

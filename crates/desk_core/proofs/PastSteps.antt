@@ -1,0 +1,128 @@
+-- What is kept of a deck's changes, as two lists.
+use Rattle.std.proofs.Common.{◌≡◌, ℕ, zero, suc, ◌+◌, ◌-◌, ◌≤◌, ◌<◌, Bool, true, false, cond, not, List, [], ◌∷◌, ◌++◌, length, take, drop, get_or, Option, Some, None, refl, sym, ap, subst, ◌∙◌, arith, nat_lt}
+use Rattle.std.specs.Prelude.{position}
+use Rattle.std.specs.List.{position_or_len}
+use Rattle.std.proofs.lemmas.Bool.{ltb-true, ltb-false}
+use Rattle.cards.specs.declared.carrying.MadeEdit.{MadeEdit}
+use Rattle.desk_core.specs.Language.{Card}
+use Rattle.desk_core.specs.Edits.{Edit, edited}
+use Rattle.desk_core.specs.declared.past.Back.{Back}
+use Rattle.desk_core.specs.Past.{KeptEdit, undo_of, kept_edits, last_version, behind, backs_of}
+use Rattle.desk_core.specs.Stored.{kept_both, made_edits, backs_made, backs_from}
+
+-- two lists of one length, one behind the other
+pub kept-append : (made more : List MadeEdit) (backs others : List Back) → length backs ≡ length made → kept_both (made ++ more) (backs ++ others) ≡ kept_both made backs ++ kept_both more others
+kept-append [] more [] others same = refl
+kept-append [] more (b ∷ backs) others same = cc
+kept-append (m ∷ made) more [] others same = cc
+kept-append (m ∷ made) more (b ∷ backs) others same =
+    ap (λ (kept : List KeptEdit). record { version = m.version; edit = m.edit; back = b.edit; by = b.by } ∷ kept) (kept-append made more backs others (omega (arith, same)))
+
+pub kept-take : (count : ℕ) (made : List MadeEdit) (backs : List Back) → kept_both (take count made) (take count backs) ≡ take count (kept_both made backs)
+kept-take zero made backs = refl
+kept-take (suc count) [] backs = refl
+kept-take (suc count) (m ∷ made) [] = refl
+kept-take (suc count) (m ∷ made) (b ∷ backs) = ap (λ (kept : List KeptEdit). record { version = m.version; edit = m.edit; back = b.edit; by = b.by } ∷ kept) (kept-take count made backs)
+
+kept-none : (made : List MadeEdit) → kept_both made [] ≡ []
+kept-none [] = refl
+kept-none (m ∷ made) = refl
+
+abbrev the_none : List KeptEdit
+the_none = []
+
+nothing-dropped : (count : ℕ) → drop count (the_none) ≡ []
+nothing-dropped zero = refl
+nothing-dropped (suc count) = refl
+
+nothing-left : (count : ℕ) → [] ≡ drop count (the_none)
+nothing-left count = sym (nothing-dropped count)
+
+pub kept-drop : (count : ℕ) (made : List MadeEdit) (backs : List Back) → kept_both (drop count made) (drop count backs) ≡ drop count (kept_both made backs)
+kept-drop zero made backs = refl
+kept-drop (suc count) [] backs = refl
+kept-drop (suc count) (m ∷ made) [] = kept-none (drop count made)
+kept-drop (suc count) (m ∷ made) (b ∷ backs) = kept-drop count made backs
+
+pub kept-length : (made : List MadeEdit) (backs : List Back) → length backs ≡ length made → length (kept_both made backs) ≡ length made
+kept-length [] backs same = refl
+kept-length (m ∷ made) [] same = cc
+kept-length (m ∷ made) (b ∷ backs) same = ap suc (kept-length made backs (omega (arith, same)))
+
+-- a batch
+pub kept-batch : (version : ℕ) (by : List ℕ) (edits : List Edit) (cards : List Card) → kept_both (made_edits version edits) (backs_made by edits cards) ≡ kept_edits version by edits cards
+kept-batch version by [] cards = refl
+kept-batch version by (edit ∷ edits) cards =
+    ap (λ (kept : List KeptEdit). record { version = version; edit = edit; back = undo_of edit cards; by = by } ∷ kept) (kept-batch version by edits (edited cards edit))
+
+pub batch-length : (version : ℕ) (by : List ℕ) (edits : List Edit) (cards : List Card) → length (backs_made by edits cards) ≡ length (made_edits version edits)
+batch-length version by [] cards = refl
+batch-length version by (edit ∷ edits) cards = ap suc (batch-length version by edits (edited cards edit))
+
+-- the version of the last of some
+pub last-is : (version : ℕ) (count : ℕ) (made : List MadeEdit) (backs : List Back) (one : MadeEdit) → length backs ≡ length made → count < length made → one ≡ get_or made count one →
+    last_version version (take (suc count) (kept_both made backs)) ≡ one.version
+last-is version count [] backs one same within is = absurd (omega (arith, within))
+last-is version count (m ∷ made) [] one same within is = cc
+last-is version zero (m ∷ made) (b ∷ backs) one same within is = ap (λ (x : MadeEdit). x.version) (sym is)
+last-is version (suc count) (m ∷ made) (b ∷ backs) one same within is = last-is m.version count made backs one (omega (arith, same)) (omega (arith, within)) is
+
+-- whether an edit that was made is behind a version
+abbrev pub is_behind : ℕ → MadeEdit → Bool
+is_behind version one = nat_lt version one.version
+
+behind-head : (later : Bool) (version count : ℕ) (one : KeptEdit) (kept : List KeptEdit) → behind version kept ≡ drop count kept → cond later (one ∷ kept) (behind version kept) ≡ drop (cond (not later) (1 + count) 0) (one ∷ kept)
+behind-head true version count one kept rest = refl
+behind-head false version count one kept rest =
+    let more : suc count ≡ 1 + count = omega arith in
+    rest ∙ ap (λ (n : ℕ). drop n (one ∷ kept)) more
+
+-- the edits behind a version begin with the first of a later one
+behind-from : (version : ℕ) (made : List MadeEdit) (backs : List Back) → behind version (kept_both made backs) ≡ drop (position_or_len (is_behind version) made) (kept_both made backs)
+behind-from version [] backs = refl
+behind-from version (m ∷ made) [] = nothing-left (position_or_len (is_behind version) (m ∷ made))
+behind-from version (m ∷ made) (b ∷ backs) =
+    behind-head (nat_lt version m.version) version (position_or_len (is_behind version) made) (record { version = m.version; edit = m.edit; back = b.edit; by = b.by }) (kept_both made backs) (behind-from version made backs)
+
+taken : (b : Bool) (n place : ℕ) → cond b (Some n) None ≡ Some place → (b ≡ true) × (n ≡ place)
+taken true n place e = (refl, cc)
+taken false n place e = cc
+
+not-taken : (b : Bool) (n : ℕ) → cond b (Some n) None ≡ None → b ≡ false
+not-taken true n e = cc
+not-taken false n e = refl
+
+none-left : (count : ℕ) (kept : List KeptEdit) → length kept ≤ count → drop count kept ≡ []
+none-left count [] few = nothing-dropped count
+none-left zero (one ∷ kept) few = absurd (omega (arith, few))
+none-left (suc count) (one ∷ kept) few = none-left count kept (omega (arith, few))
+
+-- where one is found
+pub behind-some : (version place : ℕ) (made : List MadeEdit) (backs : List Back) → position (is_behind version) made ≡ Some place →
+    (behind version (kept_both made backs) ≡ drop place (kept_both made backs)) × (place < length made)
+behind-some version place made backs found =
+    let both = taken (nat_lt (position_or_len (is_behind version) made) (length made)) (position_or_len (is_behind version) made) place found in
+    let within = ltb-true (position_or_len (is_behind version) made) (length made) both.0 in
+    (behind-from version made backs ∙ ap (λ (n : ℕ). drop n (kept_both made backs)) both.1, subst (λ (n : ℕ). n < length made) both.1 within)
+
+-- and where none is
+pub behind-none : (version : ℕ) (made : List MadeEdit) (backs : List Back) → length backs ≡ length made → position (is_behind version) made ≡ None →
+    behind version (kept_both made backs) ≡ drop (length made) (kept_both made backs)
+behind-none version made backs same none =
+    let all = kept-length made backs same in
+    let beyond = ltb-false (position_or_len (is_behind version) made) (length made) (not-taken _ _ none) in
+    behind-from version made backs ∙ (none-left (position_or_len (is_behind version) made) (kept_both made backs) (omega (arith, all, beyond)) ∙ sym (none-left (length made) (kept_both made backs) (omega (arith, all))))
+
+pub drop-same : (count : ℕ) (made : List MadeEdit) (backs : List Back) → length backs ≡ length made → length (drop count backs) ≡ length (drop count made)
+drop-same zero made backs same = same
+drop-same (suc count) [] [] same = refl
+drop-same (suc count) [] (b ∷ backs) same = cc
+drop-same (suc count) (m ∷ made) [] same = cc
+drop-same (suc count) (m ∷ made) (b ∷ backs) same = drop-same count made backs (omega (arith, same))
+
+-- what takes edits back
+pub backs-kept : (made : List MadeEdit) (backs : List Back) → length backs ≡ length made → backs_of (kept_both made backs) ≡ backs_from backs
+backs-kept [] [] same = refl
+backs-kept [] (b ∷ backs) same = cc
+backs-kept (m ∷ made) [] same = cc
+backs-kept (m ∷ made) (b ∷ backs) same = ap (λ (edits : List Edit). edits ++ b.edit ∷ []) (backs-kept made backs (omega (arith, same)))
