@@ -24,6 +24,7 @@ pub mod WorkedResults
 pub mod WorkedForeign
 pub mod WorkedLinks
 pub mod WorkedChanges
+pub mod WorkedPast
 pub mod WorkedPuts
 pub mod WorkedRounds
 pub mod PlaceLaws
