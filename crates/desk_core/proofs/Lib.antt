@@ -39,3 +39,5 @@ pub mod DeckRounds
 pub mod LinkRounds
 pub mod WorkEnds
 pub mod PastSteps
+pub mod UndoLaws
+pub mod PastLaws

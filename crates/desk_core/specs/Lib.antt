@@ -3,6 +3,7 @@ pub mod Causes
 pub mod Edits
 pub mod Changes
 pub mod Past
+pub mod Led
 pub mod Desks
 pub mod Held
 pub mod Calls

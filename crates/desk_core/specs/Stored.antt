@@ -6,6 +6,7 @@ use Rattle.desk_core.specs.Language.{Card, Deck}
 use Rattle.desk_core.specs.Edits.{Edit, most_cards, edited}
 use Rattle.desk_core.specs.Past.{Past, KeptEdit, undo_of}
 use Rattle.desk_core.specs.declared.past.Back.{Back}
+use Rattle.desk_core.specs.Led.{IsPastOf}
 use Rattle.desk_core.specs.Desks.{DeskDeck, Kept, Lease}
 
 -- a deck with its object, if it has one of its version
@@ -17,10 +18,11 @@ stored_deck name cards identity version object kept waiting lease past =
 abbrev pub IsItsObject : List ℕ → List Card → Option Deck → Type 0
 IsItsObject name cards object = ForSome object (λ of_deck. of_deck ≡ record { name = name; cards = cards })
 
--- a deck that is kept: it has no more cards than a deck may have, and its object
-pub record IsStored (name : List ℕ) (cards : List Card) (object : Option Deck) : Type 0 where
+-- a deck that is kept: it has no more cards than a deck may have, its object, and a past that led to its cards
+pub record IsStored (name : List ℕ) (cards : List Card) (object : Option Deck) (past : Past) : Type 0 where
   pub few : length cards ≤ most_cards
   pub its_object : IsItsObject name cards object
+  pub led : IsPastOf past.edits cards
 
 -- edits that were made, each with what takes it back
 abbrev pub kept_both : List MadeEdit → List Back → List KeptEdit

@@ -30,7 +30,7 @@ use std::mem::replace;
 /// that of the last deck put in its place;
 /// the version of the last change of it; its object, if it has one of that version; its record, if it
 /// is here, and the edits that the record lacks; the lease, if one is out; and what is kept of its changes.
-/// It has at most 20,000 cards.
+/// It has at most 20,000 cards, and its past led to them.
 #[derive(Drop)]
 pub struct StoredDeck {
     name: DeckName,
@@ -52,7 +52,7 @@ impl Model for StoredDeck {
 
     ghost view = { λ d. stored_deck d.name d.cards.items d.identity d.version d.object d.kept d.waiting.items d.lease d.past };
 
-    ghost invariant = { λ d. IsStored d.name d.cards.items d.object };
+    ghost invariant = { λ d. IsStored d.name d.cards.items d.object d.past };
 }
 
 impl StoredDeck {

@@ -4,11 +4,13 @@ use Rattle.desk_core.specs.Language.{Card}
 use Rattle.desk_core.specs.Desks.{DeskDeck}
 use Rattle.desk_core.specs.Edits.{Edit, first_fault, edited_by}
 use Rattle.desk_core.specs.declared.past.Back.{Back}
-use Rattle.desk_core.specs.Past.{Past, KeptEdit, with_edits, trimmed, kept_edits}
+use Rattle.desk_core.specs.Past.{Past, KeptEdit, with_edits, trimmed, kept_edits, past_after}
+use Rattle.desk_core.specs.Led.{IsPastOf}
 use Rattle.desk_core.specs.Changing.{edited_deck, waiting_after}
 use Rattle.desk_core.specs.Stored.{kept_both, backs_made}
 use Rattle.desk_core.proofs.CardCounts.{edited_by-few}
 use Rattle.desk_core.proofs.PastSteps.{kept-batch, batch-length}
+use Rattle.desk_core.proofs.PastLaws.{past-more}
 use Rattle.desk_core.proofs.stored_deck.StoredDeck.edit_all.Goals as goal
 
 -- as many edits as there are that take them back
@@ -23,9 +25,19 @@ invariant_of-self-2 c =
     let same : c.args.self.now.cards ≡ c.self.inside.cards.items = sym (ap (λ (deck : DeskDeck). deck.cards) c.self.view_is) in
     let applies = subst (λ (cards : List Card). first_fault c.args.edits.now cards ≡ None) same c.requires in
     let cards = c.in_ok-cards.ensures.cards ∙ ap (λ (before : List Card). edited_by c.args.edits.now before) c.deref.ensures.value in
+    let inside = c.self.inside in
+    let version = c.args.version in
+    let by = c.args.by.now in
+    let edits = c.args.edits.now in
+    let before = inside.cards.items in
+    let kept = ap₂ (λ (made : List MadeEdit) (backs : List Back). kept_both made backs) c.in_ok-made.ensures (c.in_ok-cards.ensures.backs ∙ ap (λ (cards : List Card). backs_made by edits cards) c.deref.ensures.value)
+    ∙ kept-batch version by edits before in
+    let past : c.trim.new.self ≡ past_after version by edits before inside.past = c.trim.ensures ∙ ap trimmed (c.in_ok-append.ensures ∙ ap (λ (more : List KeptEdit). with_edits more inside.past) kept) in
     record {
       few = subst (λ (after : List Card). length after ≤ 20000) (sym cards) (edited_by-few c.args.edits.now c.self.inside.cards.items applies c.self.invariant.few);
       its_object = search rules;
+      led = subst (λ (p : Past). IsPastOf p.edits c.in_ok-cards.cards.items) (sym past)
+          (subst (λ (after : List Card). IsPastOf (past_after version by edits before inside.past).edits after) (sym cards) (past-more version by edits before inside.past c.self.invariant.led applies));
     }
 
 pub returns : goal.returns
