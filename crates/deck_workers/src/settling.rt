@@ -60,8 +60,16 @@ fn settle_turn(alloc: Global, desk: &mut Desk, meter: &mut Meter) -> Option<Sett
 fn end_job(desk: &mut Desk, made: Made) -> Option<Settled>
     ensures { (answered : Reply) × Steps desk.old (call_of made) answered desk.new × (result ≡ option_map Settled.Refused (refusal_in answered)) }
 {
-    match desk.step(made.into_call()) {
-        Reply::Refused(refusal) => Some(Settled::Refused { refusal }),
+    let answered = desk.step(made.into_call());
+    end_of_delivery(&answered)
+}
+
+/// What the answer to the call that ends a job ends settling with: a refusal.
+fn end_of_delivery(answered: &Reply) -> Option<Settled>
+    ensures { result ≡ option_map Settled.Refused (refusal_in answered.now) }
+{
+    match answered {
+        Reply::Refused(refusal) => Some(Settled::Refused { refusal: *refusal }),
         Reply::Changed(_)
         | Reply::CardsAre(..)
         | Reply::ChangesAre(..)
