@@ -6,6 +6,7 @@ pub mod TakingSteps
 pub mod SessionKinds
 pub mod WorkedSessions
 pub mod FoundSteps
+pub mod ChangeSteps
 pub mod SentSoFar
 pub mod FlagSteps
 pub mod LinkSteps

@@ -19,11 +19,11 @@ use Rattle.session_line.specs.declared.views.CardsView.{CardsView}
 use Rattle.session_line.specs.declared.views.CardsView.TheVariants.{All, From, With}
 use Rattle.session_line.specs.declared.refusals.Refusal.TheVariants.{BadName}
 use Rattle.session_line.specs.Views.{is_sought_size}
-use Rattle.session_line.specs.Words.{first_word, behind_word, first_number, greatest_number}
+use Rattle.session_line.specs.Words.{first_word, behind_word, number_in, first_number, greatest_number}
 use Rattle.session_line.specs.Edits.{needs, only_if, made_of, is_end, card_or_fault, fits_edit, edit_at, edit_in_batch}
-use Rattle.session_line.specs.Commands.{name_in, only_name, save_over_in, save_in, view_from, view_in, cards_in, sought_of, sought_in, find_in, drop_in, edit_of, edit_in, head_in, sized, is_batch_size, is_put_size, command_of}
+use Rattle.session_line.specs.Commands.{name_in, only_name, save_over_in, save_in, view_from, view_in, at_in, cards_by, cards_in, sought_of, sought_in, find_in, named_version, of_version, edit_of, edit_in, head_in, sized, is_batch_size, is_put_size, command_of}
 use Rattle.session_line.specs.Lines.{name_and_number, line_of_edit, line_in_batch, line_of_head, line_of_command, IsLawfulEdit, IsLawfulName, IsLawful}
-use Rattle.session_line.proofs.ReadBack.{IsRest, word-name, word-decimal, first-word, behind-word, first-number}
+use Rattle.session_line.proofs.ReadBack.{IsRest, IsWord, word-name, word-decimal, first-word, behind-word, first-number}
 
 -- a lawful name
 name-is : (name : List ℕ) → is_deck_name name ≡ true → name_in name ≡ Ok name
@@ -70,14 +70,48 @@ cards-back : (name rest : List ℕ) (view : CardsView) → is_deck_name name ≡
     cards_in (32 ∷ (name ++ rest)) ≡ Ok (command.Cards name view)
 cards-back name rest view is none which =
     let line = 32 ∷ (name ++ rest) in
-    ap (λ (o : Option (List ℕ)). needs o (λ n. needs (view_in (behind_word line)) (λ v. made_of (λ m. command.Cards m v) (name_in n)))) (first-word name rest (word-name name is) none)
-    ∙ ap (λ (l : List ℕ). needs (view_in l) (λ v. made_of (λ m. command.Cards m v) (name_in name))) (behind-word name rest (word-name name is) none)
-    ∙ ap (λ (o : Option CardsView). needs o (λ v. made_of (λ m. command.Cards m v) (name_in name))) which
+    ap (λ (o : Option (List ℕ)). needs o (λ n. cards_by n (view_in (behind_word line)) (at_in (behind_word line)))) (first-word name rest (word-name name is) none)
+    ∙ ap (λ (l : List ℕ). cards_by name (view_in l) (at_in l)) (behind-word name rest (word-name name is) none)
+    ∙ ap (λ (o : Option CardsView). cards_by name o (at_in rest)) which
     ∙ ap (λ (r : Result (List ℕ) Refusal). made_of (λ m. command.Cards m view) r) (name-is name is)
 
 -- a text with a character is not the end of a line
 no-end : (c : ℕ) (text : List ℕ) → is_end (c ∷ text) ≡ false
 no-end c text = ne_eqb (length (c ∷ text)) 0 (λ e. absurd (omega (arith, e)))
+
+-- the word AT
+word-at : IsWord (codes "AT")
+word-at = record { unbroken = refl; some = omega arith }
+
+-- and the version behind it
+at-read : (version : ℕ) → version ≤ greatest_number → at_in (32 ∷ (codes "AT" ++ (32 ∷ (decimal version ++ [])))) ≡ Some version
+at-read version within =
+    let last = 32 ∷ (decimal version ++ []) in
+    let line = 32 ∷ (codes "AT" ++ last) in
+    ap (λ (l : List ℕ). if is_end (behind_word l) then first_number l else None) (behind-word (codes "AT") last word-at refl)
+    ∙ ap (λ (l : List ℕ). if is_end l then first_number last else None) (behind-word (decimal version) [] (word-decimal version within) refl)
+    ∙ first-number version [] within refl
+
+-- it is no place
+at-none : (version : ℕ) → view_in (32 ∷ (codes "AT" ++ (32 ∷ (decimal version ++ [])))) ≡ None
+at-none version =
+    let last = 32 ∷ (decimal version ++ []) in
+    let line = 32 ∷ (codes "AT" ++ last) in
+    ap (λ (t : Bool). if t then Some All else option_and_then (λ p. option_and_then (λ n. view_from p n (behind_word (behind_word line))) (first_number (behind_word line))) (first_number line)) (no-end 32 (codes "AT" ++ last))
+    ∙ ap (λ (o : Option (List ℕ)). option_and_then (λ p. option_and_then (λ n. view_from p n (behind_word (behind_word line))) (first_number (behind_word line))) (option_and_then number_in o)) (first-word (codes "AT") last word-at refl)
+
+-- CARDS with a version
+at-back : (name : List ℕ) (version : ℕ) → is_deck_name name ≡ true → version ≤ greatest_number →
+    cards_in (32 ∷ (name ++ (32 ∷ (codes "AT" ++ (32 ∷ (decimal version ++ [])))))) ≡ Ok (command.CardsAt name version)
+at-back name version is within =
+    let last = 32 ∷ (decimal version ++ []) in
+    let rest = 32 ∷ (codes "AT" ++ last) in
+    let line = 32 ∷ (name ++ rest) in
+    ap (λ (o : Option (List ℕ)). needs o (λ n. cards_by n (view_in (behind_word line)) (at_in (behind_word line)))) (first-word name rest (word-name name is) refl)
+    ∙ ap (λ (l : List ℕ). cards_by name (view_in l) (at_in l)) (behind-word name rest (word-name name is) refl)
+    ∙ ap (λ (o : Option CardsView). cards_by name o (at_in rest)) (at-none version)
+    ∙ ap (λ (o : Option ℕ). cards_by name None o) (at-read version within)
+    ∙ ap (λ (r : Result (List ℕ) Refusal). made_of (λ m. command.CardsAt m version) r) (name-is name is)
 
 -- a place and a number of cards
 from-back : (place count : ℕ) → 1 ≤ place → place ≤ greatest_number → count ≤ greatest_number → view_in (32 ∷ (decimal place ++ (32 ∷ (decimal count ++ [])))) ≡ Some (From place count)
@@ -109,11 +143,12 @@ part-back all part name is =
     ap (λ (t : Bool). if t then Ok all else made_of part (only_name (32 ∷ (name ++ [])))) (no-end 32 (name ++ []))
     ∙ ap (λ (r : Result (List ℕ) Refusal). made_of part r) (only-name name is)
 
--- DROP
-drop-back : (name : List ℕ) (version : ℕ) → is_deck_name name ≡ true → version ≤ greatest_number → drop_in (name_and_number name version []) ≡ Ok (command.Drop name version)
-drop-back name version is within =
-    both-made (λ n v l. only_if (is_end l) (made_of (λ m. command.Drop m v) (name_in n))) name version [] is within refl
-    ∙ ap (λ (r : Result (List ℕ) Refusal). made_of (λ m. command.Drop m version) r) (name-is name is)
+-- DROP and CHANGES
+version-back : (make : List ℕ → ℕ → Command) (name : List ℕ) (version : ℕ) → is_deck_name name ≡ true → version ≤ greatest_number →
+    of_version make (named_version (name_and_number name version [])) ≡ Ok (make name version)
+version-back make name version is within =
+    ap (of_version make) (both-made (λ n v l. only_if (is_end l) (made_of (λ m. (m, v)) (name_in n))) name version [] is within refl)
+    ∙ ap (λ (r : Result (List ℕ) Refusal). of_version make (made_of (λ m. (m, version)) r)) (name-is name is)
 
 -- INS, REP and DEL, to the edit
 edit-made : (kind : EditKind) (name : List ℕ) (version place : ℕ) (rest : List ℕ) → is_deck_name name ≡ true → version ≤ greatest_number → place ≤ greatest_number → IsRest rest →
@@ -178,12 +213,14 @@ put-back (Err refusal) version count is within size = absurd is
 pub line-back : (command : Command) → IsLawful command → command_of (line_of_command command) ≡ Ok command
 line-back (command.Add name) is = ap (λ (r : Result (List ℕ) Refusal). made_of command.Add r) (only-name name is)
 line-back (command.Load name) is = ap (λ (r : Result (List ℕ) Refusal). made_of command.Load r) (only-name name is)
-line-back (command.Drop name version) lawful = drop-back name version lawful.0 lawful.1
+line-back (command.Drop name version) lawful = version-back command.Drop name version lawful.0 lawful.1
 line-back (command.Edit name version edit) lawful = edit-back name version edit lawful.0 lawful.1 lawful.2
 line-back (command.Cards name All) lawful = cards-back name [] All lawful.0 refl refl
 line-back (command.Cards name (From place count)) lawful =
     cards-back name (32 ∷ (decimal place ++ (32 ∷ (decimal count ++ [])))) (From place count) lawful.0 refl (from-back place count lawful.1.0 lawful.1.1 lawful.1.2)
 line-back (command.Cards name (With text)) lawful = find-back name text lawful.0 lawful.1.0 lawful.1.1
+line-back (command.CardsAt name version) lawful = at-back name version lawful.0 lawful.1
+line-back (command.Changes name version) lawful = version-back command.Changes name version lawful.0 lawful.1
 line-back (command.Save name Known) is = save-back name [] Known is refl refl
 line-back (command.Save name Any) is = save-back name (codes " FORCE") Any is refl refl
 line-back command.Image _ = refl

@@ -1,16 +1,21 @@
 -- The replies of a desk to the calls of sessions, call by call.
-use Rattle.std.proofs.Common.{◌≡◌, true, Option, None, Some, inl, inr, refl, ap, ◌∙◌}
+use Rattle.std.proofs.Common.{ℕ, List, ◌≡◌, true, Option, None, Some, inl, inr, refl, ap, ◌∙◌}
 use Rattle.desk_core.specs.Desks.{Desk, DeskDeck, Publication, deck_named}
-use Rattle.desk_core.specs.Answers.{unless}
+use Rattle.desk_core.specs.Answers.{answers, unless}
 use Rattle.desk_core.specs.Changing.{accepted, against_add, against_put, against_drop, against_edit, against_batch}
 use Rattle.desk_core.specs.Reading.{cards_reply, show_reply}
+use Rattle.desk_core.specs.declared.past.KeptEdit.{KeptEdit}
+use Rattle.desk_core.specs.Past.{backs_of}
+use Rattle.desk_core.specs.Earlier.{against_since, edits_behind, changes_of, cards_at_of}
+use Rattle.desk_core.specs.Edits.{Edit}
+use Rattle.desk_core.specs.Language.{Card}
 use Rattle.desk_core.specs.Steps.{Steps, answer}
 use Rattle.desk_core.specs.declared.calls.Call.{Call}
 use Rattle.desk_core.specs.declared.calls.Call.TheVariants as call
 use Rattle.desk_core.specs.declared.replies.Reply.{Reply}
-use Rattle.desk_core.specs.declared.replies.Reply.TheVariants.{Refused}
+use Rattle.desk_core.specs.declared.replies.Reply.TheVariants.{ChangesAre, CardsBefore, Refused}
 use Rattle.desk_core.specs.declared.replies.Refusal.{Refusal}
-use Rattle.session_line.specs.Kinds.{is_session_call, is_change, is_cards, is_publication, fits_call}
+use Rattle.session_line.specs.Kinds.{is_session_call, is_change, is_changes, is_cards, is_cards_before, is_publication, fits_call}
 
 -- a change is accepted or refused
 unless-change : (cause : Option Refusal) (desk changed : Desk) → is_change (unless cause desk (accepted changed)).reply ≡ true
@@ -21,6 +26,23 @@ cards_reply-fits : (deck : Option DeskDeck) → is_cards (cards_reply deck) ≡ 
 cards_reply-fits None = refl
 cards_reply-fits (Some deck) = refl
 
+-- what is kept of a deck's changes is told or refused
+unless-changes : (cause : Option Refusal) (desk : Desk) (version : ℕ) (kept : List KeptEdit) → is_changes (unless cause desk (answers (ChangesAre version kept) desk)).reply ≡ true
+unless-changes None desk version kept = refl
+unless-changes (Some refusal) desk version kept = refl
+
+changes_of-fits : (since : ℕ) (desk : Desk) (deck : Option DeskDeck) → is_changes (changes_of since desk deck).reply ≡ true
+changes_of-fits since desk None = refl
+changes_of-fits since desk (Some deck) = unless-changes (against_since since deck) desk deck.version (edits_behind since deck)
+
+unless-cards : (cause : Option Refusal) (desk : Desk) (version : ℕ) (cards : List Card) (backs : List Edit) → is_cards_before (unless cause desk (answers (CardsBefore version cards backs) desk)).reply ≡ true
+unless-cards None desk version cards backs = refl
+unless-cards (Some refusal) desk version cards backs = refl
+
+cards_at_of-fits : (version : ℕ) (desk : Desk) (deck : Option DeskDeck) → is_cards_before (cards_at_of version desk deck).reply ≡ true
+cards_at_of-fits version desk None = refl
+cards_at_of-fits version desk (Some deck) = unless-cards (against_since version deck) desk version deck.cards (backs_of (edits_behind version deck))
+
 show_reply-fits : (publication : Option Publication) → is_publication (show_reply publication) ≡ true
 show_reply-fits None = refl
 show_reply-fits (Some publication) = refl
@@ -29,8 +51,10 @@ answer-fits : (asked : Call) (desk : Desk) → is_session_call asked ≡ true �
 answer-fits (call.AddDeck deck) desk h = unless-change (against_add deck desk) desk _
 answer-fits (call.PutDeck deck seen) desk h = unless-change (against_put seen deck desk (deck_named deck.name desk)) desk _
 answer-fits (call.DropDeck name seen) desk h = unless-change (against_drop seen desk (deck_named name desk)) desk _
-answer-fits (call.EditDeck name seen edit) desk h = unless-change (against_edit seen edit desk (deck_named name desk)) desk _
-answer-fits (call.Batch name seen edits) desk h = unless-change (against_batch seen edits desk (deck_named name desk)) desk _
+answer-fits (call.EditDeck name seen edit by) desk h = unless-change (against_edit seen edit desk (deck_named name desk)) desk _
+answer-fits (call.Batch name seen edits by) desk h = unless-change (against_batch seen edits desk (deck_named name desk)) desk _
+answer-fits (call.Changes name since) desk h = changes_of-fits since desk (deck_named name desk)
+answer-fits (call.CardsAt name version) desk h = cards_at_of-fits version desk (deck_named name desk)
 answer-fits (call.Cards name) desk h = cards_reply-fits (deck_named name desk)
 answer-fits call.Show desk h = show_reply-fits desk.publication
 answer-fits call.Status desk h = refl
@@ -44,8 +68,10 @@ refused-fits : (asked : Call) (reason : Refusal) → is_session_call asked ≡ t
 refused-fits (call.AddDeck deck) reason h = refl
 refused-fits (call.PutDeck deck seen) reason h = refl
 refused-fits (call.DropDeck name seen) reason h = refl
-refused-fits (call.EditDeck name seen edit) reason h = refl
-refused-fits (call.Batch name seen edits) reason h = refl
+refused-fits (call.EditDeck name seen edit by) reason h = refl
+refused-fits (call.Batch name seen edits by) reason h = refl
+refused-fits (call.Changes name since) reason h = refl
+refused-fits (call.CardsAt name version) reason h = refl
 refused-fits (call.Cards name) reason h = refl
 refused-fits call.Show reason h = refl
 refused-fits call.Status reason h = refl

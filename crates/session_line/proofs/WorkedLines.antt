@@ -49,6 +49,39 @@ cards_without_count = refl
 pub cards_and_more : command_of (codes "CARDS M 11 10 ") ≡ Err BadCommand
 cards_and_more = refl
 
+-- the cards at a version
+pub cards_at : command_of (codes "CARDS M AT 7") ≡ Ok (command.CardsAt (codes "M") 7)
+cards_at = refl
+
+-- a deck may be named so
+pub cards_of_at : command_of (codes "CARDS AT AT 7") ≡ Ok (command.CardsAt (codes "AT") 7)
+cards_of_at = refl
+
+pub cards_at_none : command_of (codes "CARDS M AT") ≡ Err BadCommand
+cards_at_none = refl
+
+pub cards_at_two : command_of (codes "CARDS M AT 7 1") ≡ Err BadCommand
+cards_at_two = refl
+
+pub cards_at_small : command_of (codes "CARDS M at 7") ≡ Err BadCommand
+cards_at_small = refl
+
+pub cards_at_nobody : command_of (codes "CARDS M+ AT 7") ≡ Err BadName
+cards_at_nobody = refl
+
+-- the changes behind a version
+pub changes : command_of (codes "CHANGES M 7") ≡ Ok (command.Changes (codes "M") 7)
+changes = refl
+
+pub changes-no_version : command_of (codes "CHANGES M") ≡ Err BadCommand
+changes-no_version = refl
+
+pub changes-more : command_of (codes "CHANGES M 7 8") ≡ Err BadCommand
+changes-more = refl
+
+pub changes-nobody : command_of (codes "CHANGES M+ 7") ≡ Err BadName
+changes-nobody = refl
+
 -- a text behind one blank, without its trailing blanks
 pub find : command_of (codes "FIND M SB1  X ") ≡ Ok (command.Cards (codes "M") (With (codes "SB1  X")))
 find = refl

@@ -15,16 +15,16 @@ use Rattle.session_line.specs.Commands.{command_of}
 use Rattle.session_line.specs.declared.errors.ErrorsView.TheVariants.{Every, Of}
 use Rattle.session_line.specs.declared.views.CardsView.TheVariants.{All, From, With}
 use Rattle.session_line.specs.declared.tasks.PublishedText.TheVariants.{Image, Listing, Map}
-use Rattle.session_line.specs.declared.tasks.Task.TheVariants.{Ask, AwaitVersion, ShowCards, ShowText, ShowPart, ShowErrors, LoadDeck, SaveDeck, Leave, Refuse}
-use Rattle.session_line.specs.Tasks.{lines_due, task_of}
-use Rattle.session_line.specs.Answers.{told_of_call, told_of_wait, told_of_cards, told_of_publication, told_of_part, told_of_errors, told_text}
+use Rattle.session_line.specs.declared.tasks.Task.TheVariants.{Ask, AwaitVersion, ShowCards, ShowCardsAt, ShowText, ShowPart, ShowErrors, LoadDeck, SaveDeck, Leave, Refuse}
+use Rattle.session_line.specs.Tasks.{lines_due, nobody, task_of}
+use Rattle.session_line.specs.Answers.{told_of_call, told_of_wait, told_of_cards, told_of_cards_at, told_of_publication, told_of_part, told_of_errors, told_text}
 use Rattle.session_line.specs.Parts.{part_of}
 
 -- which call of the desk a line is
 pub add : task_of (codes "ADD M") [] ≡ Ask (call.AddDeck (record { name = codes "M"; cards = [] }))
 add = refl
 
-pub insert : task_of (codes "INS M 2 1 *A") [] ≡ Ask (call.EditDeck (codes "M") 2 (Insert 1 (codes "*A")))
+pub insert : task_of (codes "INS M 2 1 *A") [] ≡ Ask (call.EditDeck (codes "M") 2 (Insert 1 (codes "*A")) nobody)
 insert = refl
 
 pub load : task_of (codes "LOAD M") [] ≡ LoadDeck (codes "M")
@@ -35,6 +35,12 @@ save = refl
 
 pub cards_of_deck : task_of (codes "CARDS M") [] ≡ ShowCards (codes "M") All
 cards_of_deck = refl
+
+pub cards_at : task_of (codes "CARDS M AT 7") [] ≡ ShowCardsAt (codes "M") 7
+cards_at = refl
+
+pub changes : task_of (codes "CHANGES M 7") [] ≡ Ask (call.Changes (codes "M") 7)
+changes = refl
 
 pub image : task_of (codes "IMAGE") [] ≡ ShowText Image
 image = refl
@@ -62,7 +68,7 @@ bye = refl
 
 -- a batch is one call, whose edits stand in the order of the lines
 pub batch : task_of (codes "BATCH M 3 3") (codes "INS 1 *X" ∷ codes "DEL 3" ∷ codes "REP 2 *Y" ∷ [])
-    ≡ Ask (call.Batch (codes "M") 3 (Insert 1 (codes "*X") ∷ Remove 3 ∷ Replace 2 (codes "*Y") ∷ []))
+    ≡ Ask (call.Batch (codes "M") 3 (Insert 1 (codes "*X") ∷ Remove 3 ∷ Replace 2 (codes "*Y") ∷ []) nobody)
 batch = refl
 
 -- a bad name takes the lines all the same, and counts before them
@@ -129,6 +135,27 @@ no_cards = unfold digits in refl
 
 pub none_of_them : told_text (told_of_cards (From 2 0) (reply.CardsAre 5 four)) ≡ codes "OK 5 0\n"
 none_of_them = unfold digits in refl
+
+-- two changes, of one edit and of two, by sessions 0 and 2; and none
+pub changes_shown : told_text (told_of_call (reply.ChangesAre 6 (
+    record { version = 5; edit = Insert 1 (codes "*A"); back = Remove 1; by = codes "0" }
+    ∷ record { version = 6; edit = Remove 3; back = Insert 3 (codes "*C"); by = codes "2" }
+    ∷ record { version = 6; edit = Replace 2 (codes ""); back = Replace 2 (codes "*B"); by = codes "2" } ∷ [])))
+    ≡ codes "OK 6 5\nCHANGE 5 0 1\nINS 1 *A\nCHANGE 6 2 2\nDEL 3\nREP 2 \n"
+changes_shown = unfold digits in refl
+
+pub no_changes : told_text (told_of_call (reply.ChangesAre 6 [])) ≡ codes "OK 6 0\n"
+no_changes = unfold digits in refl
+
+-- the cards at version 4, before a card came in front and the third went; and where what is to be taken back is none of these cards'
+pub cards_then : told_text (told_of_cards_at (reply.CardsBefore 4 (codes "*X" ∷ codes "*A" ∷ codes "*B" ∷ []) (Insert 4 (codes "*C") ∷ Remove 1 ∷ []))) ≡ codes "OK 4 3\n*A\n*B\n*C\n"
+cards_then = unfold digits in refl
+
+pub cards_then_foreign : told_text (told_of_cards_at (reply.CardsBefore 4 (codes "*X" ∷ []) (Remove 2 ∷ []))) ≡ codes "NO Foreign\n"
+cards_then_foreign = unfold digits in refl
+
+pub forgotten : told_text (told_of_call (reply.Refused (desk.Forgotten 12))) ≡ codes "NO Forgotten 12\n"
+forgotten = unfold digits in refl
 
 -- the part of a deck: from the first line of it up to the next deck, common block, map or end
 pub first_part_of_two : part_of (codes "M") (codes "DECK M REL\n00001 DECK N \nERRORS 0\nDECK N REL\nMAP\nDECK M REL 000100\nEND\n") ≡ Some (codes "DECK M REL\n00001 DECK N \nERRORS 0\n")

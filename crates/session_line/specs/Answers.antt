@@ -1,5 +1,5 @@
 -- What a command is answered, and the text of that (ours).
-use Rattle.std.specs.Prelude.{ℕ, ◌+◌, ◌≤◌, ⊤, Bool, true, false, nat_le, List, [], ◌++◌, Option, Some, None, length, codes, if◌then◌else◌}
+use Rattle.std.specs.Prelude.{ℕ, ◌≡◌, ◌+◌, ◌≤◌, ◌⊎◌, ⊤, IsTrue, Bool, true, false, nat_le, List, [], ◌++◌, Option, Some, None, length, codes, if◌then◌else◌}
 use Rattle.definitions.specs.Cards.{Card}
 use Rattle.definitions.specs.DeckInput.{Deck}
 use Rattle.deck_linker.specs.Publishing.{listing_named, map_of}
@@ -7,7 +7,7 @@ use Rattle.desk_core.specs.Language.{listing_of, image_of}
 use Rattle.desk_core.specs.Desks.{Publication}
 use Rattle.desk_core.specs.declared.replies.Reply.{Reply}
 use Rattle.desk_core.specs.declared.replies.Row.{Row}
-use Rattle.desk_core.specs.declared.replies.Reply.TheVariants.{Changed, CardsAre, Shown, StatusIs, Refused}
+use Rattle.desk_core.specs.declared.replies.Reply.TheVariants.{Changed, CardsAre, ChangesAre, CardsBefore, Shown, StatusIs, Refused}
 use Rattle.deck_files.specs.DeckFiles.{file_of}
 use Rattle.session_line.specs.declared.refusals.Refusal.{Refusal}
 use Rattle.session_line.specs.declared.refusals.Refusal.TheVariants as refusal
@@ -18,6 +18,9 @@ use Rattle.session_line.specs.declared.views.CardsView.{CardsView}
 use Rattle.session_line.specs.declared.views.CardsView.TheVariants.{All, From, With}
 use Rattle.session_line.specs.Views.{cards_from, numbers_of}
 use Rattle.session_line.specs.Parts.{part_of}
+use Rattle.session_line.specs.ChangeLines.{change_lines}
+use Rattle.cards.specs.declared.edits.Edit.{Edit}
+use Rattle.cards.specs.Edits.{first_fault, edited_by}
 use Rattle.session_line.specs.declared.errors.ErrorsView.{ErrorsView}
 use Rattle.session_line.specs.Errors.{error_lines, shows_any}
 use Rattle.session_line.specs.declared.tasks.PublishedText.{PublishedText}
@@ -30,6 +33,10 @@ use Rattle.session_line.specs.declared.answers.Answer.{Answer}
 abbrev pub most_cards : ℕ
 most_cards = 20000
 
+-- how many edits of a deck are kept at most
+abbrev pub most_kept : ℕ
+most_kept = 2000
+
 -- how many decks a desk has at most
 abbrev pub most_decks : ℕ
 most_decks = 64
@@ -38,9 +45,10 @@ most_decks = 64
 abbrev pub foreign : Told
 foreign = told.Refused refusal.Foreign
 
--- what is told of the reply to a call that shows neither cards nor a publication; no more decks than a desk may have
+-- what is told of the reply to a call that shows neither cards nor a publication; no more edits than are kept of a deck, and no more decks than a desk may have
 abbrev pub told_of_call : Reply → Told
 told_of_call (Changed version) = told.Done version
+told_of_call (ChangesAre version kept) = if nat_le (length kept) most_kept then told.Changes version kept else foreign
 told_of_call (StatusIs version published rows) = if nat_le (length rows) most_decks then told.Status version published rows else foreign
 told_of_call (Refused reason) = told.Refused (desk_reason reason)
 told_of_call _ = foreign
@@ -56,6 +64,28 @@ abbrev pub told_of_cards : CardsView → Reply → Told
 told_of_cards view (CardsAre version cards) = if nat_le (length cards) most_cards then told.Cards version cards view else foreign
 told_of_cards view (Refused reason) = told.Refused (desk_reason reason)
 told_of_cards view _ = foreign
+
+-- what is told of the cards that edits make of these
+abbrev pub told_of_backs : ℕ → List Edit → List Card → Told
+told_of_backs version backs cards = elim (first_fault backs cards) [
+  | None ↦ told_of_cards All (CardsAre version (edited_by backs cards))
+  | Some fault ↦ foreign
+]
+
+-- what is told of the reply to a call for the cards that a deck had at a version: those of now, with the changes since taken back
+abbrev pub told_of_cards_at : Reply → Told
+told_of_cards_at (CardsBefore version cards backs) = told_of_backs version backs cards
+told_of_cards_at (Refused reason) = told.Refused (desk_reason reason)
+told_of_cards_at _ = foreign
+
+-- whether a reply has changes to be taken back
+abbrev pub has_backs : Reply → Bool
+has_backs (CardsBefore version cards backs) = true
+has_backs _ = false
+
+-- that; or that there was no memory to take the changes back
+abbrev pub IsToldAt : Reply → Told → Type 0
+IsToldAt reply what = (what ≡ told_of_cards_at reply) ⊎ (IsTrue (has_backs reply) × (what ≡ told.Refused refusal.OutOfMemory))
 
 -- what is told of the reply to a call for the publication, of which this text is shown
 abbrev pub told_of_publication : PublishedText → Reply → Told
@@ -127,6 +157,7 @@ status_text version published rows = with_body (counted_text version (length row
 abbrev pub told_text : Told → List ℕ
 told_text (told.Done version) = with_body (ok_text version) []
 told_text (told.Cards version cards view) = view_text version view cards
+told_text (told.Changes version kept) = with_body (counted_text version (length (change_lines kept))) (text_of_lines (change_lines kept))
 told_text (told.Published publication text) = lines_text publication.version (shown_text text publication)
 told_text (told.Part publication text name) = part_text publication.version (shown_part name text publication)
 told_text (told.Errors publication view) = errors_text publication.version view publication.decks (map_of publication.decks)
@@ -140,9 +171,10 @@ abbrev pub is_bye : Told → Bool
 is_bye told.Bye = true
 is_bye _ = false
 
--- what is told has no more cards and decks than may be
+-- what is told has no more cards, edits and decks than may be
 abbrev pub IsTellable : Told → Type 0
 IsTellable (told.Cards version cards view) = length cards ≤ most_cards
+IsTellable (told.Changes version kept) = length kept ≤ most_kept
 IsTellable (told.Errors publication view) = length publication.decks ≤ most_decks
 IsTellable (told.Status version published rows) = length rows ≤ most_decks
 IsTellable _ = ⊤

@@ -56,11 +56,18 @@ view_in rest =
     if is_end rest then Some All else
     option_and_then (λ place. option_and_then (λ count. view_from place count (behind_word behind)) (first_number behind)) (first_number rest)
 
--- name, or name place count
+-- the version behind the word AT that stands behind the name
+abbrev pub at_in : List ℕ → Option ℕ
+at_in rest = if same_text (unbroken_front (drop 1 rest)) (codes "AT") && is_end (behind_word (behind_word rest)) then first_number (behind_word rest) else None
+
+-- of the cards of the deck of a name this, or else those that it had at a version
+abbrev pub cards_by : List ℕ → Option CardsView → Option ℕ → Result Command Refusal
+cards_by name (Some view) at = made_of (λ name. command.Cards name view) (name_in name)
+cards_by name None at = needs at (λ version. made_of (λ name. command.CardsAt name version) (name_in name))
+
+-- name, name place count, or name AT version
 abbrev pub cards_in : List ℕ → Result Command Refusal
-cards_in rest =
-    needs (first_word rest) (λ name.
-    needs (view_in (behind_word rest)) (λ view. made_of (λ name. command.Cards name view) (name_in name)))
+cards_in rest = needs (first_word rest) (λ name. cards_by name (view_in (behind_word rest)) (at_in (behind_word rest)))
 
 -- a text that is looked for: a card of as many columns as such a text may have
 abbrev pub sought_of : CardRead → Option Card
@@ -95,11 +102,15 @@ abbrev pub wait_in : List ℕ → Result Command Refusal
 wait_in rest = needs (first_number rest) (λ version. only_if (is_end (behind_word rest)) (Ok (command.Wait version)))
 
 -- name version
-abbrev pub drop_in : List ℕ → Result Command Refusal
-drop_in rest =
+abbrev pub named_version : List ℕ → Result (List ℕ × ℕ) Refusal
+named_version rest =
     needs (first_word rest) (λ name.
     needs (first_number (behind_word rest)) (λ version.
-    only_if (is_end (behind_word (behind_word rest))) (made_of (λ name. command.Drop name version) (name_in name))))
+    only_if (is_end (behind_word (behind_word rest))) (made_of (λ name. (name, version)) (name_in name))))
+
+-- the command that such a line is
+abbrev pub of_version : (List ℕ → ℕ → Command) → Result (List ℕ × ℕ) Refusal → Result Command Refusal
+of_version make read = made_of (λ (both : List ℕ × ℕ). make both.0 both.1) read
 
 -- an edit of a deck, where the name is one
 abbrev pub edit_of : Result (List ℕ) Refusal → ℕ → Result Edit Refusal → Result Command Refusal
@@ -149,9 +160,10 @@ sized fits make (Err refusal) = Err refusal
 abbrev pub command_by : Verb → List ℕ → Result Command Refusal
 command_by verb.Add rest = made_of command.Add (only_name rest)
 command_by verb.Load rest = made_of command.Load (only_name rest)
-command_by verb.Drop rest = drop_in rest
+command_by verb.Drop rest = of_version command.Drop (named_version rest)
 command_by (verb.Edit kind) rest = edit_in kind rest
 command_by verb.Cards rest = cards_in rest
+command_by verb.Changes rest = of_version command.Changes (named_version rest)
 command_by verb.Find rest = find_in rest
 command_by verb.Save rest = save_in rest
 command_by verb.Image rest = image_in rest

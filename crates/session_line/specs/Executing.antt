@@ -7,15 +7,15 @@ use Rattle.deck_files.specs.declared.deck_shelf.SaveOver.{SaveOver}
 use Rattle.deck_files.specs.Savings.{Saving, saving}
 use Rattle.desk_core.specs.declared.calls.Call.{Call}
 use Rattle.desk_core.specs.declared.replies.Reply.{Reply}
-use Rattle.desk_core.specs.declared.calls.Call.TheVariants.{AddDeck, Cards, Show}
+use Rattle.desk_core.specs.declared.calls.Call.TheVariants.{AddDeck, Cards, CardsAt, Show}
 use Rattle.session_line.specs.declared.views.CardsView.TheVariants.{All}
 use Rattle.session_line.specs.declared.tasks.Task.{Task}
-use Rattle.session_line.specs.declared.tasks.Task.TheVariants.{Ask, AwaitVersion, ShowCards, ShowText, ShowPart, ShowErrors, LoadDeck, SaveDeck, Leave, Refuse}
+use Rattle.session_line.specs.declared.tasks.Task.TheVariants.{Ask, AwaitVersion, ShowCards, ShowCardsAt, ShowText, ShowPart, ShowErrors, LoadDeck, SaveDeck, Leave, Refuse}
 use Rattle.session_line.specs.declared.answers.Told.{Told}
 use Rattle.session_line.specs.declared.answers.Told.TheVariants as told
 use Rattle.session_line.specs.declared.answers.Answer.{Answer}
 use Rattle.session_line.specs.Reasons.{load_reason, save_reason}
-use Rattle.session_line.specs.Answers.{told_of_call, told_of_wait, told_of_cards, told_of_publication, told_of_part, told_of_errors, called, uncalled}
+use Rattle.session_line.specs.Answers.{told_of_call, told_of_wait, told_of_cards, told_of_publication, told_of_part, told_of_errors, IsToldAt, called, uncalled}
 
 module _ {C : Type 0} (makes : C → Call → Reply → C → Type 0) where
   -- one call of the desk, and what is told of its reply
@@ -23,6 +23,14 @@ module _ {C : Type 0} (makes : C → Call → Reply → C → Type 0) where
     pub reply : Reply
     pub made : makes desk call reply next
     pub answered : answer ≡ called (telling reply)
+
+  -- CARDS AT: one call of the desk for the cards of now and the changes since, and what is told of that
+  pub record AsksAt (name : List ℕ) (version : ℕ) (desk next : C) (answer : Answer) : Type 0 where
+    pub reply : Reply
+    pub made : makes desk (CardsAt name version) reply next
+    pub what : Told
+    pub told : IsToldAt reply what
+    pub answered : answer ≡ called what
 
   -- the deck that the shelf gave is added; or its fault is told, and the desk is not called
   abbrev pub AddsLoaded : List ℕ → Result (List Card) ShelfLoadFault → C → C → Answer → Type 0
@@ -79,6 +87,7 @@ module _ {C S : Type 0} (makes : C → Call → Reply → C → Type 0) (awaits 
   Executes (Ask call) desk next shelf after answer = Asks makes call told_of_call desk next answer × (after ≡ shelf)
   Executes (AwaitVersion version) desk next shelf after answer = AwaitsVersion awaits version desk next answer × (after ≡ shelf)
   Executes (ShowCards name view) desk next shelf after answer = Asks makes (Cards name) (told_of_cards view) desk next answer × (after ≡ shelf)
+  Executes (ShowCardsAt name version) desk next shelf after answer = AsksAt makes name version desk next answer × (after ≡ shelf)
   Executes (ShowText text) desk next shelf after answer = Asks makes Show (told_of_publication text) desk next answer × (after ≡ shelf)
   Executes (ShowPart text name) desk next shelf after answer = Asks makes Show (told_of_part text name) desk next answer × (after ≡ shelf)
   Executes (ShowErrors view) desk next shelf after answer = Asks makes Show (told_of_errors view) desk next answer × (after ≡ shelf)

@@ -10,8 +10,10 @@ abbrev pub is_session_call : Call → Bool
 is_session_call (call.AddDeck deck) = true
 is_session_call (call.PutDeck deck seen) = true
 is_session_call (call.DropDeck name seen) = true
-is_session_call (call.EditDeck name seen edit) = true
-is_session_call (call.Batch name seen edits) = true
+is_session_call (call.EditDeck name seen edit by) = true
+is_session_call (call.Batch name seen edits by) = true
+is_session_call (call.Changes name since) = true
+is_session_call (call.CardsAt name version) = true
 is_session_call (call.Cards name) = true
 is_session_call call.Show = true
 is_session_call call.Status = true
@@ -32,6 +34,18 @@ is_cards (reply.CardsAre version cards) = true
 is_cards (reply.Refused reason) = true
 is_cards _ = false
 
+-- whether a reply has changes, or refuses
+abbrev pub is_changes : Reply → Bool
+is_changes (reply.ChangesAre version kept) = true
+is_changes (reply.Refused reason) = true
+is_changes _ = false
+
+-- whether a reply has cards with changes to be taken back, or refuses
+abbrev pub is_cards_before : Reply → Bool
+is_cards_before (reply.CardsBefore version cards backs) = true
+is_cards_before (reply.Refused reason) = true
+is_cards_before _ = false
+
 -- whether a reply has a publication, or refuses
 abbrev pub is_publication : Reply → Bool
 is_publication (reply.Shown publication) = true
@@ -49,8 +63,10 @@ abbrev pub fits_call : Call → Reply → Bool
 fits_call (call.AddDeck deck) reply = is_change reply
 fits_call (call.PutDeck deck seen) reply = is_change reply
 fits_call (call.DropDeck name seen) reply = is_change reply
-fits_call (call.EditDeck name seen edit) reply = is_change reply
-fits_call (call.Batch name seen edits) reply = is_change reply
+fits_call (call.EditDeck name seen edit by) reply = is_change reply
+fits_call (call.Batch name seen edits by) reply = is_change reply
+fits_call (call.Changes name since) reply = is_changes reply
+fits_call (call.CardsAt name version) reply = is_cards_before reply
 fits_call (call.Cards name) reply = is_cards reply
 fits_call call.Show reply = is_publication reply
 fits_call call.Status reply = is_status reply

@@ -6,9 +6,11 @@ pub mod Errors
 pub mod Edits
 pub mod Commands
 pub mod Lines
+pub mod ChangeLines
 pub mod Refusals
 pub mod Replies
 pub mod FlagWalks
+pub mod ChangeWalks
 pub mod Tasks
 pub mod Taking
 pub mod LineItems

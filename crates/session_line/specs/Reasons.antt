@@ -27,6 +27,7 @@ desk_reason desk.VersionsSpent = refusal.VersionsSpent
 desk_reason (desk.BadEdit number fault) = refusal.BadEdit number fault
 desk_reason desk.BatchSize = refusal.BatchSize
 desk_reason desk.NotKept = refusal.NotKept
+desk_reason (desk.Forgotten oldest) = refusal.Forgotten oldest
 
 -- a fault of a file
 abbrev pub file_reason : LoadFault → Refusal

@@ -40,3 +40,4 @@ refusal_text refusal.BatchSize = codes "BatchSize"
 refusal_text refusal.FileExists = codes "FileExists"
 refusal_text refusal.Busy = codes "Busy"
 refusal_text refusal.NotKept = codes "NotKept"
+refusal_text (refusal.Forgotten oldest) = codes "Forgotten " ++ decimal oldest

@@ -6,6 +6,7 @@ use Rattle.deck_files.specs.DeckFiles.{file_of}
 use Rattle.session_line.specs.Refusals.{refusal_text}
 use Rattle.session_line.specs.Errors.{error_lines}
 use Rattle.session_line.specs.Views.{numbers_of}
+use Rattle.session_line.specs.ChangeLines.{change_lines}
 use Rattle.desk_core.specs.declared.replies.Row.{Row}
 use Rattle.desk_core.specs.declared.replies.State.{State}
 use Rattle.desk_core.specs.declared.replies.State.TheVariants.{Out, Behind, Ready}
@@ -47,6 +48,7 @@ counted_text version count = codes "OK " ++ (decimal version ++ (codes " " ++ de
 abbrev pub head_text : Reply → List ℕ
 head_text (reply.Done version) = ok_text version
 head_text (reply.Cards version cards) = counted_text version (length cards.now)
+head_text (reply.Changes version kept) = counted_text version (length (change_lines kept.now))
 head_text (reply.Found version cards text) = counted_text version (length (numbers_of text.now cards.now))
 head_text (reply.Text version text) = counted_text version (line_count text.now)
 head_text (reply.Listing publication) = counted_text publication.now.version (line_count (listing_of publication.now.decks))
@@ -71,6 +73,7 @@ text_of_lines lines = flat_map line_of lines
 abbrev pub body_text : Reply → List ℕ
 body_text (reply.Done version) = []
 body_text (reply.Cards version cards) = file_of cards.now
+body_text (reply.Changes version kept) = text_of_lines (change_lines kept.now)
 body_text (reply.Found version cards text) = numbers_text (numbers_of text.now cards.now)
 body_text (reply.Text version text) = text.now
 body_text (reply.Listing publication) = listing_of publication.now.decks
@@ -83,10 +86,11 @@ body_text (reply.Refused refusal) = []
 abbrev pub text_of_reply : Reply → List ℕ
 text_of_reply reply = line_of (head_text reply) ++ body_text reply
 
--- no more cards than a deck may have, and no more decks than a desk may have
+-- no more cards than a deck may have, no more changes than are kept of it, and no more decks than a desk may have
 abbrev pub IsWithinLimits : Reply → Type 0
 IsWithinLimits (reply.Done version) = ⊤
 IsWithinLimits (reply.Cards version cards) = length cards.now ≤ 20000
+IsWithinLimits (reply.Changes version kept) = length kept.now ≤ 2000
 IsWithinLimits (reply.Found version cards text) = length cards.now ≤ 20000
 IsWithinLimits (reply.Text version text) = ⊤
 IsWithinLimits (reply.Listing publication) = ⊤

@@ -51,7 +51,7 @@ pub record Stops (old new : Option (List ℕ)) (stop : Stop) : Type 0 where
 
 -- whether a task is a batch or a put, whose edits or cards are a list in memory
 abbrev pub has_list : Task → Bool
-has_list (Ask (Batch name version edits)) = true
+has_list (Ask (Batch name version edits by)) = true
 has_list (Ask (PutDeck deck version)) = true
 has_list _ = false
 

@@ -1,8 +1,8 @@
 -- What a session asks for: the lines of one command, and the task that they are (ours).
-use Rattle.std.specs.Prelude.{ℕ, ◌+◌, Bool, true, false, List, [], ◌∷◌, Result, Ok, Err}
+use Rattle.std.specs.Prelude.{ℕ, ◌+◌, Bool, true, false, List, [], ◌∷◌, codes, Result, Ok, Err}
 use Rattle.definitions.specs.Cards.{Card}
 use Rattle.cards.specs.declared.edits.Edit.{Edit}
-use Rattle.desk_core.specs.declared.calls.Call.TheVariants.{AddDeck, PutDeck, DropDeck, EditDeck, Batch, Status}
+use Rattle.desk_core.specs.declared.calls.Call.TheVariants.{AddDeck, PutDeck, DropDeck, EditDeck, Batch, Changes, Status}
 use Rattle.session_line.specs.declared.commands.Command.{Command}
 use Rattle.session_line.specs.declared.commands.Command.TheVariants as command
 use Rattle.session_line.specs.declared.refusals.Refusal.{Refusal}
@@ -10,7 +10,7 @@ use Rattle.session_line.specs.Edits.{edit_in_batch, card_in_put}
 use Rattle.session_line.specs.Commands.{command_of}
 use Rattle.session_line.specs.declared.tasks.PublishedText.TheVariants.{Image, Listing, Map}
 use Rattle.session_line.specs.declared.tasks.Task.{Task}
-use Rattle.session_line.specs.declared.tasks.Task.TheVariants.{Ask, AwaitVersion, ShowCards, ShowText, ShowPart, ShowErrors, LoadDeck, SaveDeck, Leave, Refuse}
+use Rattle.session_line.specs.declared.tasks.Task.TheVariants.{Ask, AwaitVersion, ShowCards, ShowCardsAt, ShowText, ShowPart, ShowErrors, LoadDeck, SaveDeck, Leave, Refuse}
 
 -- how many lines belong to a command behind its first
 abbrev pub lines_behind : Command → ℕ
@@ -47,9 +47,13 @@ edits_of lines = items_from (λ number line. edit_in_batch line) 1 lines
 abbrev pub cards_of : List (List ℕ) → Result (List Card) Refusal
 cards_of lines = items_from card_in_put 1 lines
 
+-- the name in a call of a session, which knows none: who keeps the changes tells it
+abbrev pub nobody : List ℕ
+nobody = codes "0"
+
 -- a batch of edits, where its lines are edits
 abbrev pub batch_of : List ℕ → ℕ → Result (List Edit) Refusal → Task
-batch_of name version (Ok edits) = Ask (Batch name version edits)
+batch_of name version (Ok edits) = Ask (Batch name version edits nobody)
 batch_of name version (Err refusal) = Refuse refusal
 
 -- a batch, where its name is one; the name counts before the lines
@@ -72,8 +76,10 @@ abbrev pub task_of_command : Command → List (List ℕ) → Task
 task_of_command (command.Add name) lines = Ask (AddDeck (record { name = name; cards = [] }))
 task_of_command (command.Load name) lines = LoadDeck name
 task_of_command (command.Drop name version) lines = Ask (DropDeck name version)
-task_of_command (command.Edit name version edit) lines = Ask (EditDeck name version edit)
+task_of_command (command.Edit name version edit) lines = Ask (EditDeck name version edit nobody)
 task_of_command (command.Cards name view) lines = ShowCards name view
+task_of_command (command.CardsAt name version) lines = ShowCardsAt name version
+task_of_command (command.Changes name version) lines = Ask (Changes name version)
 task_of_command (command.Save name over) lines = SaveDeck name over
 task_of_command command.Image lines = ShowText Image
 task_of_command command.List lines = ShowText Listing

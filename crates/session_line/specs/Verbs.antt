@@ -21,6 +21,7 @@ other_verb_of word =
     else if same_text word (codes "LOAD") then Some verb.Load
     else if same_text word (codes "DROP") then Some verb.Drop
     else if same_text word (codes "CARDS") then Some verb.Cards
+    else if same_text word (codes "CHANGES") then Some verb.Changes
     else if same_text word (codes "FIND") then Some verb.Find
     else if same_text word (codes "SAVE") then Some verb.Save
     else if same_text word (codes "IMAGE") then Some verb.Image

@@ -1,8 +1,8 @@
 //! What a command is answered, and how the session is told.
-ghost use Rattle.std.specs.Prelude.{◌≡◌, ◌≤◌, length, option_map};
+ghost use Rattle.std.specs.Prelude.{◌≡◌, ◌≤◌, ◌⊎◌, length, option_map};
 ghost use Rattle.session_line.specs.Replies.{text_of_reply, IsWithinLimits};
 ghost use Rattle.deck_linker.specs.Publishing.{map_of};
-ghost use Rattle.session_line.specs.Answers.{foreign, told_of_call, told_of_wait, told_of_cards, told_of_part, told_of_errors, told_of_publication, lines_text, part_text, errors_text, shown_part, shown_text, view_text, told_text, is_bye, IsTellable};
+ghost use Rattle.session_line.specs.Answers.{foreign, told_of_call, told_of_wait, told_of_cards, told_of_backs, told_of_part, told_of_errors, told_of_publication, lines_text, part_text, errors_text, shown_part, shown_text, view_text, told_text, is_bye, IsTellable, IsToldAt};
 
 use crate::Refusal;
 use crate::errors::{ErrorsView, shows_any};
@@ -10,9 +10,13 @@ use crate::parts::part_of;
 use crate::reasons::desk_reason;
 use crate::tasks::PublishedText;
 use crate::views::{CardsView, cards_from};
-use cards::{Card, DeckName, MOST_CARDS};
+use cards::{Card, DeckName, Edit, MOST_CARDS, edited_copy, first_fault};
 use deck_linker::ListedPublication;
-use desk_core::{Listed, Reply, Row, SharedPublication};
+use desk_core::{KeptEdit, Listed, Reply, Row, SharedPublication};
+use std::alloc::Global;
+
+/// How many edits of a deck are kept at most.
+const MOST_KEPT: usize = 2_000;
 
 /// How many decks a desk has at most.
 const MOST_DECKS: usize = 64;
@@ -24,6 +28,8 @@ pub(crate) enum Told {
     Done(u64),
     /// A deck's version, and of its cards this.
     Cards(u64, Listed<Card>, CardsView),
+    /// A deck's version, and its edits behind the one that was asked for.
+    Changes(u64, Listed<KeptEdit>),
     /// Of the publication, this text.
     Published(SharedPublication, PublishedText),
     /// Of the publication, the part of this text that is this deck's.
@@ -61,6 +67,13 @@ pub(crate) fn told_of_call(reply: Reply) -> Told
 {
     match reply {
         Reply::Changed(version) => Told::Done(version),
+        Reply::ChangesAre(version, kept) => {
+            if kept.as_slice().len() <= MOST_KEPT {
+                Told::Changes(version, kept)
+            } else {
+                foreign()
+            }
+        }
         Reply::StatusIs(version, published, rows) => {
             if rows.as_slice().len() <= MOST_DECKS {
                 Told::Status(version, published, rows)
@@ -97,6 +110,38 @@ pub(crate) fn told_of_cards(view: CardsView, reply: Reply) -> Told
             } else {
                 foreign()
             }
+        }
+        Reply::Refused(refusal) => Told::Refused(desk_reason(refusal)),
+        _ => foreign(),
+    }
+}
+
+/// What is told of the cards that edits make of these, where there is memory.
+fn told_of_backs(alloc: Global, version: u64, backs: &[Edit], cards: &[Card]) -> Told
+    ensures told { (result ≡ told_of_backs version backs.now cards.now) ⊎ (result ≡ Told.Refused Refusal.OutOfMemory) }
+    ensures fits { IsTellable result }
+{
+    if first_fault(backs, cards.len()).is_some() {
+        return foreign();
+    }
+    match edited_copy(alloc, cards, backs) {
+        Ok(before) => told_of_cards(
+            CardsView::All,
+            Reply::CardsAre(version, Listed::new(before)),
+        ),
+        Err(_) => Told::Refused(Refusal::OutOfMemory),
+    }
+}
+
+/// What is told of the reply to a call for the cards that a deck had at a version: those of now, with the
+/// changes since taken back, where there is memory for that.
+pub(crate) fn told_of_cards_at(alloc: Global, reply: Reply) -> Told
+    ensures told { IsToldAt reply result }
+    ensures fits { IsTellable result }
+{
+    match reply {
+        Reply::CardsBefore(version, cards, backs) => {
+            told_of_backs(alloc, version, backs.as_slice(), cards.as_slice())
         }
         Reply::Refused(refusal) => Told::Refused(desk_reason(refusal)),
         _ => foreign(),
@@ -250,6 +295,10 @@ impl Told {
         match self {
             Told::Done(version) => crate::Reply::Done { version: *version },
             Told::Cards(version, cards, view) => view_reply(*version, view, cards.as_slice()),
+            Told::Changes(version, kept) => crate::Reply::Changes {
+                version: *version,
+                kept: kept.as_slice(),
+            },
             Told::Published(shared, text) => published_reply(shared.publication(), *text),
             Told::Part(shared, text, name) => part_reply(shared.publication(), *text, name),
             Told::Errors(shared, view) => errors_reply(shared.publication(), view),

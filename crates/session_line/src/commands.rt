@@ -1,7 +1,7 @@
 //! The commands of a session.
 ghost use Rattle.std.specs.Prelude.{◌≡◌};
 ghost use Rattle.session_line.specs.declared.commands.Command.TheVariants as command;
-ghost use Rattle.session_line.specs.Commands.{name_in, alone, only_name, save_over_in, save_in, view_in, cards_in, sought_in, find_in, image_in, list_in, errors_in, wait_in, drop_in, edit_in, head_in, sized, command_by, command_of, is_batch_size, is_put_size};
+ghost use Rattle.session_line.specs.Commands.{name_in, alone, only_name, save_over_in, save_in, view_in, at_in, cards_by, cards_in, sought_in, find_in, image_in, list_in, errors_in, wait_in, named_version, of_version, edit_in, head_in, sized, command_by, command_of, is_batch_size, is_put_size};
 
 use crate::edits::{edit_at, fits_edit};
 use crate::errors::ErrorsView;
@@ -45,6 +45,16 @@ pub enum Command {
     Cards {
         name: DeckName,
         view: CardsView,
+    },
+    /// The cards that the deck had at this version.
+    CardsAt {
+        name: DeckName,
+        version: u64,
+    },
+    /// The changes of the deck behind this version.
+    Changes {
+        name: DeckName,
+        version: u64,
     },
     /// The cards of the deck go to the shelf's file of its name, where that may be written over.
     Save {
@@ -172,20 +182,43 @@ fn view_in(rest: &[u8]) -> Option<CardsView>
     Some(CardsView::From { place, count })
 }
 
-/// `name`, or `name place count`
+/// The version behind the word `AT` that stands behind the name.
+fn at_in(rest: &[u8]) -> Option<u64>
+    ensures { result ≡ at_in rest.now }
+{
+    let behind = behind_word(rest);
+    if !is_same_text(to_blank(behind_blank(rest)), b"AT") || !behind_word(behind).is_empty() {
+        return None;
+    }
+    first_number(behind)
+}
+
+/// Of the cards of the deck of a name this, or else those that it had at a version.
+fn cards_by(name: &[u8], view: Option<CardsView>, at: Option<u64>) -> Result<Command, Refusal>
+    ensures { result ≡ cards_by name.now view at }
+{
+    match (view, at) {
+        (Some(view), _) => Ok(Command::Cards {
+            name: name_in(name)?,
+            view,
+        }),
+        (None, Some(version)) => Ok(Command::CardsAt {
+            name: name_in(name)?,
+            version,
+        }),
+        (None, None) => Err(Refusal::BadCommand),
+    }
+}
+
+/// `name`, `name place count`, or `name AT version`
 fn cards_in(rest: &[u8]) -> Result<Command, Refusal>
     ensures { result ≡ cards_in rest.now }
 {
     let Some(name) = first_word(rest) else {
         return Err(Refusal::BadCommand);
     };
-    let Some(view) = view_in(behind_word(rest)) else {
-        return Err(Refusal::BadCommand);
-    };
-    Ok(Command::Cards {
-        name: name_in(name)?,
-        view,
-    })
+    let rest = behind_word(rest);
+    cards_by(name, view_in(rest), at_in(rest))
 }
 
 /// The text that is looked for: 1 to 72 columns of a card, all that stands behind one blank.
@@ -266,8 +299,8 @@ fn wait_in(rest: &[u8]) -> Result<Command, Refusal>
 }
 
 /// `name version`
-fn drop_in(rest: &[u8]) -> Result<Command, Refusal>
-    ensures { result ≡ drop_in rest.now }
+fn named_version(rest: &[u8]) -> Result<(DeckName, u64), Refusal>
+    ensures { result ≡ named_version rest.now }
 {
     let Some(name) = first_word(rest) else {
         return Err(Refusal::BadCommand);
@@ -279,10 +312,23 @@ fn drop_in(rest: &[u8]) -> Result<Command, Refusal>
     if !behind_word(rest).is_empty() {
         return Err(Refusal::BadCommand);
     }
-    Ok(Command::Drop {
-        name: name_in(name)?,
-        version,
-    })
+    Ok((name_in(name)?, version))
+}
+
+/// `name version`, behind `DROP`.
+fn drop_in(rest: &[u8]) -> Result<Command, Refusal>
+    ensures { result ≡ of_version command.Drop (named_version rest.now) }
+{
+    let (name, version) = named_version(rest)?;
+    Ok(Command::Drop { name, version })
+}
+
+/// `name version`, behind `CHANGES`.
+fn changes_in(rest: &[u8]) -> Result<Command, Refusal>
+    ensures { result ≡ of_version command.Changes (named_version rest.now) }
+{
+    let (name, version) = named_version(rest)?;
+    Ok(Command::Changes { name, version })
 }
 
 /// `name version at text`, without the text where a card goes.
@@ -399,6 +445,7 @@ fn command_by(verb: Verb, rest: &[u8]) -> Result<Command, Refusal>
         Verb::Drop => drop_in(rest),
         Verb::Edit(kind) => edit_in(kind, rest),
         Verb::Cards => cards_in(rest),
+        Verb::Changes => changes_in(rest),
         Verb::Find => find_in(rest),
         Verb::Save => save_in(rest),
         Verb::Image => image_in(rest),

@@ -1,12 +1,12 @@
 //! Executes a task once.
 ghost use Rattle.std.specs.Prelude.{◌≡◌, ◌≤◌, length};
 ghost use Rattle.session_line.specs.Answers.{IsTellable, called, most_cards, told_of_call, told_of_cards, told_of_errors, told_of_part, told_of_publication, told_of_wait, uncalled};
-ghost use Rattle.session_line.specs.Executing.{Asks, AwaitsVersion, Executes, LoadsDeck, SavesCards, SavesDeck};
+ghost use Rattle.session_line.specs.Executing.{Asks, AsksAt, AwaitsVersion, Executes, LoadsDeck, SavesCards, SavesDeck};
 ghost use Rattle.desk_core.specs.declared.calls.Call.TheVariants.{Cards, Show};
 
 use crate::answers::{
-    Answer, Told, told_of_call, told_of_cards, told_of_errors, told_of_part, told_of_publication,
-    told_of_wait,
+    Answer, Told, told_of_call, told_of_cards, told_of_cards_at, told_of_errors, told_of_part,
+    told_of_publication, told_of_wait,
 };
 use crate::calls::Calls;
 use crate::errors::ErrorsView;
@@ -16,6 +16,7 @@ use crate::views::CardsView;
 use cards::{Card, DeckName};
 use deck_files::{SaveOver, Shelf};
 use desk_core::{Call, NewDeck};
+use std::alloc::Global;
 
 /// The answer after a call of the desk.
 fn called(told: Told) -> Answer
@@ -59,6 +60,15 @@ fn show_cards<C: Calls>(desk: &mut C, name: DeckName, view: CardsView) -> Answer
     ensures fits { IsTellable result.told }
 {
     called(told_of_cards(view, desk.call(Call::Cards(name))))
+}
+
+/// The desk is asked for the cards of now and the changes since a version, and these are taken back.
+fn show_cards_at<C: Calls>(alloc: Global, desk: &mut C, name: DeckName, version: u64) -> Answer
+    ensures asks { AsksAt C.makes name version desk.old desk.new result }
+    ensures fits { IsTellable result.told }
+{
+    let reply = desk.call(Call::CardsAt { name, version });
+    called(told_of_cards_at(alloc, reply))
 }
 
 /// The desk is asked for the publication.
@@ -133,7 +143,12 @@ fn save_deck<C: Calls, S: Shelf>(
 }
 
 /// Executes a task: at most one call of the desk, with the call of the shelf that belongs to it.
-pub(crate) fn execute<C: Calls, S: Shelf>(desk: &mut C, shelf: &mut S, task: Task) -> Answer
+pub(crate) fn execute<C: Calls, S: Shelf>(
+    alloc: Global,
+    desk: &mut C,
+    shelf: &mut S,
+    task: Task,
+) -> Answer
     ensures executes { Executes C.makes C.awaits S.loads S.refuses_to_load S.saves S.refuses_to_save task desk.old desk.new shelf.old shelf.new result }
     ensures fits { IsTellable result.told }
 {
@@ -141,6 +156,7 @@ pub(crate) fn execute<C: Calls, S: Shelf>(desk: &mut C, shelf: &mut S, task: Tas
         Task::Ask(call) => ask(desk, call),
         Task::AwaitVersion(version) => await_version(desk, version),
         Task::ShowCards(name, view) => show_cards(desk, name, view),
+        Task::ShowCardsAt(name, version) => show_cards_at(alloc, desk, name, version),
         Task::ShowText(text) => show_text(desk, text),
         Task::ShowPart(text, name) => show_part(desk, text, name),
         Task::ShowErrors(view) => show_errors(desk, view),

@@ -23,6 +23,8 @@ mod refusals;
 mod views;
 
 // Replies.
+mod change_lines;
+mod change_writing;
 mod error_writing;
 mod parts;
 mod refusal_texts;

@@ -78,6 +78,7 @@ pub(crate) fn put_refusal(line: &mut ReplyLine, refusal: &Refusal)
         Refusal::FileExists => line.put(b"FileExists"),
         Refusal::Busy => line.put(b"Busy"),
         Refusal::NotKept => line.put(b"NotKept"),
+        Refusal::Forgotten { oldest } => put_numbered(line, b"Forgotten ", oldest),
     }
 }
 

@@ -61,4 +61,6 @@ pub enum Refusal {
     Busy,
     /// The record of the change is not on the disk.
     NotKept,
+    /// The changes of the deck are kept from this version on.
+    Forgotten { oldest: u64 },
 }

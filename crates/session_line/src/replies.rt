@@ -5,7 +5,7 @@ use crate::refusals::Refusal;
 use cards::Card;
 use deck_linker::ListedPublication;
 use deck_listing::ListedObject;
-use desk_core::Row;
+use desk_core::{KeptEdit, Row};
 
 /// The reply to one command.
 #[derive(Clone, Copy)]
@@ -18,6 +18,11 @@ pub enum Reply<'a> {
     Cards {
         version: u64,
         cards: &'a [Card],
+    },
+    /// `OK version n`, then for each change of a deck its line, and a line for each of its edits.
+    Changes {
+        version: u64,
+        kept: &'a [KeptEdit],
     },
     /// `OK version n`, then a line for each card that has the text: its number, counted from 1.
     Found {

@@ -4,6 +4,7 @@ ghost use Rattle.definitions.specs.Build.{listing_of};
 ghost use Rattle.session_line.specs.Replies.{IsWithinLimits, line_of, line_count, counted_text, ok_text, head_text, numbers_text, published_text, row_text, state_text};
 ghost use Rattle.session_line.specs.Views.{has_text, number_where};
 
+use crate::change_lines::change_line_count;
 use crate::errors::error_count;
 use crate::refusal_texts::put_refusal;
 use crate::refusals::Refusal;
@@ -81,6 +82,7 @@ pub(crate) fn head_line(reply: &Reply<'_>) -> ReplyLine
     match reply {
         Reply::Done { version } => ok_line(*version),
         Reply::Cards { version, cards } => counted_line(*version, cards.len()),
+        Reply::Changes { version, kept } => counted_line(*version, change_line_count(kept)),
         Reply::Found {
             version,
             cards,

@@ -65,7 +65,7 @@ pub fn serve_one<R: Read, W: Write, C: Calls, S: Shelf>(
 {
     match read_task(alloc, input) {
         Ok(task) => {
-            let answer = execute(desk, shelf, task);
+            let answer = execute(alloc, desk, shelf, task);
             send(output, &answer)
         }
         Err(Stop::InputEnded) => Outcome::Ended,

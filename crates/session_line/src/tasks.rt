@@ -3,7 +3,7 @@ ghost use Rattle.std.specs.Prelude.{◌≡◌, ℕ, true, false, List, Result, O
 ghost use Rattle.definitions.specs.Cards.{Card as Columns};
 ghost use Rattle.cards.specs.declared.edits.Edit.{Edit as CardEdit};
 ghost use Rattle.session_line.specs.declared.refusals.Refusal.{Refusal as Reason};
-ghost use Rattle.session_line.specs.Tasks.{batch_named, cards_of, edits_of, is_put, lines_behind, lines_due, put_named, task_by, task_of_command};
+ghost use Rattle.session_line.specs.Tasks.{batch_named, cards_of, edits_of, is_put, lines_behind, lines_due, nobody, put_named, task_by, task_of_command};
 ghost use Rattle.session_line.specs.Taking.{IsTaskFor};
 ghost use Rattle.session_line.specs.LineItems.{IsRead, is_lacking};
 
@@ -26,12 +26,15 @@ pub(crate) enum PublishedText {
 /// What a command asks for that was read whole.
 #[derive(Drop)]
 pub(crate) enum Task {
-    /// One call of the desk that shows neither cards nor a publication: a change, or the status.
+    /// One call of the desk that shows neither cards nor a publication: a change, the changes of a deck, or
+    /// the status.
     Ask(Call),
     /// The status is asked for once this version or a later one is published.
     AwaitVersion(u64),
     /// This of the cards of the deck of this name is shown.
     ShowCards(DeckName, CardsView),
+    /// The cards that the deck of this name had at this version are shown.
+    ShowCardsAt(DeckName, u64),
     /// This text of the publication is shown.
     ShowText(PublishedText),
     /// The part of this text that is this deck's is shown.
@@ -56,6 +59,7 @@ fn lines_behind(command: &Command) -> u64
         Command::Batch(head) | Command::Put(head) => head.count,
         Command::Add { .. } | Command::Load { .. } | Command::Drop { .. } => 0,
         Command::Edit { .. } | Command::Cards { .. } | Command::Save { .. } => 0,
+        Command::CardsAt { .. } | Command::Changes { .. } => 0,
         Command::Image | Command::List | Command::Map => 0,
         Command::ImageOf { .. } | Command::ListOf { .. } | Command::Errors(_) => 0,
         Command::Status | Command::Wait { .. } | Command::Bye => 0,
@@ -79,6 +83,16 @@ pub(crate) fn is_put(command: &Result<Command, Refusal>) -> bool
     matches!(command, Ok(Command::Put(_)))
 }
 
+/// The name in a call of a session, which knows none: who keeps the changes tells it.
+fn nobody() -> DeckName
+    ensures { result ≡ nobody }
+{
+    match DeckName::read(b"0") {
+        Ok(name) => name,
+        Err(_) => unreachable!(),
+    }
+}
+
 /// A batch, with the edits of its lines; `OutOfMemory` only where there was no memory for them.
 fn batch_named(head: LinesHead, edits: ItemsRead<Edit>) -> Task
     ensures task { (read : Result (List CardEdit) Reason) → IsRead read edits → IsTaskFor (batch_named head.name head.version read) result }
@@ -94,6 +108,7 @@ fn batch_named(head: LinesHead, edits: ItemsRead<Edit>) -> Task
             name,
             seen,
             edits: Listed::new(edits),
+            by: nobody(),
         }),
         ItemsRead::Lacking => Task::Refuse(Refusal::OutOfMemory),
         ItemsRead::Faulty(refusal) => Task::Refuse(refusal),
@@ -153,8 +168,14 @@ fn task_of_command(alloc: Global, command: Command, edits: ItemsRead<Edit>) -> T
             name,
             seen: version,
             edit,
+            by: nobody(),
         }),
         Command::Cards { name, view } => Task::ShowCards(name, view),
+        Command::CardsAt { name, version } => Task::ShowCardsAt(name, version),
+        Command::Changes { name, version } => Task::Ask(Call::Changes {
+            name,
+            since: version,
+        }),
         Command::Save { name, over } => Task::SaveDeck(name, over),
         Command::Image => Task::ShowText(PublishedText::Image),
         Command::List => Task::ShowText(PublishedText::Listing),

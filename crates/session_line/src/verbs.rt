@@ -21,6 +21,7 @@ pub(crate) enum Verb {
     Drop,
     Edit(EditKind),
     Cards,
+    Changes,
     Find,
     Save,
     Image,
@@ -60,6 +61,8 @@ fn other_verb_of(word: &[u8]) -> Option<Verb>
         Some(Verb::Drop)
     } else if is_same_text(word, b"CARDS") {
         Some(Verb::Cards)
+    } else if is_same_text(word, b"CHANGES") {
+        Some(Verb::Changes)
     } else if is_same_text(word, b"FIND") {
         Some(Verb::Find)
     } else if is_same_text(word, b"SAVE") {

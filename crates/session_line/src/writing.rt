@@ -4,6 +4,7 @@ ghost use Rattle.session_line.specs.Replies.{line_of, published_text, row_text, 
 ghost use Rattle.session_line.specs.Views.{numbers_of};
 ghost use Rattle.text_ports.specs.Sending.{Sends, count_after_sending};
 
+use crate::change_writing::write_changes;
 use crate::error_writing::write_errors;
 use crate::replies::Reply;
 use crate::reply_texts::{found_line, head_line, published_line, row_line};
@@ -88,6 +89,7 @@ fn write_body<W: Write>(output: &mut Counted<W>, reply: &Reply<'_>) -> Result<()
     match reply {
         Reply::Done { .. } | Reply::Bye | Reply::Refused(_) => Ok(()),
         Reply::Cards { cards, .. } => save(output, cards),
+        Reply::Changes { kept, .. } => write_changes(output, kept),
         Reply::Found { cards, text, .. } => write_found(output, cards, text),
         Reply::Text { text, .. } => put_all(output, text),
         Reply::Listing(publication) => publication.write_listing(output),
@@ -106,7 +108,8 @@ fn write_body<W: Write>(output: &mut Counted<W>, reply: &Reply<'_>) -> Result<()
 }
 
 /// Writes a reply: its bytes, or exactly the first `sent` of them up to the first fault. Takes no
-/// memory. A reply has no more cards than a deck may have, and no more decks than a desk may have.
+/// memory. A reply has no more cards than a deck may have, no more edits
+/// than are kept of it, and no more decks than a desk may have.
 pub fn write_reply<W: Write>(output: &mut Counted<W>, reply: &Reply<'_>) -> Result<(), Broken>
     requires limits { IsWithinLimits reply.now }
     ensures sends { Sends (W.contents output.old.0) (W.contents output.new.0) (text_of_reply reply.now) result }
