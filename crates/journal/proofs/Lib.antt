@@ -10,3 +10,4 @@ pub mod ReplaySteps
 pub mod QueueSteps
 pub mod QueueOrder
 pub mod FileSteps
+pub mod SessionNames

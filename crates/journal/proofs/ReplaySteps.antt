@@ -25,6 +25,7 @@ use Rattle.journal.specs.declared.places.Ending.TheVariants.{Whole, Cut, Faulty}
 use Rattle.journal.specs.declared.reading.Next.TheVariants.{Found, Ended}
 use Rattle.journal.specs.Places.{at_start}
 use Rattle.journal.specs.Journals.{Journal, in_front, journal_from, journal_of}
+use Rattle.journal.specs.Names.{session_name}
 use Rattle.journal.specs.Reading.{TellsEnd, ReadsNext}
 use Rattle.journal.specs.Replaying.{call_of, change_of, change_in_entry, change_told, changes_told, begun_at, begun_by, fronted, IsTakenAs, IsTaken, IsReplayed, TellsJournal, Replays}
 
@@ -56,20 +57,20 @@ leads-more desk mid last [] call reply leads step = (last, subst (λ (d : Desk).
 leads-more desk mid last (first ∷ history) call reply leads step = (leads.0, leads.1, leads-more leads.0 mid last history call reply leads.2 step)
 
 -- the change that its call asks for
-asked-is : (asked : Change) → change_asked (call_of asked) ≡ Some (change_of asked)
-asked-is (change.Added deck) = refl
-asked-is (change.Put deck seen) = refl
-asked-is (change.Dropped name seen) = refl
-asked-is (change.Edited name seen edit) = refl
-asked-is (change.Batch name seen edits) = refl
+asked-is : (by : List ℕ) (asked : Change) → change_asked (call_of by asked) ≡ Some (change_of asked)
+asked-is by (change.Added deck) = refl
+asked-is by (change.Put deck seen) = refl
+asked-is by (change.Dropped name seen) = refl
+asked-is by (change.Edited name seen edit) = refl
+asked-is by (change.Batch name seen edits) = refl
 
 -- what is accepted with one change more
-accepted-more : (history : History) (records : List Record) (r : Record) (asked : Change) → r.entry ≡ Made asked → changes_in history ≡ changes_told records →
-    changes_in (history ++ entry 0 (call_of asked) (Changed r.version) ∷ []) ≡ changes_told (records ++ r ∷ [])
-accepted-more history records r asked told same =
-    filter_map-append change_in history (entry 0 (call_of asked) (Changed r.version) ∷ [])
-    ∙ ap (λ (cs : List changes.Change). cs ++ changes_in (entry 0 (call_of asked) (Changed r.version) ∷ [])) same
-    ∙ ap (λ (o : Option changes.Change). changes_told records ++ cons_option o []) (asked-is asked ∙ sym (ap change_in_entry told))
+accepted-more : (history : History) (records : List Record) (r : Record) (by : List ℕ) (asked : Change) → r.entry ≡ Made asked → changes_in history ≡ changes_told records →
+    changes_in (history ++ entry 0 (call_of by asked) (Changed r.version) ∷ []) ≡ changes_told (records ++ r ∷ [])
+accepted-more history records r by asked told same =
+    filter_map-append change_in history (entry 0 (call_of by asked) (Changed r.version) ∷ [])
+    ∙ ap (λ (cs : List changes.Change). cs ++ changes_in (entry 0 (call_of by asked) (Changed r.version) ∷ [])) same
+    ∙ ap (λ (o : Option changes.Change). changes_told records ++ cons_option o []) (asked-is by asked ∙ sym (ap change_in_entry told))
     ∙ sym (filter_map-append change_told records (r ∷ []))
 
 -- the journal behind one record more
@@ -94,7 +95,7 @@ AreMade-more old mid new first desk next place after r so_far read taken = told-
         ∙ ap (fronted so_far.records) (read.told rest)
         ∙ fronted-more so_far.records r (journal_from None after rest)
 
-    told-by : (e : Entry) → r.entry ≡ e → IsTakenAs first r.version e desk next → AreMade old new false next after
+    told-by : (e : Entry) → r.entry ≡ e → IsTakenAs first r.version r.session e desk next → AreMade old new false next after
     told-by Begun told is =
         let only : so_far.records ++ r ∷ [] ≡ r ∷ [] = ap (λ (rs : List Record). rs ++ r ∷ []) (so_far.none is.0) in
         record {
@@ -108,13 +109,14 @@ AreMade-more old mid new first desk next place after r so_far read taken = told-
           goes = goes;
         }
     told-by (Made asked) told is =
-        let P : ℕ → Type 0 = λ (begun : ℕ). Runs begun (so_far.history ++ entry 0 (call_of asked) (Changed r.version) ∷ []) next in
+        let by = session_name r.session in
+        let P : ℕ → Type 0 = λ (begun : ℕ). Runs begun (so_far.history ++ entry 0 (call_of by asked) (Changed r.version) ∷ []) next in
         record {
           records = so_far.records ++ r ∷ [];
           none = λ (e : false ≡ true). cc;
-          history = so_far.history ++ entry 0 (call_of asked) (Changed r.version) ∷ [];
-          runs = subst P (sym (begun-more so_far.records r asked told)) (leads-more (new_desk_at (begun_by so_far.records)) desk next so_far.history (call_of asked) (Changed r.version) so_far.runs is);
-          accepted = accepted-more so_far.history so_far.records r asked told so_far.accepted;
+          history = so_far.history ++ entry 0 (call_of by asked) (Changed r.version) ∷ [];
+          runs = subst P (sym (begun-more so_far.records r asked told)) (leads-more (new_desk_at (begun_by so_far.records)) desk next so_far.history (call_of by asked) (Changed r.version) so_far.runs is);
+          accepted = accepted-more so_far.history so_far.records r by asked told so_far.accepted;
           taken = bytes;
           consumed = consumed;
           goes = goes;

@@ -20,13 +20,13 @@ abbrev pub TellsKept : {K : Type 0} → (K → ℕ → List ℕ → Bool → K �
 TellsKept keeps draft (Changed version) old told new = (kept : Bool) × (keeps old version draft kept new × (told ≡ told_of version kept))
 TellsKept keeps draft reply old told new = (told ≡ reply) × (new ≡ old)
 
-module _ {C K : Type 0} (makes : C → Call → Reply → C → Type 0) (begins : K → Change → Result (List ℕ) Refusal → K → Type 0) (keeps : K → ℕ → List ℕ → Bool → K → Type 0) where
+module _ {C K : Type 0} (makes : C → Call → Reply → C → Type 0) (begins : K → Change → Result (List ℕ) Refusal → K → Type 0) (keeps : K → ℕ → List ℕ → Bool → K → Type 0) (who : K → List ℕ) where
   -- what a change makes
   pub data MakesChange (change : Change) (desk : C) (keeper : K) (told : Reply) (desk_after : C) (keeper_after : K) : Type 0 where
     -- no record can be made: the desk is not called
     refused : (refusal : Refusal) → begins keeper change (Err refusal) keeper_after → told ≡ Refused refusal → desk_after ≡ desk → MakesChange change desk keeper told desk_after keeper_after
-    -- the desk is called, and a change that it makes is told as made only where its record is kept
-    called : (draft : List ℕ) (between : K) (reply : Reply) → begins keeper change (Ok draft) between → makes desk (call_of change) reply desk_after →
+    -- the desk is called by the name that the keeper tells, and a change that it makes is told as made only where its record is kept
+    called : (draft : List ℕ) (between : K) (reply : Reply) → begins keeper change (Ok draft) between → makes desk (call_of (who between) change) reply desk_after →
         TellsKept keeps draft reply between told keeper_after → MakesChange change desk keeper told desk_after keeper_after
 
   -- one call of such a desk, by what it asks for: what is no change is the desk's, and the keeper is not asked

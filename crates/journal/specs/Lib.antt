@@ -1,5 +1,6 @@
 pub mod CheckSums
 pub mod Moments
+pub mod Names
 pub mod Records
 pub mod Asking
 pub mod Queues

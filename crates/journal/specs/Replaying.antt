@@ -20,14 +20,15 @@ use Rattle.journal.specs.declared.reading.JournalFault.TheVariants as fault
 use Rattle.journal.specs.declared.replaying.ReplayFault.{ReplayFault}
 use Rattle.journal.specs.declared.replaying.ReplayFault.TheVariants as replay
 use Rattle.journal.specs.Journals.{Journal, journal_of}
+use Rattle.journal.specs.Names.{session_name}
 
--- the call that asks for a change
-abbrev pub call_of : Change → Call
-call_of (change.Added deck) = AddDeck deck
-call_of (change.Put deck seen) = PutDeck deck seen
-call_of (change.Dropped name seen) = DropDeck name seen
-call_of (change.Edited name seen edit) = EditDeck name seen edit
-call_of (change.Batch name seen edits) = Batch name seen edits
+-- the call by which who has a name asks for a change
+abbrev pub call_of : List ℕ → Change → Call
+call_of by (change.Added deck) = AddDeck deck
+call_of by (change.Put deck seen) = PutDeck deck seen
+call_of by (change.Dropped name seen) = DropDeck name seen
+call_of by (change.Edited name seen edit) = EditDeck name seen edit by
+call_of by (change.Batch name seen edits) = Batch name seen edits by
 
 -- the fault of a journal as one of making its changes again
 abbrev pub replay_fault : JournalFault → ReplayFault
@@ -64,17 +65,17 @@ abbrev pub begun_by : List Record → ℕ
 begun_by [] = 0
 begun_by (r ∷ records) = begun_at r.version r.entry
 
--- a change is made again, and makes the version
-abbrev pub MakesAgain : ℕ → Change → Desk → Desk → Type 0
-MakesAgain version asked desk next = Steps desk (call_of asked) (Changed version) next
+-- a change of who has a name is made again, and makes the version
+abbrev pub MakesAgain : ℕ → List ℕ → Change → Desk → Desk → Type 0
+MakesAgain version by asked desk next = Steps desk (call_of by asked) (Changed version) next
 
 -- what a record tells is taken: it begins the journal, where it is the first; or it has a change, which is made again
-abbrev pub IsTakenAs : Bool → ℕ → Entry → Desk → Desk → Type 0
-IsTakenAs first version Begun desk next = (first ≡ true) × (next ≡ new_desk_at version)
-IsTakenAs first version (Made asked) desk next = MakesAgain version asked desk next
+abbrev pub IsTakenAs : Bool → ℕ → ℕ → Entry → Desk → Desk → Type 0
+IsTakenAs first version session Begun desk next = (first ≡ true) × (next ≡ new_desk_at version)
+IsTakenAs first version session (Made asked) desk next = MakesAgain version (session_name session) asked desk next
 
 abbrev pub IsTaken : Bool → Record → Desk → Desk → Type 0
-IsTaken first r desk next = IsTakenAs first r.version r.entry desk next
+IsTaken first r desk next = IsTakenAs first r.version r.session r.entry desk next
 
 -- a desk on which the changes of records were made again: one history from a new desk leads to it, which accepted exactly these changes; so its version is as many behind that with which they begin, and its decks are those that they leave
 pub record IsReplayed (records : List Record) (desk : Desk) : Type 0 where

@@ -51,10 +51,18 @@ pub fn asked_of(call: Call) -> Asked
         Call::AddDeck(deck) => Asked::Change(Change::Added(deck)),
         Call::PutDeck { deck, seen } => Asked::Change(Change::Put { deck, seen }),
         Call::DropDeck { name, seen } => Asked::Change(Change::Dropped { name, seen }),
-        Call::EditDeck { name, seen, edit } => {
-            Asked::Change(Change::Edited { name, seen, edit })
-        }
-        Call::Batch { name, seen, edits } => Asked::Change(Change::Batch { name, seen, edits }),
+        Call::EditDeck {
+            name,
+            seen,
+            edit,
+            ..
+        } => Asked::Change(Change::Edited { name, seen, edit }),
+        Call::Batch {
+            name,
+            seen,
+            edits,
+            ..
+        } => Asked::Change(Change::Batch { name, seen, edits }),
         other => Asked::Other(other),
     }
 }

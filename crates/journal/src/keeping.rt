@@ -4,13 +4,14 @@ ghost use Rattle.journal.specs.Keeping.{MakesChange, TellsKept};
 
 use crate::changes::{Asked, Change, asked_of};
 use crate::drafts::Draft;
+use cards::DeckName;
 use desk_core::{Call, Refusal, Reply};
 use session_line::Calls;
 use std::marker::Model;
 
 /// Who keeps the records of changes. The members say what its calls make of it.
 pub trait Keep {
-    ghost use Rattle.std.specs.Prelude.{ℕ, List, Bool, Result};
+    ghost use Rattle.std.specs.Prelude.{◌≡◌, ℕ, List, Bool, Result};
     ghost use Rattle.desk_core.specs.declared.replies.Refusal.{Refusal as Reason};
     ghost use Rattle.journal.specs.declared.changes.Change.{Change as Asking};
 
@@ -21,6 +22,9 @@ pub trait Keep {
     // keeper after.
     ghost keeps: { Self → ℕ → List ℕ → Bool → Self → Type 0 };
 
+    // The name of who asks for changes here.
+    ghost who: { Self → List ℕ };
+
     /// Makes the record of a change that is asked for, or refuses the change.
     fn begin(&mut self, change: &Change) -> Result<Draft, Refusal>
         ensures { begins self.old change.now result self.new };
@@ -28,9 +32,13 @@ pub trait Keep {
     /// Keeps the record of a change that was made: whether it is kept, with all records before it.
     fn keep(&mut self, version: u64, draft: Draft) -> bool
         ensures { keeps self.old version draft result self.new };
+
+    /// The name of who asks for changes here.
+    fn who(&self) -> DeckName
+        ensures { result ≡ who self.now };
 }
 
-/// A desk with a keeper of its changes. A change for whose record there is no memory, or that the keeper
+/// A desk with a keeper of its changes, who tells by which name they are asked for. A change for whose record there is no memory, or that the keeper
 /// refuses, is not asked of the desk. One that the desk makes is told as made where the keeper has kept
 /// its record, and else as `NotKept`. Contracts see the two as a pair.
 #[derive(Drop)]
@@ -70,11 +78,11 @@ fn kept_reply<K: Keep>(keeper: &mut K, reply: Reply, draft: Draft) -> Reply
 
 /// Makes a change.
 fn make_change<C: Calls, K: Keep>(desk: &mut C, keeper: &mut K, change: Change) -> Reply
-    ensures { MakesChange C.makes K.begins K.keeps change desk.old keeper.old result desk.new keeper.new }
+    ensures { MakesChange C.makes K.begins K.keeps K.who change desk.old keeper.old result desk.new keeper.new }
 {
     match keeper.begin(&change) {
         Ok(draft) => {
-            let reply = desk.call(change.into_call());
+            let reply = desk.call(change.into_call(keeper.who()));
             kept_reply(keeper, reply, draft)
         }
         Err(refusal) => Reply::Refused(refusal),
@@ -88,7 +96,7 @@ impl<C: Calls, K: Keep> Calls for Keeping<C, K> {
     ghost use Rattle.journal.specs.Asking.{asked_of};
     ghost use Rattle.journal.specs.Keeping.{MakesKept};
 
-    ghost makes = { λ old call reply new. MakesKept C.makes K.begins K.keeps old (asked_of call) reply new };
+    ghost makes = { λ old call reply new. MakesKept C.makes K.begins K.keeps K.who old (asked_of call) reply new };
 
     ghost awaits = { λ old version reply new. C.awaits old.0 version reply new.0 × (new.1 ≡ old.1) };
 

@@ -22,6 +22,7 @@ mod calendar;
 mod changes;
 mod check_sums;
 mod moments;
+mod names;
 mod records;
 
 // Records as text.
@@ -48,6 +49,7 @@ mod replaying;
 // What a start may rest on.
 mod laws;
 
+pub use cards::DeckName;
 pub use changes::{Asked, Change, asked_of};
 pub use compacting::compacted_text;
 pub use drafts::{Draft, draft_change};
@@ -56,6 +58,7 @@ pub use keeping::{Keep, Keeping};
 pub use kept_records::KeptRecords;
 pub use laws::{cut_records_are_left_out, records_read_back};
 pub use moments::Moment;
+pub use names::session_name;
 pub use places::{Ending, Place};
 pub use queue::{Batch, Queue};
 pub use reading::{JournalFault, Next, next_record};

@@ -4,9 +4,11 @@ ghost use Rattle.desk_core.specs.Steps.{Steps};
 ghost use Rattle.journal.specs.Replaying.{IsTaken, MakesAgain, Replays, call_of};
 
 use crate::changes::Change;
+use crate::names::session_name;
 use crate::places::{Ending, Place};
 use crate::reading::{JournalFault, Next, next_record};
 use crate::records::{Entry, Record};
+use cards::DeckName;
 use desk_core::{Call, Desk, Refusal, Reply};
 use std::alloc::Global;
 use std::io::Read;
@@ -47,30 +49,42 @@ impl From<JournalFault> for ReplayFault {
 }
 
 impl Change {
-    /// The call that asks for the change.
-    pub fn into_call(self) -> Call
-        ensures { result ≡ call_of self }
+    /// The call by which who has this name asks for the change.
+    pub fn into_call(self, by: DeckName) -> Call
+        ensures { result ≡ call_of by self }
     {
         match self {
             Change::Added(deck) => Call::AddDeck(deck),
             Change::Put { deck, seen } => Call::PutDeck { deck, seen },
             Change::Dropped { name, seen } => Call::DropDeck { name, seen },
-            Change::Edited { name, seen, edit } => Call::EditDeck { name, seen, edit },
-            Change::Batch { name, seen, edits } => Call::Batch { name, seen, edits },
+            Change::Edited { name, seen, edit } => Call::EditDeck {
+                name,
+                seen,
+                edit,
+                by,
+            },
+            Change::Batch { name, seen, edits } => Call::Batch {
+                name,
+                seen,
+                edits,
+                by,
+            },
         }
     }
 }
 
-/// Makes a change again, which made this version; else this is the fault, unless there is no memory.
+/// Makes a change of who has a name again, which made this version; else this is the fault, unless there is
+/// no memory.
 fn make_again(
     desk: &mut Desk,
     change: Change,
+    by: DeckName,
     version: u64,
     unmade: ReplayFault,
 ) -> Result<(), ReplayFault>
-    ensures { OnOk result (MakesAgain version change desk.old desk.new) }
+    ensures { OnOk result (MakesAgain version by change desk.old desk.new) }
 {
-    match desk.step(change.into_call()) {
+    match desk.step(change.into_call(by)) {
         Reply::Changed(made) if made == version => Ok(()),
         Reply::Refused(Refusal::OutOfMemory) => Err(ReplayFault::OutOfMemory),
         _ => Err(unmade),
@@ -91,14 +105,19 @@ fn take_record(
         number: place.records.saturating_add(1),
         begin: place.begin,
     };
-    let Record { version, entry, .. } = found;
+    let Record {
+        version,
+        session,
+        entry,
+        ..
+    } = found;
     match entry {
         Entry::Begun if is_first => {
             *desk = Desk::behind(alloc, version);
             Ok(())
         }
         Entry::Begun => Err(unmade),
-        Entry::Made(change) => make_again(desk, change, version, unmade),
+        Entry::Made(change) => make_again(desk, change, session_name(session), version, unmade),
     }
 }
 
