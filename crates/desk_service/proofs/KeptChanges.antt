@@ -2,12 +2,12 @@
 use Rattle.std.proofs.Common.{ℕ, ◌≡◌, List, Bool, true, false, sym, ap, subst, ◌∙◌}
 use Rattle.desk_core.specs.declared.calls.Call.{Call}
 use Rattle.desk_core.specs.declared.replies.Reply.{Reply}
-use Rattle.desk_core.specs.declared.replies.Reply.TheVariants.{Changed, CardsAre, Shown, StatusIs, DeckJob, LinkJob, Idle, AllOut, Stored, Cleared, Refused}
+use Rattle.desk_core.specs.declared.replies.Reply.TheVariants.{Changed, CardsAre, ChangesAre, CardsBefore, Shown, StatusIs, DeckJob, LinkJob, Idle, AllOut, Stored, Cleared, Refused}
 use Rattle.journal.specs.declared.changes.Asked.TheVariants as asked
 use Rattle.journal.specs.declared.changes.Change.{Change}
 use Rattle.journal.specs.JournalFiles.{Step, IsKept}
 use Rattle.journal.specs.Keeping.{TellsKept, MakesKept, refused, called, told_of}
-use Rattle.desk_service.specs.SessionKeepers.{SessionKeeper, BeginsRecord, KeepsRecord}
+use Rattle.desk_service.specs.SessionKeepers.{SessionKeeper, BeginsRecord, KeepsRecord, keeper_name}
 
 module _ {F : Type 0} (has_done : F → List Step → Type 0) where
   -- whether the record was kept decides what is told
@@ -20,6 +20,8 @@ module _ {F : Type 0} (has_done : F → List Step → Type 0) where
   told : (reply : Reply) (draft : List ℕ) (version : ℕ) (between after : SessionKeeper) → between.journaled ≡ true → TellsKept (KeepsRecord has_done) draft reply between (Changed version) after → IsKept has_done version
   told (Changed made) draft version between after journaled tells = answered tells.0 draft made version between after journaled tells.1.0 tells.1.1
   told (CardsAre n cards) draft version between after journaled tells = let same = tells.0 in cc
+  told (ChangesAre n kept) draft version between after journaled tells = let same = tells.0 in cc
+  told (CardsBefore n cards backs) draft version between after journaled tells = let same = tells.0 in cc
   told (Shown publication) draft version between after journaled tells = let same = tells.0 in cc
   told (StatusIs n published rows) draft version between after journaled tells = let same = tells.0 in cc
   told (DeckJob work) draft version between after journaled tells = let same = tells.0 in cc
@@ -31,7 +33,7 @@ module _ {F : Type 0} (has_done : F → List Step → Type 0) where
   told (Refused refusal) draft version between after journaled tells = let same = tells.0 in cc
 
   pub told-kept : {C : Type 0} (makes : C → Call → Reply → C → Type 0) (old new : C × SessionKeeper) (change : Change) (version : ℕ) → old.1.journaled ≡ true →
-      MakesKept makes (BeginsRecord has_done) (KeepsRecord has_done) old (asked.Change change) (Changed version) new → IsKept has_done version
+      MakesKept makes (BeginsRecord has_done) (KeepsRecord has_done) keeper_name old (asked.Change change) (Changed version) new → IsKept has_done version
   told-kept makes old new change version journaled (refused refusal begins same stays) = cc
   told-kept makes old new change version journaled (called draft between reply begins made tells) =
       told reply draft version between new.1 (ap (λ (k : SessionKeeper). k.journaled) begins.0 ∙ journaled) tells

@@ -4,6 +4,7 @@ use Rattle.desk_core.specs.declared.replies.Refusal.{Refusal}
 use Rattle.desk_core.specs.declared.replies.Refusal.TheVariants.{NotKept, OutOfMemory}
 use Rattle.journal.specs.declared.changes.Change.{Change}
 use Rattle.journal.specs.JournalFiles.{Step, IsKept}
+use Rattle.journal.specs.Names.{session_name}
 use Rattle.journal.specs.Records.{text_behind_version}
 
 -- whether there is a journal, the number of the session, and the version of its latest change that was told as not kept
@@ -11,6 +12,10 @@ pub record SessionKeeper : Type 0 where
   pub journaled : Bool
   pub session : ℕ
   pub missed : Option ℕ
+
+-- the name by which the session asks for changes
+abbrev pub keeper_name : SessionKeeper → List ℕ
+keeper_name keeper = session_name keeper.session
 
 -- the record of a change that the session asks for at some moment
 abbrev pub IsDraft : ℕ → Change → List ℕ → Type 0

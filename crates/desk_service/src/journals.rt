@@ -11,7 +11,8 @@ ghost use Rattle.desk_service.specs.SessionKeepers.{IsMadeUp};
 
 use desk_core::Refusal;
 use journal::{
-    Batch, Change, Draft, JournalFile, Keep, KeptRecords, Moment, Queue, RecordsFile, draft_change,
+    Batch, Change, DeckName, Draft, JournalFile, Keep, KeptRecords, Moment, Queue, RecordsFile,
+    draft_change, session_name,
 };
 use std::alloc::{AllocError, Global};
 use std::marker::Model;
@@ -195,11 +196,13 @@ impl<'a, R, F: RecordsFile> SessionKeeper<'a, R, F> {
 }
 
 impl<R: Wait + Clock, F: RecordsFile + Drop> Keep for SessionKeeper<'_, R, F> {
-    ghost use Rattle.desk_service.specs.SessionKeepers.{BeginsRecord, KeepsRecord};
+    ghost use Rattle.desk_service.specs.SessionKeepers.{BeginsRecord, KeepsRecord, keeper_name};
 
     ghost begins = { BeginsRecord F.has_done };
 
     ghost keeps = { KeepsRecord F.has_done };
+
+    ghost who = { keeper_name };
 
     fn begin(&mut self, change: &Change) -> Result<Draft, Refusal> {
         let Some(journal) = self.journal else {
@@ -224,5 +227,9 @@ impl<R: Wait + Clock, F: RecordsFile + Drop> Keep for SessionKeeper<'_, R, F> {
         }
         self.missed = Some(version);
         false
+    }
+
+    fn who(&self) -> DeckName {
+        session_name(self.session as u64)
     }
 }
