@@ -118,7 +118,10 @@ fn reply_text(rt: &impl Abort, alloc: Global, reply: &Reply) -> String {
         Reply::Refused(refusal) => format!(in alloc; "{refusal:?}"),
         Reply::LinkJob(work) => format!(in alloc; "link {} at {}", work.lease, work.version),
         Reply::DeckJob(work) => return job_text(rt, alloc, work),
-        Reply::CardsAre(_, _) | Reply::Shown(_) | Reply::StatusIs(_, _, _) => {
+        Reply::CardsAre(_, _) | Reply::ChangesAre(_, _) | Reply::CardsBefore(_, _, _) => {
+            format!(in alloc; "what a session asks for")
+        }
+        Reply::Shown(_) | Reply::StatusIs(_, _, _) => {
             format!(in alloc; "what a session asks for")
         }
     };
@@ -247,6 +250,7 @@ fn batch_of(rt: &impl Abort, alloc: Global, text: &str) -> Call {
         name: name(rt, b"M"),
         seen: number(rt, seen),
         edits: Listed::new(edits),
+        by: name(rt, b"0"),
     }
 }
 

@@ -111,6 +111,7 @@ fn change(rt: &impl Abort, alloc: Global, seen: u64) -> Call {
         name,
         seen,
         edit: cards::Edit::Insert { at: 1, card },
+        by: DeckName::read(b"0").expect(rt, "a name"),
     }
 }
 

@@ -65,6 +65,14 @@ fn command_text(rt: &impl Abort, alloc: Global, command: &Command) -> String {
             let view = view_text(rt, alloc, view);
             format!(in alloc; "cards {}{view}", one_line(rt, alloc, name.as_slice()))
         }
+        Command::CardsAt { name, version } => format!(in alloc;
+            "cards {} at {version}",
+            one_line(rt, alloc, name.as_slice())
+        ),
+        Command::Changes { name, version } => format!(in alloc;
+            "changes {} {version}",
+            one_line(rt, alloc, name.as_slice())
+        ),
         Command::Save { name, over } => format!(in alloc;
             "save {} {over:?}",
             one_line(rt, alloc, name.as_slice())
@@ -205,6 +213,7 @@ fn reply_is(rt: &impl Abort, alloc: Global, reply: &Reply<'_>, wanted: &[u8]) {
     match reply {
         Reply::Cards { cards, .. } => assert!(rt; cards.len() <= 20_000),
         Reply::Found { cards, .. } => assert!(rt; cards.len() <= 20_000),
+        Reply::Changes { kept, .. } => assert!(rt; kept.len() <= 2_000),
         Reply::Errors { decks, .. } => assert!(rt; decks.len() <= 64),
         Reply::Status { decks, .. } => assert!(rt; decks.len() <= 64),
         Reply::Done { .. } | Reply::Text { .. } | Reply::Listing(_) => {}
@@ -288,6 +297,7 @@ fn texts_of_refusals(rt: HostRuntime) {
         (Refusal::BadCard(bad), b"NO BadCharacter 1\n"),
         (Refusal::BadCard(CardFault::TooWide), b"NO TooWide\n"),
         (Refusal::NoDeck, b"NO NoDeck\n"),
+        (Refusal::Forgotten { oldest: 12 }, b"NO Forgotten 12\n"),
         (Refusal::LastLineCut, b"NO LastLineCut\n"),
         (Refusal::WriteFault { sent: 3 }, b"NO WriteFault 3\n"),
         (
