@@ -23,19 +23,19 @@ keeps-trans : (first middle last : Desk) → Keeps first middle → Keeps middle
 keeps-trans first middle last before behind = record { version = behind.version ∙ before.version; decks = behind.decks ∙ before.decks }
 
 -- a call that asks for no change
-keeps-outcome : (desk next : Desk) (call : Call) (reply : Reply) → change_asked call ≡ None → Outcome desk call reply next → Keeps desk next
+keeps-outcome : (desk next : Desk) (call : Call) (reply : Reply) → change_asked call reply ≡ None → Outcome desk call reply next → Keeps desk next
 keeps-outcome desk next call reply none (by_staying by) = record { version = by.unchanged.version; decks = by.unchanged.decks }
 keeps-outcome desk next call reply none (by_changing by) = let asked = by.asked in cc
 keeps-outcome desk next call reply none (by_publishing by) = record { version = by.version; decks = by.decks }
 
-keeps-step : (desk next : Desk) (call : Call) (reply : Reply) → change_asked call ≡ None → Steps desk call reply next → Keeps desk next
+keeps-step : (desk next : Desk) (call : Call) (reply : Reply) → change_asked call reply ≡ None → Steps desk call reply next → Keeps desk next
 keeps-step desk next call reply none step = keeps-outcome desk next call reply none (step_comes desk call reply next step)
 
 -- a call that ends a job asks for none
-ends-silently : (result : Made) → change_asked (call_of result) ≡ None
-ends-silently (made.Deck done) = refl
-ends-silently (made.Link lease publication) = refl
-ends-silently (made.Lost lease fault) = refl
+ends-silently : (result : Made) (reply : Reply) → change_asked (call_of result) reply ≡ None
+ends-silently (made.Deck done) reply = refl
+ends-silently (made.Link lease publication) reply = refl
+ends-silently (made.Lost lease fault) reply = refl
 
 -- a round, and what comes behind it
 keeps-round : (number : ℕ) (round : Round) (behind : History) (first last : Desk) → Leads Steps first (entries_of number round ++ behind) last →
@@ -44,7 +44,7 @@ keeps-round number (Resting claimed) behind first last leads rest = keeps-trans 
 keeps-round number (Working claimed result answered) behind first last leads rest =
     let next = leads.2 in
     keeps-trans first leads.0 last (keeps-step first leads.0 Claim claimed refl leads.1)
-    (keeps-trans leads.0 next.0 last (keeps-step leads.0 next.0 (call_of result) answered (ends-silently result) next.1) (rest next.0 next.2))
+    (keeps-trans leads.0 next.0 last (keeps-step leads.0 next.0 (call_of result) answered (ends-silently result answered) next.1) (rest next.0 next.2))
 
 -- rounds
 pub keeps-rounds : (number : ℕ) (rounds : List Round) (first last : Desk) → Leads Steps first (entries_in number rounds) last → Keeps first last

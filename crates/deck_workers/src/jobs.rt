@@ -35,6 +35,7 @@ pub fn job_in(reply: Reply) -> Option<Job>
         Reply::DeckJob(work) => Some(Job::Deck(work)),
         Reply::LinkJob(work) => Some(Job::Link(work)),
         Reply::Changed(_)
+        | Reply::Carried { .. }
         | Reply::CardsAre(..)
         | Reply::ChangesAre(..)
         | Reply::CardsBefore(..)

@@ -71,6 +71,7 @@ fn end_of_delivery(answered: &Reply) -> Option<Settled>
     match answered {
         Reply::Refused(refusal) => Some(Settled::Refused { refusal: *refusal }),
         Reply::Changed(_)
+        | Reply::Carried { .. }
         | Reply::CardsAre(..)
         | Reply::ChangesAre(..)
         | Reply::CardsBefore(..)
@@ -94,6 +95,7 @@ fn end_of_claim(claimed: &Reply) -> Option<Settled>
         Reply::AllOut => Some(Settled::Waiting),
         Reply::Refused(refusal) => Some(Settled::Refused { refusal: *refusal }),
         Reply::Changed(_)
+        | Reply::Carried { .. }
         | Reply::CardsAre(..)
         | Reply::ChangesAre(..)
         | Reply::CardsBefore(..)

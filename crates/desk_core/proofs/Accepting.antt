@@ -1,14 +1,17 @@
 -- Calls whose outcome is a change, where nothing speaks against it.
-use Rattle.std.proofs.Common.{◌≡◌, ℕ, ◌+◌, List, [], ◌∷◌, Option, None, Some, refl}
+use Rattle.std.proofs.Common.{◌≡◌, ℕ, ◌+◌, List, [], ◌∷◌, Option, None, Some, Result, Ok, Err, option_map, refl}
 use Rattle.desk_core.specs.Language.{Deck}
 use Rattle.desk_core.specs.Edits.{Edit}
 use Rattle.desk_core.specs.Changes.{Added, Dropped, Edited, Put}
 use Rattle.desk_core.specs.Desks.{Desk, DeskDeck, deck_named}
-use Rattle.desk_core.specs.Calls.{Call, AddDeck, PutDeck, DropDeck, EditDeck, Batch}
+use Rattle.desk_core.specs.Calls.{Call, AddDeck, PutDeck, DropDeck, EditDeck, Batch, EditSince, BatchSince, Reply, Changed, Carried, Refused, Refusal}
 use Rattle.desk_core.specs.Changing.{accepted, against_add, added, add_deck, against_put, put_where, put_deck, against_drop, dropped, drop_deck, edited, against_edit, edit_deck, against_batch, batch}
+use Rattle.cards.specs.declared.carrying.Touched.{Touched}
+use Rattle.desk_core.specs.Calls.{NoDeck, TouchedCard}
+use Rattle.desk_core.specs.Carrying.{carried_since, against_carry, accept_carried, edit_since_of, edit_since, batch_since_of, batch_since, alone}
 use Rattle.desk_core.specs.Runs.{change_asked}
 use Rattle.desk_core.proofs.DecksSeen.{decks_of-added, decks_of-put_new, decks_of-put_over, decks_of-dropped, decks_of-edited}
-use Rattle.desk_core.proofs.Outcomes.{Comes, by_changing, unless_comes}
+use Rattle.desk_core.proofs.Outcomes.{Comes, by_changing, refused_stays, unless_comes}
 
 pub add_comes : (deck : Deck) (desk : Desk) → Comes desk (AddDeck deck) (add_deck deck desk)
 add_comes deck desk = unless_comes desk (AddDeck deck) (against_add deck desk) (accepted (added deck desk))
@@ -27,7 +30,7 @@ pub drop_comes : (name : List ℕ) (seen : ℕ) (desk : Desk) → Comes desk (Dr
 drop_comes name seen desk = unless_comes desk (DropDeck name seen) (against_drop seen desk (deck_named name desk)) (accepted (dropped name desk))
     (by_changing (record { change = Dropped name; asked = refl; told = refl; version = refl; decks = decks_of-dropped name desk.decks; publication = refl }))
 
-edited_comes : (name who : List ℕ) (edits : List Edit) (desk : Desk) (call : Call) → change_asked call ≡ Some (Edited name edits) → Comes desk call (accepted (edited name who edits desk))
+edited_comes : (name who : List ℕ) (edits : List Edit) (desk : Desk) (call : Call) → change_asked call (Changed (desk.version + 1)) ≡ Some (Edited name edits) → Comes desk call (accepted (edited name who edits desk))
 edited_comes name who edits desk call asked = by_changing (record { change = Edited name edits; asked = asked; told = refl; version = refl; decks = decks_of-edited name (desk.version + 1) who edits desk.decks; publication = refl })
 
 pub edit_comes : (name : List ℕ) (seen : ℕ) (edit : Edit) (who : List ℕ) (desk : Desk) → Comes desk (EditDeck name seen edit who) (edit_deck name seen edit who desk)
@@ -35,3 +38,26 @@ edit_comes name seen edit who desk = unless_comes desk (EditDeck name seen edit 
 
 pub batch_comes : (name : List ℕ) (seen : ℕ) (edits : List Edit) (who : List ℕ) (desk : Desk) → Comes desk (Batch name seen edits who) (batch name seen edits who desk)
 batch_comes name seen edits who desk = unless_comes desk (Batch name seen edits who) (against_batch seen edits desk (deck_named name desk)) _ (edited_comes name who edits desk (Batch name seen edits who) refl)
+
+-- edits that were carried
+carried_comes : (name who : List ℕ) (desk : Desk) (call : Call) (deck : DeskDeck) (moved : Result (List Edit) Touched) →
+    ((version before : ℕ) (edits : List Edit) → change_asked call (Carried version before edits) ≡ Some (Edited name edits)) → Comes desk call (accept_carried name who desk deck moved)
+carried_comes name who desk call deck (Ok edits) asked =
+    by_changing (record { change = Edited name edits; asked = asked (desk.version + 1) deck.version edits; told = refl; version = refl; decks = decks_of-edited name (desk.version + 1) who edits desk.decks; publication = refl })
+carried_comes name who desk call deck (Err touched) asked = refused_stays desk call (TouchedCard touched.card touched.version)
+
+edit_since_of_comes : (name : List ℕ) (seen : ℕ) (edit : Edit) (who : List ℕ) (desk : Desk) (found : Option DeskDeck) → Comes desk (EditSince name seen edit who) (edit_since_of name seen edit who desk found)
+edit_since_of_comes name seen edit who desk None = refused_stays desk (EditSince name seen edit who) NoDeck
+edit_since_of_comes name seen edit who desk (Some deck) = unless_comes desk (EditSince name seen edit who) (option_map alone (against_carry seen (edit ∷ []) desk deck)) _
+    (carried_comes name who desk (EditSince name seen edit who) deck (carried_since seen (edit ∷ []) deck) (λ version before edits. refl))
+
+pub edit_since_comes : (name : List ℕ) (seen : ℕ) (edit : Edit) (who : List ℕ) (desk : Desk) → Comes desk (EditSince name seen edit who) (edit_since name seen edit who desk)
+edit_since_comes name seen edit who desk = edit_since_of_comes name seen edit who desk (deck_named name desk)
+
+batch_since_of_comes : (name : List ℕ) (seen : ℕ) (edits : List Edit) (who : List ℕ) (desk : Desk) (found : Option DeskDeck) → Comes desk (BatchSince name seen edits who) (batch_since_of name seen edits who desk found)
+batch_since_of_comes name seen edits who desk None = refused_stays desk (BatchSince name seen edits who) NoDeck
+batch_since_of_comes name seen edits who desk (Some deck) = unless_comes desk (BatchSince name seen edits who) (against_carry seen edits desk deck) _
+    (carried_comes name who desk (BatchSince name seen edits who) deck (carried_since seen edits deck) (λ version before moved. refl))
+
+pub batch_since_comes : (name : List ℕ) (seen : ℕ) (edits : List Edit) (who : List ℕ) (desk : Desk) → Comes desk (BatchSince name seen edits who) (batch_since name seen edits who desk)
+batch_since_comes name seen edits who desk = batch_since_of_comes name seen edits who desk (deck_named name desk)

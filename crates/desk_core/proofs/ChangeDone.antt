@@ -26,7 +26,7 @@ drop-done name seen desk place is clear =
     done _ desk (accepted (dropped name desk)) _ _ (ap (against_drop seen desk) both.0 ∙ clear) (refl, ap (next_with desk) (sym same))
 
 -- the decks with edits
-edited-same : (name who : List ℕ) (edits : List Edit) (desk : Desk) (place : ℕ) → IsPlaceOf (is_named name) (Some place) desk.decks →
+pub edited-same : (name who : List ℕ) (edits : List Edit) (desk : Desk) (place : ℕ) → IsPlaceOf (is_named name) (Some place) desk.decks →
     edited name who edits desk ≡ changed_at place (edited_deck (desk.version + 1) who edits) (next_with desk desk.decks)
 edited-same name who edits desk place is =
     let both = is.some place refl in

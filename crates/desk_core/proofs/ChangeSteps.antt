@@ -1,5 +1,5 @@
 -- What is told of a desk after a call that changes decks.
-use Rattle.std.proofs.Common.{◌≡◌, ℕ, ◌+◌, ◌==◌, Bool, true, false, cond, not, ◌||◌, List, [], ◌∷◌, ◌++◌, is_some, inl, inr, Option, Some, None, option_map, refl, sym, ap, ◌∙◌, subst, arith, eq-eqb, ne_eqb}
+use Rattle.std.proofs.Common.{◌≡◌, ℕ, ◌+◌, ◌==◌, Bool, true, false, cond, not, ◌||◌, List, [], ◌∷◌, ◌++◌, is_some, inl, inr, Option, Some, None, Result, Ok, Err, option_map, refl, sym, ap, ◌∙◌, subst, arith, eq-eqb, ne_eqb}
 use Rattle.std.specs.Option.{option_or}
 use Rattle.std.proofs.lemmas.Bool.{cases_Bool}
 use Rattle.turn_office.specs.declared.history.Entry.{Entry}
@@ -8,8 +8,10 @@ use Rattle.desk_core.specs.Language.{Deck, same_text}
 use Rattle.desk_core.specs.Causes.{when, first_cause}
 use Rattle.desk_core.specs.Edits.{Edit}
 use Rattle.desk_core.specs.Desks.{Desk, DeskDeck, deck_named, is_named}
-use Rattle.desk_core.specs.Calls.{Call, AddDeck, PutDeck, DropDeck, EditDeck, Batch, Reply, Changed, Refused, Refusal}
-use Rattle.desk_core.specs.Answers.{Answer, unless}
+use Rattle.desk_core.specs.Calls.{Call, AddDeck, PutDeck, DropDeck, EditDeck, Batch, EditSince, BatchSince, Reply, Changed, Carried, Refused, Refusal, NoDeck, TouchedCard}
+use Rattle.desk_core.specs.Answers.{Answer, answers, unless}
+use Rattle.cards.specs.declared.carrying.Touched.{Touched}
+use Rattle.desk_core.specs.Carrying.{carried_since, against_carry, accept_carried, edit_since_of, edit_since, batch_since_of, batch_since, alone}
 use Rattle.desk_core.specs.Changing.{accepted, against_add, added_deck, added, add_deck, against_put, replaced_deck, put, put_where, put_deck, against_drop, dropped, drop_deck, edited_deck, edited, against_edit, edit_deck, against_batch, batch}
 use Rattle.desk_core.specs.Runs.{History}
 use Rattle.desk_core.specs.Jobs.{identity_in, identity_of, Effect, Edits, Leaves, effect_if, effect_on, after_effect, since_job}
@@ -151,11 +153,11 @@ module _ (history : History) (by : ℕ) (desk : Desk) (told : IsDeskTold history
   since_edited false waiting edits = refl
 
   -- accepted edits of a deck that is there
-  next_edited : (call : Call) (name who : List ℕ) (edits : List Edit) (deck : DeskDeck) → deck_named name desk ≡ Some deck →
-      ((identity : ℕ) → identity_of name history ≡ Some identity → Touches history desk.leases identity (Edits edits) (entry by call (Changed (desk.version + 1)))) →
-      Next call (accepted (edited name who edits desk))
-  next_edited call name who edits deck found touches =
-      let e = entry by call (Changed (desk.version + 1)) in
+  next_with : (call : Call) (reply : Reply) (name who : List ℕ) (edits : List Edit) (deck : DeskDeck) → deck_named name desk ≡ Some deck →
+      ((identity : ℕ) → identity_of name history ≡ Some identity → Touches history desk.leases identity (Edits edits) (entry by call reply)) →
+      Next call (answers reply (edited name who edits desk))
+  next_with call reply name who edits deck found touches =
+      let e = entry by call reply in
       let here = found_told (IsDeckTold history desk.version desk.leases) (is_named name) desk.decks deck told.decks found in
       let meant : IsMeant history name deck.identity = subst (λ n. IsMeant history n deck.identity) (sym (equal_texts name deck.name here.1)) here.0.meant in
       let touch = touches deck.identity meant.identity_is in
@@ -166,6 +168,39 @@ module _ (history : History) (by : ℕ) (desk : Desk) (told : IsDeskTold history
         since = λ d was same. since_edited (is_some d.kept || is_some d.lease) d.waiting edits;
         leased = λ d was same. lease_told_still history e desk.leases desk.leases (Some d.identity) d.lease touch.leases_none (omega arith) was.leased;
       }) meant here.0.reached told (omega arith) (omega arith) refl refl
+
+  next_edited : (call : Call) (name who : List ℕ) (edits : List Edit) (deck : DeskDeck) → deck_named name desk ≡ Some deck →
+      ((identity : ℕ) → identity_of name history ≡ Some identity → Touches history desk.leases identity (Edits edits) (entry by call (Changed (desk.version + 1)))) →
+      Next call (accepted (edited name who edits desk))
+  next_edited call name who edits deck found touches = next_with call (Changed (desk.version + 1)) name who edits deck found touches
+
+  -- edits that were carried, of a deck that is there
+  next_carried : (call : Call) (name who : List ℕ) (deck : DeskDeck) (moved : Result (List Edit) Touched) → deck_named name desk ≡ Some deck →
+      ((refusal : Refusal) → IsQuiet history desk.leases (entry by call (Refused refusal))) →
+      ((edits : List Edit) (identity : ℕ) → identity_of name history ≡ Some identity → Touches history desk.leases identity (Edits edits) (entry by call (Carried (desk.version + 1) deck.version edits))) →
+      Next call (accept_carried name who desk deck moved)
+  next_carried call name who deck (Ok edits) found silent touches = next_with call (Carried (desk.version + 1) deck.version edits) name who edits deck found (touches edits)
+  next_carried call name who deck (Err touched) found silent touches = next_quiet call (Refused (TouchedCard touched.card touched.version)) (silent (TouchedCard touched.card touched.version))
+
+  next_edit_since : (name : List ℕ) (seen : ℕ) (edit : Edit) (who : List ℕ) (found : Option DeskDeck) → deck_named name desk ≡ found → Next (EditSince name seen edit who) (edit_since_of name seen edit who desk found)
+  next_edit_since name seen edit who None none = next_quiet (EditSince name seen edit who) (Refused NoDeck) (quiet _ _ _ (λ n. refl) (λ i. refl) (λ n. refl) (λ d. refl))
+  next_edit_since name seen edit who (Some deck) found = next_unless (EditSince name seen edit who) (option_map alone (against_carry seen (edit ∷ []) desk deck)) (accept_carried name who desk deck (carried_since seen (edit ∷ []) deck))
+      (λ r. quiet _ _ _ (λ n. refl) (λ i. refl) (λ n. refl) (λ d. refl))
+      (λ free. next_carried (EditSince name seen edit who) name who deck (carried_since seen (edit ∷ []) deck) found (λ r. quiet _ _ _ (λ n. refl) (λ i. refl) (λ n. refl) (λ d. refl))
+      (λ edits identity is. record { adds_none = record { identities = λ n. refl; names = λ i. refl }; leases_none = λ n few. refl; effects = λ d. ap (λ (o : Option ℕ). effect_if d o (Edits edits)) is }))
+
+  pub edit_since_next : (name : List ℕ) (seen : ℕ) (edit : Edit) (who : List ℕ) → Next (EditSince name seen edit who) (edit_since name seen edit who desk)
+  edit_since_next name seen edit who = next_edit_since name seen edit who (deck_named name desk) refl
+
+  next_batch_since : (name : List ℕ) (seen : ℕ) (edits : List Edit) (who : List ℕ) (found : Option DeskDeck) → deck_named name desk ≡ found → Next (BatchSince name seen edits who) (batch_since_of name seen edits who desk found)
+  next_batch_since name seen edits who None none = next_quiet (BatchSince name seen edits who) (Refused NoDeck) (quiet _ _ _ (λ n. refl) (λ i. refl) (λ n. refl) (λ d. refl))
+  next_batch_since name seen edits who (Some deck) found = next_unless (BatchSince name seen edits who) (against_carry seen edits desk deck) (accept_carried name who desk deck (carried_since seen edits deck))
+      (λ r. quiet _ _ _ (λ n. refl) (λ i. refl) (λ n. refl) (λ d. refl))
+      (λ free. next_carried (BatchSince name seen edits who) name who deck (carried_since seen edits deck) found (λ r. quiet _ _ _ (λ n. refl) (λ i. refl) (λ n. refl) (λ d. refl))
+      (λ made identity is. record { adds_none = record { identities = λ n. refl; names = λ i. refl }; leases_none = λ n few. refl; effects = λ d. ap (λ (o : Option ℕ). effect_if d o (Edits made)) is }))
+
+  pub batch_since_next : (name : List ℕ) (seen : ℕ) (edits : List Edit) (who : List ℕ) → Next (BatchSince name seen edits who) (batch_since name seen edits who desk)
+  batch_since_next name seen edits who = next_batch_since name seen edits who (deck_named name desk) refl
 
   -- nothing speaks against an edit only where the deck is there
   next_edit : (name : List ℕ) (seen : ℕ) (edit : Edit) (who : List ℕ) (found : Option DeskDeck) → deck_named name desk ≡ found → against_edit seen edit desk found ≡ None → Next (EditDeck name seen edit who) (accepted (edited name who (edit ∷ []) desk))

@@ -1,5 +1,5 @@
 -- What every run of a desk shows.
-use Rattle.std.proofs.Common.{◌≡◌, inl, inr, ℕ, false, List, [], ◌∷◌, ◌++◌, Option, Some, None, sym, ap, ◌∙◌, subst, arith, append_assoc, append-nil}
+use Rattle.std.proofs.Common.{◌≡◌, inl, inr, ℕ, true, false, List, [], ◌∷◌, ◌++◌, Option, Some, None, sym, ap, ◌∙◌, subst, arith, append_assoc, append-nil}
 use Rattle.std.specs.List.{cons_option}
 use Rattle.turn_office.specs.declared.history.Entry.{Entry}
 use Rattle.turn_office.specs.Histories.{Leads}
@@ -19,8 +19,8 @@ silent_entry : (entry : Entry Call Reply) → accepts entry.reply ≡ false → 
 silent_entry entry silent = rw silent
 
 -- an entry whose reply accepts made the change that was asked for
-accepted_entry : (entry : Entry Call Reply) (version : ℕ) (change : Change) → change_asked entry.call ≡ Some change → entry.reply ≡ Changed version → change_in entry ≡ Some change
-accepted_entry entry version change asked told = rw told asked
+accepted_entry : (entry : Entry Call Reply) (change : Change) → change_asked entry.call entry.reply ≡ Some change → accepts entry.reply ≡ true → change_in entry ≡ Some change
+accepted_entry entry change asked told = rw told asked
 
 -- the changes before an entry, with those of the entry and of what follows
 same_when_silent : (changes : List Change) (entry : Entry Call Reply) (more : History) → change_in entry ≡ None → changes ++ changes_in (entry ∷ more) ≡ changes ++ changes_in more
@@ -40,7 +40,7 @@ next_told begun changes desk next entry more told (by_staying by) = record { cha
 next_told begun changes desk next entry more told (by_changing by) = record {
   changes_now = changes ++ by.change ∷ [];
   told = told_change begun changes desk next entry.call entry.reply told by;
-  same = more_when_accepted changes entry more by.change (accepted_entry entry next.version by.change by.asked by.told);
+  same = more_when_accepted changes entry more by.change (accepted_entry entry by.change by.asked by.told);
 }
 next_told begun changes desk next entry more told (by_publishing by) = record {
   changes_now = changes;

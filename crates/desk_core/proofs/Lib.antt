@@ -25,11 +25,13 @@ pub mod WorkedForeign
 pub mod WorkedLinks
 pub mod WorkedChanges
 pub mod WorkedPast
+pub mod WorkedCarrying
 pub mod WorkedPuts
 pub mod WorkedRounds
 pub mod PlaceLaws
 pub mod AnswerLaws
 pub mod ChangeDone
+pub mod CarryDone
 pub mod ClaimDone
 pub mod DeliverDone
 pub mod CardCounts
@@ -41,3 +43,4 @@ pub mod WorkEnds
 pub mod PastSteps
 pub mod UndoLaws
 pub mod PastLaws
+pub mod BackSteps

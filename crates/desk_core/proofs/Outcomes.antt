@@ -14,8 +14,8 @@ pub record Stays (desk : Desk) (reply : Reply) (next : Desk) : Type 0 where
 -- the change that was asked for is made
 pub record Changes (desk : Desk) (call : Call) (reply : Reply) (next : Desk) : Type 0 where
   pub change : Change
-  pub asked : change_asked call ≡ Some change
-  pub told : reply ≡ Changed next.version
+  pub asked : change_asked call reply ≡ Some change
+  pub told : accepts reply ≡ true
   pub version : next.version ≡ desk.version + 1
   pub decks : decks_of next ≡ changed (decks_of desk) change
   pub publication : next.publication ≡ desk.publication

@@ -1,5 +1,5 @@
 -- The decks of a desk have names of their own in every run.
-use Rattle.std.proofs.Common.{◌≡◌, ℕ, ◌+◌, ◌==◌, Bool, true, false, cond, not, ◌||◌, is_none, List, [], ◌∷◌, map, filter, find, is_some, Option, Some, None, refl, sym, ap, ◌∙◌, subst, inl, inr}
+use Rattle.std.proofs.Common.{◌≡◌, ℕ, ◌+◌, ◌==◌, Bool, true, false, cond, not, ◌||◌, is_none, List, [], ◌∷◌, map, filter, find, is_some, Option, Some, None, Result, Ok, Err, option_map, refl, sym, ap, ◌∙◌, subst, inl, inr}
 use Rattle.std.specs.List.{list_any}
 use Rattle.std.proofs.lemmas.Bool.{cond_both}
 use Rattle.turn_office.specs.Histories.{Leads}
@@ -7,9 +7,11 @@ use Rattle.desk_core.specs.Language.{Deck, same_text}
 use Rattle.desk_core.specs.Causes.{when, first_cause}
 use Rattle.desk_core.specs.Edits.{Edit}
 use Rattle.desk_core.specs.Desks.{Desk, DeskDeck, Publication, new_desk_at, is_named, deck_named, put_if_named, is_leased, is_leased_at, decks_of}
-use Rattle.desk_core.specs.Calls.{Call, AddDeck, PutDeck, DropDeck, EditDeck, Batch, Changes, CardsAt, Cards, Show, Status, Claim, DeliverDeck, DeliverLink, GiveUp, Done, Reply, Refusal, NameTaken}
+use Rattle.desk_core.specs.Calls.{Call, AddDeck, PutDeck, DropDeck, EditDeck, Batch, EditSince, BatchSince, Changes, CardsAt, Cards, Show, Status, Claim, DeliverDeck, DeliverLink, GiveUp, Done, Reply, Refusal, NameTaken}
 use Rattle.desk_core.specs.Answers.{Answer, unless, against_next}
 use Rattle.desk_core.specs.Changing.{accepted, against_add, added_deck, added, add_deck, against_put, replaced_deck, put, put_where, against_drop, dropped, drop_deck, edited_deck, edited, against_edit, edit_deck, against_batch, batch}
+use Rattle.cards.specs.declared.carrying.Touched.{Touched}
+use Rattle.desk_core.specs.Carrying.{carried_since, against_carry, accept_carried, edit_since_of, batch_since_of, alone}
 use Rattle.desk_core.specs.Earlier.{against_since, changes_of, cards_at_of}
 use Rattle.desk_core.specs.Claiming.{claim, claim_deck, claim_link, hand_out, hand_out_link, given, is_behind, is_free, is_published}
 use Rattle.desk_core.specs.Delivering.{deliver_to, take_result, deck_leased, lost, given_back, stored, is_for, is_sound, same_decks, deliver_link, give_up_of}
@@ -129,6 +131,18 @@ module _ (desk : Desk) (own : HaveOwnNames desk.decks) where
   own-give-up-of number None = cond_both (is_leased number desk.link) _ _ Own (λ out. own) (λ unknown. own)
   own-give-up-of number (Some deck) = own-put deck.name lost desk.decks (λ d. refl) own
 
+  own-carried : (name who : List ℕ) (deck : DeskDeck) (moved : Result (List Edit) Touched) → Own (accept_carried name who desk deck moved)
+  own-carried name who deck (Ok edits) = own-put name (edited_deck (desk.version + 1) who edits) desk.decks (λ d. refl) own
+  own-carried name who deck (Err touched) = own
+
+  own-edit-since : (name : List ℕ) (seen : ℕ) (edit : Edit) (who : List ℕ) (found : Option DeskDeck) → Own (edit_since_of name seen edit who desk found)
+  own-edit-since name seen edit who None = own
+  own-edit-since name seen edit who (Some deck) = own-unless desk (option_map alone (against_carry seen (edit ∷ []) desk deck)) _ own (λ clear. own-carried name who deck (carried_since seen (edit ∷ []) deck))
+
+  own-batch-since : (name : List ℕ) (seen : ℕ) (edits : List Edit) (who : List ℕ) (found : Option DeskDeck) → Own (batch_since_of name seen edits who desk found)
+  own-batch-since name seen edits who None = own
+  own-batch-since name seen edits who (Some deck) = own-unless desk (against_carry seen edits desk deck) _ own (λ clear. own-carried name who deck (carried_since seen edits deck))
+
   own-changes : (since : ℕ) (found : Option DeskDeck) → Own (changes_of since desk found)
   own-changes since None = own
   own-changes since (Some deck) = own-unless desk (against_since since deck) _ own (λ clear. own)
@@ -144,6 +158,8 @@ module _ (desk : Desk) (own : HaveOwnNames desk.decks) where
   own-answer (DropDeck name seen) = own-drop name seen
   own-answer (EditDeck name seen edit who) = own-edit name seen edit who
   own-answer (Batch name seen edits who) = own-batch name seen edits who
+  own-answer (EditSince name seen edit who) = own-edit-since name seen edit who (deck_named name desk)
+  own-answer (BatchSince name seen edits who) = own-batch-since name seen edits who (deck_named name desk)
   own-answer (Changes name since) = own-changes since (deck_named name desk)
   own-answer (CardsAt name version) = own-cards-at version (deck_named name desk)
   own-answer (Cards name) = own

@@ -8,6 +8,7 @@ use Rattle.desk_core.specs.Language.{Card}
 use Rattle.desk_core.specs.Edits.{Edit, edited}
 use Rattle.desk_core.specs.declared.past.Back.{Back}
 use Rattle.desk_core.specs.Past.{KeptEdit, undo_of, kept_edits, last_version, behind, backs_of}
+use Rattle.desk_core.specs.Carrying.{made_in}
 use Rattle.desk_core.specs.Stored.{kept_both, made_edits, backs_made, backs_from}
 
 -- two lists of one length, one behind the other
@@ -126,3 +127,9 @@ backs-kept [] [] same = refl
 backs-kept [] (b ∷ backs) same = cc
 backs-kept (m ∷ made) [] same = cc
 backs-kept (m ∷ made) (b ∷ backs) same = ap (λ (edits : List Edit). edits ++ b.edit ∷ []) (backs-kept made backs (omega (arith, same)))
+
+-- the edits that were made
+pub made-kept : (made : List MadeEdit) (backs : List Back) → length backs ≡ length made → made_in (kept_both made backs) ≡ made
+made-kept [] backs same = refl
+made-kept (m ∷ made) [] same = cc
+made-kept (m ∷ made) (b ∷ backs) same = ap (λ (more : List MadeEdit). m ∷ more) (made-kept made backs (omega (arith, same)))

@@ -11,6 +11,7 @@ pub mod Answers
 pub mod Changing
 pub mod Reading
 pub mod Earlier
+pub mod Carrying
 pub mod Claiming
 pub mod Delivering
 pub mod Steps

@@ -1,11 +1,12 @@
 -- Runs of a desk: legal histories from a new one, the changes that they accepted, and what is promised of them (ours).
-use Rattle.std.specs.Prelude.{◌≡◌, ℕ, ◌+◌, ◌-◌, ◌≤◌, Bool, true, false, List, [], ◌∷◌, take, length, filter_map, Option, Some, None, if◌then◌else◌}
+use Rattle.std.specs.Prelude.{◌≡◌, ℕ, ◌+◌, ◌-◌, ◌≤◌, Bool, true, false, List, [], ◌∷◌, take, length, filter_map, Option, Some, None, option_map, if◌then◌else◌}
 use Rattle.turn_office.specs.declared.history.Entry.{Entry}
 use Rattle.turn_office.specs.Histories.{Leads}
 use Rattle.desk_core.specs.Language.{Deck, listing_of, image_of}
+use Rattle.desk_core.specs.Edits.{Edit}
 use Rattle.desk_core.specs.Changes.{Change, Added, Dropped, Edited, Put, decks_after}
 use Rattle.desk_core.specs.Desks.{Desk, Publication, new_desk_at, decks_of}
-use Rattle.desk_core.specs.Calls.{Call, AddDeck, PutDeck, DropDeck, EditDeck, Batch, Reply, Changed}
+use Rattle.desk_core.specs.Calls.{Call, AddDeck, PutDeck, DropDeck, EditDeck, Batch, EditSince, BatchSince, Reply, Changed, Carried}
 use Rattle.desk_core.specs.Steps.{Steps}
 
 -- calls with their replies, oldest first
@@ -16,23 +17,31 @@ History = List (Entry Call Reply)
 abbrev pub Runs : ℕ → History → Desk → Type 0
 Runs begun history desk = Leads Steps (new_desk_at begun) history desk
 
--- the change that a call asks for
-abbrev pub change_asked : Call → Option Change
-change_asked (AddDeck deck) = Some (Added deck)
-change_asked (PutDeck deck seen) = Some (Put deck)
-change_asked (DropDeck name seen) = Some (Dropped name)
-change_asked (EditDeck name seen edit by) = Some (Edited name (edit ∷ []))
-change_asked (Batch name seen edits by) = Some (Edited name edits)
-change_asked _ = None
+-- the edits as they were carried, where a reply tells them
+abbrev pub carried_in : Reply → Option (List Edit)
+carried_in (Carried version seen edits) = Some edits
+carried_in _ = None
+
+-- the change that a call asks for; where its edits are carried, with those that the reply tells
+abbrev pub change_asked : Call → Reply → Option Change
+change_asked (AddDeck deck) reply = Some (Added deck)
+change_asked (PutDeck deck seen) reply = Some (Put deck)
+change_asked (DropDeck name seen) reply = Some (Dropped name)
+change_asked (EditDeck name seen edit by) reply = Some (Edited name (edit ∷ []))
+change_asked (Batch name seen edits by) reply = Some (Edited name edits)
+change_asked (EditSince name seen edit by) reply = option_map (Edited name) (carried_in reply)
+change_asked (BatchSince name seen edits by) reply = option_map (Edited name) (carried_in reply)
+change_asked _ reply = None
 
 -- whether a reply accepts a change
 abbrev pub accepts : Reply → Bool
 accepts (Changed version) = true
+accepts (Carried version seen edits) = true
 accepts _ = false
 
 -- the change that an entry made
 abbrev pub change_in : Entry Call Reply → Option Change
-change_in entry = if accepts entry.reply then change_asked entry.call else None
+change_in entry = if accepts entry.reply then change_asked entry.call entry.reply else None
 
 -- the accepted changes, in order
 abbrev pub changes_in : History → List Change

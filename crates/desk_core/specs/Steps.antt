@@ -1,11 +1,12 @@
 -- The step of a desk (ours): a function of the call and the desk, and one free choice.
 use Rattle.std.specs.Prelude.{◌≡◌, ◌⊎◌, Bool, true, false, not, ◌&&◌, IsTrue}
 use Rattle.desk_core.specs.Desks.{Desk}
-use Rattle.desk_core.specs.Calls.{Call, AddDeck, PutDeck, DropDeck, EditDeck, Batch, Changes, CardsAt, Cards, Show, Status, Claim, DeliverDeck, DeliverLink, GiveUp, Reply, Changed, CardsAre, ChangesAre, CardsBefore, Shown, StatusIs, DeckJob, LinkJob, Refused, OutOfMemory}
+use Rattle.desk_core.specs.Calls.{Call, AddDeck, PutDeck, DropDeck, EditDeck, Batch, EditSince, BatchSince, Changes, CardsAt, Cards, Show, Status, Claim, DeliverDeck, DeliverLink, GiveUp, Reply, Changed, Carried, CardsAre, ChangesAre, CardsBefore, Shown, StatusIs, DeckJob, LinkJob, Refused, OutOfMemory}
 use Rattle.desk_core.specs.Answers.{Answer}
 use Rattle.desk_core.specs.Changing.{add_deck, put_deck, drop_deck, edit_deck, batch}
 use Rattle.desk_core.specs.Reading.{cards, show, status}
 use Rattle.desk_core.specs.Earlier.{changes, cards_at}
+use Rattle.desk_core.specs.Carrying.{edit_since, batch_since}
 use Rattle.desk_core.specs.Claiming.{claim}
 use Rattle.desk_core.specs.Delivering.{deliver_deck, deliver_link, give_up}
 
@@ -16,6 +17,8 @@ answer (PutDeck deck seen) desk = put_deck deck seen desk
 answer (DropDeck name seen) desk = drop_deck name seen desk
 answer (EditDeck name seen edit by) desk = edit_deck name seen edit by desk
 answer (Batch name seen edits by) desk = batch name seen edits by desk
+answer (EditSince name seen edit by) desk = edit_since name seen edit by desk
+answer (BatchSince name seen edits by) desk = batch_since name seen edits by desk
 answer (Changes name since) desk = changes name since desk
 answer (CardsAt name version) desk = cards_at name version desk
 answer (Cards name) desk = cards name desk
@@ -34,6 +37,7 @@ is_drop _ = false
 -- whether a reply tells of something that has to be stored or copied first
 abbrev pub is_made : Reply → Bool
 is_made (Changed version) = true
+is_made (Carried version seen edits) = true
 is_made (CardsAre version cards) = true
 is_made (ChangesAre version edits) = true
 is_made (CardsBefore version cards backs) = true

@@ -47,6 +47,20 @@ pub enum Call {
         edits: Listed<Edit>,
         by: DeckName,
     },
+    /// One edit of the deck by who saw this version of it, carried over what others changed since.
+    EditSince {
+        name: DeckName,
+        seen: u64,
+        edit: Edit,
+        by: DeckName,
+    },
+    /// Edits of the deck by who saw this version of it, carried over what others changed since.
+    BatchSince {
+        name: DeckName,
+        seen: u64,
+        edits: Listed<Edit>,
+        by: DeckName,
+    },
     /// The changes of the deck behind a version.
     Changes {
         name: DeckName,

@@ -19,7 +19,7 @@ use std::alloc::AllocError;
 const MOST_DECKS: usize = 64;
 
 /// How many edits a batch has at most.
-const MOST_EDITS: usize = 100;
+pub(crate) const MOST_EDITS: usize = 100;
 
 impl Desk {
     /// A deck more.
@@ -189,7 +189,12 @@ impl Desk {
     }
 
     /// Makes an edit that applies to the deck at a place, as the next change.
-    fn edit_at(&mut self, place: usize, by: &DeckName, edit: &Edit) -> Result<u64, AllocError>
+    pub(crate) fn edit_at(
+        &mut self,
+        place: usize,
+        by: &DeckName,
+        edit: &Edit,
+    ) -> Result<u64, AllocError>
         requires within { place < length self.old.decks }
         requires applies { ForSome (slice_get self.old.decks place) (λ deck. fault_of edit.now deck.cards ≡ None) }
         requires room { against_next self.old.version ≡ None }
@@ -242,7 +247,7 @@ impl Desk {
     }
 
     /// Makes edits of which each applies to the deck at a place, as the next change.
-    fn edit_all_at(
+    pub(crate) fn edit_all_at(
         &mut self,
         place: usize,
         by: &DeckName,

@@ -78,7 +78,7 @@ fn cards_and_backs(
 }
 
 /// What speaks against what is asked of a deck from a version on.
-fn against_since(deck: &StoredDeck, version: u64) -> Option<Refusal>
+pub(crate) fn against_since(deck: &StoredDeck, version: u64) -> Option<Refusal>
     ensures { result ≡ against_since version deck.now }
 {
     if version > deck.version() {

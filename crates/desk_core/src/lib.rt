@@ -31,6 +31,7 @@ mod past;
 mod stored_deck;
 
 // Calls.
+mod carrying;
 mod changing;
 mod claiming;
 mod comparing;

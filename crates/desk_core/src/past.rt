@@ -1,8 +1,10 @@
 //! The changes of a deck that are kept.
 ghost use Rattle.std.specs.Prelude.{◌≡◌, ◌≤◌, ℕ, List, nat_lt, [], ◌∷◌, length, take, drop, position, is_ok, None, IfOk, if◌then◌else◌};
+ghost use Rattle.cards.specs.Counts.{fault_at, count_after};
 ghost use Rattle.desk_core.specs.Edits.{fault_of, first_fault, edited_by};
 ghost use Rattle.desk_core.specs.Past.{begun_at, with_edits, undo_of, last_version, without_oldest, trimmed, behind, backs_of};
 ghost use Rattle.desk_core.specs.declared.past.Back.{Back};
+ghost use Rattle.desk_core.specs.Carrying.{made_in};
 ghost use Rattle.desk_core.specs.Stored.{kept_both, made_edits, backs_made, backs_from};
 
 use cards::{Card, DeckName, Edit, MadeEdit, apply, copied_cards};
@@ -44,6 +46,7 @@ pub(crate) struct Past {
 impl Model for Past {
     ghost use Rattle.std.specs.Prelude.{◌≡◌, length};
     ghost use Rattle.desk_core.specs.Past as past;
+    ghost use Rattle.desk_core.specs.Carrying.{made_in};
     ghost use Rattle.desk_core.specs.Stored.{past_of};
 
     ghost Value = { past.Past };
@@ -150,6 +153,15 @@ impl Past {
         drop_first(&mut self.backs, count);
     }
 
+    /// How many cards the deck with these cards had at a version, and the edits that were made behind it.
+    pub(crate) fn seen_at(&self, version: u64, cards: &[Card]) -> (usize, &[MadeEdit])
+        requires { first_fault (backs_of (behind version self.now.edits)) cards.now ≡ None }
+        ensures count { result.0 ≡ length (edited_by (backs_of (behind version self.now.edits)) cards.now) }
+        ensures made { result.1.now ≡ made_in (behind version self.now.edits) }
+    {
+        seen_at(self.made.as_slice(), self.backs.as_slice(), version, cards)
+    }
+
     /// The edits behind a version once more.
     pub(crate) fn edits_behind(
         &self,
@@ -237,6 +249,47 @@ fn backs_behind(
 {
     let count = count_before(made, version);
     backs_from(alloc, rest(backs, count))
+}
+
+/// How many cards a deck with these cards had at a version, and the edits that were made behind it.
+fn seen_at<'a>(
+    made: &'a [MadeEdit],
+    backs: &[Back],
+    version: u64,
+    cards: &[Card],
+) -> (usize, &'a [MadeEdit])
+    requires same { length backs.now ≡ length made.now }
+    requires applies { first_fault (backs_of (behind version (kept_both made.now backs.now))) cards.now ≡ None }
+    ensures count { result.0 ≡ length (edited_by (backs_of (behind version (kept_both made.now backs.now))) cards.now) }
+    ensures made { result.1.now ≡ made_in (behind version (kept_both made.now backs.now)) }
+{
+    let count = count_before(made, version);
+    let taken = count_back(rest(backs, count), cards);
+    (taken, rest(made, count))
+}
+
+/// How many cards there were before edits that are taken back, the last first.
+fn count_back(backs: &[Back], cards: &[Card]) -> usize
+    requires { first_fault (backs_from backs.now) cards.now ≡ None }
+    ensures { result ≡ length (edited_by (backs_from backs.now) cards.now) }
+{
+    let mut count = cards.len();
+    for gone in 0..backs.len() {
+        count = count_after(&backs[backs.len() - 1 - gone].edit, count);
+    }
+    count
+}
+
+/// How many cards there are after an edit that applies.
+fn count_after(edit: &Edit, count: usize) -> usize
+    requires { fault_at edit.now count ≡ None }
+    ensures { result ≡ count_after edit.now count }
+{
+    match edit {
+        Edit::Insert { .. } => count + 1,
+        Edit::Replace { .. } => count,
+        Edit::Remove { .. } => count - 1,
+    }
 }
 
 /// Edits with what takes them back.

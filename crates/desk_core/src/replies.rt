@@ -62,6 +62,8 @@ pub enum Refusal {
     NotKept,
     /// The changes of the deck are kept from this version on.
     Forgotten(u64),
+    /// This card of those that the sender saw was changed, first in this version.
+    TouchedCard(u64, u64),
 }
 
 /// What a desk answers.
@@ -69,6 +71,13 @@ pub enum Refusal {
 pub enum Reply {
     /// The change is made: the desk's new version.
     Changed(u64),
+    /// The change is made: the desk's new version, the deck's version before it, and the edits as they
+    /// were made.
+    Carried {
+        version: u64,
+        seen: u64,
+        edits: Listed<Edit>,
+    },
     /// A deck's version and cards.
     CardsAre(u64, Listed<Card>),
     /// A deck's version, and its edits behind the one that was asked for.

@@ -29,6 +29,18 @@ impl Desk {
                 edits,
                 by,
             } => self.batch(&name, seen, edits.as_slice(), &by),
+            Call::EditSince {
+                name,
+                seen,
+                edit,
+                by,
+            } => self.edit_since(&name, seen, edit, &by),
+            Call::BatchSince {
+                name,
+                seen,
+                edits,
+                by,
+            } => self.batch_since(&name, seen, edits, &by),
             Call::Changes { name, since } => self.changes(&name, since),
             Call::CardsAt { name, version } => self.earlier_cards(&name, version),
             Call::Cards(name) => self.cards(&name),

@@ -1,12 +1,14 @@
 //! A deck as the desk keeps it.
-ghost use Rattle.std.specs.Prelude.{◌≡◌, ◌≤◌, ◌||◌, length, None, Some, [], ◌∷◌, is_ok, is_some, true, IfOk, if◌then◌else◌};
+ghost use Rattle.std.specs.Prelude.{◌≡◌, ◌≤◌, ◌||◌, length, None, Some, [], ◌∷◌, is_ok, is_some, option_map, Ok, true, IfOk, if◌then◌else◌};
 ghost use Rattle.desk_core.specs.Desks.{is_named, is_leased, deck_of};
 ghost use Rattle.desk_core.specs.Edits.{fault_of, first_fault};
 ghost use Rattle.desk_core.specs.Changing.{added_deck, replaced_deck, edited_deck};
 ghost use Rattle.desk_core.specs.Claiming.{is_behind, is_free, given, deck_work};
 ghost use Rattle.desk_core.specs.Delivering.{is_for, same_deck, lost, given_back, stored};
 ghost use Rattle.desk_core.specs.Past.{backs_of};
+ghost use Rattle.desk_core.specs.Causes.{first_cause};
 ghost use Rattle.desk_core.specs.Earlier.{edits_behind};
+ghost use Rattle.desk_core.specs.Carrying.{cards_of, carried_since, bad_edit, against_carried};
 ghost use Rattle.desk_core.specs.Reading.{row_of, state_of};
 
 use crate::calls::Done;
@@ -19,8 +21,8 @@ use crate::leases::{Lease, is_leased, is_leased_at};
 use crate::listed::Listed;
 use crate::new_deck::NewDeck;
 use crate::past::{Back, KeptEdit, Past, edited_copy, made_edits, undo_of};
-use crate::replies::{Row, State};
-use cards::{Card, DeckName, Edit, copied_cards};
+use crate::replies::{Refusal, Row, State};
+use cards::{Card, DeckName, Edit, carry, copied_cards, first_fault};
 use deck_listing::ListedObject;
 use std::alloc::{AllocError, Global};
 use std::marker::Model;
@@ -207,6 +209,26 @@ impl StoredDeck {
         ensures { IfOk result (λ backs. backs.items ≡ backs_of (edits_behind version self.now)) }
     {
         self.past.backs_behind(alloc, version)
+    }
+
+    /// Carries edits over what others changed since a version that their sender saw, or tells what speaks
+    /// against them: they have to apply to the cards of that version, and then to those of now.
+    pub(crate) fn carry(&self, seen: u64, edits: &mut [Edit]) -> Option<Refusal>
+        requires { length edits.old ≤ 100 }
+        ensures refusal { result ≡ first_cause (option_map bad_edit (first_fault edits.old (cards_of seen self.now)) ∷ against_carried (carried_since seen edits.old self.now) self.now.cards ∷ []) }
+        ensures carried { result ≡ None → carried_since seen edits.old self.now ≡ Ok edits.new }
+    {
+        let (count, made) = self.past.seen_at(seen, &self.cards);
+        if let Some((number, fault)) = first_fault(edits, count) {
+            return Some(Refusal::BadEdit(number, fault));
+        }
+        if let Err(touched) = carry(edits, made) {
+            return Some(Refusal::TouchedCard(touched.card, touched.version));
+        }
+        match first_fault(edits, self.cards.len()) {
+            Some((number, fault)) => Some(Refusal::BadEdit(number, fault)),
+            None => None,
+        }
     }
 
     /// Its row in the status of the desk.
