@@ -3,6 +3,7 @@ use Rattle.std.specs.Prelude.{ℕ, ◌≡◌, ⊤, ◌⊎◌, List, Bool, true, 
 use Rattle.desk_core.specs.declared.replies.Refusal.{Refusal}
 use Rattle.desk_core.specs.declared.replies.Refusal.TheVariants.{NotKept, OutOfMemory}
 use Rattle.journal.specs.declared.changes.Change.{Change}
+use Rattle.journal.specs.declared.drafts.Stamp.{Stamp}
 use Rattle.journal.specs.JournalFiles.{Step, IsKept}
 use Rattle.journal.specs.Names.{session_name}
 use Rattle.journal.specs.Records.{text_behind_version}
@@ -31,6 +32,11 @@ module _ {F : Type 0} (has_done : F → List Step → Type 0) where
   abbrev pub BeginsRecord : SessionKeeper → Change → Result (List ℕ) Refusal → SessionKeeper → Type 0
   BeginsRecord old change (Ok draft) new = (new ≡ old) × (old.journaled ≡ true → IsMadeUp old.missed × IsDraft old.session change draft)
   BeginsRecord old change (Err refusal) new = (new ≡ old) × ((refusal ≡ NotKept) ⊎ (refusal ≡ OutOfMemory))
+
+  -- what is answered where a change is asked for whose record is known once it is made: the session, once what it was told as not kept is kept; or a refusal
+  abbrev pub OpensRecord : SessionKeeper → Result Stamp Refusal → SessionKeeper → Type 0
+  OpensRecord old (Ok stamp) new = (new ≡ old) × (old.journaled ≡ true → IsMadeUp old.missed × (stamp.session ≡ old.session))
+  OpensRecord old (Err refusal) new = (new ≡ old) × (refusal ≡ NotKept)
 
   -- what is answered where a change was made: that its record is kept, or that it is not, which the session remembers
   abbrev pub KeepsRecord : SessionKeeper → ℕ → List ℕ → Bool → SessionKeeper → Type 0

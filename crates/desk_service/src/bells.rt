@@ -64,8 +64,9 @@ impl<C: Calls, B: Ring> Calls for Ringing<C, B> {
 fn ring_after<B: Ring>(bell: &mut B, reply: &Reply)
     ensures { RingsAfter B.rings reply.now bell.old bell.new }
 {
-    if let Reply::Changed(_) = reply {
-        bell.ring();
+    match reply {
+        Reply::Changed(_) | Reply::Carried { .. } => bell.ring(),
+        _ => {}
     }
 }
 

@@ -12,7 +12,7 @@ ghost use Rattle.desk_service.specs.SessionKeepers.{IsMadeUp};
 use desk_core::Refusal;
 use journal::{
     Batch, Change, DeckName, Draft, JournalFile, Keep, KeptRecords, Moment, Queue, RecordsFile,
-    draft_change, session_name,
+    Stamp, draft_change, session_name,
 };
 use std::alloc::{AllocError, Global};
 use std::marker::Model;
@@ -196,13 +196,15 @@ impl<'a, R, F: RecordsFile> SessionKeeper<'a, R, F> {
 }
 
 impl<R: Wait + Clock, F: RecordsFile + Drop> Keep for SessionKeeper<'_, R, F> {
-    ghost use Rattle.desk_service.specs.SessionKeepers.{BeginsRecord, KeepsRecord, keeper_name};
+    ghost use Rattle.desk_service.specs.SessionKeepers.{BeginsRecord, KeepsRecord, OpensRecord, keeper_name};
 
     ghost begins = { BeginsRecord F.has_done };
 
     ghost keeps = { KeepsRecord F.has_done };
 
     ghost who = { keeper_name };
+
+    ghost opens = { OpensRecord F.has_done };
 
     fn begin(&mut self, change: &Change) -> Result<Draft, Refusal> {
         let Some(journal) = self.journal else {
@@ -216,6 +218,18 @@ impl<R: Wait + Clock, F: RecordsFile + Drop> Keep for SessionKeeper<'_, R, F> {
             Ok(draft) => Ok(draft),
             Err(_) => Err(Refusal::OutOfMemory),
         }
+    }
+
+    fn open(&mut self) -> Result<Stamp, Refusal> {
+        if let Some(journal) = self.journal {
+            if !journal.may_change(self.rt, self.missed) {
+                return Err(Refusal::NotKept);
+            }
+        }
+        Ok(Stamp {
+            moment: moment_now(self.rt),
+            session: self.session as u64,
+        })
     }
 
     fn keep(&mut self, version: u64, draft: Draft) -> bool {

@@ -7,6 +7,7 @@ use Rattle.cards.specs.declared.edits.Edit.{Edit}
 use Rattle.cards.specs.declared.edits.Edit.TheVariants.{Insert, Replace, Remove}
 use Rattle.session_line.specs.Words.{greatest_number}
 use Rattle.session_line.specs.Commands.{is_batch_size, is_put_size}
+use Rattle.session_line.specs.declared.words.Seen.TheVariants.{Exactly}
 use Rattle.session_line.specs.Lines.{behind_a_blank, name_and_number, line_of_edit, line_in_batch, IsLawfulEdit}
 use Rattle.std.proofs.lemmas.Bool.{and_parts, leb-true}
 use Rattle.std.specs.Prelude.{nat_le}
@@ -83,7 +84,7 @@ edit-fits (Replace at card) lawful = fits-word 101 (codes "REP") (behind_a_blank
 edit-fits (Remove at) lawful = fits-more 26 107 (line_in_batch (Remove at)) (omega arith) (fits-word 20 (codes "DEL") (behind_a_blank (decimal at ++ [])) (record { plain = refl; short = omega arith }) (fits-last at lawful))
 
 -- an edit of a deck
-edit_of-fits : (name : List ℕ) (seen : ℕ) (edit : Edit) → is_deck_name name ≡ true → seen ≤ greatest_number → IsLawfulEdit edit → Fits 135 (line_of_edit name seen edit)
+edit_of-fits : (name : List ℕ) (seen : ℕ) (edit : Edit) → is_deck_name name ≡ true → seen ≤ greatest_number → IsLawfulEdit edit → Fits 135 (line_of_edit name (Exactly seen) edit)
 edit_of-fits name seen (Insert at card) is within lawful =
     let rest = behind_a_blank (decimal at ++ behind_a_blank card) in
     fits-word 129 (codes "INS") (name_and_number name seen rest) (record { plain = refl; short = omega arith }) (fits-target 101 name seen rest is within (fits-placed at card lawful.0 lawful.1))
@@ -92,7 +93,7 @@ edit_of-fits name seen (Replace at card) is within lawful =
     fits-word 129 (codes "REP") (name_and_number name seen rest) (record { plain = refl; short = omega arith }) (fits-target 101 name seen rest is within (fits-placed at card lawful.0 lawful.1))
 edit_of-fits name seen (Remove at) is within lawful =
     let rest = behind_a_blank (decimal at ++ []) in
-    fits-more 54 135 (line_of_edit name seen (Remove at)) (omega arith)
+    fits-more 54 135 (line_of_edit name (Exactly seen) (Remove at)) (omega arith)
     (fits-word 48 (codes "DEL") (name_and_number name seen rest) (record { plain = refl; short = omega arith }) (fits-target 20 name seen rest is within (fits-last at lawful)))
 
 -- a count of a batch

@@ -14,6 +14,7 @@ use Rattle.session_line.specs.declared.commands.Command.TheVariants as command
 use Rattle.session_line.specs.declared.refusals.Refusal.{Refusal}
 use Rattle.session_line.specs.Words.{first_word, first_number, behind_word, greatest_number}
 use Rattle.session_line.specs.Edits.{is_end}
+use Rattle.session_line.specs.declared.words.Seen.TheVariants.{Exactly}
 use Rattle.session_line.specs.Lines.{behind_a_blank, line_of_edit, line_in_batch, IsLawfulEdit}
 use Rattle.session_line.proofs.ReadBack.{word-decimal, first-word, behind-word, first-number}
 use Rattle.session_line.proofs.LineLaws.{line-back, batch_line-back}
@@ -44,10 +45,10 @@ bare (entry.Made (Edited name seen edit)) = record { entry = entry.Made (Edited 
 bare (entry.Made (Batch name seen edits)) = record { entry = entry.Made (Batch name seen []); lines = length edits }
 
 bare-edit : (name : List ℕ) (seen : ℕ) (edit : Edit) → is_deck_name name ≡ true → seen ≤ greatest_number → IsLawfulEdit edit →
-    begun_of (line_of_edit name seen edit) ≡ Some (bare (entry.Made (Edited name seen edit)))
-bare-edit name seen (Insert at card) is within lawful = ap begun_by (line-back (command.Edit name seen (Insert at card)) (is, within, lawful))
-bare-edit name seen (Replace at card) is within lawful = ap begun_by (line-back (command.Edit name seen (Replace at card)) (is, within, lawful))
-bare-edit name seen (Remove at) is within lawful = ap begun_by (line-back (command.Edit name seen (Remove at)) (is, within, lawful))
+    begun_of (line_of_edit name (Exactly seen) edit) ≡ Some (bare (entry.Made (Edited name seen edit)))
+bare-edit name seen (Insert at card) is within lawful = ap begun_by (line-back (command.Edit name (Exactly seen) (Insert at card)) (is, within, lawful))
+bare-edit name seen (Replace at card) is within lawful = ap begun_by (line-back (command.Edit name (Exactly seen) (Replace at card)) (is, within, lawful))
+bare-edit name seen (Remove at) is within lawful = ap begun_by (line-back (command.Edit name (Exactly seen) (Remove at)) (is, within, lawful))
 
 -- what a record tells reads back from its first line
 bare-back : (entry : Entry) → IsLawfulEntry entry → begun_of (line_of_entry entry) ≡ Some (bare entry)
@@ -58,7 +59,7 @@ bare-back (entry.Made (Put deck seen)) lawful =
 bare-back (entry.Made (Dropped name seen)) lawful = ap begun_by (line-back (command.Drop name seen) lawful)
 bare-back (entry.Made (Edited name seen edit)) lawful = bare-edit name seen edit lawful.0 lawful.1 lawful.2
 bare-back (entry.Made (Batch name seen edits)) lawful =
-    ap begun_by (line-back (command.Batch (record { name = Ok name; version = seen; count = length edits })) (lawful.0, lawful.1, lawful.2))
+    ap begun_by (line-back (command.Batch (record { name = Ok name; seen = Exactly seen; count = length edits })) (lawful.0, lawful.1, lawful.2))
 
 parts-given : (line : List ℕ) (first : Option ℕ) (second : Option (List ℕ)) (third : Option ℕ) (fourth : Option Begun) (version : ℕ) (moment : List ℕ) (session : ℕ) (begun : Begun) →
     first ≡ Some version → second ≡ Some moment → third ≡ Some session → fourth ≡ Some begun →

@@ -57,12 +57,12 @@ leads-more desk mid last [] call reply leads step = (last, subst (λ (d : Desk).
 leads-more desk mid last (first ∷ history) call reply leads step = (leads.0, leads.1, leads-more leads.0 mid last history call reply leads.2 step)
 
 -- the change that its call asks for
-asked-is : (by : List ℕ) (asked : Change) → change_asked (call_of by asked) ≡ Some (change_of asked)
-asked-is by (change.Added deck) = refl
-asked-is by (change.Put deck seen) = refl
-asked-is by (change.Dropped name seen) = refl
-asked-is by (change.Edited name seen edit) = refl
-asked-is by (change.Batch name seen edits) = refl
+asked-is : (by : List ℕ) (asked : Change) (version : ℕ) → change_asked (call_of by asked) (Changed version) ≡ Some (change_of asked)
+asked-is by (change.Added deck) version = refl
+asked-is by (change.Put deck seen) version = refl
+asked-is by (change.Dropped name seen) version = refl
+asked-is by (change.Edited name seen edit) version = refl
+asked-is by (change.Batch name seen edits) version = refl
 
 -- what is accepted with one change more
 accepted-more : (history : History) (records : List Record) (r : Record) (by : List ℕ) (asked : Change) → r.entry ≡ Made asked → changes_in history ≡ changes_told records →
@@ -70,7 +70,7 @@ accepted-more : (history : History) (records : List Record) (r : Record) (by : L
 accepted-more history records r by asked told same =
     filter_map-append change_in history (entry 0 (call_of by asked) (Changed r.version) ∷ [])
     ∙ ap (λ (cs : List changes.Change). cs ++ changes_in (entry 0 (call_of by asked) (Changed r.version) ∷ [])) same
-    ∙ ap (λ (o : Option changes.Change). changes_told records ++ cons_option o []) (asked-is by asked ∙ sym (ap change_in_entry told))
+    ∙ ap (λ (o : Option changes.Change). changes_told records ++ cons_option o []) (asked-is by asked r.version ∙ sym (ap change_in_entry told))
     ∙ sym (filter_map-append change_told records (r ∷ []))
 
 -- the journal behind one record more

@@ -5,6 +5,9 @@ use Rattle.definitions.specs.Fields.{unbroken_front}
 use Rattle.session_line.specs.declared.commands.Command.{Command}
 use Rattle.session_line.specs.declared.commands.Command.TheVariants as command
 use Rattle.session_line.specs.declared.refusals.Refusal.{Refusal}
+use Rattle.cards.specs.declared.edits.Edit.{Edit}
+use Rattle.session_line.specs.declared.words.Seen.{Seen}
+use Rattle.session_line.specs.declared.words.Seen.TheVariants.{Exactly, Since}
 use Rattle.session_line.specs.Words.{from_blank, first_word, first_number, behind_word}
 use Rattle.session_line.specs.Commands.{command_of}
 use Rattle.journal.specs.declared.changes.Change.TheVariants.{Added, Put, Dropped, Edited, Batch}
@@ -31,6 +34,16 @@ abbrev pub batch_named : Result (List ℕ) Refusal → ℕ → ℕ → Option Be
 batch_named (Ok name) seen count = Some (record { entry = Made (Batch name seen []); lines = count })
 batch_named (Err refusal) seen count = None
 
+-- an edit by who has seen a version and no other
+abbrev pub edit_seen : List ℕ → Seen → Edit → Option Begun
+edit_seen name (Exactly seen) edit = alone (Made (Edited name seen edit))
+edit_seen name (Since seen) edit = None
+
+-- a batch by who has seen a version and no other, without its edits
+abbrev pub batch_seen : Result (List ℕ) Refusal → Seen → ℕ → Option Begun
+batch_seen name (Exactly seen) count = batch_named name seen count
+batch_seen name (Since seen) count = None
+
 -- a put, without its cards
 abbrev pub put_named : Result (List ℕ) Refusal → ℕ → ℕ → Option Begun
 put_named (Ok name) seen count = Some (record { entry = Made (Put (record { name = name; cards = [] }) seen); lines = count })
@@ -40,8 +53,8 @@ put_named (Err refusal) seen count = None
 abbrev pub begun_by : Result Command Refusal → Option Begun
 begun_by (Ok (command.Add name)) = alone (Made (Added (record { name = name; cards = [] })))
 begun_by (Ok (command.Drop name seen)) = alone (Made (Dropped name seen))
-begun_by (Ok (command.Edit name seen edit)) = alone (Made (Edited name seen edit))
-begun_by (Ok (command.Batch head)) = batch_named head.name head.version head.count
+begun_by (Ok (command.Edit name seen edit)) = edit_seen name seen edit
+begun_by (Ok (command.Batch head)) = batch_seen head.name head.seen head.count
 begun_by (Ok (command.Put head)) = put_named head.name head.version head.count
 begun_by _ = None
 

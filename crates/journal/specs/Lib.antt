@@ -2,6 +2,7 @@ pub mod CheckSums
 pub mod Moments
 pub mod Names
 pub mod Records
+pub mod Drafts
 pub mod Asking
 pub mod Queues
 pub mod JournalFiles

@@ -1,6 +1,7 @@
 -- The text of a record (ours): a line that tells what was done, a line for each card or edit that belongs to it, behind a blank, and a line with the check sum of the lines before it.
 use Rattle.std.specs.Prelude.{ℕ, List, [], ◌∷◌, ◌++◌, length, map, flat_map, codes, decimal}
 use Rattle.definitions.specs.Characters.{line_feed}
+use Rattle.session_line.specs.declared.words.Seen.TheVariants.{Exactly}
 use Rattle.session_line.specs.Lines.{behind_a_blank, name_and_number, line_of_edit, line_in_batch}
 use Rattle.journal.specs.declared.changes.Change.{Change}
 use Rattle.journal.specs.declared.changes.Change.TheVariants.{Added, Put, Dropped, Edited, Batch}
@@ -22,7 +23,7 @@ abbrev pub line_of_change : Change → List ℕ
 line_of_change (Added deck) = codes "ADD" ++ behind_a_blank (deck.name ++ [])
 line_of_change (Put deck seen) = codes "PUT" ++ name_and_number deck.name seen (behind_a_blank (decimal (length deck.cards) ++ []))
 line_of_change (Dropped name seen) = codes "DROP" ++ name_and_number name seen []
-line_of_change (Edited name seen edit) = line_of_edit name seen edit
+line_of_change (Edited name seen edit) = line_of_edit name (Exactly seen) edit
 line_of_change (Batch name seen edits) = codes "BATCH" ++ name_and_number name seen (behind_a_blank (decimal (length edits) ++ []))
 
 -- what a record tells, as a line

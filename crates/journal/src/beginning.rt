@@ -3,17 +3,17 @@ ghost use Rattle.std.specs.Prelude.{◌≡◌, List, Result, option_map, option_
 ghost use Rattle.session_line.specs.Words.{first_word};
 ghost use Rattle.session_line.specs.declared.refusals.Refusal.{Refusal as Reason};
 ghost use Rattle.journal.specs.Moments.{moment_of};
-ghost use Rattle.journal.specs.Begun.{alone, begun_by, begun_of, batch_named, put_named, opened, opened_by};
+ghost use Rattle.journal.specs.Begun.{alone, begun_by, begun_of, batch_named, batch_seen, edit_seen, put_named, opened, opened_by};
 
 use crate::changes::Change;
 use crate::check_sums::{FIRST_SUM, sum_over_line};
 use crate::moments::Moment;
 use crate::records::{Entry, Record};
-use cards::DeckName;
+use cards::{DeckName, Edit};
 use definitions::is_same_text;
 use desk_core::{Listed, NewDeck};
 use session_line::{
-    Command, Refusal, behind_blank, behind_word, first_number, first_word, from_blank,
+    Command, Refusal, Seen, behind_blank, behind_word, first_number, first_word, from_blank,
     read_command, to_blank,
 };
 use std::alloc::Global;
@@ -62,6 +62,31 @@ fn batch_named(
     }
 }
 
+/// An edit by who has seen a version and no other.
+fn edit_seen(name: DeckName, seen: Seen, edit: Edit) -> Option<Begun>
+    ensures { result ≡ edit_seen name seen edit }
+{
+    match seen {
+        Seen::Exactly(seen) => alone(Entry::Made(Change::Edited { name, seen, edit })),
+        Seen::Since(_) => None,
+    }
+}
+
+/// A batch by who has seen a version and no other, without its edits.
+fn batch_seen(
+    alloc: Global,
+    name: Result<DeckName, Refusal>,
+    seen: Seen,
+    count: u64,
+) -> Option<Begun>
+    ensures { result ≡ batch_seen name seen count }
+{
+    match seen {
+        Seen::Exactly(seen) => batch_named(alloc, name, seen, count),
+        Seen::Since(_) => None,
+    }
+}
+
 /// A put, without its cards.
 fn put_named(alloc: Global, name: Result<DeckName, Refusal>, seen: u64, count: u64) -> Option<Begun>
     ensures { result ≡ put_named name seen count }
@@ -91,18 +116,8 @@ fn begun_by(alloc: Global, command: Result<Command, Refusal>) -> Option<Begun>
             name,
             seen: version,
         })),
-        Ok(
-            Command::Edit {
-                name,
-                version,
-                edit,
-            },
-        ) => alone(Entry::Made(Change::Edited {
-            name,
-            seen: version,
-            edit,
-        })),
-        Ok(Command::Batch(head)) => batch_named(alloc, head.name, head.version, head.count),
+        Ok(Command::Edit { name, seen, edit }) => edit_seen(name, seen, edit),
+        Ok(Command::Batch(head)) => batch_seen(alloc, head.name, head.seen, head.count),
         Ok(Command::Put(head)) => put_named(alloc, head.name, head.version, head.count),
         Ok(_) => None,
         Err(_) => None,

@@ -1,6 +1,6 @@
 //! Changes of a desk, as they were asked for.
 ghost use Rattle.std.specs.Prelude.{◌≡◌};
-ghost use Rattle.journal.specs.Asking.{asked_of};
+ghost use Rattle.journal.specs.Asking.{asked_of, call_of_carry, carried_deck};
 
 use cards::{DeckName, Edit};
 use desk_core::{Call, Listed, NewDeck};
@@ -34,11 +34,62 @@ pub enum Change {
     },
 }
 
+/// A change of a deck by who saw a version of it, carried over what others changed since: its edits are
+/// known once it is made.
+#[derive(Drop)]
+pub enum Carry {
+    /// One edit of the deck.
+    Edited {
+        name: DeckName,
+        seen: u64,
+        edit: Edit,
+    },
+    /// Edits of the deck, all as one change.
+    Batch {
+        name: DeckName,
+        seen: u64,
+        edits: Listed<Edit>,
+    },
+}
+
+impl Carry {
+    /// The deck that is changed.
+    pub(crate) fn deck_name(&self) -> &DeckName
+        ensures { result.now ≡ carried_deck self.now }
+    {
+        match self {
+            Carry::Edited { name, .. } | Carry::Batch { name, .. } => name,
+        }
+    }
+
+    /// The call by which who has this name asks for it.
+    pub fn into_call(self, by: DeckName) -> Call
+        ensures { result ≡ call_of_carry by self }
+    {
+        match self {
+            Carry::Edited { name, seen, edit } => Call::EditSince {
+                name,
+                seen,
+                edit,
+                by,
+            },
+            Carry::Batch { name, seen, edits } => Call::BatchSince {
+                name,
+                seen,
+                edits,
+                by,
+            },
+        }
+    }
+}
+
 /// What is asked of a desk.
 #[derive(Drop)]
 pub enum Asked {
     /// A change.
     Change(Change),
+    /// A change that is carried.
+    Carry(Carry),
     /// Anything else.
     Other(Call),
 }
@@ -63,6 +114,18 @@ pub fn asked_of(call: Call) -> Asked
             edits,
             ..
         } => Asked::Change(Change::Batch { name, seen, edits }),
+        Call::EditSince {
+            name,
+            seen,
+            edit,
+            ..
+        } => Asked::Carry(Carry::Edited { name, seen, edit }),
+        Call::BatchSince {
+            name,
+            seen,
+            edits,
+            ..
+        } => Asked::Carry(Carry::Batch { name, seen, edits }),
         other => Asked::Other(other),
     }
 }

@@ -1,27 +1,47 @@
 //! Records of changes that are asked for, whose versions are not known yet.
 ghost use Rattle.std.specs.Prelude.{◌≡◌, IfOk};
+ghost use Rattle.journal.specs.Drafts.{carried_text, form_text};
 ghost use Rattle.journal.specs.Records.{text_behind_version, text_with_version};
 
 use crate::changes::Change;
 use crate::moments::Moment;
 use crate::writing::{text_behind_version, text_with_version};
+use cards::{DeckName, Edit};
+use desk_core::Listed;
 use std::alloc::{AllocError, Global};
 use std::marker::Model;
 use text_ports::Text;
+
+/// When a change is asked for, and by which session.
+#[derive(Drop)]
+pub struct Stamp {
+    pub moment: Moment,
+    pub session: u64,
+}
+
+/// How a record is there before it is written.
+#[derive(Drop)]
+pub(crate) enum Form {
+    /// As its text.
+    Written(Text),
+    /// As what it tells, whose text is made when it is written.
+    Told(Stamp, Change),
+}
 
 /// The record of a change that is asked for. Contracts see its text, from behind the version to in front
 /// of the check sum.
 #[derive(Drop)]
 pub struct Draft {
-    behind: Text,
+    form: Form,
 }
 
 impl Model for Draft {
     ghost use Rattle.std.specs.Prelude.{ℕ, List};
+    ghost use Rattle.journal.specs.Drafts.{form_text};
 
     ghost Value = { List ℕ };
 
-    ghost view = { λ d. d.behind };
+    ghost view = { λ d. form_text d.form };
 }
 
 /// The record of a change that a session asks for at a moment.
@@ -34,15 +54,25 @@ pub fn draft_change(
     ensures { IfOk result (λ draft. draft ≡ text_behind_version moment.now session change.now) }
 {
     Ok(Draft {
-        behind: text_behind_version(alloc, moment, session, change)?,
+        form: Form::Written(text_behind_version(alloc, moment, session, change)?),
     })
+}
+
+/// The record of a change that was carried, by its edits as they were made. It takes no memory: its text is
+/// made when it is written.
+pub(crate) fn draft_carried(stamp: Stamp, name: DeckName, seen: u64, edits: Listed<Edit>) -> Draft
+    ensures { result ≡ carried_text stamp name seen edits }
+{
+    Draft {
+        form: Form::Told(stamp, Change::Batch { name, seen, edits }),
+    }
 }
 
 impl Draft {
     /// What stands in place of a record where none is written.
     pub fn empty(alloc: Global) -> Draft {
         Draft {
-            behind: Text::new(alloc),
+            form: Form::Written(Text::new(alloc)),
         }
     }
 
@@ -50,6 +80,12 @@ impl Draft {
     pub(crate) fn text(&self, alloc: Global, version: u64) -> Result<Text, AllocError>
         ensures { IfOk result (λ text. text ≡ text_with_version version self.now) }
     {
-        text_with_version(alloc, version, self.behind.as_slice())
+        match &self.form {
+            Form::Written(behind) => text_with_version(alloc, version, behind.as_slice()),
+            Form::Told(stamp, change) => {
+                let behind = text_behind_version(alloc, &stamp.moment, stamp.session, change)?;
+                text_with_version(alloc, version, behind.as_slice())
+            }
+        }
     }
 }

@@ -1,9 +1,9 @@
 //! A desk whose changes are kept: none is told as made before its record is.
 ghost use Rattle.std.specs.Prelude.{◌≡◌};
-ghost use Rattle.journal.specs.Keeping.{MakesChange, TellsKept};
+ghost use Rattle.journal.specs.Keeping.{MakesCarried, MakesChange, TellsCarried, TellsKept, told_of};
 
-use crate::changes::{Asked, Change, asked_of};
-use crate::drafts::Draft;
+use crate::changes::{Asked, Carry, Change, asked_of};
+use crate::drafts::{Draft, Stamp, draft_carried};
 use cards::DeckName;
 use desk_core::{Call, Refusal, Reply};
 use session_line::Calls;
@@ -14,6 +14,7 @@ pub trait Keep {
     ghost use Rattle.std.specs.Prelude.{◌≡◌, ℕ, List, Bool, Result};
     ghost use Rattle.desk_core.specs.declared.replies.Refusal.{Refusal as Reason};
     ghost use Rattle.journal.specs.declared.changes.Change.{Change as Asking};
+    ghost use Rattle.journal.specs.declared.drafts.Stamp.{Stamp as Stamped};
 
     // The keeper before, the change, its record or why none may be made, and the keeper after.
     ghost begins: { Self → Asking → Result (List ℕ) Reason → Self → Type 0 };
@@ -22,12 +23,20 @@ pub trait Keep {
     // keeper after.
     ghost keeps: { Self → ℕ → List ℕ → Bool → Self → Type 0 };
 
+    // The keeper before, when and by which session a change is made, or why none may be, and the keeper
+    // after.
+    ghost opens: { Self → Result Stamped Reason → Self → Type 0 };
+
     // The name of who asks for changes here.
     ghost who: { Self → List ℕ };
 
     /// Makes the record of a change that is asked for, or refuses the change.
     fn begin(&mut self, change: &Change) -> Result<Draft, Refusal>
         ensures { begins self.old change.now result self.new };
+
+    /// When and by which session a change is made whose record is known once it is; or refuses the change.
+    fn open(&mut self) -> Result<Stamp, Refusal>
+        ensures { opens self.old result self.new };
 
     /// Keeps the record of a change that was made: whether it is kept, with all records before it.
     fn keep(&mut self, version: u64, draft: Draft) -> bool
@@ -61,29 +70,68 @@ impl<C, K> Keeping<C, K> {
     }
 }
 
+/// What is told of a change whose record was kept, or was not.
+fn told_of(version: u64, kept: bool) -> Reply
+    ensures { result ≡ told_of version kept }
+{
+    if kept {
+        Reply::Changed(version)
+    } else {
+        Reply::Refused(Refusal::NotKept)
+    }
+}
+
 /// What is told of a call that asked for a change, whose record this is.
 fn kept_reply<K: Keep>(keeper: &mut K, reply: Reply, draft: Draft) -> Reply
     ensures { TellsKept K.keeps draft reply keeper.old result keeper.new }
 {
-    if let Reply::Changed(version) = reply {
-        if keeper.keep(version, draft) {
-            Reply::Changed(version)
-        } else {
-            Reply::Refused(Refusal::NotKept)
+    match reply {
+        Reply::Changed(version) => told_of(version, keeper.keep(version, draft)),
+        Reply::Carried { .. } => Reply::Refused(Refusal::Foreign),
+        reply => reply,
+    }
+}
+
+/// What is told of a call that asked for a change of this deck that is carried.
+fn carried_reply<K: Keep>(keeper: &mut K, reply: Reply, stamp: Stamp, name: DeckName) -> Reply
+    ensures { TellsCarried K.keeps stamp name reply keeper.old result keeper.new }
+{
+    match reply {
+        Reply::Carried {
+            version,
+            seen,
+            edits,
+        } => {
+            let draft = draft_carried(stamp, name, seen, edits);
+            told_of(version, keeper.keep(version, draft))
         }
-    } else {
-        reply
+        Reply::Changed(_) => Reply::Refused(Refusal::Foreign),
+        reply => reply,
     }
 }
 
 /// Makes a change.
 fn make_change<C: Calls, K: Keep>(desk: &mut C, keeper: &mut K, change: Change) -> Reply
-    ensures { MakesChange C.makes K.begins K.keeps K.who change desk.old keeper.old result desk.new keeper.new }
+    ensures { MakesChange C.makes K.begins K.keeps K.who K.opens change desk.old keeper.old result desk.new keeper.new }
 {
     match keeper.begin(&change) {
         Ok(draft) => {
             let reply = desk.call(change.into_call(keeper.who()));
             kept_reply(keeper, reply, draft)
+        }
+        Err(refusal) => Reply::Refused(refusal),
+    }
+}
+
+/// Makes a change that is carried.
+fn make_carried<C: Calls, K: Keep>(desk: &mut C, keeper: &mut K, carry: Carry) -> Reply
+    ensures { MakesCarried C.makes K.begins K.keeps K.who K.opens carry desk.old keeper.old result desk.new keeper.new }
+{
+    match keeper.open() {
+        Ok(stamp) => {
+            let name = carry.deck_name().copied();
+            let reply = desk.call(carry.into_call(keeper.who()));
+            carried_reply(keeper, reply, stamp, name)
         }
         Err(refusal) => Reply::Refused(refusal),
     }
@@ -96,13 +144,14 @@ impl<C: Calls, K: Keep> Calls for Keeping<C, K> {
     ghost use Rattle.journal.specs.Asking.{asked_of};
     ghost use Rattle.journal.specs.Keeping.{MakesKept};
 
-    ghost makes = { λ old call reply new. MakesKept C.makes K.begins K.keeps K.who old (asked_of call) reply new };
+    ghost makes = { λ old call reply new. MakesKept C.makes K.begins K.keeps K.who K.opens old (asked_of call) reply new };
 
     ghost awaits = { λ old version reply new. C.awaits old.0 version reply new.0 × (new.1 ≡ old.1) };
 
     fn call(&mut self, call: Call) -> Reply {
         match asked_of(call) {
             Asked::Change(change) => make_change(&mut self.desk, &mut self.keeper, change),
+            Asked::Carry(carry) => make_carried(&mut self.desk, &mut self.keeper, carry),
             Asked::Other(call) => self.desk.call(call),
         }
     }

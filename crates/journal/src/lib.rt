@@ -50,9 +50,9 @@ mod replaying;
 mod laws;
 
 pub use cards::DeckName;
-pub use changes::{Asked, Change, asked_of};
+pub use changes::{Asked, Carry, Change, asked_of};
 pub use compacting::compacted_text;
-pub use drafts::{Draft, draft_change};
+pub use drafts::{Draft, Stamp, draft_change};
 pub use journal_file::JournalFile;
 pub use keeping::{Keep, Keeping};
 pub use kept_records::KeptRecords;

@@ -1,5 +1,6 @@
 //! The text of a record.
 ghost use Rattle.std.specs.Prelude.{◌≡◌, ◌++◌, ◌∷◌, [], IfOk, OnOk, codes, decimal, map, flat_map};
+ghost use Rattle.session_line.specs.declared.words.Seen.TheVariants.{Exactly};
 ghost use Rattle.session_line.specs.Lines.{behind_a_blank, line_in_batch, line_of_edit, name_and_number};
 ghost use Rattle.journal.specs.CheckSums.{check_sum};
 ghost use Rattle.journal.specs.Records.{ended, first_line, line_of_change, line_of_entry, log_line, lines_behind, lines_behind_change, lines_of_record, sum_line, text_behind_version, text_of_lines, text_of_record, text_with_version};
@@ -105,7 +106,7 @@ fn push_line_in_batch(text: &mut Text, edit: &Edit) -> Result<(), AllocError>
 
 /// Appends an edit of a deck.
 fn push_edit(text: &mut Text, name: &DeckName, seen: u64, edit: &Edit) -> Result<(), AllocError>
-    ensures { OnOk result (text.new ≡ text.old ++ line_of_edit name.now seen edit.now) }
+    ensures { OnOk result (text.new ≡ text.old ++ line_of_edit name.now (Exactly seen) edit.now) }
 {
     match edit {
         Edit::Insert { at, card } => push_target_and_card(text, b"INS", name, seen, *at, card),

@@ -13,17 +13,19 @@ use Rattle.deck_files.specs.declared.deck_shelf.SaveOver.TheVariants.{Known, Any
 use Rattle.session_line.specs.declared.commands.Command.{Command}
 use Rattle.session_line.specs.declared.commands.Command.TheVariants as command
 use Rattle.session_line.specs.declared.errors.ErrorsView.TheVariants.{Every, Of}
-use Rattle.session_line.specs.declared.commands.LinesHead.{LinesHead}
+use Rattle.session_line.specs.declared.commands.BatchHead.{BatchHead}
+use Rattle.session_line.specs.declared.words.Seen.{Seen}
+use Rattle.session_line.specs.declared.words.Seen.TheVariants.{Exactly}
 use Rattle.session_line.specs.declared.refusals.Refusal.{Refusal}
 use Rattle.session_line.specs.declared.views.CardsView.{CardsView}
 use Rattle.session_line.specs.declared.views.CardsView.TheVariants.{All, From, With}
 use Rattle.session_line.specs.declared.refusals.Refusal.TheVariants.{BadName}
 use Rattle.session_line.specs.Views.{is_sought_size}
-use Rattle.session_line.specs.Words.{first_word, behind_word, number_in, first_number, greatest_number}
+use Rattle.session_line.specs.Words.{first_word, behind_word, number_in, first_number, first_seen, greatest_number}
 use Rattle.session_line.specs.Edits.{needs, only_if, made_of, is_end, card_or_fault, fits_edit, edit_at, edit_in_batch}
-use Rattle.session_line.specs.Commands.{name_in, only_name, save_over_in, save_in, view_from, view_in, at_in, cards_by, cards_in, sought_of, sought_in, find_in, named_version, of_version, edit_of, edit_in, head_in, sized, is_batch_size, is_put_size, command_of}
-use Rattle.session_line.specs.Lines.{name_and_number, line_of_edit, line_in_batch, line_of_head, line_of_command, IsLawfulEdit, IsLawfulName, IsLawful}
-use Rattle.session_line.proofs.ReadBack.{IsRest, IsWord, word-name, word-decimal, first-word, behind-word, first-number}
+use Rattle.session_line.specs.Commands.{name_in, only_name, save_over_in, save_in, view_from, view_in, at_in, cards_by, cards_in, sought_of, sought_in, find_in, named_version, of_version, edit_of, edit_in, head_in, batch_by, put_by, is_batch_size, is_put_size, command_of}
+use Rattle.session_line.specs.Lines.{name_and_number, name_and_seen, seen_text, line_of_edit, line_in_batch, line_of_head, line_of_command, IsLawfulEdit, IsLawfulSeen, IsLawfulName, IsLawful}
+use Rattle.session_line.proofs.ReadBack.{IsRest, IsWord, word-name, word-decimal, word-seen, first-word, behind-word, first-number, first-seen}
 
 -- a lawful name
 name-is : (name : List ℕ) → is_deck_name name ≡ true → name_in name ≡ Ok name
@@ -54,6 +56,17 @@ both-made {B} made name n rest is within none =
     ap (λ (o : Option (List ℕ)). needs {A = List ℕ} {B = B} o (λ w. needs (first_number (behind_word line)) (λ m. made w m (behind_word (behind_word line))))) (first-word name more (word-name name is) refl)
     ∙ ap (λ (l : List ℕ). needs {A = ℕ} {B = B} (first_number l) (λ m. made name m (behind_word l))) (behind-word name more (word-name name is) refl)
     ∙ number-made (made name) n rest within none
+
+-- a name and a version, and what is made of them and of what stands behind them
+seen-made : {B : Type 0} (made : List ℕ → Seen → List ℕ → Result B Refusal) (name : List ℕ) (seen : Seen) (rest : List ℕ) → is_deck_name name ≡ true → IsLawfulSeen seen → IsRest rest →
+    needs (first_word (name_and_seen name seen rest)) (λ w. needs (first_seen (behind_word (name_and_seen name seen rest))) (λ s. made w s (behind_word (behind_word (name_and_seen name seen rest))))) ≡ made name seen rest
+seen-made {B} made name seen rest is lawful none =
+    let line = name_and_seen name seen rest in
+    let more = 32 ∷ (seen_text seen ++ rest) in
+    ap (λ (o : Option (List ℕ)). needs {A = List ℕ} {B = B} o (λ w. needs (first_seen (behind_word line)) (λ s. made w s (behind_word (behind_word line))))) (first-word name more (word-name name is) refl)
+    ∙ ap (λ (l : List ℕ). needs {A = Seen} {B = B} (first_seen l) (λ s. made name s (behind_word l))) (behind-word name more (word-name name is) refl)
+    ∙ ap (λ (o : Option Seen). needs {A = Seen} {B = B} o (λ s. made name s (behind_word more))) (first-seen seen rest lawful none)
+    ∙ ap (λ (l : List ℕ). made name seen l) (behind-word (seen_text seen) rest (word-seen seen lawful) none)
 
 -- SAVE
 save-back : (name rest : List ℕ) (over : SaveOver) → is_deck_name name ≡ true → IsRest rest → save_over_in rest ≡ Some over →
@@ -151,23 +164,23 @@ version-back make name version is within =
     ∙ ap (λ (r : Result (List ℕ) Refusal). of_version make (made_of (λ m. (m, version)) r)) (name-is name is)
 
 -- INS, REP and DEL, to the edit
-edit-made : (kind : EditKind) (name : List ℕ) (version place : ℕ) (rest : List ℕ) → is_deck_name name ≡ true → version ≤ greatest_number → place ≤ greatest_number → IsRest rest →
-    edit_in kind (name_and_number name version (32 ∷ (decimal place ++ rest))) ≡ only_if (fits_edit kind rest) (edit_of (Ok name) version (edit_at kind place rest))
-edit-made kind name version place rest is within placed none =
-    both-made (λ n v l. needs (first_number l) (λ p. only_if (fits_edit kind (behind_word l)) (edit_of (name_in n) v (edit_at kind p (behind_word l))))) name version (32 ∷ (decimal place ++ rest)) is within refl
-    ∙ number-made (λ p l. only_if (fits_edit kind l) (edit_of (name_in name) version (edit_at kind p l))) place rest placed none
-    ∙ ap (λ (r : Result (List ℕ) Refusal). only_if (fits_edit kind rest) (edit_of r version (edit_at kind place rest))) (name-is name is)
+edit-made : (kind : EditKind) (name : List ℕ) (seen : Seen) (place : ℕ) (rest : List ℕ) → is_deck_name name ≡ true → IsLawfulSeen seen → place ≤ greatest_number → IsRest rest →
+    edit_in kind (name_and_seen name seen (32 ∷ (decimal place ++ rest))) ≡ only_if (fits_edit kind rest) (edit_of (Ok name) seen (edit_at kind place rest))
+edit-made kind name seen place rest is lawful placed none =
+    seen-made (λ n s l. needs (first_number l) (λ p. only_if (fits_edit kind (behind_word l)) (edit_of (name_in n) s (edit_at kind p (behind_word l))))) name seen (32 ∷ (decimal place ++ rest)) is lawful refl
+    ∙ number-made (λ p l. only_if (fits_edit kind l) (edit_of (name_in name) seen (edit_at kind p l))) place rest placed none
+    ∙ ap (λ (r : Result (List ℕ) Refusal). only_if (fits_edit kind rest) (edit_of r seen (edit_at kind place rest))) (name-is name is)
 
 -- an edit
-edit-back : (name : List ℕ) (version : ℕ) (edit : Edit) → is_deck_name name ≡ true → version ≤ greatest_number → IsLawfulEdit edit →
-    command_of (line_of_edit name version edit) ≡ Ok (command.Edit name version edit)
-edit-back name version (Insert place card) is within lawful =
-    edit-made kind.Insert name version place (32 ∷ card) is within lawful.0 refl
-    ∙ ap (λ (r : CardRead). edit_of (Ok name) version (made_of (Insert place) (card_or_fault r))) lawful.1
-edit-back name version (Replace place card) is within lawful =
-    edit-made kind.Replace name version place (32 ∷ card) is within lawful.0 refl
-    ∙ ap (λ (r : CardRead). edit_of (Ok name) version (made_of (Replace place) (card_or_fault r))) lawful.1
-edit-back name version (Remove place) is within lawful = edit-made kind.Remove name version place [] is within lawful refl
+edit-back : (name : List ℕ) (seen : Seen) (edit : Edit) → is_deck_name name ≡ true → IsLawfulSeen seen → IsLawfulEdit edit →
+    command_of (line_of_edit name seen edit) ≡ Ok (command.Edit name seen edit)
+edit-back name seen (Insert place card) is within lawful =
+    edit-made kind.Insert name seen place (32 ∷ card) is within lawful.0 refl
+    ∙ ap (λ (r : CardRead). edit_of (Ok name) seen (made_of (Insert place) (card_or_fault r))) lawful.1
+edit-back name seen (Replace place card) is within lawful =
+    edit-made kind.Replace name seen place (32 ∷ card) is within lawful.0 refl
+    ∙ ap (λ (r : CardRead). edit_of (Ok name) seen (made_of (Replace place) (card_or_fault r))) lawful.1
+edit-back name seen (Remove place) is within lawful = edit-made kind.Remove name seen place [] is within lawful refl
 
 -- an edit in a batch
 pub batch_line-back : (edit : Edit) → IsLawfulEdit edit → edit_in_batch (line_in_batch edit) ≡ Ok edit
@@ -180,33 +193,30 @@ batch_line-back (Replace place card) lawful =
 batch_line-back (Remove place) lawful = number-made (λ p l. only_if (fits_edit kind.Remove l) (edit_at kind.Remove p l)) place [] lawful refl
 
 -- the first line of a command with lines behind it
-head-made : (name : List ℕ) (version count : ℕ) → is_deck_name name ≡ true → version ≤ greatest_number → count ≤ greatest_number →
-    head_in (name_and_number name version (32 ∷ (decimal count ++ []))) ≡ Ok (record { name = Ok name; version = version; count = count })
-head-made name version count is within few =
-    let head : Result (List ℕ) Refusal → ℕ → ℕ → Result LinesHead Refusal = λ r v n. Ok (record { name = r; version = v; count = n }) in
-    both-made (λ w v l. needs (first_number l) (λ n. only_if (is_end (behind_word l)) (head (name_in w) v n))) name version (32 ∷ (decimal count ++ [])) is within refl
-    ∙ number-made (λ n l. only_if (is_end l) (head (name_in name) version n)) count [] few refl
-    ∙ ap (λ (r : Result (List ℕ) Refusal). head r version count) (name-is name is)
+head-made : (name : List ℕ) (seen : Seen) (count : ℕ) → is_deck_name name ≡ true → IsLawfulSeen seen → count ≤ greatest_number →
+    head_in (name_and_seen name seen (32 ∷ (decimal count ++ []))) ≡ Ok (record { name = Ok name; seen = seen; count = count })
+head-made name seen count is lawful few =
+    let head : Result (List ℕ) Refusal → Seen → ℕ → Result BatchHead Refusal = λ r s n. Ok (record { name = r; seen = s; count = n }) in
+    seen-made (λ w s l. needs (first_number l) (λ n. only_if (is_end (behind_word l)) (head (name_in w) s n))) name seen (32 ∷ (decimal count ++ [])) is lawful refl
+    ∙ number-made (λ n l. only_if (is_end l) (head (name_in name) seen n)) count [] few refl
+    ∙ ap (λ (r : Result (List ℕ) Refusal). head r seen count) (name-is name is)
 
--- and the command, where it may have so many lines
-sized-made : (fits : ℕ → Bool) (make : LinesHead → Command) (name : List ℕ) (version count : ℕ) → is_deck_name name ≡ true → version ≤ greatest_number → count ≤ greatest_number → fits count ≡ true →
-    sized fits make (head_in (name_and_number name version (32 ∷ (decimal count ++ [])))) ≡ Ok (make (record { name = Ok name; version = version; count = count }))
-sized-made fits make name version count is within few size =
-    ap (λ (r : Result LinesHead Refusal). sized fits make r) (head-made name version count is within few)
-    ∙ ap (λ (t : Bool). only_if t (Ok (make (record { name = Ok name; version = version; count = count })))) size
-
-batch-back : (name : Result (List ℕ) Refusal) (version count : ℕ) → IsLawfulName name → version ≤ greatest_number → is_batch_size count ≡ true →
-    command_of (line_of_head (codes "BATCH") name version count) ≡ Ok (command.Batch (record { name = name; version = version; count = count }))
-batch-back (Ok name) version count is within size =
+-- BATCH
+batch-back : (name : Result (List ℕ) Refusal) (seen : Seen) (count : ℕ) → IsLawfulName name → IsLawfulSeen seen → is_batch_size count ≡ true →
+    command_of (line_of_head (codes "BATCH") name seen count) ≡ Ok (command.Batch (record { name = name; seen = seen; count = count }))
+batch-back (Ok name) seen count is lawful size =
     let few : count ≤ 100 = leb-true count 100 (and_parts (nat_le 1 count) (nat_le count 100) size).1 in
-    sized-made is_batch_size (λ (head : LinesHead). command.Batch head) name version count is within (omega (arith, few)) size
-batch-back (Err refusal) version count is within size = absurd is
+    ap (λ (r : Result BatchHead Refusal). batch_by r) (head-made name seen count is lawful (omega (arith, few)))
+    ∙ ap (λ (t : Bool). only_if t (Ok (command.Batch (record { name = Ok name; seen = seen; count = count })))) size
+batch-back (Err refusal) seen count is lawful size = absurd is
 
+-- PUT
 put-back : (name : Result (List ℕ) Refusal) (version count : ℕ) → IsLawfulName name → version ≤ greatest_number → is_put_size count ≡ true →
-    command_of (line_of_head (codes "PUT") name version count) ≡ Ok (command.Put (record { name = name; version = version; count = count }))
+    command_of (line_of_head (codes "PUT") name (Exactly version) count) ≡ Ok (command.Put (record { name = name; version = version; count = count }))
 put-back (Ok name) version count is within size =
     let few : count ≤ 20000 = leb-true count 20000 size in
-    sized-made is_put_size (λ (head : LinesHead). command.Put head) name version count is within (omega (arith, few)) size
+    ap (λ (r : Result BatchHead Refusal). put_by r) (head-made name (Exactly version) count is within (omega (arith, few)))
+    ∙ ap (λ (t : Bool). only_if t (Ok (command.Put (record { name = Ok name; version = version; count = count })))) size
 put-back (Err refusal) version count is within size = absurd is
 
 -- each command
@@ -214,7 +224,7 @@ pub line-back : (command : Command) → IsLawful command → command_of (line_of
 line-back (command.Add name) is = ap (λ (r : Result (List ℕ) Refusal). made_of command.Add r) (only-name name is)
 line-back (command.Load name) is = ap (λ (r : Result (List ℕ) Refusal). made_of command.Load r) (only-name name is)
 line-back (command.Drop name version) lawful = version-back command.Drop name version lawful.0 lawful.1
-line-back (command.Edit name version edit) lawful = edit-back name version edit lawful.0 lawful.1 lawful.2
+line-back (command.Edit name seen edit) lawful = edit-back name seen edit lawful.0 lawful.1 lawful.2
 line-back (command.Cards name All) lawful = cards-back name [] All lawful.0 refl refl
 line-back (command.Cards name (From place count)) lawful =
     cards-back name (32 ∷ (decimal place ++ (32 ∷ (decimal count ++ [])))) (From place count) lawful.0 refl (from-back place count lawful.1.0 lawful.1.1 lawful.1.2)
@@ -232,6 +242,6 @@ line-back (command.Errors Every) _ = refl
 line-back (command.Errors (Of name)) is = part-back (command.Errors Every) (λ n. command.Errors (Of n)) name is
 line-back command.Status _ = refl
 line-back (command.Wait version) within = number-made (λ v l. only_if (is_end l) (Ok (command.Wait v))) version [] within refl
-line-back (command.Batch head) lawful = batch-back head.name head.version head.count lawful.0 lawful.1 lawful.2
+line-back (command.Batch head) lawful = batch-back head.name head.seen head.count lawful.0 lawful.1 lawful.2
 line-back (command.Put head) lawful = put-back head.name head.version head.count lawful.0 lawful.1 lawful.2
 line-back command.Bye _ = refl

@@ -1,17 +1,20 @@
 -- The line of a command reads back: words and numbers first, then each form of line.
-use Rattle.std.proofs.Common.{ℕ, suc, ◌≡◌, ◌+◌, ◌*◌, ◌-◌, ◌/◌, ◌%◌, ◌<◌, ◌≤◌, ◌==◌, inl, inr, Bool, true, cond, not, ◌&&◌, List, [], ◌∷◌, ◌++◌, Some, None, length, take, drop, refl, ap, ◌∙◌, arith, ne_eqb, if◌then◌else◌}
-use Rattle.std.specs.Prelude.{nat_le, option_and_then, decimal, ◌||◌}
+use Rattle.std.proofs.Common.{ℕ, suc, ◌≡◌, ◌+◌, ◌*◌, ◌-◌, ◌/◌, ◌%◌, ◌<◌, ◌≤◌, ◌==◌, inl, inr, Bool, true, false, cond, not, ◌&&◌, List, [], ◌∷◌, ◌++◌, Some, None, length, length-append, take, drop, refl, ap, ◌∙◌, arith, ne_eqb, if◌then◌else◌}
+use Rattle.std.specs.Prelude.{nat_le, option_and_then, option_map, codes, decimal, ◌||◌}
 use Rattle.std.specs.List.{list_all, prefix_len}
 use Rattle.std.proofs.lemmas.Bool.{and_parts, and_from, le-leb, leb-true, or_cases}
 use Rattle.std.proofs.lemmas.Fmt.{decimal_by_steps, length-decimal-le, decimal_nonempty}
 use Rattle.std.proofs.lemmas.List.{take_at, drop_at}
 use Rattle.std.proofs.lemmas.List.Folds.{list_all-append}
 use Rattle.std.proofs.lemmas.List.Sums.{fold-append}
-use Rattle.definitions.specs.Characters.{blank, is_digit, is_letter}
+use Rattle.definitions.specs.Characters.{blank, is_digit, is_letter, same_text}
 use Rattle.definitions.specs.Fields.{unbroken_front}
 use Rattle.definitions.specs.Numerals.{number_of}
 use Rattle.definitions.specs.DeckInput.{is_deck_name}
-use Rattle.session_line.specs.Words.{some_word, first_word, behind_word, greatest_number, is_number, number_in, first_number}
+use Rattle.session_line.specs.Words.{some_word, first_word, behind_word, greatest_number, is_number, number_in, seen_in, first_seen, first_number}
+use Rattle.session_line.specs.Lines.{seen_text, IsLawfulSeen}
+use Rattle.session_line.specs.declared.words.Seen.{Seen}
+use Rattle.session_line.specs.declared.words.Seen.TheVariants.{Exactly, Since}
 
 -- a character that is no blank
 abbrev pub no_blank : ℕ → Bool
@@ -119,3 +122,43 @@ behind-word word rest is none = ap (λ (l : List ℕ). drop (length l) (word ++ 
 
 pub first-number : (n : ℕ) (rest : List ℕ) → n ≤ greatest_number → IsRest rest → first_number (32 ∷ (decimal n ++ rest)) ≡ Some n
 first-number n rest within none = ap (option_and_then number_in) (first-word (decimal n) rest (word-decimal n within) none) ∙ number-decimal n within
+
+-- a number with a plus behind it is a word
+plus-unbroken : (word : List ℕ) → list_all no_blank word ≡ true → list_all no_blank (word ++ codes "+") ≡ true
+plus-unbroken word all = list_all-append no_blank word (codes "+") ∙ and_from (list_all no_blank word) true all refl
+
+pub word-seen : (seen : Seen) → IsLawfulSeen seen → IsWord (seen_text seen)
+word-seen (Exactly version) within = word-decimal version within
+word-seen (Since version) within =
+    let size = length-append (decimal version) (codes "+") in
+    record { unbroken = plus-unbroken (decimal version) (word-decimal version within).unbroken; some = omega (arith, size) }
+
+-- the last character of digits is no plus
+last-digit_no_plus : (digits : List ℕ) → list_all is_digit digits ≡ true → 0 < length digits → same_text (drop (length digits - 1) digits) (codes "+") ≡ false
+last-digit_no_plus [] all some = absurd (omega (arith, some))
+last-digit_no_plus (c ∷ []) all some =
+    let is = and_parts (nat_le 48 c) (nat_le c 57) (and_parts (is_digit c) true all).0 in
+    let above : 48 ≤ c = leb-true 48 c is.0 in
+    ap (λ (t : Bool). t && true) (ne_eqb c 43 (λ e. absurd (omega (arith, e, above))))
+last-digit_no_plus (c ∷ d ∷ ds) all some =
+    let more : length (c ∷ d ∷ ds) - 1 ≡ suc (length (d ∷ ds) - 1) = omega arith in
+    ap (λ (n : ℕ). same_text (drop n (c ∷ d ∷ ds)) (codes "+")) more
+    ∙ last-digit_no_plus (d ∷ ds) (and_parts (is_digit c) (list_all is_digit (d ∷ ds)) all).1 (omega arith)
+
+-- a version reads back
+seen-back : (seen : Seen) → IsLawfulSeen seen → seen_in (seen_text seen) ≡ Some seen
+seen-back (Exactly version) within =
+    let word = decimal version in
+    ap (λ (t : Bool). if t then option_map Since (number_in (take (length word - 1) word)) else option_map Exactly (number_in word))
+    (last-digit_no_plus word (spells-decimal version within).0 (decimal_nonempty version (omega (arith, within))))
+    ∙ ap (option_map Exactly) (number-decimal version within)
+seen-back (Since version) within =
+    let word = decimal version in
+    let size : length (word ++ codes "+") - 1 ≡ length word = let all = length-append word (codes "+") in omega (arith, all) in
+    ap (λ (n : ℕ). if same_text (drop n (word ++ codes "+")) (codes "+") then option_map Since (number_in (take n (word ++ codes "+"))) else option_map Exactly (number_in (word ++ codes "+"))) size
+    ∙ ap (λ (l : List ℕ). if same_text l (codes "+") then option_map Since (number_in (take (length word) (word ++ codes "+"))) else option_map Exactly (number_in (word ++ codes "+"))) (drop_at word (codes "+") (length word) refl)
+    ∙ ap (λ (l : List ℕ). option_map Since (number_in l)) (take_at word (codes "+") (length word) refl)
+    ∙ ap (option_map Since) (number-decimal version within)
+
+pub first-seen : (seen : Seen) (rest : List ℕ) → IsLawfulSeen seen → IsRest rest → first_seen (32 ∷ (seen_text seen ++ rest)) ≡ Some seen
+first-seen seen rest lawful none = ap (option_and_then seen_in) (first-word (seen_text seen) rest (word-seen seen lawful) none) ∙ seen-back seen lawful

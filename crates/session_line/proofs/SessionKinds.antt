@@ -1,11 +1,13 @@
 -- The replies of a desk to the calls of sessions, call by call.
-use Rattle.std.proofs.Common.{ℕ, List, ◌≡◌, true, Option, None, Some, inl, inr, refl, ap, ◌∙◌}
+use Rattle.std.proofs.Common.{ℕ, List, [], ◌∷◌, ◌≡◌, true, Result, Ok, Err, Option, None, Some, inl, inr, refl, ap, ◌∙◌}
 use Rattle.desk_core.specs.Desks.{Desk, DeskDeck, Publication, deck_named}
-use Rattle.desk_core.specs.Answers.{answers, unless}
+use Rattle.desk_core.specs.Answers.{Answer, answers, unless}
 use Rattle.desk_core.specs.Changing.{accepted, against_add, against_put, against_drop, against_edit, against_batch}
 use Rattle.desk_core.specs.Reading.{cards_reply, show_reply}
 use Rattle.desk_core.specs.declared.past.KeptEdit.{KeptEdit}
 use Rattle.desk_core.specs.Past.{backs_of}
+use Rattle.desk_core.specs.Carrying.{carried_since, accept_carried, edit_since_of, batch_since_of}
+use Rattle.cards.specs.declared.carrying.Touched.{Touched}
 use Rattle.desk_core.specs.Earlier.{against_since, edits_behind, changes_of, cards_at_of}
 use Rattle.desk_core.specs.Edits.{Edit}
 use Rattle.desk_core.specs.Language.{Card}
@@ -15,7 +17,7 @@ use Rattle.desk_core.specs.declared.calls.Call.TheVariants as call
 use Rattle.desk_core.specs.declared.replies.Reply.{Reply}
 use Rattle.desk_core.specs.declared.replies.Reply.TheVariants.{ChangesAre, CardsBefore, Refused}
 use Rattle.desk_core.specs.declared.replies.Refusal.{Refusal}
-use Rattle.session_line.specs.Kinds.{is_session_call, is_change, is_changes, is_cards, is_cards_before, is_publication, fits_call}
+use Rattle.session_line.specs.Kinds.{is_session_call, is_change, is_carried, is_changes, is_cards, is_cards_before, is_publication, fits_call}
 
 -- a change is accepted or refused
 unless-change : (cause : Option Refusal) (desk changed : Desk) → is_change (unless cause desk (accepted changed)).reply ≡ true
@@ -43,6 +45,23 @@ cards_at_of-fits : (version : ℕ) (desk : Desk) (deck : Option DeskDeck) → is
 cards_at_of-fits version desk None = refl
 cards_at_of-fits version desk (Some deck) = unless-cards (against_since version deck) desk version deck.cards (backs_of (edits_behind version deck))
 
+-- a change that is carried is told with its edits or refused
+unless-carried : (cause : Option Refusal) (desk : Desk) (made : Answer) → is_carried made.reply ≡ true → is_carried (unless cause desk made).reply ≡ true
+unless-carried None desk made is = is
+unless-carried (Some refusal) desk made is = refl
+
+accept-fits : (name by : List ℕ) (desk : Desk) (deck : DeskDeck) (edits : Result (List Edit) Touched) → is_carried (accept_carried name by desk deck edits).reply ≡ true
+accept-fits name by desk deck (Ok edits) = refl
+accept-fits name by desk deck (Err touched) = refl
+
+edit_since-fits : (name : List ℕ) (seen : ℕ) (edit : Edit) (by : List ℕ) (desk : Desk) (deck : Option DeskDeck) → is_carried (edit_since_of name seen edit by desk deck).reply ≡ true
+edit_since-fits name seen edit by desk None = refl
+edit_since-fits name seen edit by desk (Some deck) = unless-carried _ desk _ (accept-fits name by desk deck (carried_since seen (edit ∷ []) deck))
+
+batch_since-fits : (name : List ℕ) (seen : ℕ) (edits : List Edit) (by : List ℕ) (desk : Desk) (deck : Option DeskDeck) → is_carried (batch_since_of name seen edits by desk deck).reply ≡ true
+batch_since-fits name seen edits by desk None = refl
+batch_since-fits name seen edits by desk (Some deck) = unless-carried _ desk _ (accept-fits name by desk deck (carried_since seen edits deck))
+
 show_reply-fits : (publication : Option Publication) → is_publication (show_reply publication) ≡ true
 show_reply-fits None = refl
 show_reply-fits (Some publication) = refl
@@ -53,6 +72,8 @@ answer-fits (call.PutDeck deck seen) desk h = unless-change (against_put seen de
 answer-fits (call.DropDeck name seen) desk h = unless-change (against_drop seen desk (deck_named name desk)) desk _
 answer-fits (call.EditDeck name seen edit by) desk h = unless-change (against_edit seen edit desk (deck_named name desk)) desk _
 answer-fits (call.Batch name seen edits by) desk h = unless-change (against_batch seen edits desk (deck_named name desk)) desk _
+answer-fits (call.EditSince name seen edit by) desk h = edit_since-fits name seen edit by desk (deck_named name desk)
+answer-fits (call.BatchSince name seen edits by) desk h = batch_since-fits name seen edits by desk (deck_named name desk)
 answer-fits (call.Changes name since) desk h = changes_of-fits since desk (deck_named name desk)
 answer-fits (call.CardsAt name version) desk h = cards_at_of-fits version desk (deck_named name desk)
 answer-fits (call.Cards name) desk h = cards_reply-fits (deck_named name desk)
@@ -70,6 +91,8 @@ refused-fits (call.PutDeck deck seen) reason h = refl
 refused-fits (call.DropDeck name seen) reason h = refl
 refused-fits (call.EditDeck name seen edit by) reason h = refl
 refused-fits (call.Batch name seen edits by) reason h = refl
+refused-fits (call.EditSince name seen edit by) reason h = refl
+refused-fits (call.BatchSince name seen edits by) reason h = refl
 refused-fits (call.Changes name since) reason h = refl
 refused-fits (call.CardsAt name version) reason h = refl
 refused-fits (call.Cards name) reason h = refl

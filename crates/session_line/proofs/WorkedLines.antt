@@ -7,6 +7,7 @@ use Rattle.session_line.specs.declared.commands.Command.TheVariants as command
 use Rattle.session_line.specs.declared.errors.ErrorsView.TheVariants.{Every, Of}
 use Rattle.session_line.specs.declared.views.CardsView.TheVariants.{All, From, With}
 use Rattle.session_line.specs.declared.refusals.Refusal.TheVariants.{BadCommand, BadName, BadCard}
+use Rattle.session_line.specs.declared.words.Seen.TheVariants.{Exactly, Since}
 use Rattle.session_line.specs.Edits.{edit_in_batch}
 use Rattle.session_line.specs.Commands.{command_of}
 
@@ -20,13 +21,45 @@ load = refl
 pub drop : command_of (codes "DROP M 2") ≡ Ok (command.Drop (codes "M") 2)
 drop = refl
 
-pub insert : command_of (codes "INS M 1 1 *A") ≡ Ok (command.Edit (codes "M") 1 (Insert 1 (codes "*A")))
+pub insert : command_of (codes "INS M 1 1 *A") ≡ Ok (command.Edit (codes "M") (Exactly 1) (Insert 1 (codes "*A")))
 insert = refl
 
-pub replace : command_of (codes "REP M 7 3  SB1 1 ") ≡ Ok (command.Edit (codes "M") 7 (Replace 3 (codes " SB1 1")))
+-- by who has seen this version, whatever others changed since
+pub insert-since : command_of (codes "INS M 1+ 1 *A") ≡ Ok (command.Edit (codes "M") (Since 1) (Insert 1 (codes "*A")))
+insert-since = refl
+
+pub delete-since : command_of (codes "DEL M 007+ 3") ≡ Ok (command.Edit (codes "M") (Since 7) (Remove 3))
+delete-since = refl
+
+-- a plus that stands elsewhere
+pub plus-alone : command_of (codes "INS M + 1 *A") ≡ Err BadCommand
+plus-alone = refl
+
+pub plus-twice : command_of (codes "INS M 1++ 1 *A") ≡ Err BadCommand
+plus-twice = refl
+
+pub plus-behind_a_blank : command_of (codes "INS M 1 + 1 *A") ≡ Err BadCommand
+plus-behind_a_blank = refl
+
+pub plus-behind_the_place : command_of (codes "INS M 1 1+ *A") ≡ Err BadCommand
+plus-behind_the_place = refl
+
+pub drop-since : command_of (codes "DROP M 1+") ≡ Err BadCommand
+drop-since = refl
+
+pub put-since : command_of (codes "PUT M 1+ 2") ≡ Err BadCommand
+put-since = refl
+
+pub greatest-since : command_of (codes "DEL M 4611686018427387904+ 1") ≡ Ok (command.Edit (codes "M") (Since 4611686018427387904) (Remove 1))
+greatest-since = refl
+
+pub greater-since : command_of (codes "DEL M 4611686018427387905+ 1") ≡ Err BadCommand
+greater-since = refl
+
+pub replace : command_of (codes "REP M 7 3  SB1 1 ") ≡ Ok (command.Edit (codes "M") (Exactly 7) (Replace 3 (codes " SB1 1")))
 replace = refl
 
-pub delete : command_of (codes "DEL M 007 0") ≡ Ok (command.Edit (codes "M") 7 (Remove 0))
+pub delete : command_of (codes "DEL M 007 0") ≡ Ok (command.Edit (codes "M") (Exactly 7) (Remove 0))
 delete = refl
 
 pub cards : command_of (codes "CARDS M") ≡ Ok (command.Cards (codes "M") All)
@@ -196,11 +229,14 @@ wait-greatest = refl
 pub bye : command_of (codes "BYE") ≡ Ok command.Bye
 bye = refl
 
-pub batch : command_of (codes "BATCH M 3 100") ≡ Ok (command.Batch (record { name = Ok (codes "M"); version = 3; count = 100 }))
+pub batch : command_of (codes "BATCH M 3 100") ≡ Ok (command.Batch (record { name = Ok (codes "M"); seen = Exactly 3; count = 100 }))
 batch = refl
 
+pub batch-since : command_of (codes "BATCH M 3+ 100") ≡ Ok (command.Batch (record { name = Ok (codes "M"); seen = Since 3; count = 100 }))
+batch-since = refl
+
 -- the name of a batch is told later
-pub batch-bad_name : command_of (codes "BATCH M+ 3 1") ≡ Ok (command.Batch (record { name = Err BadName; version = 3; count = 1 }))
+pub batch-bad_name : command_of (codes "BATCH M+ 3 1") ≡ Ok (command.Batch (record { name = Err BadName; seen = Exactly 3; count = 1 }))
 batch-bad_name = refl
 
 pub put : command_of (codes "PUT M 3 2") ≡ Ok (command.Put (record { name = Ok (codes "M"); version = 3; count = 2 }))
@@ -218,10 +254,10 @@ pub put-bad_name : command_of (codes "PUT M+ 3 1") ≡ Ok (command.Put (record {
 put-bad_name = refl
 
 -- the empty card, with a blank behind the place and without
-pub empty_card : command_of (codes "INS M 1 1") ≡ Ok (command.Edit (codes "M") 1 (Insert 1 (codes "")))
+pub empty_card : command_of (codes "INS M 1 1") ≡ Ok (command.Edit (codes "M") (Exactly 1) (Insert 1 (codes "")))
 empty_card = refl
 
-pub empty_text : command_of (codes "INS M 1 1 ") ≡ Ok (command.Edit (codes "M") 1 (Insert 1 (codes "")))
+pub empty_text : command_of (codes "INS M 1 1 ") ≡ Ok (command.Edit (codes "M") (Exactly 1) (Insert 1 (codes "")))
 empty_text = refl
 
 -- the greatest number, and 19 digits of it

@@ -27,6 +27,9 @@ add = refl
 pub insert : task_of (codes "INS M 2 1 *A") [] ≡ Ask (call.EditDeck (codes "M") 2 (Insert 1 (codes "*A")) nobody)
 insert = refl
 
+pub insert-since : task_of (codes "INS M 2+ 1 *A") [] ≡ Ask (call.EditSince (codes "M") 2 (Insert 1 (codes "*A")) nobody)
+insert-since = refl
+
 pub load : task_of (codes "LOAD M") [] ≡ LoadDeck (codes "M")
 load = refl
 
@@ -70,6 +73,9 @@ bye = refl
 pub batch : task_of (codes "BATCH M 3 3") (codes "INS 1 *X" ∷ codes "DEL 3" ∷ codes "REP 2 *Y" ∷ [])
     ≡ Ask (call.Batch (codes "M") 3 (Insert 1 (codes "*X") ∷ Remove 3 ∷ Replace 2 (codes "*Y") ∷ []) nobody)
 batch = refl
+
+pub batch-since : task_of (codes "BATCH M 3+ 1") (codes "DEL 3" ∷ []) ≡ Ask (call.BatchSince (codes "M") 3 (Remove 3 ∷ []) nobody)
+batch-since = refl
 
 -- a bad name takes the lines all the same, and counts before them
 pub lines_of_bad_name : lines_due (command_of (codes "BATCH M+ 4 2")) ≡ 2
@@ -153,6 +159,12 @@ cards_then = unfold digits in refl
 
 pub cards_then_foreign : told_text (told_of_cards_at (reply.CardsBefore 4 (codes "*X" ∷ []) (Remove 2 ∷ []))) ≡ codes "NO Foreign\n"
 cards_then_foreign = unfold digits in refl
+
+pub carried : told_text (told_of_call (reply.Carried 5 4 (Insert 2 (codes "*B") ∷ []))) ≡ codes "OK 5\n"
+carried = unfold digits in refl
+
+pub touched : told_text (told_of_call (reply.Refused (desk.TouchedCard 1 4))) ≡ codes "NO Touched 1 4\n"
+touched = unfold digits in refl
 
 pub forgotten : told_text (told_of_call (reply.Refused (desk.Forgotten 12))) ≡ codes "NO Forgotten 12\n"
 forgotten = unfold digits in refl

@@ -7,7 +7,7 @@ use Rattle.desk_core.specs.Language.{listing_of, image_of}
 use Rattle.desk_core.specs.Desks.{Publication}
 use Rattle.desk_core.specs.declared.replies.Reply.{Reply}
 use Rattle.desk_core.specs.declared.replies.Row.{Row}
-use Rattle.desk_core.specs.declared.replies.Reply.TheVariants.{Changed, CardsAre, ChangesAre, CardsBefore, Shown, StatusIs, Refused}
+use Rattle.desk_core.specs.declared.replies.Reply.TheVariants.{Changed, Carried, CardsAre, ChangesAre, CardsBefore, Shown, StatusIs, Refused}
 use Rattle.deck_files.specs.DeckFiles.{file_of}
 use Rattle.session_line.specs.declared.refusals.Refusal.{Refusal}
 use Rattle.session_line.specs.declared.refusals.Refusal.TheVariants as refusal
@@ -48,6 +48,7 @@ foreign = told.Refused refusal.Foreign
 -- what is told of the reply to a call that shows neither cards nor a publication; no more edits than are kept of a deck, and no more decks than a desk may have
 abbrev pub told_of_call : Reply → Told
 told_of_call (Changed version) = told.Done version
+told_of_call (Carried version seen edits) = told.Done version
 told_of_call (ChangesAre version kept) = if nat_le (length kept) most_kept then told.Changes version kept else foreign
 told_of_call (StatusIs version published rows) = if nat_le (length rows) most_decks then told.Status version published rows else foreign
 told_of_call (Refused reason) = told.Refused (desk_reason reason)

@@ -11,14 +11,16 @@ use Rattle.cards.specs.declared.edits.Edit.{Edit}
 use Rattle.deck_files.specs.declared.deck_shelf.SaveOver.{SaveOver}
 use Rattle.deck_files.specs.declared.deck_shelf.SaveOver.TheVariants as over
 use Rattle.session_line.specs.declared.commands.Command.{Command}
-use Rattle.session_line.specs.declared.commands.LinesHead.{LinesHead}
+use Rattle.session_line.specs.declared.commands.BatchHead.{BatchHead}
+use Rattle.session_line.specs.declared.words.Seen.{Seen}
+use Rattle.session_line.specs.declared.words.Seen.TheVariants.{Exactly, Since}
 use Rattle.session_line.specs.declared.views.CardsView.{CardsView}
 use Rattle.session_line.specs.declared.views.CardsView.TheVariants.{All, From, With}
 use Rattle.session_line.specs.declared.commands.Command.TheVariants as command
 use Rattle.session_line.specs.declared.errors.ErrorsView.TheVariants.{Every, Of}
 use Rattle.session_line.specs.declared.refusals.Refusal.{Refusal}
-use Rattle.session_line.specs.declared.refusals.Refusal.TheVariants.{BadName}
-use Rattle.session_line.specs.Words.{from_blank, first_word, first_number, behind_word}
+use Rattle.session_line.specs.declared.refusals.Refusal.TheVariants.{BadCommand, BadName}
+use Rattle.session_line.specs.Words.{from_blank, first_word, first_number, first_seen, behind_word}
 use Rattle.session_line.specs.Verbs.{verb_of}
 use Rattle.session_line.specs.Views.{is_sought_size}
 use Rattle.session_line.specs.Edits.{needs, only_if, made_of, is_end, fits_edit, edit_at}
@@ -113,18 +115,18 @@ abbrev pub of_version : (List ℕ → ℕ → Command) → Result (List ℕ × �
 of_version make read = made_of (λ (both : List ℕ × ℕ). make both.0 both.1) read
 
 -- an edit of a deck, where the name is one
-abbrev pub edit_of : Result (List ℕ) Refusal → ℕ → Result Edit Refusal → Result Command Refusal
-edit_of (Err refusal) version edit = Err refusal
-edit_of (Ok name) version edit = made_of (command.Edit name version) edit
+abbrev pub edit_of : Result (List ℕ) Refusal → Seen → Result Edit Refusal → Result Command Refusal
+edit_of (Err refusal) seen edit = Err refusal
+edit_of (Ok name) seen edit = made_of (command.Edit name seen) edit
 
--- name version at, and text but for a removal
+-- name version at, and text but for a removal; a plus may stand behind the version
 abbrev pub edit_in : EditKind → List ℕ → Result Command Refusal
 edit_in kind rest =
     let behind = behind_word (behind_word rest) in
     needs (first_word rest) (λ name.
-    needs (first_number (behind_word rest)) (λ version.
+    needs (first_seen (behind_word rest)) (λ seen.
     needs (first_number behind) (λ at.
-    only_if (fits_edit kind (behind_word behind)) (edit_of (name_in name) version (edit_at kind at (behind_word behind))))))
+    only_if (fits_edit kind (behind_word behind)) (edit_of (name_in name) seen (edit_at kind at (behind_word behind))))))
 
 -- how many edits a batch has at most
 abbrev pub most_edits : ℕ
@@ -142,19 +144,29 @@ most_put_cards = 20000
 abbrev pub is_put_size : ℕ → Bool
 is_put_size count = nat_le count most_put_cards
 
--- name version n; the name is looked at when the lines behind are read
-abbrev pub head_in : List ℕ → Result LinesHead Refusal
+-- name version n, where a plus may stand behind the version; the name is looked at when the lines behind are read
+abbrev pub head_in : List ℕ → Result BatchHead Refusal
 head_in rest =
     let behind = behind_word (behind_word rest) in
     needs (first_word rest) (λ name.
-    needs (first_number (behind_word rest)) (λ version.
+    needs (first_seen (behind_word rest)) (λ seen.
     needs (first_number behind) (λ count.
-    only_if (is_end (behind_word behind)) (Ok (record { name = name_in name; version = version; count = count })))))
+    only_if (is_end (behind_word behind)) (Ok (record { name = name_in name; seen = seen; count = count })))))
 
--- a command of so many lines, where it may have as many
-abbrev pub sized : (ℕ → Bool) → (LinesHead → Command) → Result LinesHead Refusal → Result Command Refusal
-sized fits make (Ok head) = only_if (fits head.count) (Ok (make head))
-sized fits make (Err refusal) = Err refusal
+-- a batch, where it may have so many edits
+abbrev pub batch_by : Result BatchHead Refusal → Result Command Refusal
+batch_by (Ok head) = only_if (is_batch_size head.count) (Ok (command.Batch head))
+batch_by (Err refusal) = Err refusal
+
+-- a put, by who has seen this version; whoever would put over any later one gives no command
+abbrev pub put_of : Result (List ℕ) Refusal → Seen → ℕ → Result Command Refusal
+put_of name (Exactly version) count = only_if (is_put_size count) (Ok (command.Put (record { name = name; version = version; count = count })))
+put_of name (Since version) count = Err BadCommand
+
+-- a put, where it may have so many cards
+abbrev pub put_by : Result BatchHead Refusal → Result Command Refusal
+put_by (Ok head) = put_of head.name head.seen head.count
+put_by (Err refusal) = Err refusal
 
 -- the command of a verb, by what stands behind it
 abbrev pub command_by : Verb → List ℕ → Result Command Refusal
@@ -172,8 +184,8 @@ command_by verb.Map rest = alone command.Map rest
 command_by verb.Errors rest = errors_in rest
 command_by verb.Status rest = alone command.Status rest
 command_by verb.Wait rest = wait_in rest
-command_by verb.Batch rest = sized is_batch_size command.Batch (head_in rest)
-command_by verb.Put rest = sized is_put_size command.Put (head_in rest)
+command_by verb.Batch rest = batch_by (head_in rest)
+command_by verb.Put rest = put_by (head_in rest)
 command_by verb.Bye rest = alone command.Bye rest
 
 -- the command that a line is, or why it is refused

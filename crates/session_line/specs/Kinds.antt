@@ -12,6 +12,8 @@ is_session_call (call.PutDeck deck seen) = true
 is_session_call (call.DropDeck name seen) = true
 is_session_call (call.EditDeck name seen edit by) = true
 is_session_call (call.Batch name seen edits by) = true
+is_session_call (call.EditSince name seen edit by) = true
+is_session_call (call.BatchSince name seen edits by) = true
 is_session_call (call.Changes name since) = true
 is_session_call (call.CardsAt name version) = true
 is_session_call (call.Cards name) = true
@@ -27,6 +29,12 @@ abbrev pub is_change : Reply → Bool
 is_change (reply.Changed version) = true
 is_change (reply.Refused reason) = true
 is_change _ = false
+
+-- whether a reply tells a change with its edits, or refuses
+abbrev pub is_carried : Reply → Bool
+is_carried (reply.Carried version seen edits) = true
+is_carried (reply.Refused reason) = true
+is_carried _ = false
 
 -- whether a reply has cards, or refuses
 abbrev pub is_cards : Reply → Bool
@@ -65,6 +73,8 @@ fits_call (call.PutDeck deck seen) reply = is_change reply
 fits_call (call.DropDeck name seen) reply = is_change reply
 fits_call (call.EditDeck name seen edit by) reply = is_change reply
 fits_call (call.Batch name seen edits by) reply = is_change reply
+fits_call (call.EditSince name seen edit by) reply = is_carried reply
+fits_call (call.BatchSince name seen edits by) reply = is_carried reply
 fits_call (call.Changes name since) reply = is_changes reply
 fits_call (call.CardsAt name version) reply = is_cards_before reply
 fits_call (call.Cards name) reply = is_cards reply

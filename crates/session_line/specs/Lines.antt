@@ -12,6 +12,8 @@ use Rattle.session_line.specs.declared.refusals.Refusal.{Refusal}
 use Rattle.session_line.specs.declared.views.CardsView.{CardsView}
 use Rattle.session_line.specs.declared.views.CardsView.TheVariants.{All, From, With}
 use Rattle.session_line.specs.Words.{greatest_number}
+use Rattle.session_line.specs.declared.words.Seen.{Seen}
+use Rattle.session_line.specs.declared.words.Seen.TheVariants.{Exactly, Since}
 use Rattle.session_line.specs.Views.{is_sought_size}
 use Rattle.session_line.specs.Commands.{is_batch_size, is_put_size}
 
@@ -23,11 +25,20 @@ behind_a_blank text = codes " " ++ text
 abbrev pub name_and_number : List ℕ → ℕ → List ℕ → List ℕ
 name_and_number name number rest = behind_a_blank (name ++ behind_a_blank (decimal number ++ rest))
 
+-- the word of a version that was seen
+abbrev pub seen_text : Seen → List ℕ
+seen_text (Exactly version) = decimal version
+seen_text (Since version) = decimal version ++ codes "+"
+
+-- a name, and a version behind it
+abbrev pub name_and_seen : List ℕ → Seen → List ℕ → List ℕ
+name_and_seen name seen rest = behind_a_blank (name ++ behind_a_blank (seen_text seen ++ rest))
+
 -- the line of an edit
-abbrev pub line_of_edit : List ℕ → ℕ → Edit → List ℕ
-line_of_edit name version (Insert at card) = codes "INS" ++ name_and_number name version (behind_a_blank (decimal at ++ behind_a_blank card))
-line_of_edit name version (Replace at card) = codes "REP" ++ name_and_number name version (behind_a_blank (decimal at ++ behind_a_blank card))
-line_of_edit name version (Remove at) = codes "DEL" ++ name_and_number name version (behind_a_blank (decimal at ++ []))
+abbrev pub line_of_edit : List ℕ → Seen → Edit → List ℕ
+line_of_edit name seen (Insert at card) = codes "INS" ++ name_and_seen name seen (behind_a_blank (decimal at ++ behind_a_blank card))
+line_of_edit name seen (Replace at card) = codes "REP" ++ name_and_seen name seen (behind_a_blank (decimal at ++ behind_a_blank card))
+line_of_edit name seen (Remove at) = codes "DEL" ++ name_and_seen name seen (behind_a_blank (decimal at ++ []))
 
 -- the line of an edit in a batch
 abbrev pub line_in_batch : Edit → List ℕ
@@ -36,9 +47,9 @@ line_in_batch (Replace at card) = codes "REP" ++ behind_a_blank (decimal at ++ b
 line_in_batch (Remove at) = codes "DEL" ++ behind_a_blank (decimal at ++ [])
 
 -- the first line of a command with lines behind it; one whose name is none has no line of its own
-abbrev pub line_of_head : List ℕ → Result (List ℕ) Refusal → ℕ → ℕ → List ℕ
-line_of_head verb (Ok name) version count = verb ++ name_and_number name version (behind_a_blank (decimal count ++ []))
-line_of_head verb (Err refusal) version count = []
+abbrev pub line_of_head : List ℕ → Result (List ℕ) Refusal → Seen → ℕ → List ℕ
+line_of_head verb (Ok name) seen count = verb ++ name_and_seen name seen (behind_a_blank (decimal count ++ []))
+line_of_head verb (Err refusal) seen count = []
 
 -- the line that asks for this of a deck's cards
 abbrev pub line_of_view : List ℕ → CardsView → List ℕ
@@ -51,7 +62,7 @@ abbrev pub line_of_command : Command → List ℕ
 line_of_command (command.Add name) = codes "ADD" ++ behind_a_blank (name ++ [])
 line_of_command (command.Load name) = codes "LOAD" ++ behind_a_blank (name ++ [])
 line_of_command (command.Drop name version) = codes "DROP" ++ name_and_number name version []
-line_of_command (command.Edit name version edit) = line_of_edit name version edit
+line_of_command (command.Edit name seen edit) = line_of_edit name seen edit
 line_of_command (command.Cards name view) = line_of_view name view
 line_of_command (command.CardsAt name version) = codes "CARDS" ++ behind_a_blank (name ++ behind_a_blank (codes "AT" ++ behind_a_blank (decimal version ++ [])))
 line_of_command (command.Changes name version) = codes "CHANGES" ++ name_and_number name version []
@@ -66,8 +77,8 @@ line_of_command (command.Errors Every) = codes "ERRORS"
 line_of_command (command.Errors (Of name)) = codes "ERRORS" ++ behind_a_blank (name ++ [])
 line_of_command command.Status = codes "STATUS"
 line_of_command (command.Wait version) = codes "WAIT" ++ behind_a_blank (decimal version ++ [])
-line_of_command (command.Batch head) = line_of_head (codes "BATCH") head.name head.version head.count
-line_of_command (command.Put head) = line_of_head (codes "PUT") head.name head.version head.count
+line_of_command (command.Batch head) = line_of_head (codes "BATCH") head.name head.seen head.count
+line_of_command (command.Put head) = line_of_head (codes "PUT") head.name (Exactly head.version) head.count
 line_of_command command.Bye = codes "BYE"
 
 -- a place that can be told, and a card
@@ -75,6 +86,11 @@ abbrev pub IsLawfulEdit : Edit → Type 0
 IsLawfulEdit (Insert at card) = (at ≤ greatest_number) × (card_of card ≡ IsCard card)
 IsLawfulEdit (Replace at card) = (at ≤ greatest_number) × (card_of card ≡ IsCard card)
 IsLawfulEdit (Remove at) = at ≤ greatest_number
+
+-- a version that can be told
+abbrev pub IsLawfulSeen : Seen → Type 0
+IsLawfulSeen (Exactly version) = version ≤ greatest_number
+IsLawfulSeen (Since version) = version ≤ greatest_number
 
 -- a name, where there is one
 abbrev pub IsLawfulName : Result (List ℕ) Refusal → Type 0
@@ -92,7 +108,7 @@ abbrev pub IsLawful : Command → Type 0
 IsLawful (command.Add name) = IsTrue (is_deck_name name)
 IsLawful (command.Load name) = IsTrue (is_deck_name name)
 IsLawful (command.Drop name version) = IsTrue (is_deck_name name) × (version ≤ greatest_number)
-IsLawful (command.Edit name version edit) = IsTrue (is_deck_name name) × (version ≤ greatest_number) × IsLawfulEdit edit
+IsLawful (command.Edit name seen edit) = IsTrue (is_deck_name name) × IsLawfulSeen seen × IsLawfulEdit edit
 IsLawful (command.Cards name view) = IsTrue (is_deck_name name) × IsLawfulView view
 IsLawful (command.CardsAt name version) = IsTrue (is_deck_name name) × (version ≤ greatest_number)
 IsLawful (command.Changes name version) = IsTrue (is_deck_name name) × (version ≤ greatest_number)
@@ -106,6 +122,6 @@ IsLawful (command.Errors Every) = ⊤
 IsLawful (command.Errors (Of name)) = IsTrue (is_deck_name name)
 IsLawful command.Status = ⊤
 IsLawful (command.Wait version) = version ≤ greatest_number
-IsLawful (command.Batch head) = IsLawfulName head.name × (head.version ≤ greatest_number) × IsTrue (is_batch_size head.count)
+IsLawful (command.Batch head) = IsLawfulName head.name × IsLawfulSeen head.seen × IsTrue (is_batch_size head.count)
 IsLawful (command.Put head) = IsLawfulName head.name × (head.version ≤ greatest_number) × IsTrue (is_put_size head.count)
 IsLawful command.Bye = ⊤

@@ -6,7 +6,7 @@ use Rattle.text_ports.specs.Lines.{ReadsLine}
 use Rattle.text_ports.specs.Faults.{count_up}
 use Rattle.text_ports.specs.declared.lines.LineIs.{LineIs}
 use Rattle.text_ports.specs.declared.lines.LineIs.TheVariants as line
-use Rattle.desk_core.specs.declared.calls.Call.TheVariants.{Batch, PutDeck}
+use Rattle.desk_core.specs.declared.calls.Call.TheVariants.{Batch, BatchSince, PutDeck}
 use Rattle.session_line.specs.Commands.{command_of}
 use Rattle.session_line.specs.declared.refusals.Refusal.TheVariants.{OutOfMemory}
 use Rattle.session_line.specs.declared.tasks.Task.{Task}
@@ -52,6 +52,7 @@ pub record Stops (old new : Option (List ℕ)) (stop : Stop) : Type 0 where
 -- whether a task is a batch or a put, whose edits or cards are a list in memory
 abbrev pub has_list : Task → Bool
 has_list (Ask (Batch name version edits by)) = true
+has_list (Ask (BatchSince name version edits by)) = true
 has_list (Ask (PutDeck deck version)) = true
 has_list _ = false
 

@@ -2,7 +2,10 @@
 use Rattle.std.specs.Prelude.{ℕ, ◌+◌, Bool, true, false, List, [], ◌∷◌, codes, Result, Ok, Err}
 use Rattle.definitions.specs.Cards.{Card}
 use Rattle.cards.specs.declared.edits.Edit.{Edit}
-use Rattle.desk_core.specs.declared.calls.Call.TheVariants.{AddDeck, PutDeck, DropDeck, EditDeck, Batch, Changes, Status}
+use Rattle.desk_core.specs.declared.calls.Call.TheVariants.{AddDeck, PutDeck, DropDeck, EditDeck, Batch, EditSince, BatchSince, Changes, Status}
+use Rattle.desk_core.specs.declared.calls.Call.{Call}
+use Rattle.session_line.specs.declared.words.Seen.{Seen}
+use Rattle.session_line.specs.declared.words.Seen.TheVariants.{Exactly, Since}
 use Rattle.session_line.specs.declared.commands.Command.{Command}
 use Rattle.session_line.specs.declared.commands.Command.TheVariants as command
 use Rattle.session_line.specs.declared.refusals.Refusal.{Refusal}
@@ -51,15 +54,25 @@ cards_of lines = items_from card_in_put 1 lines
 abbrev pub nobody : List ℕ
 nobody = codes "0"
 
+-- the call that asks for an edit
+abbrev pub edit_call : List ℕ → Seen → Edit → Call
+edit_call name (Exactly version) edit = EditDeck name version edit nobody
+edit_call name (Since version) edit = EditSince name version edit nobody
+
+-- the call that asks for a batch of edits
+abbrev pub batch_call : List ℕ → Seen → List Edit → Call
+batch_call name (Exactly version) edits = Batch name version edits nobody
+batch_call name (Since version) edits = BatchSince name version edits nobody
+
 -- a batch of edits, where its lines are edits
-abbrev pub batch_of : List ℕ → ℕ → Result (List Edit) Refusal → Task
-batch_of name version (Ok edits) = Ask (Batch name version edits nobody)
-batch_of name version (Err refusal) = Refuse refusal
+abbrev pub batch_of : List ℕ → Seen → Result (List Edit) Refusal → Task
+batch_of name seen (Ok edits) = Ask (batch_call name seen edits)
+batch_of name seen (Err refusal) = Refuse refusal
 
 -- a batch, where its name is one; the name counts before the lines
-abbrev pub batch_named : Result (List ℕ) Refusal → ℕ → Result (List Edit) Refusal → Task
-batch_named (Ok name) version edits = batch_of name version edits
-batch_named (Err refusal) version edits = Refuse refusal
+abbrev pub batch_named : Result (List ℕ) Refusal → Seen → Result (List Edit) Refusal → Task
+batch_named (Ok name) seen edits = batch_of name seen edits
+batch_named (Err refusal) seen edits = Refuse refusal
 
 -- a deck of these cards, where its lines are cards
 abbrev pub put_of : List ℕ → ℕ → Result (List Card) Refusal → Task
@@ -76,7 +89,7 @@ abbrev pub task_of_command : Command → List (List ℕ) → Task
 task_of_command (command.Add name) lines = Ask (AddDeck (record { name = name; cards = [] }))
 task_of_command (command.Load name) lines = LoadDeck name
 task_of_command (command.Drop name version) lines = Ask (DropDeck name version)
-task_of_command (command.Edit name version edit) lines = Ask (EditDeck name version edit nobody)
+task_of_command (command.Edit name seen edit) lines = Ask (edit_call name seen edit)
 task_of_command (command.Cards name view) lines = ShowCards name view
 task_of_command (command.CardsAt name version) lines = ShowCardsAt name version
 task_of_command (command.Changes name version) lines = Ask (Changes name version)
@@ -89,7 +102,7 @@ task_of_command (command.ListOf name) lines = ShowPart Listing name
 task_of_command (command.Errors view) lines = ShowErrors view
 task_of_command command.Status lines = Ask Status
 task_of_command (command.Wait version) lines = AwaitVersion version
-task_of_command (command.Batch head) lines = batch_named head.name head.version (edits_of lines)
+task_of_command (command.Batch head) lines = batch_named head.name head.seen (edits_of lines)
 task_of_command (command.Put head) lines = put_named head.name head.version (cards_of lines)
 task_of_command command.Bye lines = Leave
 

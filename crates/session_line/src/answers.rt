@@ -66,7 +66,7 @@ pub(crate) fn told_of_call(reply: Reply) -> Told
     ensures fits { IsTellable result }
 {
     match reply {
-        Reply::Changed(version) => Told::Done(version),
+        Reply::Changed(version) | Reply::Carried { version, .. } => Told::Done(version),
         Reply::ChangesAre(version, kept) => {
             if kept.as_slice().len() <= MOST_KEPT {
                 Told::Changes(version, kept)

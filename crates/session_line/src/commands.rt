@@ -1,14 +1,16 @@
 //! The commands of a session.
 ghost use Rattle.std.specs.Prelude.{◌≡◌};
 ghost use Rattle.session_line.specs.declared.commands.Command.TheVariants as command;
-ghost use Rattle.session_line.specs.Commands.{name_in, alone, only_name, save_over_in, save_in, view_in, at_in, cards_by, cards_in, sought_in, find_in, image_in, list_in, errors_in, wait_in, named_version, of_version, edit_in, head_in, sized, command_by, command_of, is_batch_size, is_put_size};
+ghost use Rattle.session_line.specs.Commands.{name_in, alone, only_name, save_over_in, save_in, view_in, at_in, cards_by, cards_in, sought_in, find_in, image_in, list_in, errors_in, wait_in, named_version, of_version, edit_in, head_in, batch_by, put_of, put_by, command_by, command_of, is_batch_size, is_put_size};
 
 use crate::edits::{edit_at, fits_edit};
 use crate::errors::ErrorsView;
 use crate::refusals::Refusal;
 use crate::verbs::{EditKind, Verb, verb_of};
 use crate::views::{CardsView, is_sought_size};
-use crate::words::{behind_blank, behind_word, first_number, first_word, from_blank, to_blank};
+use crate::words::{
+    Seen, behind_blank, behind_word, first_number, first_seen, first_word, from_blank, to_blank,
+};
 use cards::{Card, DeckName, Edit};
 use deck_files::SaveOver;
 use definitions::is_same_text;
@@ -38,7 +40,7 @@ pub enum Command {
     /// One edit of the deck.
     Edit {
         name: DeckName,
-        version: u64,
+        seen: Seen,
         edit: Edit,
     },
     /// The cards of the deck, some of them, or the numbers of some.
@@ -84,7 +86,7 @@ pub enum Command {
         version: u64,
     },
     /// Edits of one deck, all or none, each on a line of its own behind this one.
-    Batch(LinesHead),
+    Batch(BatchHead),
     /// A deck in the place of the one of its name, its cards on lines of their own behind this one; or a
     /// new deck, where the version is 0.
     Put(LinesHead),
@@ -92,9 +94,17 @@ pub enum Command {
     Bye,
 }
 
-/// The first line of a command that has further lines: the deck, or why the word is no name, the version
-/// of it that was seen, and how many lines follow: 1 to 100 edits of a batch, or at most 20,000 cards of
-/// a put.
+/// The first line of a batch: the deck, or why the word is no name, the version of it that was seen, and
+/// how many edits follow, 1 to 100, a line each.
+#[derive(Drop)]
+pub struct BatchHead {
+    pub name: Result<DeckName, Refusal>,
+    pub seen: Seen,
+    pub count: u64,
+}
+
+/// The first line of a put: the deck, or why the word is no name, the version of it that was seen, and how
+/// many cards follow, at most 20,000, a line each.
 #[derive(Drop)]
 pub struct LinesHead {
     pub name: Result<DeckName, Refusal>,
@@ -331,7 +341,7 @@ fn changes_in(rest: &[u8]) -> Result<Command, Refusal>
     Ok(Command::Changes { name, version })
 }
 
-/// `name version at text`, without the text where a card goes.
+/// `name version at text`, without the text where a card goes; a plus may stand behind the version.
 fn edit_in(kind: EditKind, rest: &[u8]) -> Result<Command, Refusal>
     ensures { result ≡ edit_in kind rest.now }
 {
@@ -339,7 +349,7 @@ fn edit_in(kind: EditKind, rest: &[u8]) -> Result<Command, Refusal>
         return Err(Refusal::BadCommand);
     };
     let rest = behind_word(rest);
-    let Some(version) = first_number(rest) else {
+    let Some(seen) = first_seen(rest) else {
         return Err(Refusal::BadCommand);
     };
     let rest = behind_word(rest);
@@ -352,7 +362,7 @@ fn edit_in(kind: EditKind, rest: &[u8]) -> Result<Command, Refusal>
     }
     Ok(Command::Edit {
         name: name_in(name)?,
-        version,
+        seen,
         edit: edit_at(kind, at, rest)?,
     })
 }
@@ -369,15 +379,15 @@ fn is_put_size(count: u64) -> bool
     count <= MOST_PUT_CARDS
 }
 
-/// `name version n`
-fn head_in(rest: &[u8]) -> Result<LinesHead, Refusal>
+/// `name version n`, where a plus may stand behind the version.
+fn head_in(rest: &[u8]) -> Result<BatchHead, Refusal>
     ensures { result ≡ head_in rest.now }
 {
     let Some(name) = first_word(rest) else {
         return Err(Refusal::BadCommand);
     };
     let rest = behind_word(rest);
-    let Some(version) = first_number(rest) else {
+    let Some(seen) = first_seen(rest) else {
         return Err(Refusal::BadCommand);
     };
     let rest = behind_word(rest);
@@ -388,16 +398,12 @@ fn head_in(rest: &[u8]) -> Result<LinesHead, Refusal>
         return Err(Refusal::BadCommand);
     }
     let name = name_in(name);
-    Ok(LinesHead {
-        name,
-        version,
-        count,
-    })
+    Ok(BatchHead { name, seen, count })
 }
 
 /// `name version n`, with 1 to 100 lines.
 fn batch_in(rest: &[u8]) -> Result<Command, Refusal>
-    ensures { result ≡ sized is_batch_size command.Batch (head_in rest.now) }
+    ensures { result ≡ batch_by (head_in rest.now) }
 {
     let head = head_in(rest)?;
     if !is_batch_size(head.count) {
@@ -406,22 +412,33 @@ fn batch_in(rest: &[u8]) -> Result<Command, Refusal>
     Ok(Command::Batch(head))
 }
 
+/// A put, by who has seen this version and no other.
+fn put_of(name: Result<DeckName, Refusal>, seen: Seen, count: u64) -> Result<Command, Refusal>
+    ensures { result ≡ put_of name seen count }
+{
+    match seen {
+        Seen::Exactly(version) if is_put_size(count) => Ok(Command::Put(LinesHead {
+            name,
+            version,
+            count,
+        })),
+        _ => Err(Refusal::BadCommand),
+    }
+}
+
 /// `name version n`, with at most 20,000 lines.
 fn put_in(rest: &[u8]) -> Result<Command, Refusal>
-    ensures { result ≡ sized is_put_size command.Put (head_in rest.now) }
+    ensures { result ≡ put_by (head_in rest.now) }
 {
     let head = head_in(rest)?;
-    if !is_put_size(head.count) {
-        return Err(Refusal::BadCommand);
-    }
-    Ok(Command::Put(head))
+    put_of(head.name, head.seen, head.count)
 }
 
 /// Reads a line as a command. Words are separated by one blank each; a number has 1 to 19 decimal
-/// digits and is at most 2^62; the text of a card is all that stands behind one blank, and a line
-/// that ends behind its place has the empty card. Any other line is `BadCommand`; then comes
-/// `BadName`, and then the fault of the card. The name of a batch or a put is looked at later, so its
-/// fault stands in the head.
+/// digits and is at most 2^62, and a plus may stand behind the version of an edit or a batch; the text of
+/// a card is all that stands behind one blank, and a line that ends behind its place has the empty card.
+/// Any other line is `BadCommand`; then comes `BadName`, and then the fault of the card. The name of a
+/// batch or a put is looked at later, so its fault stands in the head.
 pub fn read_command(line: &[u8]) -> Result<Command, Refusal>
     ensures command { result ≡ command_of line.now }
 {

@@ -54,7 +54,7 @@ mod laws;
 
 pub use calls::Calls;
 pub use cards::{Edit, EditFault};
-pub use commands::{Command, LinesHead, only_name, read_command};
+pub use commands::{BatchHead, Command, LinesHead, only_name, read_command};
 pub use desk_core::{Row, State};
 pub use desk_laws::a_desk_answers_sessions;
 pub use edits::read_batch_line;
@@ -65,5 +65,5 @@ pub use replies::Reply;
 pub use seat_calls::SeatCalls;
 pub use serving::{Outcome, serve_one};
 pub use views::CardsView;
-pub use words::{behind_blank, behind_word, first_number, first_word, from_blank, to_blank};
+pub use words::{Seen, behind_blank, behind_word, first_number, first_word, from_blank, to_blank};
 pub use writing::{reply_text, write_reply};

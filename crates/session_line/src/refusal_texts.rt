@@ -79,6 +79,7 @@ pub(crate) fn put_refusal(line: &mut ReplyLine, refusal: &Refusal)
         Refusal::Busy => line.put(b"Busy"),
         Refusal::NotKept => line.put(b"NotKept"),
         Refusal::Forgotten { oldest } => put_numbered(line, b"Forgotten ", oldest),
+        Refusal::Touched { card, version } => put_touched(line, card, version),
     }
 }
 
@@ -90,6 +91,15 @@ fn put_bad_line(line: &mut ReplyLine, number: u64, fault: CardFault)
     put_numbered(line, b"BadLine ", number);
     line.put(b" ");
     put_card_fault(line, fault);
+}
+
+fn put_touched(line: &mut ReplyLine, card: u64, version: u64)
+    requires { length line.old ≤ 3 }
+    ensures text { line.new ≡ line.old ++ refusal_text (Refusal.Touched card version) }
+    ensures short { length line.new ≤ 79 }
+{
+    put_numbered(line, b"Touched ", card);
+    put_numbered(line, b" ", version);
 }
 
 fn put_bad_edit(line: &mut ReplyLine, number: u64, fault: EditFault)

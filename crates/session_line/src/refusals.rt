@@ -63,4 +63,6 @@ pub enum Refusal {
     NotKept,
     /// The changes of the deck are kept from this version on.
     Forgotten { oldest: u64 },
+    /// This card of those that the sender saw was changed, first in this version.
+    Touched { card: u64, version: u64 },
 }

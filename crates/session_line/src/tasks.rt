@@ -3,13 +3,13 @@ ghost use Rattle.std.specs.Prelude.{◌≡◌, ℕ, true, false, List, Result, O
 ghost use Rattle.definitions.specs.Cards.{Card as Columns};
 ghost use Rattle.cards.specs.declared.edits.Edit.{Edit as CardEdit};
 ghost use Rattle.session_line.specs.declared.refusals.Refusal.{Refusal as Reason};
-ghost use Rattle.session_line.specs.Tasks.{batch_named, cards_of, edits_of, is_put, lines_behind, lines_due, nobody, put_named, task_by, task_of_command};
+ghost use Rattle.session_line.specs.Tasks.{batch_call, batch_named, cards_of, edit_call, edits_of, is_put, lines_behind, lines_due, nobody, put_named, task_by, task_of_command};
 ghost use Rattle.session_line.specs.Taking.{IsTaskFor};
 ghost use Rattle.session_line.specs.LineItems.{IsRead, is_lacking};
 
 use crate::errors::ErrorsView;
 use crate::line_items::ItemsRead;
-use crate::{CardsView, Command, LinesHead, Refusal};
+use crate::{BatchHead, CardsView, Command, LinesHead, Refusal, Seen};
 use cards::{Card, DeckName, Edit};
 use deck_files::SaveOver;
 use desk_core::{Call, Listed, NewDeck};
@@ -56,7 +56,8 @@ fn lines_behind(command: &Command) -> u64
     ensures { result ≡ lines_behind command.now }
 {
     match command {
-        Command::Batch(head) | Command::Put(head) => head.count,
+        Command::Batch(head) => head.count,
+        Command::Put(head) => head.count,
         Command::Add { .. } | Command::Load { .. } | Command::Drop { .. } => 0,
         Command::Edit { .. } | Command::Cards { .. } | Command::Save { .. } => 0,
         Command::CardsAt { .. } | Command::Changes { .. } => 0,
@@ -93,23 +94,60 @@ fn nobody() -> DeckName
     }
 }
 
-/// A batch, with the edits of its lines; `OutOfMemory` only where there was no memory for them.
-fn batch_named(head: LinesHead, edits: ItemsRead<Edit>) -> Task
-    ensures task { (read : Result (List CardEdit) Reason) → IsRead read edits → IsTaskFor (batch_named head.name head.version read) result }
-    ensures whole { is_lacking edits ≡ false → (read : Result (List CardEdit) Reason) → IsRead read edits → result ≡ batch_named head.name head.version read }
+/// The call that asks for an edit.
+fn edit_call(name: DeckName, seen: Seen, edit: Edit) -> Call
+    ensures { result ≡ edit_call name seen edit }
 {
-    let seen = head.version;
+    let by = nobody();
+    match seen {
+        Seen::Exactly(seen) => Call::EditDeck {
+            name,
+            seen,
+            edit,
+            by,
+        },
+        Seen::Since(seen) => Call::EditSince {
+            name,
+            seen,
+            edit,
+            by,
+        },
+    }
+}
+
+/// The call that asks for a batch of edits.
+fn batch_call(name: DeckName, seen: Seen, edits: Listed<Edit>) -> Call
+    ensures { result ≡ batch_call name seen edits }
+{
+    let by = nobody();
+    match seen {
+        Seen::Exactly(seen) => Call::Batch {
+            name,
+            seen,
+            edits,
+            by,
+        },
+        Seen::Since(seen) => Call::BatchSince {
+            name,
+            seen,
+            edits,
+            by,
+        },
+    }
+}
+
+/// A batch, with the edits of its lines; `OutOfMemory` only where there was no memory for them.
+fn batch_named(head: BatchHead, edits: ItemsRead<Edit>) -> Task
+    ensures task { (read : Result (List CardEdit) Reason) → IsRead read edits → IsTaskFor (batch_named head.name head.seen read) result }
+    ensures whole { is_lacking edits ≡ false → (read : Result (List CardEdit) Reason) → IsRead read edits → result ≡ batch_named head.name head.seen read }
+{
+    let seen = head.seen;
     let name = match head.name {
         Ok(name) => name,
         Err(refusal) => return Task::Refuse(refusal),
     };
     match edits {
-        ItemsRead::Whole(edits) => Task::Ask(Call::Batch {
-            name,
-            seen,
-            edits: Listed::new(edits),
-            by: nobody(),
-        }),
+        ItemsRead::Whole(edits) => Task::Ask(batch_call(name, seen, Listed::new(edits))),
         ItemsRead::Lacking => Task::Refuse(Refusal::OutOfMemory),
         ItemsRead::Faulty(refusal) => Task::Refuse(refusal),
     }
@@ -160,16 +198,7 @@ fn task_of_command(alloc: Global, command: Command, edits: ItemsRead<Edit>) -> T
             name,
             seen: version,
         }),
-        Command::Edit {
-            name,
-            version,
-            edit,
-        } => Task::Ask(Call::EditDeck {
-            name,
-            seen: version,
-            edit,
-            by: nobody(),
-        }),
+        Command::Edit { name, seen, edit } => Task::Ask(edit_call(name, seen, edit)),
         Command::Cards { name, view } => Task::ShowCards(name, view),
         Command::CardsAt { name, version } => Task::ShowCardsAt(name, version),
         Command::Changes { name, version } => Task::Ask(Call::Changes {

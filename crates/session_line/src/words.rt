@@ -5,7 +5,9 @@ ghost use Rattle.std.specs.List.{list_all, prefix_len};
 ghost use Rattle.definitions.specs.Characters.{blank, is_digit};
 ghost use Rattle.definitions.specs.Fields.{unbroken_front};
 ghost use Rattle.definitions.specs.Numerals.{number_of};
-ghost use Rattle.session_line.specs.Words.{from_blank, first_word, behind_word, number_in, first_number, greatest_number};
+ghost use Rattle.session_line.specs.Words.{from_blank, first_word, behind_word, number_in, seen_in, first_seen, first_number, greatest_number};
+
+use definitions::is_same_text;
 
 /// The greatest number in a line.
 const GREATEST_NUMBER: u64 = 1 << 62;
@@ -110,6 +112,34 @@ pub(crate) fn number_in(word: &[u8]) -> Option<u64>
         return None;
     }
     Some(number)
+}
+
+/// The version of a deck that was seen.
+#[derive(Clone, Copy, Debug, PartialEq, Eq)]
+pub enum Seen {
+    /// The deck has to have this version.
+    Exactly(u64),
+    /// The deck may have changed since.
+    Since(u64),
+}
+
+/// The version that a word tells: a number, or one with a plus behind it where the deck may have changed
+/// since.
+fn seen_in(word: &[u8]) -> Option<Seen>
+    ensures { result ≡ seen_in word.now }
+{
+    let (number, last) = word.split_at(word.len().saturating_sub(1));
+    if is_same_text(last, b"+") {
+        return Some(Seen::Since(number_in(number)?));
+    }
+    Some(Seen::Exactly(number_in(word)?))
+}
+
+/// The version behind the blank that begins a rest.
+pub(crate) fn first_seen(rest: &[u8]) -> Option<Seen>
+    ensures { result ≡ first_seen rest.now }
+{
+    seen_in(first_word(rest)?)
 }
 
 /// The number behind the blank that begins a rest.
