@@ -111,6 +111,7 @@ fn debug<T: std::fmt::Debug>(rt: &impl Abort, alloc: Global, value: &T) -> Strin
 fn reply_text(rt: &impl Abort, alloc: Global, reply: &Reply) -> String {
     let text = match reply {
         Reply::Changed(version) => format!(in alloc; "changed {version}"),
+        Reply::Carried { version, .. } => format!(in alloc; "carried {version}"),
         Reply::Idle(version) => format!(in alloc; "idle {version}"),
         Reply::AllOut => format!(in alloc; "all out"),
         Reply::Stored => format!(in alloc; "stored"),

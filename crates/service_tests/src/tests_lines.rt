@@ -4,8 +4,8 @@ use crate::texts::{bytes_are, card, name, one_line, text_is};
 use cards::{CardFault, Edit, EditFault};
 use desk_core::{Row, State};
 use session_line::{
-    CardsView, Command, ErrorsView, Refusal, Reply, read_batch_line, read_command, reply_text,
-    write_reply,
+    CardsView, Command, ErrorsView, Refusal, Reply, Seen, read_batch_line, read_command,
+    reply_text, write_reply,
 };
 use std::alloc::Global;
 use std::process::Abort;
@@ -39,6 +39,15 @@ fn view_text(rt: &impl Abort, alloc: Global, view: &CardsView) -> String {
     text.expect(rt, "memory")
 }
 
+/// A version that was seen, as a line has it.
+fn seen_text(rt: &impl Abort, alloc: Global, seen: Seen) -> String {
+    let text = match seen {
+        Seen::Exactly(version) => format!(in alloc; "{version}"),
+        Seen::Since(version) => format!(in alloc; "{version}+"),
+    };
+    text.expect(rt, "memory")
+}
+
 /// What a command asks for, on a line.
 fn command_text(rt: &impl Abort, alloc: Global, command: &Command) -> String {
     let text = match command {
@@ -50,14 +59,11 @@ fn command_text(rt: &impl Abort, alloc: Global, command: &Command) -> String {
         Command::Drop { name, version } => {
             format!(in alloc; "drop {} {version}", one_line(rt, alloc, name.as_slice()))
         }
-        Command::Edit {
-            name,
-            version,
-            edit,
-        } => {
+        Command::Edit { name, seen, edit } => {
             let edit = edit_text(rt, alloc, edit);
+            let seen = seen_text(rt, alloc, *seen);
             format!(in alloc;
-                "edit {} {version} {edit}",
+                "edit {} {seen} {edit}",
                 one_line(rt, alloc, name.as_slice())
             )
         }
@@ -97,7 +103,8 @@ fn command_text(rt: &impl Abort, alloc: Global, command: &Command) -> String {
         Command::Wait { version } => format!(in alloc; "wait {version}"),
         Command::Batch(head) => {
             let fault = head.name.as_ref().err();
-            format!(in alloc; "batch {fault:?} {} {}", head.version, head.count)
+            let seen = seen_text(rt, alloc, head.seen);
+            format!(in alloc; "batch {fault:?} {seen} {}", head.count)
         }
         Command::Put(head) => {
             let fault = head.name.as_ref().err();
@@ -288,7 +295,7 @@ fn statuses(rt: HostRuntime) {
 fn texts_of_refusals(rt: HostRuntime) {
     let bad = CardFault::BadCharacter { column: 1 };
     let fault = EditFault::NoSuchCard;
-    let rows: [(Refusal, &[u8]); 12] = [
+    let rows: [(Refusal, &[u8]); 14] = [
         (Refusal::BadCommand, b"NO BadCommand\n"),
         (Refusal::BadName, b"NO BadName\n"),
         (Refusal::NoPublication, b"NO NoPublication\n"),
@@ -298,6 +305,13 @@ fn texts_of_refusals(rt: HostRuntime) {
         (Refusal::BadCard(CardFault::TooWide), b"NO TooWide\n"),
         (Refusal::NoDeck, b"NO NoDeck\n"),
         (Refusal::Forgotten { oldest: 12 }, b"NO Forgotten 12\n"),
+        (
+            Refusal::Touched {
+                card: 1,
+                version: 4,
+            },
+            b"NO Touched 1 4\n",
+        ),
         (Refusal::LastLineCut, b"NO LastLineCut\n"),
         (Refusal::WriteFault { sent: 3 }, b"NO WriteFault 3\n"),
         (
