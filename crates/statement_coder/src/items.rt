@@ -22,8 +22,8 @@ pub enum Content {
 #[derive(Clone, Copy, Debug, PartialEq, Eq)]
 pub struct Item {
     pub width: u32,
-    pub content: Content,
     pub letter: Option<Letter>,
+    pub content: Content,
 }
 
 /// Bits that are known, without a letter.
