@@ -25,7 +25,7 @@ fn digits(operation: &[u8], text: &[u8]) -> u64 {
     let Ok(operand) = operand(text, NumberBase::Decimal) else {
         return 0;
     };
-    match opcodes::central::find(operation, &operand) {
+    match operations::central::find(operation, &operand) {
         Ok(shape) => u64::from(shape.digits),
         Err(_letter) => 0,
     }

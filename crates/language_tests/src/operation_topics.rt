@@ -4,7 +4,9 @@ use crate::inputs::{bytes_of, cut};
 use crate::outputs::Answer;
 use definitions::{Letter, NumberBase};
 use expr_forms::{Field, Operand, Shape, operand};
-use opcodes::central::{Code, RegistersFound, central_rows, ignoring_rows, is_central, sum_rows};
+use operations::central::{
+    Code, RegistersFound, central_rows, ignoring_rows, is_central, sum_rows,
+};
 use operations::{KindSearch, Letters, Operation, is_end, number_base_set, pseudo_instruction};
 use std::alloc::AllocError;
 
@@ -20,8 +22,8 @@ pub fn answer(answer: &mut Answer, topic: &str, text: &str) -> Result<bool, Allo
         "central_tables" => central_table(answer, text),
         "central_digits" => central_digits(answer, text)?,
         "central" | "peripheral" | "peripheral_codes" => instruction(answer, topic, text),
-        "central_ignoring" => shown(answer, opcodes::central::ignoring(text.as_bytes())),
-        "peripheral_ignoring" => shown(answer, opcodes::peripheral::ignoring(text.as_bytes())),
+        "central_ignoring" => shown(answer, operations::central::ignoring(text.as_bytes())),
+        "peripheral_ignoring" => shown(answer, operations::peripheral::ignoring(text.as_bytes())),
         _ => return Ok(false),
     }
     Ok(true)
@@ -172,9 +174,9 @@ fn shown(answer: &mut Answer, found: Option<Shape<'_>>) {
 
 fn search<'a>(topic: &str, name: &str, read: &Operand<'a>) -> Result<Shape<'a>, Letter> {
     if topic == "central" {
-        opcodes::central::find(name.as_bytes(), read)
+        operations::central::find(name.as_bytes(), read)
     } else {
-        opcodes::peripheral::find(name.as_bytes(), read)
+        operations::peripheral::find(name.as_bytes(), read)
     }
 }
 

@@ -43,14 +43,14 @@ fn read_central<'a>(base: NumberBase, name: &[u8], text: &'a [u8]) -> Reading<'a
     ensures lawful { IsLawful result }
     ensures unlisted { is_listed result ≡ false }
 {
-    if let Some(shape) = opcodes::central::ignoring(name) {
+    if let Some(shape) = operations::central::ignoring(name) {
         return Reading::Instruction(shape);
     }
     let read = operand(text, base);
     let Ok(operand) = &read else {
         return Reading::Bad;
     };
-    let Ok(shape) = opcodes::central::find(name, operand) else {
+    let Ok(shape) = operations::central::find(name, operand) else {
         return Reading::Bad;
     };
     Reading::Instruction(shape)
@@ -63,11 +63,11 @@ fn read_peripheral<'a>(base: NumberBase, name: &[u8], text: &'a [u8]) -> Reading
     ensures lawful { IsLawful result }
     ensures unlisted { is_listed result ≡ false }
 {
-    match opcodes::peripheral::ignoring(name) {
+    match operations::peripheral::ignoring(name) {
         Some(shape) => Reading::Instruction(shape),
         None => match operand(text, base) {
             Err(_) => Reading::Bad,
-            Ok(operand) => match opcodes::peripheral::find(name, &operand) {
+            Ok(operand) => match operations::peripheral::find(name, &operand) {
                 Ok(shape) => Reading::Instruction(shape),
                 Err(_) => Reading::Bad,
             },

@@ -16,9 +16,9 @@ fn is_instruction_name(kind: DeckKind, name: &[u8]) -> bool
     ensures { result ≡ is_instruction_name kind name.now }
 {
     match kind {
-        DeckKind::Periph => opcodes::peripheral::is_peripheral(name),
-        DeckKind::Rel => opcodes::central::is_central(name),
-        DeckKind::Abs => opcodes::central::is_central(name),
+        DeckKind::Periph => operations::peripheral::is_peripheral(name),
+        DeckKind::Rel => operations::central::is_central(name),
+        DeckKind::Abs => operations::central::is_central(name),
     }
 }
 

@@ -1,7 +1,7 @@
 use Rattle.std.proofs.Common.{◌∙◌, ap, sym}
 use Rattle.std.specs.Prelude.{is_some}
 use Rattle.definitions.specs.Operands.{central_operand}
-use Rattle.opcodes.proofs.UnreadLaws.{field_unread-none}
+use Rattle.operations.proofs.UnreadLaws.{field_unread-none}
 use Rattle.statement_coder.proofs.readings.read_central.Goals as goal
 
 pub returns-in_default-read-clause-reading : goal.returns-in_default-read-clause-reading

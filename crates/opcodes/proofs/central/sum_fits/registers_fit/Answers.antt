@@ -1,8 +1,0 @@
-use Rattle.std.proofs.Common.{subst}
-use Rattle.expr_forms.specs.Sums.{AreRegisters}
-use Rattle.opcodes.specs.RegistersFound.{digits_as}
-use Rattle.opcodes.proofs.SumLaws.{too_many-fit}
-use Rattle.opcodes.proofs.central.sum_fits.registers_fit.Goals as goal
-
-pub returns-in-TooMany : goal.returns-in-TooMany
-returns-in-TooMany c text h = too_many-fit c.args.pattern text (digits_as c.args.found) (subst (λ r. AreRegisters r text) c.in-TooMany.is h)

@@ -1,0 +1,26 @@
+use Rattle.std.proofs.Common.{◌≡◌, List, map, length}
+use Rattle.std.specs.Prelude.{IsTrue}
+use Rattle.std.specs.List.{list_all}
+use Rattle.definitions.specs.Pieces.{Piece}
+use Rattle.definitions.specs.Matching.{first_fit}
+use Rattle.definitions.specs.declared.number_base.NumberBase.{NumberBase}
+use Rattle.operations.specs.declared.row.Row.{Row}
+use Rattle.expr_forms.specs.Operands.{IsOperand}
+use Rattle.operations.specs.declared.central.code.OperandForm.{OperandForm}
+use Rattle.operations.specs.RegistersFound.{digits_as}
+use Rattle.operations.specs.CentralTables.{operand_row}
+use Rattle.operations.specs.LawfulCodes.{has_lawful_code}
+use Rattle.operations.specs.Fits.{row_fit_with}
+use Rattle.operations.proofs.central.central_fits.first_fit.Given as goal
+
+-- no row before those that are left fits
+abbrev pub invariant-rows : goal.invariant-rows
+invariant-rows l = record {
+  left : (base : NumberBase) (subfields : List (List Piece)) → IsOperand base subfields l.operand →
+      first_fit (map (λ (row : Row OperandForm). row_fit_with base (digits_as l.fn.registers) subfields (operand_row row)) l.rest)
+      ≡ first_fit (map (λ (row : Row OperandForm). row_fit_with base (digits_as l.fn.registers) subfields (operand_row row)) l.rows);
+  lawful : IsTrue (list_all has_lawful_code l.rest);
+}
+
+abbrev pub decreases-rows : goal.decreases-rows
+decreases-rows l = length l.rest

@@ -1,0 +1,20 @@
+use Rattle.std.proofs.Common.{◌≤◌, ◌<◌, ◌^◌, length, sym, subst, arith}
+use Rattle.std.specs.Prelude.{nat_le}
+use Rattle.std.proofs.lemmas.Bool.{and_parts}
+use Rattle.definitions.specs.Matching.{octal_number, code_digits}
+use Rattle.operations.specs.CodeTexts.{code_text}
+use Rattle.operations.specs.RegistersFound.{digits_as}
+use Rattle.operations.specs.LawfulCodes.{sevens, are_octal}
+use Rattle.operations.proofs.CodeLaws.{AreOctal, number-room}
+use Rattle.operations.proofs.central.shapes.shape_of.Goals as goal
+
+pub overflow_cast-result : goal.overflow_cast-result
+overflow_cast-result c =
+    let code = code_text c.args.code in
+    let found = c.args.found.registers in
+    let octal : AreOctal (digits_as found) = record { i = found.octal_i; j = found.octal_j; k = found.octal_k } in
+    let lawful = and_parts (nat_le 1 (length code)) (are_octal (code_digits sevens code)) c.requires in
+    let few : length (code_digits (digits_as found) code) ≤ 10 = subst (λ n. n ≤ 10) c.digits-digits.ensures.count c.digits-digits.ensures.within in
+    let room : octal_number 0 (code_digits (digits_as found) code) < 2 ^ 32 = number-room (digits_as found) code octal lawful.1 few in
+    let small : c.digits-digits.result.number < 2 ^ 32 = subst (λ n. n < 2 ^ 32) (sym c.digits-digits.ensures.number) room in
+    omega (arith, small)

@@ -1,0 +1,17 @@
+use Rattle.std.proofs.Common.{map, ap, refl, sym, ◌∙◌}
+use Rattle.std.specs.List.{list_all}
+use Rattle.operations.specs.CentralTables.{operand_row}
+use Rattle.operations.specs.LawfulCodes.{has_lawful_code}
+use Rattle.operations.specs.declared.central.operand_table.TheConstants.{OPERAND_ROWS}
+use Rattle.operations.proofs.CentralLaws.{operand_rows-named, all-named}
+use Rattle.operations.proofs.FirstLetterLaws.{no_other}
+use Rattle.operations.proofs.central.tables.central_rows.Goals as goal
+
+pub returns-else-begins_sum-clause-rows : goal.returns-else-begins_sum-clause-rows
+returns-else-begins_sum-clause-rows c = ap (map operand_row) c.rows_named.ensures ∙ operand_rows-named c.args.operation.now (c.type_inv.operation 1)
+
+pub returns-else-begins_sum-clause-lawful : goal.returns-else-begins_sum-clause-lawful
+returns-else-begins_sum-clause-lawful c = ap (list_all has_lawful_code) c.rows_named.ensures ∙ all-named has_lawful_code OPERAND_ROWS c.args.operation.now refl
+
+pub returns-then-begins_sum-clause-rows : goal.returns-then-begins_sum-clause-rows
+returns-then-begins_sum-clause-rows c = no_other c.args.operation.now (sym c.begins_sum.ensures ∙ c.if-begins_sum.true)

@@ -1,0 +1,16 @@
+use Rattle.std.proofs.Common.{◌∙◌, Some, map, false, refl, sym, ap, subst}
+use Rattle.definitions.specs.Operands.{plain_of, by_form}
+use Rattle.operations.specs.PeripheralCodes.{row_as, found_row}
+use Rattle.operations.specs.PeripheralShapes.{IsFieldOf}
+use Rattle.operations.proofs.ShapeLaws.{is_found}
+use Rattle.operations.proofs.peripheral.shapes.find.Goals as goal
+
+pub returns-in-Some-field_of : goal.returns-in-Some-field_of
+returns-in-Some-field_of c = λ base subfields is.
+    let row = row_as c.args.operation.now c.in-Some.code in
+    is_found c.args.operation.now c.in-Some.code c.shape_of.result base subfields _
+    (ap (found_row c.args.operation.now) (sym c.in-Some.is) ∙ c.row_of.ensures)
+    c.shape_of.ensures.digits c.shape_of.ensures.count
+    (subst (λ f. IsFieldOf f row (by_form row row.form (map (plain_of false base) subfields)))
+    (c.in-Some-field_of.is ∙ ap Some (sym c.shape_of.ensures.field))
+    (c.field_of.ensures base subfields row is refl))
