@@ -21,7 +21,10 @@ pub enum Called {
     DropDeck,
     EditDeck,
     Batch,
+    EditSince,
     Cards,
+    CardsAt,
+    Changes,
     Find,
     SaveDeck,
     Status,
@@ -44,7 +47,7 @@ pub enum Called {
 }
 
 /// What each is called where it is told, in the order of the calls above.
-const NAMES: [&str; 35] = [
+const NAMES: [&str; 38] = [
     "Kept::new",
     "edit",
     "finish",
@@ -60,7 +63,10 @@ const NAMES: [&str; 35] = [
     "DROP",
     "INS, REP or DEL",
     "BATCH",
+    "INS with a version before",
     "CARDS",
+    "CARDS AT",
+    "CHANGES",
     "FIND",
     "SAVE",
     "STATUS",

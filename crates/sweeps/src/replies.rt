@@ -38,6 +38,7 @@ fn is_within(reply: &Reply<'_>) -> bool
     match reply {
         Reply::Cards { cards, .. } => cards.len() <= MOST_CARDS,
         Reply::Found { cards, .. } => cards.len() <= MOST_CARDS,
+        Reply::Changes { kept, .. } => kept.len() <= 2_000,
         Reply::Errors { decks, .. } => decks.len() <= 64,
         Reply::Status { decks, .. } => decks.len() <= 64,
         Reply::Done { .. } | Reply::Text { .. } | Reply::Listing(_) => true,

@@ -22,7 +22,7 @@ const TURNS: u32 = 8;
 const LACKING: &str = "NO OutOfMemory\n";
 
 /// Commands with their lines, and their replies.
-const COMMANDS: [Command; 18] = [
+const COMMANDS: [Command; 21] = [
     (Called::AddDeck, "ADD M\n", "OK 1\n"),
     (Called::EditDeck, "INS M 1 1           IDENT  M\n", "OK 2\n"),
     (
@@ -45,6 +45,16 @@ const COMMANDS: [Command; 18] = [
         "CARDS M 3 5\n",
         "OK 3 1\n          RJ     GO\n",
     ),
+    (
+        Called::Changes,
+        "CHANGES M 2\n",
+        "OK 3 4\nCHANGE 3 0 3\nINS 2           EXT    GO\nINS 3           RJ     GO\nREP 2 *\n",
+    ),
+    (
+        Called::CardsAt,
+        "CARDS M AT 2\n",
+        "OK 2 1\n          IDENT  M\n",
+    ),
     (Called::Find, "FIND M  M\n", "OK 3 1\n1\n"),
     (Called::SaveDeck, "SAVE M\n", "OK 3\n"),
     (Called::LoadDeck, "LOAD N\n", "OK 4\n"),
@@ -60,10 +70,11 @@ const COMMANDS: [Command; 18] = [
     ),
     (Called::LoadDeck, "LOAD Q\n", "NO CannotOpen\n"),
     (Called::EditDeck, "DEL M 1 1\n", "NO OldVersion 3\n"),
+    (Called::EditSince, "INS M 2+ 2 *X\n", "OK 6\n"),
     (
         Called::Status,
         "STATUS\n",
-        "OK 5 3\nPUBLISHED NONE\nM 3 3 BEHIND\nN 5 4 BEHIND\n",
+        "OK 6 3\nPUBLISHED NONE\nM 6 4 BEHIND\nN 5 4 BEHIND\n",
     ),
     (Called::Show, "IMAGE\n", "NO NoPublication\n"),
     (Called::Show, "MAP\n", "NO NoPublication\n"),
