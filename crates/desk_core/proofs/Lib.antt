@@ -44,3 +44,4 @@ pub mod PastSteps
 pub mod UndoLaws
 pub mod PastLaws
 pub mod BackSteps
+pub mod CopySteps
