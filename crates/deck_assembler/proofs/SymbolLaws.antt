@@ -121,24 +121,8 @@ lookup-ordered code (entry ∷ forms) =
     ap (λ b. cond b (Some entry.1) (lookup (λ other. is_eq (nat_cmp code other)) forms)) (same_order code entry.0)
     ∙ ap (λ r. cond (nat_eq code entry.0) (Some entry.1) r) (lookup-ordered code forms)
 
--- a name that has a value keeps it
-pub keep-old : (old : List (ℕ × Form)) (code : ℕ) (form : Form) → is_some (lookup (λ other. is_eq (nat_cmp code other)) old) ≡ true →
-    (other : ℕ) → lookup (nat_eq other) old ≡ kept_form other code form (lookup (nat_eq other) old)
-keep-old old code form there other = elim (eqb_tells other code) [
-  | inl e ↦ stays (lookup (nat_eq other) old) (ap is_some (sym (lookup-ordered other old)) ∙ ap (λ n. is_some (lookup (λ o. is_eq (nat_cmp n o)) old)) e.1 ∙ there)
-  | inr e ↦ rw e.0 (sym (or_none (lookup (nat_eq other) old)))
-]
-  where
-    or_none : (o : Option Form) → or_form o None ≡ o
-    or_none None = refl
-    or_none (Some f) = refl
-
-    stays : (o : Option Form) → is_some o ≡ true → o ≡ or_form o (if other == code then Some form else None)
-    stays None h = cc
-    stays (Some f) h = refl
-
--- and one that has none gets this one
-pub keep-new : (old new : List (ℕ × Form)) (code : ℕ) (form : Form) → is_some (lookup (λ other. is_eq (nat_cmp code other)) old) ≡ false →
+-- a name that has no value gets this one
+keep-new : (old new : List (ℕ × Form)) (code : ℕ) (form : Form) → is_some (lookup (λ other. is_eq (nat_cmp code other)) old) ≡ false →
     ((other : ℕ) → lookup (λ o. is_eq (nat_cmp other o)) new ≡ cond (is_eq (nat_cmp code other)) (Some form) (lookup (λ o. is_eq (nat_cmp other o)) old)) →
     (other : ℕ) → lookup (nat_eq other) new ≡ kept_form other code form (lookup (nat_eq other) old)
 keep-new old new code form absent updates other =
@@ -160,6 +144,13 @@ keep-new old new code form absent updates other =
 
     apart : (other ≡ code → ⊥) → nat_eq code other ≡ false
     apart h = elim (eqb_tells code other) [ inl k ↦ absurd (h (sym k.1)) | inr k ↦ k.0 ]
+
+-- the same where a vacant entry is written
+pub keep-entered : (old new : List (ℕ × Form)) {written : List (ℕ × Form)} (code : ℕ) (form : Form) → written ≡ new → lookup (λ other. is_eq (nat_cmp code other)) old ≡ None →
+    ((other : ℕ) → lookup (λ o. is_eq (nat_cmp other o)) written ≡ cond (is_eq (nat_cmp code other)) (Some form) (lookup (λ o. is_eq (nat_cmp other o)) old)) →
+    (other : ℕ) → lookup (nat_eq other) new ≡ kept_form other code form (lookup (nat_eq other) old)
+keep-entered old new code form same absent updates =
+    keep-new old new code form (ap is_some absent) (λ other. sym (ap (lookup (λ o. is_eq (nat_cmp other o))) same) ∙ updates other)
 
 -- a symbol more
 pub symbol_in-kept : (old new : List (ℕ × Form)) (name : List ℕ) (found : SymbolKey) (form : Form) → ((i : ℕ) → slice_index_or name i 0 < 256) → key_of name ≡ Some found →

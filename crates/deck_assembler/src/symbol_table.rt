@@ -10,6 +10,7 @@ use expr_forms::Form;
 use statement_coder::{EarlySymbols, is_same_form};
 use std::alloc::{AllocError, Global};
 use std::collections::BTreeMap;
+use std::collections::btree_map::Entry;
 use std::marker::Model;
 
 /// The values of symbols by name. Contracts see each name as a number with its value. A look-up takes
@@ -81,10 +82,13 @@ fn keep(forms: &mut BTreeMap<u64, Form>, code: u64, form: Form) -> Result<(), Al
     ensures kept { OnOk result ((other : ℕ) → lookup (nat_eq other) forms.new.entries ≡ or_form (lookup (nat_eq other) forms.old.entries) (if other == code then Some form else None)) }
     ensures without_memory { OnErr result (forms.new.entries ≡ forms.old.entries) }
 {
-    if !forms.contains_key(&code) {
-        forms.insert(code, form)?;
+    match forms.entry(code)? {
+        Entry::Occupied(_) => Ok(()),
+        Entry::Vacant(place) => {
+            place.insert(form);
+            Ok(())
+        }
     }
-    Ok(())
 }
 
 /// Whether two entries have one name and one value.

@@ -1,11 +1,8 @@
--- A name that has no value gets this one, and one that has keeps its own.
-use Rattle.std.proofs.Common.{sym}
-use Rattle.deck_assembler.proofs.SymbolLaws.{keep-new, keep-old}
+-- A name that has no value yet gets this one.
+use Rattle.std.proofs.Common.{rules}
+use Rattle.deck_assembler.proofs.SymbolLaws.{keep-entered}
 use Rattle.deck_assembler.proofs.symbol_table.keep.Goals as goal
 
-pub returns-in_ok-insert-clause-kept : goal.returns-in_ok-insert-clause-kept
-returns-in_ok-insert-clause-kept c =
-    keep-new c.args.forms.now.entries c.insert.new.self.entries c.args.code c.args.form (sym c.if-not-contains_key.ensures) (λ other. c.in_ok-insert.ensures.updates.0 other)
-
-pub returns-else-not-contains_key-clause-kept : goal.returns-else-not-contains_key-clause-kept
-returns-else-not-contains_key-clause-kept c = keep-old c.args.forms.now.entries c.args.code c.args.form (sym c.if-not-contains_key.ensures)
+pub returns-in-Vacant-clause-kept : goal.returns-in-Vacant-clause-kept
+returns-in-Vacant-clause-kept c =
+    keep-entered c.args.forms.now.entries _ c.args.code c.args.form (search rules) (search rules) (λ other. (c.in_ok-forms.ensures.update.0 c.args.form).0 other)
