@@ -4,11 +4,12 @@ use Rattle.desk_core.specs.Language.{Deck}
 use Rattle.desk_core.specs.Edits.{Edit}
 use Rattle.desk_core.specs.Changes.{Added, Dropped, Edited, Put}
 use Rattle.desk_core.specs.Desks.{Desk, DeskDeck, deck_named}
-use Rattle.desk_core.specs.Calls.{Call, AddDeck, PutDeck, DropDeck, EditDeck, Batch, EditSince, BatchSince, Reply, Changed, Carried, Refused, Refusal}
+use Rattle.desk_core.specs.Calls.{Call, AddDeck, PutDeck, DropDeck, EditDeck, Batch, EditSince, BatchSince, Undo, Changed, Carried}
 use Rattle.desk_core.specs.Changing.{accepted, against_add, added, add_deck, against_put, put_where, put_deck, against_drop, dropped, drop_deck, edited, against_edit, edit_deck, against_batch, batch}
 use Rattle.cards.specs.declared.carrying.Touched.{Touched}
 use Rattle.desk_core.specs.Calls.{NoDeck, TouchedCard}
 use Rattle.desk_core.specs.Carrying.{carried_since, against_carry, accept_carried, edit_since_of, edit_since, batch_since_of, batch_since, alone}
+use Rattle.desk_core.specs.Undoing.{backs_at, against_change, undo_where, undo}
 use Rattle.desk_core.specs.Runs.{change_asked}
 use Rattle.desk_core.proofs.DecksSeen.{decks_of-added, decks_of-put_new, decks_of-put_over, decks_of-dropped, decks_of-edited}
 use Rattle.desk_core.proofs.Outcomes.{Comes, by_changing, refused_stays, unless_comes}
@@ -54,10 +55,20 @@ edit_since_of_comes name seen edit who desk (Some deck) = unless_comes desk (Edi
 pub edit_since_comes : (name : List ℕ) (seen : ℕ) (edit : Edit) (who : List ℕ) (desk : Desk) → Comes desk (EditSince name seen edit who) (edit_since name seen edit who desk)
 edit_since_comes name seen edit who desk = edit_since_of_comes name seen edit who desk (deck_named name desk)
 
-batch_since_of_comes : (name : List ℕ) (seen : ℕ) (edits : List Edit) (who : List ℕ) (desk : Desk) (found : Option DeskDeck) → Comes desk (BatchSince name seen edits who) (batch_since_of name seen edits who desk found)
-batch_since_of_comes name seen edits who desk None = refused_stays desk (BatchSince name seen edits who) NoDeck
-batch_since_of_comes name seen edits who desk (Some deck) = unless_comes desk (BatchSince name seen edits who) (against_carry seen edits desk deck) _
-    (carried_comes name who desk (BatchSince name seen edits who) deck (carried_since seen edits deck) (λ version before moved. refl))
+batch_since_of_comes : (name : List ℕ) (seen : ℕ) (edits : List Edit) (who : List ℕ) (desk : Desk) (found : Option DeskDeck) (call : Call) →
+    ((version before : ℕ) (moved : List Edit) → change_asked call (Carried version before moved) ≡ Some (Edited name moved)) → Comes desk call (batch_since_of name seen edits who desk found)
+batch_since_of_comes name seen edits who desk None call asked = refused_stays desk call NoDeck
+batch_since_of_comes name seen edits who desk (Some deck) call asked = unless_comes desk call (against_carry seen edits desk deck) _
+    (carried_comes name who desk call deck (carried_since seen edits deck) asked)
 
 pub batch_since_comes : (name : List ℕ) (seen : ℕ) (edits : List Edit) (who : List ℕ) (desk : Desk) → Comes desk (BatchSince name seen edits who) (batch_since name seen edits who desk)
-batch_since_comes name seen edits who desk = batch_since_of_comes name seen edits who desk (deck_named name desk)
+batch_since_comes name seen edits who desk = batch_since_of_comes name seen edits who desk (deck_named name desk) (BatchSince name seen edits who) (λ version before moved. refl)
+
+-- a change that is taken back
+undo_where_comes : (name : List ℕ) (version : ℕ) (who : List ℕ) (desk : Desk) (found : Option DeskDeck) → Comes desk (Undo name version who) (undo_where name version who desk found)
+undo_where_comes name version who desk None = refused_stays desk (Undo name version who) NoDeck
+undo_where_comes name version who desk (Some deck) = unless_comes desk (Undo name version who) (against_change version deck) _
+    (batch_since_of_comes name version (backs_at version deck) who desk (Some deck) (Undo name version who) (λ made before moved. refl))
+
+pub undo_comes : (name : List ℕ) (version : ℕ) (who : List ℕ) (desk : Desk) → Comes desk (Undo name version who) (undo name version who desk)
+undo_comes name version who desk = undo_where_comes name version who desk (deck_named name desk)

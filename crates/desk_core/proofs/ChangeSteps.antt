@@ -8,10 +8,11 @@ use Rattle.desk_core.specs.Language.{Deck, same_text}
 use Rattle.desk_core.specs.Causes.{when, first_cause}
 use Rattle.desk_core.specs.Edits.{Edit}
 use Rattle.desk_core.specs.Desks.{Desk, DeskDeck, deck_named, is_named}
-use Rattle.desk_core.specs.Calls.{Call, AddDeck, PutDeck, DropDeck, EditDeck, Batch, EditSince, BatchSince, Reply, Changed, Carried, Refused, Refusal, NoDeck, TouchedCard}
+use Rattle.desk_core.specs.Calls.{Call, AddDeck, PutDeck, DropDeck, EditDeck, Batch, EditSince, BatchSince, Undo, Reply, Changed, Carried, Refused, Refusal, NoDeck, TouchedCard}
 use Rattle.desk_core.specs.Answers.{Answer, answers, unless}
 use Rattle.cards.specs.declared.carrying.Touched.{Touched}
 use Rattle.desk_core.specs.Carrying.{carried_since, against_carry, accept_carried, edit_since_of, edit_since, batch_since_of, batch_since, alone}
+use Rattle.desk_core.specs.Undoing.{backs_at, against_change, undo_where, undo}
 use Rattle.desk_core.specs.Changing.{accepted, against_add, added_deck, added, add_deck, against_put, replaced_deck, put, put_where, put_deck, against_drop, dropped, drop_deck, edited_deck, edited, against_edit, edit_deck, against_batch, batch}
 use Rattle.desk_core.specs.Runs.{History}
 use Rattle.desk_core.specs.Jobs.{identity_in, identity_of, Effect, Edits, Leaves, effect_if, effect_on, after_effect, since_job}
@@ -192,15 +193,28 @@ module _ (history : History) (by : ℕ) (desk : Desk) (told : IsDeskTold history
   pub edit_since_next : (name : List ℕ) (seen : ℕ) (edit : Edit) (who : List ℕ) → Next (EditSince name seen edit who) (edit_since name seen edit who desk)
   edit_since_next name seen edit who = next_edit_since name seen edit who (deck_named name desk) refl
 
-  next_batch_since : (name : List ℕ) (seen : ℕ) (edits : List Edit) (who : List ℕ) (found : Option DeskDeck) → deck_named name desk ≡ found → Next (BatchSince name seen edits who) (batch_since_of name seen edits who desk found)
-  next_batch_since name seen edits who None none = next_quiet (BatchSince name seen edits who) (Refused NoDeck) (quiet _ _ _ (λ n. refl) (λ i. refl) (λ n. refl) (λ d. refl))
-  next_batch_since name seen edits who (Some deck) found = next_unless (BatchSince name seen edits who) (against_carry seen edits desk deck) (accept_carried name who desk deck (carried_since seen edits deck))
-      (λ r. quiet _ _ _ (λ n. refl) (λ i. refl) (λ n. refl) (λ d. refl))
-      (λ free. next_carried (BatchSince name seen edits who) name who deck (carried_since seen edits deck) found (λ r. quiet _ _ _ (λ n. refl) (λ i. refl) (λ n. refl) (λ d. refl))
-      (λ made identity is. record { adds_none = record { identities = λ n. refl; names = λ i. refl }; leases_none = λ n few. refl; effects = λ d. ap (λ (o : Option ℕ). effect_if d o (Edits made)) is }))
+  -- several of them, asked for by this call
+  next_batch_of : (call : Call) (name : List ℕ) (seen : ℕ) (edits : List Edit) (who : List ℕ) (found : Option DeskDeck) → deck_named name desk ≡ found →
+      ((refusal : Refusal) → IsQuiet history desk.leases (entry by call (Refused refusal))) →
+      ((version before : ℕ) (made : List Edit) (identity : ℕ) → identity_of name history ≡ Some identity → Touches history desk.leases identity (Edits made) (entry by call (Carried version before made))) →
+      Next call (batch_since_of name seen edits who desk found)
+  next_batch_of call name seen edits who None none silent touches = next_quiet call (Refused NoDeck) (silent NoDeck)
+  next_batch_of call name seen edits who (Some deck) found silent touches = next_unless call (against_carry seen edits desk deck) (accept_carried name who desk deck (carried_since seen edits deck)) silent
+      (λ free. next_carried call name who deck (carried_since seen edits deck) found silent (touches (desk.version + 1) deck.version))
 
   pub batch_since_next : (name : List ℕ) (seen : ℕ) (edits : List Edit) (who : List ℕ) → Next (BatchSince name seen edits who) (batch_since name seen edits who desk)
-  batch_since_next name seen edits who = next_batch_since name seen edits who (deck_named name desk) refl
+  batch_since_next name seen edits who = next_batch_of (BatchSince name seen edits who) name seen edits who (deck_named name desk) refl (λ r. quiet _ _ _ (λ n. refl) (λ i. refl) (λ n. refl) (λ d. refl))
+      (λ version before made identity is. record { adds_none = record { identities = λ n. refl; names = λ i. refl }; leases_none = λ n few. refl; effects = λ d. ap (λ (o : Option ℕ). effect_if d o (Edits made)) is })
+
+  next_undo : (name : List ℕ) (version : ℕ) (who : List ℕ) (found : Option DeskDeck) → deck_named name desk ≡ found → Next (Undo name version who) (undo_where name version who desk found)
+  next_undo name version who None none = next_quiet (Undo name version who) (Refused NoDeck) (quiet _ _ _ (λ n. refl) (λ i. refl) (λ n. refl) (λ d. refl))
+  next_undo name version who (Some deck) found = next_unless (Undo name version who) (against_change version deck) (batch_since_of name version (backs_at version deck) who desk (Some deck))
+      (λ r. quiet _ _ _ (λ n. refl) (λ i. refl) (λ n. refl) (λ d. refl))
+      (λ free. next_batch_of (Undo name version who) name version (backs_at version deck) who (Some deck) found (λ r. quiet _ _ _ (λ n. refl) (λ i. refl) (λ n. refl) (λ d. refl))
+      (λ after before made identity is. record { adds_none = record { identities = λ n. refl; names = λ i. refl }; leases_none = λ n few. refl; effects = λ d. ap (λ (o : Option ℕ). effect_if d o (Edits made)) is }))
+
+  pub undo_next : (name : List ℕ) (version : ℕ) (who : List ℕ) → Next (Undo name version who) (undo name version who desk)
+  undo_next name version who = next_undo name version who (deck_named name desk) refl
 
   -- nothing speaks against an edit only where the deck is there
   next_edit : (name : List ℕ) (seen : ℕ) (edit : Edit) (who : List ℕ) (found : Option DeskDeck) → deck_named name desk ≡ found → against_edit seen edit desk found ≡ None → Next (EditDeck name seen edit who) (accepted (edited name who (edit ∷ []) desk))

@@ -4,7 +4,7 @@ use Rattle.std.specs.Prelude.{⊤}
 use Rattle.turn_office.specs.Histories.{Leads}
 use Rattle.desk_core.specs.Edits.{Edit}
 use Rattle.desk_core.specs.Desks.{Desk, new_desk_at}
-use Rattle.desk_core.specs.Calls.{Call, EditDeck, Batch, EditSince, BatchSince, Claim, DeliverDeck, GiveUp, Reply, Changed, Carried, DeckJob, Cleared, Refused, Foreign, Start, FromRecord, FromCards}
+use Rattle.desk_core.specs.Calls.{Call, EditDeck, Batch, EditSince, BatchSince, Undo, Claim, DeliverDeck, GiveUp, Reply, Changed, Carried, DeckJob, Cleared, Refused, Foreign, Start, FromRecord, FromCards}
 use Rattle.desk_core.specs.Steps.{Steps}
 use Rattle.desk_core.specs.Runs.{History, Runs}
 use Rattle.desk_core.specs.Jobs.{identity_of, deck_of_lease, Effect, HandsOut, Loses, Edits, Leaves, effect_if, effect_on, after_effect, since_job, IsDueFrom, accepted_by, handed_by, accepted_edits, handed_edits, IsPartOf}
@@ -60,6 +60,7 @@ module _ (history : History) (by : ℕ) (desk : Desk) (told : IsDeskTold history
   step_fits (Batch name seen edits who) (Changed version) step = fits_if deck (identity_of name history) (Edits edits) (since_job deck history) tt
   step_fits (EditSince name seen edit who) (Carried version before edits) step = fits_if deck (identity_of name history) (Edits edits) (since_job deck history) tt
   step_fits (BatchSince name seen edits who) (Carried version before made) step = fits_if deck (identity_of name history) (Edits made) (since_job deck history) tt
+  step_fits (Undo name of_version who) (Carried version before edits) step = fits_if deck (identity_of name history) (Edits edits) (since_job deck history) tt
   step_fits Claim (DeckJob job) step = fits_job deck job.deck job.edits history (fits_due job.start job.edits (since_job job.deck history) (step_due history by desk told next job step)) (job.deck == deck) refl
   step_fits (DeliverDeck done) (Refused Foreign) step = fits_if deck (deck_of_lease done.lease history) Loses (since_job deck history) tt
   step_fits (GiveUp lease) Cleared step = fits_if deck (deck_of_lease lease history) Loses (since_job deck history) tt

@@ -7,14 +7,14 @@ use Rattle.desk_core.specs.Desks.{Desk, DeskDeck, deck_named, new_desk_at}
 use Rattle.desk_core.specs.Past.{backs_of}
 use Rattle.desk_core.specs.Answers.{answers}
 use Rattle.desk_core.specs.Earlier.{against_since, edits_behind, changes_of, cards_at_of}
-use Rattle.desk_core.specs.Calls.{Call, AddDeck, PutDeck, DropDeck, EditDeck, Batch, EditSince, BatchSince, Changes, CardsAt, Cards, Show, Status, Claim, DeliverDeck, DeliverLink, GiveUp, DeckWork, Reply, DeckJob, ChangesAre, CardsBefore, Refused, OutOfMemory, NoDeck}
+use Rattle.desk_core.specs.Calls.{Call, AddDeck, PutDeck, DropDeck, EditDeck, Batch, EditSince, BatchSince, Undo, Changes, CardsAt, Cards, Show, Status, Claim, DeliverDeck, DeliverLink, GiveUp, DeckWork, Reply, DeckJob, ChangesAre, CardsBefore, Refused, OutOfMemory, NoDeck}
 use Rattle.desk_core.specs.Reading.{cards_reply, show_reply}
 use Rattle.desk_core.specs.Steps.{answer, Steps}
 use Rattle.desk_core.specs.Runs.{History, Runs}
 use Rattle.desk_core.specs.Jobs.{IsDue}
 use Rattle.desk_core.proofs.JobsTold.{IsDeskTold, desk_told_first}
 use Rattle.desk_core.proofs.QuietSteps.{quiet, starved_quiet}
-use Rattle.desk_core.proofs.ChangeSteps.{Next, next_quiet, next_unless, add_next, put_next, drop_next, edit_next, batch_next, edit_since_next, batch_since_next}
+use Rattle.desk_core.proofs.ChangeSteps.{Next, next_quiet, next_unless, add_next, put_next, drop_next, edit_next, batch_next, edit_since_next, batch_since_next, undo_next}
 use Rattle.desk_core.proofs.ClaimSteps.{claim_next, claim_due}
 use Rattle.desk_core.proofs.ResultSteps.{deliver_deck_next, deliver_link_next, give_up_next}
 
@@ -39,6 +39,7 @@ module _ (history : History) (by : ℕ) (desk : Desk) (told : IsDeskTold history
   answer_next (Batch name seen edits who) = batch_next history by desk told name seen edits who
   answer_next (EditSince name seen edit who) = edit_since_next history by desk told name seen edit who
   answer_next (BatchSince name seen edits who) = batch_since_next history by desk told name seen edits who
+  answer_next (Undo name version who) = undo_next history by desk told name version who
   answer_next (Changes name since) = changes_next name since (deck_named name desk)
   answer_next (CardsAt name version) = cards_at_next name version (deck_named name desk)
   answer_next (Cards name) = next_quiet history by desk told (Cards name) (cards_reply (deck_named name desk)) (quiet _ _ _ (λ n. refl) (λ i. refl) (λ n. refl) (λ d. refl))

@@ -26,12 +26,17 @@ pub mod WorkedLinks
 pub mod WorkedChanges
 pub mod WorkedPast
 pub mod WorkedCarrying
+pub mod WorkedUndos
 pub mod WorkedPuts
 pub mod WorkedRounds
 pub mod PlaceLaws
 pub mod AnswerLaws
 pub mod ChangeDone
 pub mod CarryDone
+pub mod UndoDone
+pub mod DatedAlways
+pub mod UndoTakesBack
+pub mod UndoneChanges
 pub mod ClaimDone
 pub mod DeliverDone
 pub mod CardCounts

@@ -7,11 +7,12 @@ use Rattle.desk_core.specs.Language.{Deck, same_text}
 use Rattle.desk_core.specs.Causes.{when, first_cause}
 use Rattle.desk_core.specs.Edits.{Edit}
 use Rattle.desk_core.specs.Desks.{Desk, DeskDeck, Publication, new_desk_at, is_named, deck_named, put_if_named, is_leased, is_leased_at, decks_of}
-use Rattle.desk_core.specs.Calls.{Call, AddDeck, PutDeck, DropDeck, EditDeck, Batch, EditSince, BatchSince, Changes, CardsAt, Cards, Show, Status, Claim, DeliverDeck, DeliverLink, GiveUp, Done, Reply, Refusal, NameTaken}
+use Rattle.desk_core.specs.Calls.{Call, AddDeck, PutDeck, DropDeck, EditDeck, Batch, EditSince, BatchSince, Undo, Changes, CardsAt, Cards, Show, Status, Claim, DeliverDeck, DeliverLink, GiveUp, Done, Reply, Refusal, NameTaken}
 use Rattle.desk_core.specs.Answers.{Answer, unless, against_next}
 use Rattle.desk_core.specs.Changing.{accepted, against_add, added_deck, added, add_deck, against_put, replaced_deck, put, put_where, against_drop, dropped, drop_deck, edited_deck, edited, against_edit, edit_deck, against_batch, batch}
 use Rattle.cards.specs.declared.carrying.Touched.{Touched}
 use Rattle.desk_core.specs.Carrying.{carried_since, against_carry, accept_carried, edit_since_of, batch_since_of, alone}
+use Rattle.desk_core.specs.Undoing.{backs_at, against_change, undo_where}
 use Rattle.desk_core.specs.Earlier.{against_since, changes_of, cards_at_of}
 use Rattle.desk_core.specs.Claiming.{claim, claim_deck, claim_link, hand_out, hand_out_link, given, is_behind, is_free, is_published}
 use Rattle.desk_core.specs.Delivering.{deliver_to, take_result, deck_leased, lost, given_back, stored, is_for, is_sound, same_decks, deliver_link, give_up_of}
@@ -143,6 +144,10 @@ module _ (desk : Desk) (own : HaveOwnNames desk.decks) where
   own-batch-since name seen edits who None = own
   own-batch-since name seen edits who (Some deck) = own-unless desk (against_carry seen edits desk deck) _ own (λ clear. own-carried name who deck (carried_since seen edits deck))
 
+  own-undo : (name : List ℕ) (version : ℕ) (who : List ℕ) (found : Option DeskDeck) → Own (undo_where name version who desk found)
+  own-undo name version who None = own
+  own-undo name version who (Some deck) = own-unless desk (against_change version deck) _ own (λ clear. own-batch-since name version (backs_at version deck) who (Some deck))
+
   own-changes : (since : ℕ) (found : Option DeskDeck) → Own (changes_of since desk found)
   own-changes since None = own
   own-changes since (Some deck) = own-unless desk (against_since since deck) _ own (λ clear. own)
@@ -160,6 +165,7 @@ module _ (desk : Desk) (own : HaveOwnNames desk.decks) where
   own-answer (Batch name seen edits who) = own-batch name seen edits who
   own-answer (EditSince name seen edit who) = own-edit-since name seen edit who (deck_named name desk)
   own-answer (BatchSince name seen edits who) = own-batch-since name seen edits who (deck_named name desk)
+  own-answer (Undo name version who) = own-undo name version who (deck_named name desk)
   own-answer (Changes name since) = own-changes since (deck_named name desk)
   own-answer (CardsAt name version) = own-cards-at version (deck_named name desk)
   own-answer (Cards name) = own

@@ -1,13 +1,13 @@
 -- Kept edits led to the cards of their deck: what takes them back applies there, and brings back the cards before them.
-use Rattle.std.proofs.Common.{◌≡◌, ℕ, zero, suc, ◌+◌, ◌≤◌, Bool, true, false, cond, List, [], ◌∷◌, ◌++◌, length, drop, map, nat_le, Option, Some, None, option_map, refl, sym, ap, ◌∙◌, subst, arith}
+use Rattle.std.proofs.Common.{◌≡◌, ℕ, zero, suc, ◌+◌, ◌≤◌, Bool, true, false, cond, List, [], ◌∷◌, ◌++◌, length, drop, nat_le, Option, Some, None, option_map, refl, sym, ap, ◌∙◌, subst}
 use Rattle.std.proofs.lemmas.List.Sums.{fold-append}
 use Rattle.cards.proofs.FaultLaws.{edited-few}
 use Rattle.desk_core.specs.Language.{Card}
 use Rattle.desk_core.specs.Edits.{Edit, EditFault, fault_of, edited, edited_by, first_fault}
-use Rattle.desk_core.specs.Past.{Past, KeptEdit, begun_at, with_edits, undo_of, kept_edits, most_kept, left_of_more, without_oldest, trimmed, past_after, behind, backs_of}
+use Rattle.desk_core.specs.Past.{Past, KeptEdit, with_edits, kept_edits, most_kept, without_oldest, trimmed, past_after, behind, backs_of}
 use Rattle.desk_core.specs.Led.{HaveLed, IsPastOf}
 use Rattle.desk_core.proofs.UndoLaws.{has-place, undo-made, undo-applies}
-use Rattle.desk_core.proofs.CardCounts.{first-applies, edited_by-few}
+use Rattle.desk_core.proofs.CardCounts.{first-applies}
 
 -- nothing led from cards to themselves
 pub past-begun : (cards : List Card) → length cards ≤ 20000 → IsPastOf [] cards
@@ -17,7 +17,8 @@ led-append : (before : List Card) (kept more : List KeptEdit) (mid now : List Ca
 led-append before [] more mid now led also = subst (λ (cards : List Card). HaveLed cards more now) (sym led) also
 led-append before (one ∷ kept) more mid now led also = (led.0, led.1, led-append (edited before one.edit) kept more mid now led.2 also)
 
-led-kept : (version : ℕ) (by : List ℕ) (edits : List Edit) (cards : List Card) → first_fault edits cards ≡ None → HaveLed cards (kept_edits version by edits cards) (edited_by edits cards)
+-- edits that apply led from the cards to what they make of them
+pub led-kept : (version : ℕ) (by : List ℕ) (edits : List Edit) (cards : List Card) → first_fault edits cards ≡ None → HaveLed cards (kept_edits version by edits cards) (edited_by edits cards)
 led-kept version by [] cards none = refl
 led-kept version by (edit ∷ edits) cards none =
     let both = first-applies (fault_of edit cards) (first_fault edits (edited cards edit)) none in

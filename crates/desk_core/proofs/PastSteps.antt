@@ -1,5 +1,5 @@
 -- What is kept of a deck's changes, as two lists.
-use Rattle.std.proofs.Common.{◌≡◌, ℕ, zero, suc, ◌+◌, ◌-◌, ◌≤◌, ◌<◌, Bool, true, false, cond, not, List, [], ◌∷◌, ◌++◌, length, take, drop, get_or, Option, Some, None, refl, sym, ap, subst, ◌∙◌, arith, nat_lt}
+use Rattle.std.proofs.Common.{◌≡◌, ℕ, zero, suc, ◌+◌, ◌-◌, ◌≤◌, ◌<◌, Bool, true, false, cond, not, List, [], ◌∷◌, ◌++◌, length, take, drop, get_or, Some, None, refl, sym, ap, ap₂, subst, ◌∙◌, arith, nat_lt, length-drop}
 use Rattle.std.specs.Prelude.{position}
 use Rattle.std.specs.List.{position_or_len}
 use Rattle.std.proofs.lemmas.Bool.{ltb-true, ltb-false}
@@ -7,7 +7,7 @@ use Rattle.cards.specs.declared.carrying.MadeEdit.{MadeEdit}
 use Rattle.desk_core.specs.Language.{Card}
 use Rattle.desk_core.specs.Edits.{Edit, edited}
 use Rattle.desk_core.specs.declared.past.Back.{Back}
-use Rattle.desk_core.specs.Past.{KeptEdit, undo_of, kept_edits, last_version, behind, backs_of}
+use Rattle.desk_core.specs.Past.{KeptEdit, undo_of, kept_edits, last_version, behind, change_at, backs_of}
 use Rattle.desk_core.specs.Carrying.{made_in}
 use Rattle.desk_core.specs.Stored.{kept_both, made_edits, backs_made, backs_from}
 
@@ -133,3 +133,27 @@ pub made-kept : (made : List MadeEdit) (backs : List Back) → length backs ≡ 
 made-kept [] backs same = refl
 made-kept (m ∷ made) [] same = cc
 made-kept (m ∷ made) (b ∷ backs) same = ap (λ (more : List MadeEdit). m ∷ more) (made-kept made backs (omega (arith, same)))
+
+take-same : (count : ℕ) (made : List MadeEdit) (backs : List Back) → length backs ≡ length made → length (take count backs) ≡ length (take count made)
+take-same zero made backs same = refl
+take-same (suc count) [] [] same = refl
+take-same (suc count) [] (b ∷ backs) same = cc
+take-same (suc count) (m ∷ made) [] same = cc
+take-same (suc count) (m ∷ made) (b ∷ backs) same = ap suc (take-same count made backs (omega (arith, same)))
+
+-- what takes back the change of a version: it stands between the places behind the version before and behind this one
+pub backs-between : (version first next : ℕ) (made : List MadeEdit) (backs : List Back) → length backs ≡ length made → first ≤ length made → next ≤ length made →
+    behind (version - 1) (kept_both made backs) ≡ drop first (kept_both made backs) → behind version (kept_both made backs) ≡ drop next (kept_both made backs) →
+    backs_from (take (next - first) (drop first backs)) ≡ backs_of (change_at version (kept_both made backs))
+backs-between version first next made backs same low high before after =
+    let kept : List KeptEdit = kept_both made backs in
+    let all = kept-length made backs same in
+    let left = length-drop first kept in
+    let rest = length-drop next kept in
+    let count : length (behind (version - 1) kept) - length (behind version kept) ≡ next - first =
+    ap₂ (λ (a b : ℕ). a - b) (ap (λ (k : List KeptEdit). length k) before) (ap (λ (k : List KeptEdit). length k) after) ∙ omega (arith, all, left, rest, low, high) in
+    let change : change_at version kept ≡ take (next - first) (drop first kept) = ap₂ (λ (n : ℕ) (k : List KeptEdit). take n k) count before in
+    let parts : take (next - first) (drop first kept) ≡ kept_both (take (next - first) (drop first made)) (take (next - first) (drop first backs)) =
+    sym (kept-take (next - first) (drop first made) (drop first backs) ∙ ap (λ (k : List KeptEdit). take (next - first) k) (kept-drop first made backs)) in
+    sym (ap (λ (k : List KeptEdit). backs_of k) (change ∙ parts)
+    ∙ backs-kept (take (next - first) (drop first made)) (take (next - first) (drop first backs)) (take-same (next - first) (drop first made) (drop first backs) (drop-same first made backs same)))

@@ -2,13 +2,13 @@
 use Rattle.std.proofs.Common.{inl, inr, ℕ, ◌==◌, not, refl, eqb-true}
 use Rattle.std.proofs.lemmas.Bool.{cond_both, not-false}
 use Rattle.desk_core.specs.Desks.{Desk, Publication, decks_of, is_leased, is_leased_at}
-use Rattle.desk_core.specs.Calls.{Call, AddDeck, PutDeck, DropDeck, EditDeck, Batch, EditSince, BatchSince, Changes, CardsAt, Cards, Show, Status, Claim, DeliverDeck, DeliverLink, GiveUp, Reply, OutOfMemory}
+use Rattle.desk_core.specs.Calls.{Call, AddDeck, PutDeck, DropDeck, EditDeck, Batch, EditSince, BatchSince, Undo, Changes, CardsAt, Cards, Show, Status, Claim, DeliverDeck, DeliverLink, GiveUp, Reply, OutOfMemory}
 use Rattle.desk_core.specs.Delivering.{deliver_link, take_link, same_decks}
 use Rattle.desk_core.specs.Steps.{answer, Steps}
 use Rattle.desk_core.proofs.Same.{equal_lists}
 use Rattle.desk_core.proofs.Outcomes.{Outcome, Comes, by_publishing, refused_stays, either_comes}
 use Rattle.desk_core.proofs.Staying.{changes_stay, cards_at_stay, cards_stay, show_stays, status_stays, claim_stays, deliver_deck_stays, give_up_stays, unlinks}
-use Rattle.desk_core.proofs.Accepting.{add_comes, put_comes, drop_comes, edit_comes, batch_comes, edit_since_comes, batch_since_comes}
+use Rattle.desk_core.proofs.Accepting.{add_comes, put_comes, drop_comes, edit_comes, batch_comes, edit_since_comes, batch_since_comes, undo_comes}
 
 take_link_comes : (number : ℕ) (publication : Publication) (desk : Desk) → Comes desk (DeliverLink number publication) (take_link publication desk)
 take_link_comes number publication desk =
@@ -38,6 +38,7 @@ answer_comes (EditDeck name seen edit who) desk = edit_comes name seen edit who 
 answer_comes (Batch name seen edits who) desk = batch_comes name seen edits who desk
 answer_comes (EditSince name seen edit who) desk = edit_since_comes name seen edit who desk
 answer_comes (BatchSince name seen edits who) desk = batch_since_comes name seen edits who desk
+answer_comes (Undo name version who) desk = undo_comes name version who desk
 answer_comes (Changes name since) desk = changes_stay name since desk
 answer_comes (CardsAt name version) desk = cards_at_stay name version desk
 answer_comes (Cards name) desk = cards_stay name desk

@@ -4,7 +4,7 @@ use Rattle.std.specs.List.{AllByRecursion}
 use Rattle.turn_office.specs.declared.history.Entry.{Entry}
 use Rattle.turn_office.specs.Histories.{entry}
 use Rattle.desk_core.specs.Desks.{Desk, DeskDeck}
-use Rattle.desk_core.specs.Calls.{Call, AddDeck, PutDeck, DropDeck, EditDeck, Batch, EditSince, BatchSince, Changes, CardsAt, Cards, Show, Status, Claim, DeliverDeck, DeliverLink, GiveUp, Reply, Refused, OutOfMemory}
+use Rattle.desk_core.specs.Calls.{Call, AddDeck, PutDeck, DropDeck, EditDeck, Batch, EditSince, BatchSince, Undo, Changes, CardsAt, Cards, Show, Status, Claim, DeliverDeck, DeliverLink, GiveUp, Reply, Refused, OutOfMemory}
 use Rattle.desk_core.specs.Runs.{History}
 use Rattle.desk_core.specs.Jobs.{identity_in, leased_in, Effect, Leaves, effect_on, after_effect, since_job}
 use Rattle.desk_core.proofs.JobsTold.{name_in, since_of, IsDeckTold, IsUnreached, IsDeskTold, IsLeaseTold, AddsNone, LeasesNone, meant_still, lease_told_still, deck_told_next}
@@ -30,6 +30,7 @@ starved_quiet history leases by (EditDeck name seen edit who) = quiet _ _ _ (λ 
 starved_quiet history leases by (Batch name seen edits who) = quiet _ _ _ (λ n. refl) (λ i. refl) (λ n. refl) (λ d. refl)
 starved_quiet history leases by (EditSince name seen edit who) = quiet _ _ _ (λ n. refl) (λ i. refl) (λ n. refl) (λ d. refl)
 starved_quiet history leases by (BatchSince name seen edits who) = quiet _ _ _ (λ n. refl) (λ i. refl) (λ n. refl) (λ d. refl)
+starved_quiet history leases by (Undo name version who) = quiet _ _ _ (λ n. refl) (λ i. refl) (λ n. refl) (λ d. refl)
 starved_quiet history leases by (Changes name since) = quiet _ _ _ (λ n. refl) (λ i. refl) (λ n. refl) (λ d. refl)
 starved_quiet history leases by (CardsAt name version) = quiet _ _ _ (λ n. refl) (λ i. refl) (λ n. refl) (λ d. refl)
 starved_quiet history leases by (Cards name) = quiet _ _ _ (λ n. refl) (λ i. refl) (λ n. refl) (λ d. refl)

@@ -3,7 +3,7 @@ use Rattle.std.specs.Prelude.{◌≡◌, ◌⊎◌, ⊤, ℕ, ◌==◌, List, []
 use Rattle.std.specs.Option.{option_or}
 use Rattle.desk_core.specs.Language.{same_text}
 use Rattle.desk_core.specs.Edits.{Edit}
-use Rattle.desk_core.specs.Calls.{Call, AddDeck, PutDeck, EditDeck, Batch, EditSince, BatchSince, Claim, DeliverDeck, GiveUp, Reply, Changed, Carried, DeckJob, LinkJob, Cleared, Refused, Foreign, DeckWork, Start, FromRecord, FromCards}
+use Rattle.desk_core.specs.Calls.{Call, AddDeck, PutDeck, EditDeck, Batch, EditSince, BatchSince, Undo, Claim, DeliverDeck, GiveUp, Reply, Changed, Carried, DeckJob, LinkJob, Cleared, Refused, Foreign, DeckWork, Start, FromRecord, FromCards}
 use Rattle.desk_core.specs.Runs.{History}
 
 -- the identity that an entry gives to a deck of this name where it adds or puts one: the version that it makes
@@ -46,6 +46,7 @@ effect_on deck earlier (EditDeck name seen edit by) (Changed version) = effect_i
 effect_on deck earlier (Batch name seen edits by) (Changed version) = effect_if deck (identity_of name earlier) (Edits edits)
 effect_on deck earlier (EditSince name seen edit by) (Carried version before edits) = effect_if deck (identity_of name earlier) (Edits edits)
 effect_on deck earlier (BatchSince name seen edits by) (Carried version before made) = effect_if deck (identity_of name earlier) (Edits made)
+effect_on deck earlier (Undo name of_version by) (Carried version before edits) = effect_if deck (identity_of name earlier) (Edits edits)
 effect_on deck earlier Claim (DeckJob job) = effect_if deck (Some job.deck) (HandsOut job.edits)
 effect_on deck earlier (DeliverDeck done) (Refused Foreign) = effect_if deck (deck_of_lease done.lease earlier) Loses
 effect_on deck earlier (GiveUp lease) Cleared = effect_if deck (deck_of_lease lease earlier) Loses

@@ -12,6 +12,7 @@ pub mod Changing
 pub mod Reading
 pub mod Earlier
 pub mod Carrying
+pub mod Undoing
 pub mod Claiming
 pub mod Delivering
 pub mod Steps

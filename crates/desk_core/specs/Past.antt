@@ -57,6 +57,10 @@ abbrev pub behind : ℕ → List KeptEdit → List KeptEdit
 behind version [] = []
 behind version (one ∷ later) = if nat_lt version one.version then one ∷ later else behind version later
 
+-- the edits of the change that made a version: of those behind the version before it, the ones that are not behind it too
+abbrev pub change_at : ℕ → List KeptEdit → List KeptEdit
+change_at version kept = take (length (behind (version - 1) kept) - length (behind version kept)) (behind (version - 1) kept)
+
 -- the edits that take edits back, the last of them first
 abbrev pub backs_of : List KeptEdit → List Edit
 backs_of [] = []

@@ -6,7 +6,7 @@ use Rattle.desk_core.specs.Language.{Deck, listing_of, image_of}
 use Rattle.desk_core.specs.Edits.{Edit}
 use Rattle.desk_core.specs.Changes.{Change, Added, Dropped, Edited, Put, decks_after}
 use Rattle.desk_core.specs.Desks.{Desk, Publication, new_desk_at, decks_of}
-use Rattle.desk_core.specs.Calls.{Call, AddDeck, PutDeck, DropDeck, EditDeck, Batch, EditSince, BatchSince, Reply, Changed, Carried}
+use Rattle.desk_core.specs.Calls.{Call, AddDeck, PutDeck, DropDeck, EditDeck, Batch, EditSince, BatchSince, Undo, Reply, Changed, Carried}
 use Rattle.desk_core.specs.Steps.{Steps}
 
 -- calls with their replies, oldest first
@@ -31,6 +31,7 @@ change_asked (EditDeck name seen edit by) reply = Some (Edited name (edit ∷ []
 change_asked (Batch name seen edits by) reply = Some (Edited name edits)
 change_asked (EditSince name seen edit by) reply = option_map (Edited name) (carried_in reply)
 change_asked (BatchSince name seen edits by) reply = option_map (Edited name) (carried_in reply)
+change_asked (Undo name version by) reply = option_map (Edited name) (carried_in reply)
 change_asked _ reply = None
 
 -- whether a reply accepts a change

@@ -1,12 +1,13 @@
 -- The step of a desk (ours): a function of the call and the desk, and one free choice.
 use Rattle.std.specs.Prelude.{◌≡◌, ◌⊎◌, Bool, true, false, not, ◌&&◌, IsTrue}
 use Rattle.desk_core.specs.Desks.{Desk}
-use Rattle.desk_core.specs.Calls.{Call, AddDeck, PutDeck, DropDeck, EditDeck, Batch, EditSince, BatchSince, Changes, CardsAt, Cards, Show, Status, Claim, DeliverDeck, DeliverLink, GiveUp, Reply, Changed, Carried, CardsAre, ChangesAre, CardsBefore, Shown, StatusIs, DeckJob, LinkJob, Refused, OutOfMemory}
+use Rattle.desk_core.specs.Calls.{Call, AddDeck, PutDeck, DropDeck, EditDeck, Batch, EditSince, BatchSince, Undo, Changes, CardsAt, Cards, Show, Status, Claim, DeliverDeck, DeliverLink, GiveUp, Reply, Changed, Carried, CardsAre, ChangesAre, CardsBefore, Shown, StatusIs, DeckJob, LinkJob, Refused, OutOfMemory}
 use Rattle.desk_core.specs.Answers.{Answer}
 use Rattle.desk_core.specs.Changing.{add_deck, put_deck, drop_deck, edit_deck, batch}
 use Rattle.desk_core.specs.Reading.{cards, show, status}
 use Rattle.desk_core.specs.Earlier.{changes, cards_at}
 use Rattle.desk_core.specs.Carrying.{edit_since, batch_since}
+use Rattle.desk_core.specs.Undoing.{undo}
 use Rattle.desk_core.specs.Claiming.{claim}
 use Rattle.desk_core.specs.Delivering.{deliver_deck, deliver_link, give_up}
 
@@ -19,6 +20,7 @@ answer (EditDeck name seen edit by) desk = edit_deck name seen edit by desk
 answer (Batch name seen edits by) desk = batch name seen edits by desk
 answer (EditSince name seen edit by) desk = edit_since name seen edit by desk
 answer (BatchSince name seen edits by) desk = batch_since name seen edits by desk
+answer (Undo name version by) desk = undo name version by desk
 answer (Changes name since) desk = changes name since desk
 answer (CardsAt name version) desk = cards_at name version desk
 answer (Cards name) desk = cards name desk

@@ -61,6 +61,12 @@ pub enum Call {
         edits: Listed<Edit>,
         by: DeckName,
     },
+    /// The change of the deck that made this version is taken back, as a new change.
+    Undo {
+        name: DeckName,
+        version: u64,
+        by: DeckName,
+    },
     /// The changes of the deck behind a version.
     Changes {
         name: DeckName,

@@ -23,19 +23,35 @@ impl Desk {
     ) -> Reply
         ensures { MayAnswer self.old (batch_since name.now seen edits by.now self.old) result self.new }
     {
+        let mut edits = edits.into_items();
+        self.batch_of(name, seen, &mut edits, by)
+    }
+
+    /// Edits of the deck by who saw a version of it, as one change; for the reply they are copied.
+    pub(crate) fn batch_of(
+        &mut self,
+        name: &DeckName,
+        seen: u64,
+        edits: &mut [Edit],
+        by: &DeckName,
+    ) -> Reply
+        ensures { MayAnswer self.old (batch_since name.now seen edits.old by.now self.old) result self.new }
+    {
         let Some(place) = self.place_of(name) else {
             return Reply::Refused(Refusal::NoDeck);
         };
-        let mut edits = edits.into_items();
-        if let Some(refusal) = self.carry_at(place, seen, &mut edits) {
+        if let Some(refusal) = self.carry_at(place, seen, edits) {
             return Reply::Refused(refusal);
         }
         let before = self.version_at(place);
-        match self.edit_all_at(place, by, &edits) {
+        let Ok(copies) = copied_edits(self.alloc, edits) else {
+            return Reply::Refused(Refusal::OutOfMemory);
+        };
+        match self.edit_all_at(place, by, edits) {
             Ok(version) => Reply::Carried {
                 version,
                 seen: before,
-                edits: Listed::new(edits),
+                edits: Listed::new(copies),
             },
             Err(_) => Reply::Refused(Refusal::OutOfMemory),
         }
@@ -82,7 +98,7 @@ impl Desk {
 
     /// Carries edits over what others changed in the deck at a place since their sender looked, or tells
     /// what speaks against them.
-    fn carry_at(&self, place: usize, seen: u64, edits: &mut [Edit]) -> Option<Refusal>
+    pub(crate) fn carry_at(&self, place: usize, seen: u64, edits: &mut [Edit]) -> Option<Refusal>
         requires { place < length self.now.decks }
         ensures refusal { ForSome (slice_get self.now.decks place) (λ deck. result ≡ against_carry seen edits.old self.now deck) }
         ensures carried { result ≡ None → ForSome (slice_get self.now.decks place) (λ deck. carried_since seen edits.old deck ≡ Ok edits.new) }

@@ -1,11 +1,17 @@
 //! What holds in every run of a desk, each law as the contract of a function that does nothing.
-ghost use Rattle.std.specs.Prelude.{◌≡◌, ℕ, ◌+◌, ◌≤◌, true, false, Some, reverse};
+ghost use Rattle.std.specs.Prelude.{◌≡◌, ℕ, ◌+◌, ◌-◌, ◌≤◌, true, false, List, [], Some, reverse};
+ghost use Rattle.turn_office.specs.declared.history.Entry.{Entry};
 ghost use Rattle.turn_office.specs.Histories.{Leads};
-ghost use Rattle.desk_core.specs.Desks.{Desk, Publication, greatest_number};
-ghost use Rattle.desk_core.specs.Calls.{Call, Refusal, Reply, Show, Shown, Claim, Idle, DeckJob, DeckWork, Refused};
+ghost use Rattle.desk_core.specs.Changes.{Edited};
+ghost use Rattle.desk_core.specs.Edits.{Edit, edited_by};
+ghost use Rattle.desk_core.specs.Desks.{Desk, DeskDeck, Publication, deck_named, greatest_number};
+ghost use Rattle.desk_core.specs.Calls.{Call, Refusal, Reply, Show, Shown, Claim, Idle, DeckJob, DeckWork, Refused, Undo, Carried};
 ghost use Rattle.desk_core.specs.Steps.{answer, Steps};
-ghost use Rattle.desk_core.specs.Runs.{History, Runs, IsBuildOf, IsUnchanged, IsOfItsChanges, IsPublishedAt, IsPublishedFrom};
+ghost use Rattle.desk_core.specs.Runs.{History, Runs, change_in, IsBuildOf, IsUnchanged, IsOfItsChanges, IsPublishedAt, IsPublishedFrom};
 ghost use Rattle.desk_core.specs.Jobs.{IsDue, IsPartOf, accepted_edits, handed_edits};
+ghost use Rattle.desk_core.specs.Earlier.{edits_behind};
+ghost use Rattle.desk_core.specs.Carrying.{cards_of};
+ghost use Rattle.desk_core.specs.Undoing.{backs_at};
 ghost use Rattle.desk_core.specs.Rounds.{after_rounds, most_rounds};
 ghost use Rattle.desk_core.specs.Progress.{has_leases, has_work, hands_a_deck, hands_a_link};
 
@@ -57,4 +63,19 @@ pub fn work_ends()
     ensures { (begun : ℕ) (history : History) (desk : Desk) →
         Runs begun history desk → has_leases desk ≡ false → desk.leases + most_rounds desk ≤ greatest_number →
         (answer Claim (after_rounds (most_rounds desk) desk)).reply ≡ Idle desk.version }
+{}
+
+/// An undo takes back what the change did: made on the cards that a deck had at a version, what takes the
+/// change of that version back gives those that it had at the version before. Where the deck was not
+/// changed behind that version, an undo that is accepted leaves it with the cards of the version before.
+/// And in every run, edits of a deck that a step made and the next one takes back leave it with the cards
+/// that it had.
+pub fn undo_takes_back()
+    ensures back { (version : ℕ) (deck : DeskDeck) → edited_by (backs_at version deck) (cards_of version deck) ≡ cards_of (version - 1) deck }
+    ensures latest { (desk next : Desk) (name who : List ℕ) (version : ℕ) (deck : DeskDeck) (made before : ℕ) (edits : List Edit) →
+        deck_named name desk ≡ Some deck → edits_behind version deck ≡ [] → Steps desk (Undo name version who) (Carried made before edits) next →
+        (after : DeskDeck) × (deck_named name next ≡ Some after) × (after.cards ≡ cards_of (version - 1) deck) }
+    ensures undone { (begun : ℕ) (history : History) (desk next last : Desk) (made : Entry Call Reply) (name who : List ℕ) (deck : DeskDeck) (edits moved : List Edit) (version before : ℕ) →
+        Runs begun history desk → deck_named name desk ≡ Some deck → Steps desk made.call made.reply next → change_in made ≡ Some (Edited name edits) →
+        Steps next (Undo name next.version who) (Carried version before moved) last → (after : DeskDeck) × (deck_named name last ≡ Some after) × (after.cards ≡ deck.cards) }
 {}

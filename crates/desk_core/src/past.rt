@@ -2,7 +2,7 @@
 ghost use Rattle.std.specs.Prelude.{◌≡◌, ◌≤◌, ℕ, List, nat_lt, [], ◌∷◌, length, take, drop, position, is_ok, None, IfOk, if◌then◌else◌};
 ghost use Rattle.cards.specs.Counts.{fault_at, count_after};
 ghost use Rattle.desk_core.specs.Edits.{fault_of, first_fault, edited_by};
-ghost use Rattle.desk_core.specs.Past.{begun_at, with_edits, undo_of, last_version, without_oldest, trimmed, behind, backs_of};
+ghost use Rattle.desk_core.specs.Past.{begun_at, with_edits, undo_of, last_version, without_oldest, trimmed, behind, change_at, backs_of};
 ghost use Rattle.desk_core.specs.declared.past.Back.{Back};
 ghost use Rattle.desk_core.specs.Carrying.{made_in};
 ghost use Rattle.desk_core.specs.Stored.{kept_both, made_edits, backs_made, backs_from};
@@ -179,6 +179,13 @@ impl Past {
     {
         backs_behind(alloc, self.made.as_slice(), self.backs.as_slice(), version)
     }
+
+    /// What takes the edits of the change of a version back, in the order of these edits.
+    pub(crate) fn backs_at(&self, version: u64) -> &[Back]
+        ensures { backs_from result.now ≡ backs_of (change_at version self.now.edits) }
+    {
+        backs_at(self.made.as_slice(), self.backs.as_slice(), version)
+    }
 }
 
 /// Where the first edit of a later version stands.
@@ -223,6 +230,14 @@ fn rest<T>(items: &[T], count: usize) -> &[T]
     items.split_at(count).1
 }
 
+/// The first items, so many.
+fn front<T>(items: &[T], count: usize) -> &[T]
+    requires { count ≤ length items.now }
+    ensures { result.now ≡ take count items.now }
+{
+    items.split_at(count).0
+}
+
 /// The edits behind a version, with what takes them back.
 fn edits_behind(
     alloc: Global,
@@ -249,6 +264,16 @@ fn backs_behind(
 {
     let count = count_before(made, version);
     backs_from(alloc, rest(backs, count))
+}
+
+/// What takes the edits of the change of a version back, in the order of these edits.
+fn backs_at<'a>(made: &[MadeEdit], backs: &'a [Back], version: u64) -> &'a [Back]
+    requires { length backs.now ≡ length made.now }
+    ensures { backs_from result.now ≡ backs_of (change_at version (kept_both made.now backs.now)) }
+{
+    let first = count_before(made, version.saturating_sub(1));
+    let next = count_before(made, version);
+    front(rest(backs, first), next.saturating_sub(first))
 }
 
 /// How many cards a deck with these cards had at a version, and the edits that were made behind it.
@@ -325,6 +350,16 @@ fn backs_from(alloc: Global, backs: &[Back]) -> Result<Vec<Edit>, AllocError>
         edits.push(backs[backs.len() - 1 - count].edit.copied())?;
     }
     Ok(edits)
+}
+
+/// Puts the edits that take back in place of these, the last first.
+pub(crate) fn put_backs(backs: &[Back], edits: &mut [Edit])
+    requires { length edits.old ≡ length backs.now }
+    ensures { edits.new ≡ backs_from backs.now }
+{
+    for count in 0..backs.len() {
+        edits[count] = backs[backs.len() - 1 - count].edit.copied();
+    }
 }
 
 /// What takes back an edit that applies to these cards.

@@ -64,6 +64,8 @@ pub enum Refusal {
     Forgotten(u64),
     /// This card of those that the sender saw was changed, first in this version.
     TouchedCard(u64, u64),
+    /// No change of the deck made this version.
+    NoChange,
 }
 
 /// What a desk answers.

@@ -41,6 +41,7 @@ impl Desk {
                 edits,
                 by,
             } => self.batch_since(&name, seen, edits, &by),
+            Call::Undo { name, version, by } => self.undo(&name, version, &by),
             Call::Changes { name, since } => self.changes(&name, since),
             Call::CardsAt { name, version } => self.earlier_cards(&name, version),
             Call::Cards(name) => self.cards(&name),

@@ -9,6 +9,8 @@ ghost use Rattle.desk_core.specs.Past.{backs_of};
 ghost use Rattle.desk_core.specs.Causes.{first_cause};
 ghost use Rattle.desk_core.specs.Earlier.{edits_behind};
 ghost use Rattle.desk_core.specs.Carrying.{cards_of, carried_since, bad_edit, against_carried};
+ghost use Rattle.desk_core.specs.Undoing.{backs_at};
+ghost use Rattle.desk_core.specs.Stored.{backs_from};
 ghost use Rattle.desk_core.specs.Reading.{row_of, state_of};
 
 use crate::calls::Done;
@@ -209,6 +211,14 @@ impl StoredDeck {
         ensures { IfOk result (λ backs. backs.items ≡ backs_of (edits_behind version self.now)) }
     {
         self.past.backs_behind(alloc, version)
+    }
+
+    /// What takes its edits of the change of a version back, in the order of these edits.
+    pub(crate) fn backs_at(&self, version: u64) -> &[Back]
+        ensures edits { backs_from result.now ≡ backs_at version self.now }
+        ensures count { length result.now ≡ length (backs_at version self.now) }
+    {
+        self.past.backs_at(version)
     }
 
     /// Carries edits over what others changed since a version that their sender saw, or tells what speaks

@@ -7,6 +7,7 @@ use Rattle.desk_core.specs.Reading.{cards_reply, show_reply}
 use Rattle.desk_core.specs.declared.past.KeptEdit.{KeptEdit}
 use Rattle.desk_core.specs.Past.{backs_of}
 use Rattle.desk_core.specs.Carrying.{carried_since, accept_carried, edit_since_of, batch_since_of}
+use Rattle.desk_core.specs.Undoing.{backs_at, against_change, undo_where}
 use Rattle.cards.specs.declared.carrying.Touched.{Touched}
 use Rattle.desk_core.specs.Earlier.{against_since, edits_behind, changes_of, cards_at_of}
 use Rattle.desk_core.specs.Edits.{Edit}
@@ -62,6 +63,10 @@ batch_since-fits : (name : List ℕ) (seen : ℕ) (edits : List Edit) (by : List
 batch_since-fits name seen edits by desk None = refl
 batch_since-fits name seen edits by desk (Some deck) = unless-carried _ desk _ (accept-fits name by desk deck (carried_since seen edits deck))
 
+undo-fits : (name : List ℕ) (version : ℕ) (by : List ℕ) (desk : Desk) (deck : Option DeskDeck) → is_carried (undo_where name version by desk deck).reply ≡ true
+undo-fits name version by desk None = refl
+undo-fits name version by desk (Some deck) = unless-carried (against_change version deck) desk _ (batch_since-fits name version (backs_at version deck) by desk (Some deck))
+
 show_reply-fits : (publication : Option Publication) → is_publication (show_reply publication) ≡ true
 show_reply-fits None = refl
 show_reply-fits (Some publication) = refl
@@ -74,6 +79,7 @@ answer-fits (call.EditDeck name seen edit by) desk h = unless-change (against_ed
 answer-fits (call.Batch name seen edits by) desk h = unless-change (against_batch seen edits desk (deck_named name desk)) desk _
 answer-fits (call.EditSince name seen edit by) desk h = edit_since-fits name seen edit by desk (deck_named name desk)
 answer-fits (call.BatchSince name seen edits by) desk h = batch_since-fits name seen edits by desk (deck_named name desk)
+answer-fits (call.Undo name version by) desk h = undo-fits name version by desk (deck_named name desk)
 answer-fits (call.Changes name since) desk h = changes_of-fits since desk (deck_named name desk)
 answer-fits (call.CardsAt name version) desk h = cards_at_of-fits version desk (deck_named name desk)
 answer-fits (call.Cards name) desk h = cards_reply-fits (deck_named name desk)
@@ -93,6 +99,7 @@ refused-fits (call.EditDeck name seen edit by) reason h = refl
 refused-fits (call.Batch name seen edits by) reason h = refl
 refused-fits (call.EditSince name seen edit by) reason h = refl
 refused-fits (call.BatchSince name seen edits by) reason h = refl
+refused-fits (call.Undo name version by) reason h = refl
 refused-fits (call.Changes name since) reason h = refl
 refused-fits (call.CardsAt name version) reason h = refl
 refused-fits (call.Cards name) reason h = refl

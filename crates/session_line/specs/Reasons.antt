@@ -29,6 +29,7 @@ desk_reason desk.BatchSize = refusal.BatchSize
 desk_reason desk.NotKept = refusal.NotKept
 desk_reason (desk.Forgotten oldest) = refusal.Forgotten oldest
 desk_reason (desk.TouchedCard card version) = refusal.Touched card version
+desk_reason desk.NoChange = refusal.NoChange
 
 -- a fault of a file
 abbrev pub file_reason : LoadFault → Refusal

@@ -30,6 +30,7 @@ pub(crate) fn desk_reason(refusal: desk_core::Refusal) -> Refusal
         desk_core::Refusal::NotKept => Refusal::NotKept,
         desk_core::Refusal::Forgotten(oldest) => Refusal::Forgotten { oldest },
         desk_core::Refusal::TouchedCard(card, version) => Refusal::Touched { card, version },
+        desk_core::Refusal::NoChange => Refusal::NoChange,
     }
 }
 

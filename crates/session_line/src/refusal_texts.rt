@@ -80,6 +80,7 @@ pub(crate) fn put_refusal(line: &mut ReplyLine, refusal: &Refusal)
         Refusal::NotKept => line.put(b"NotKept"),
         Refusal::Forgotten { oldest } => put_numbered(line, b"Forgotten ", oldest),
         Refusal::Touched { card, version } => put_touched(line, card, version),
+        Refusal::NoChange => line.put(b"NoChange"),
     }
 }
 

@@ -65,4 +65,6 @@ pub enum Refusal {
     Forgotten { oldest: u64 },
     /// This card of those that the sender saw was changed, first in this version.
     Touched { card: u64, version: u64 },
+    /// No change of the deck made this version.
+    NoChange,
 }

@@ -1,0 +1,63 @@
+-- What the code does to the deck at a place to take a change back is what the answer says of the deck of its name.
+use Rattle.std.proofs.Common.{◌≡◌, ◌≤◌, ℕ, List, [], ◌∷◌, length, Bool, true, false, not, nat_le, refl, arith, sym, ap, ◌∙◌, subst, inl, Option, Some, None}
+use Rattle.std.specs.Prelude.{slice_get}
+use Rattle.std.proofs.lemmas.Bool.{and_parts, leb-true}
+use Rattle.std.proofs.lemmas.List.{length-append}
+use Rattle.desk_core.specs.Causes.{when}
+use Rattle.desk_core.specs.Edits.{Edit}
+use Rattle.desk_core.specs.Desks.{Desk, DeskDeck, is_named}
+use Rattle.desk_core.specs.OwnNames.{IsPlaceOf}
+use Rattle.desk_core.specs.Calls.{Reply, Refused, Refusal, OldVersion, Forgotten, NoChange}
+use Rattle.desk_core.specs.Answers.{Answer, unless}
+use Rattle.desk_core.specs.Changing.{is_batch, most_edits}
+use Rattle.desk_core.specs.Carrying.{batch_since, batch_since_of}
+use Rattle.desk_core.specs.Undoing.{backs_at, against_change, undo, undo_where}
+use Rattle.desk_core.specs.Stored.{backs_from}
+use Rattle.desk_core.specs.declared.past.Back.{Back}
+use Rattle.desk_core.specs.Turns.{MayAnswer}
+use Rattle.desk_core.proofs.AnswerLaws.{told, head-clear}
+
+-- there are as many edits that take back as there are of what takes back
+pub backs-length : (backs : List Back) → length (backs_from backs) ≡ length backs
+backs-length [] = refl
+backs-length (back ∷ later) =
+    let more = length-append (backs_from later) (back.edit ∷ []) in
+    let same = backs-length later in
+    omega (arith, more, same)
+
+not-refused : (fits : Bool) (refusal : Refusal) → when (not fits) refusal ≡ None → fits ≡ true
+not-refused true refusal e = refl
+not-refused false refusal e = cc
+
+-- where nothing speaks against what is asked of a version's change, it has no more edits than a batch
+pub few-backs : (version : ℕ) (deck : DeskDeck) → against_change version deck ≡ None → length (backs_at version deck) ≤ 100
+few-backs version deck clear =
+    let a = head-clear (when _ (OldVersion deck.version)) (when _ (Forgotten deck.past.since) ∷ when (not (is_batch (backs_at version deck))) NoChange ∷ []) clear in
+    let b = head-clear (when _ (Forgotten deck.past.since)) (when (not (is_batch (backs_at version deck))) NoChange ∷ []) a.1 in
+    let c = head-clear (when (not (is_batch (backs_at version deck))) NoChange) [] b.1 in
+    let fits = and_parts (nat_le 1 (length (backs_at version deck))) (nat_le (length (backs_at version deck)) most_edits) (not-refused (is_batch (backs_at version deck)) NoChange c.0) in
+    leb-true (length (backs_at version deck)) most_edits fits.1
+
+unless-clear : (against : Option Refusal) (desk : Desk) (a : Answer) → against ≡ None → unless against desk a ≡ a
+unless-clear None desk a e = refl
+unless-clear (Some refusal) desk a e = cc
+
+module _ (name who : List ℕ) (version : ℕ) (desk : Desk) (place : ℕ) (is : IsPlaceOf (is_named name) (Some place) desk.decks) (deck : DeskDeck) (found : slice_get desk.decks place ≡ Some deck) where
+  undo-over : undo name version who desk ≡ undo_where name version who desk (Some deck)
+  undo-over = ap (undo_where name version who desk) ((is.some place refl).0 ∙ found)
+
+  batch-over : (edits : List Edit) → batch_since name version edits who desk ≡ batch_since_of name version edits who desk (Some deck)
+  batch-over edits = ap (batch_since_of name version edits who desk) ((is.some place refl).0 ∙ found)
+
+  pub undo-refused : (result : Option Refusal) (refusal : Refusal) → result ≡ against_change version deck → result ≡ Some refusal → MayAnswer desk (undo name version who desk) (Refused refusal) desk
+  undo-refused result refusal given e = subst (λ (a : Answer). MayAnswer desk a (Refused refusal) desk) (sym undo-over) (inl (told _ refusal desk _ (sym given ∙ e)))
+
+  -- an undo is the batch of what takes the change back
+  pub undo-done : (result : Option Refusal) (edits : List Edit) (reply : Reply) (next : Desk) → result ≡ against_change version deck → result ≡ None → edits ≡ backs_at version deck →
+      MayAnswer desk (batch_since name version edits who desk) reply next → MayAnswer desk (undo name version who desk) reply next
+  undo-done result edits reply next given clear same may =
+      let over : undo name version who desk ≡ batch_since name version edits who desk =
+      undo-over
+      ∙ (unless-clear (against_change version deck) desk (batch_since_of name version (backs_at version deck) who desk (Some deck)) (sym given ∙ clear)
+      ∙ sym (batch-over edits ∙ ap (λ (es : List Edit). batch_since_of name version es who desk (Some deck)) same)) in
+      subst (λ (a : Answer). MayAnswer desk a reply next) (sym over) may

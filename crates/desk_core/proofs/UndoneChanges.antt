@@ -1,0 +1,260 @@
+-- An accepted change of edits, taken back at once: the deck has its cards again.
+use Rattle.std.proofs.Common.{◌≡◌, ℕ, zero, suc, ◌+◌, ◌-◌, ◌≤◌, ◌<◌, Bool, true, false, cond, not, nat_le, nat_lt, List, [], ◌∷◌, ◌++◌, length, take, drop, Option, Some, None, option_map, Result, Ok, Err, inl, inr, refl, sym, ap, ◌∙◌, subst, arith}
+use Rattle.std.proofs.lemmas.Bool.{ltb-true, leb-true, leb-false, le-leb, lt-ltb, false_from_ne_true}
+use Rattle.std.proofs.lemmas.List.Sums.{fold-append}
+use Rattle.cards.specs.declared.carrying.Touched.{Touched}
+use Rattle.turn_office.specs.declared.history.Entry.{Entry}
+use Rattle.desk_core.specs.Language.{Card}
+use Rattle.desk_core.specs.Edits.{Edit, fault_of, first_fault}
+use Rattle.desk_core.specs.Edits as cards
+use Rattle.desk_core.specs.Causes.{when}
+use Rattle.desk_core.specs.Changes.{Change, Edited}
+use Rattle.desk_core.specs.Past.{Past, KeptEdit, kept_edits, with_edits, most_kept, left_of_more, last_version, without_oldest, behind, backs_of}
+use Rattle.desk_core.specs.Led.{HaveLed}
+use Rattle.desk_core.specs.Desks.{Desk, DeskDeck, is_named, deck_named}
+use Rattle.desk_core.specs.Calls.{Call, AddDeck, PutDeck, DropDeck, EditDeck, Batch, EditSince, BatchSince, Undo, Changes, CardsAt, Cards, Show, Status, Claim, DeliverDeck, DeliverLink, GiveUp, Reply, Carried, Refused, Refusal, OutOfMemory, OldVersion, Forgotten, NoChange, BatchSize}
+use Rattle.desk_core.specs.Answers.{Answer, unless, against_next}
+use Rattle.desk_core.specs.Changing.{accepted, edited_deck, edited, against_seen, against_edit, against_batch, is_batch, refusal_of}
+use Rattle.desk_core.specs.Earlier.{edits_behind}
+use Rattle.desk_core.specs.Carrying.{cards_of, carried_since, against_carry, accept_carried, edit_since_of, batch_since_of, bad_edit, alone}
+use Rattle.desk_core.specs.Undoing.{backs_at, against_change, undo, undo_where}
+use Rattle.desk_core.specs.Steps.{answer, Steps}
+use Rattle.desk_core.specs.Runs.{History, Runs, accepts, carried_in, change_asked, change_in}
+use Rattle.desk_core.proofs.AnswerLaws.{head-clear, map-clear}
+use Rattle.desk_core.proofs.PastLaws.{led-kept, one-applies}
+use Rattle.desk_core.proofs.UndoLaws.{has-place, undo-made}
+use Rattle.desk_core.proofs.CarryDone.{carry-clear}
+use Rattle.desk_core.proofs.TellingDecks.{found_told}
+use Rattle.desk_core.proofs.DatedAlways.{AreDated, IsDated, dated-edited, dated-last}
+use Rattle.desk_core.proofs.UndoTakesBack.{found-formed, latest_back}
+
+-- an answer that accepts is the one that nothing speaks against
+unless-accepted : (against : Option Refusal) (desk : Desk) (a : Answer) (reply : Reply) → reply ≡ (unless against desk a).reply → accepts reply ≡ true → (against ≡ None) × (unless against desk a ≡ a)
+unless-accepted None desk a reply e is = (refl, refl)
+unless-accepted (Some refusal) desk a reply e is = absurd (let no : accepts reply ≡ false = ap accepts e in cc)
+
+change-told : (is : Bool) (asked : Option Change) (change : Change) → cond is asked None ≡ Some change → (is ≡ true) × (asked ≡ Some change)
+change-told true asked change e = (refl, e)
+change-told false asked change e = cc
+
+edits-told : (n name : List ℕ) (told : Option (List Edit)) (edits : List Edit) → option_map (Edited n) told ≡ Some (Edited name edits) → (n ≡ name) × (told ≡ Some edits)
+edits-told n name (Some es) edits e = let a : n ≡ name = cc in let b : es ≡ edits = cc in (a, ap (λ (x : List Edit). Some x) b)
+edits-told n name None edits e = cc
+
+-- edits that a step made of a deck of a name: they applied
+record MadeEdits (desk next : Desk) (name : List ℕ) (edits : List Edit) (deck : DeskDeck) : Type 0 where
+  by : List ℕ
+  made : next ≡ edited name by edits desk
+  applied : first_fault edits deck.cards ≡ None
+
+renamed : (desk next : Desk) (n name : List ℕ) (edits : List Edit) (deck : DeskDeck) → n ≡ name → MadeEdits desk next n edits deck → MadeEdits desk next name edits deck
+renamed desk next n name edits deck same made = subst (λ (x : List ℕ). MadeEdits desk next x edits deck) same made
+
+carried-made : (n who : List ℕ) (desk : Desk) (deck : DeskDeck) (moved : Result (List Edit) Touched) (reply : Reply) (edits : List Edit) → reply ≡ (accept_carried n who desk deck moved).reply → carried_in reply ≡ Some edits →
+    (moved ≡ Ok edits) × ((accept_carried n who desk deck moved).desk ≡ edited n who edits desk)
+carried-made n who desk deck (Ok es) reply edits e told =
+    let is : Some es ≡ Some edits = sym (ap carried_in e) ∙ told in
+    let same : es ≡ edits = cc in
+    (ap (λ (x : List Edit). Ok x) same, ap (λ (x : List Edit). edited n who x desk) same)
+carried-made n who desk deck (Err touched) reply edits e told = absurd (let no : None ≡ Some edits = sym (ap carried_in e) ∙ told in cc)
+
+module _ (desk next : Desk) (name : List ℕ) (edits : List Edit) (deck : DeskDeck) where
+  -- by an edit or a batch that was asked for
+  by-edit : (n : List ℕ) (seen : ℕ) (edit : Edit) (who : List ℕ) (reply : Reply) → deck_named n desk ≡ Some deck → edit ∷ [] ≡ edits →
+      reply ≡ (answer (EditDeck n seen edit who) desk).reply → next ≡ (answer (EditDeck n seen edit who) desk).desk → accepts reply ≡ true → MadeEdits desk next n edits deck
+  by-edit n seen edit who reply found same told is takes =
+      let both = unless-accepted (against_edit seen edit desk (deck_named n desk)) desk (accepted (edited n who (edit ∷ []) desk)) reply told takes in
+      let clear : against_edit seen edit desk (Some deck) ≡ None = sym (ap (against_edit seen edit desk) found) ∙ both.0 in
+      let fault : Option Refusal = option_map refusal_of (fault_of edit deck.cards) in
+      let a = head-clear (against_seen seen deck) (fault ∷ against_next desk.version ∷ []) clear in
+      let b = head-clear fault (against_next desk.version ∷ []) a.1 in
+      record {
+        by = who;
+        made = is ∙ (ap (λ (x : Answer). x.desk) both.1 ∙ ap (λ (es : List Edit). edited n who es desk) same);
+        applied = subst (λ (es : List Edit). first_fault es deck.cards ≡ None) same (one-applies edit deck.cards (map-clear refusal_of (fault_of edit deck.cards) b.0));
+      }
+
+  by-batch : (n : List ℕ) (seen : ℕ) (several : List Edit) (who : List ℕ) (reply : Reply) → deck_named n desk ≡ Some deck → several ≡ edits →
+      reply ≡ (answer (Batch n seen several who) desk).reply → next ≡ (answer (Batch n seen several who) desk).desk → accepts reply ≡ true → MadeEdits desk next n edits deck
+  by-batch n seen several who reply found same told is takes =
+      let both = unless-accepted (against_batch seen several desk (deck_named n desk)) desk (accepted (edited n who several desk)) reply told takes in
+      let clear : against_batch seen several desk (Some deck) ≡ None = sym (ap (against_batch seen several desk) found) ∙ both.0 in
+      let fault : Option Refusal = option_map bad_edit (first_fault several deck.cards) in
+      let size : Option Refusal = when (not (is_batch several)) BatchSize in
+      let a = head-clear (against_seen seen deck) (size ∷ fault ∷ against_next desk.version ∷ []) clear in
+      let b = head-clear size (fault ∷ against_next desk.version ∷ []) a.1 in
+      let c = head-clear fault (against_next desk.version ∷ []) b.1 in
+      record {
+        by = who;
+        made = is ∙ (ap (λ (x : Answer). x.desk) both.1 ∙ ap (λ (es : List Edit). edited n who es desk) same);
+        applied = subst (λ (es : List Edit). first_fault es deck.cards ≡ None) same (map-clear bad_edit (first_fault several deck.cards) c.0);
+      }
+
+  -- by edits that were carried
+  by-carried : (n : List ℕ) (seen : ℕ) (several : List Edit) (who : List ℕ) (reply : Reply) (against : Option Refusal) → (against ≡ None → against_carry seen several desk deck ≡ None) →
+      reply ≡ (unless against desk (accept_carried n who desk deck (carried_since seen several deck))).reply → next ≡ (unless against desk (accept_carried n who desk deck (carried_since seen several deck))).desk →
+      accepts reply ≡ true → carried_in reply ≡ Some edits → MadeEdits desk next n edits deck
+  by-carried n seen several who reply against clears told is takes tells =
+      let both = unless-accepted against desk (accept_carried n who desk deck (carried_since seen several deck)) reply told takes in
+      let made = carried-made n who desk deck (carried_since seen several deck) reply edits (told ∙ ap (λ (x : Answer). x.reply) both.1) tells in
+      record {
+        by = who;
+        made = is ∙ (ap (λ (x : Answer). x.desk) both.1 ∙ made.1);
+        applied = (carry-clear seen several edits desk deck (clears both.0) made.0).apply_now;
+      }
+
+  -- by any call
+  by-call : (call : Call) (reply : Reply) → deck_named name desk ≡ Some deck → reply ≡ (answer call desk).reply → next ≡ (answer call desk).desk → accepts reply ≡ true → change_asked call reply ≡ Some (Edited name edits) → MadeEdits desk next name edits deck
+  by-call (AddDeck added) reply found told is takes asked = cc
+  by-call (PutDeck put seen) reply found told is takes asked = cc
+  by-call (DropDeck n seen) reply found told is takes asked = cc
+  by-call (EditDeck n seen edit who) reply found told is takes asked =
+      let same : n ≡ name = cc in let all : edit ∷ [] ≡ edits = cc in
+      renamed desk next n name edits deck same (by-edit n seen edit who reply (ap (λ (x : List ℕ). deck_named x desk) same ∙ found) all told is takes)
+  by-call (Batch n seen several who) reply found told is takes asked =
+      let same : n ≡ name = cc in let all : several ≡ edits = cc in
+      renamed desk next n name edits deck same (by-batch n seen several who reply (ap (λ (x : List ℕ). deck_named x desk) same ∙ found) all told is takes)
+  by-call (EditSince n seen edit who) reply found told is takes asked =
+      let both = edits-told n name (carried_in reply) edits asked in
+      let here : answer (EditSince n seen edit who) desk ≡ unless (option_map alone (against_carry seen (edit ∷ []) desk deck)) desk (accept_carried n who desk deck (carried_since seen (edit ∷ []) deck)) =
+      ap (edit_since_of n seen edit who desk) (ap (λ (x : List ℕ). deck_named x desk) both.0 ∙ found) in
+      renamed desk next n name edits deck both.0 (by-carried n seen (edit ∷ []) who reply (option_map alone (against_carry seen (edit ∷ []) desk deck)) (λ none. map-clear alone (against_carry seen (edit ∷ []) desk deck) none)
+      (told ∙ ap (λ (x : Answer). x.reply) here) (is ∙ ap (λ (x : Answer). x.desk) here) takes both.1)
+  by-call (BatchSince n seen several who) reply found told is takes asked =
+      let both = edits-told n name (carried_in reply) edits asked in
+      let here : answer (BatchSince n seen several who) desk ≡ unless (against_carry seen several desk deck) desk (accept_carried n who desk deck (carried_since seen several deck)) =
+      ap (batch_since_of n seen several who desk) (ap (λ (x : List ℕ). deck_named x desk) both.0 ∙ found) in
+      renamed desk next n name edits deck both.0 (by-carried n seen several who reply (against_carry seen several desk deck) (λ none. none)
+      (told ∙ ap (λ (x : Answer). x.reply) here) (is ∙ ap (λ (x : Answer). x.desk) here) takes both.1)
+  by-call (Undo n version who) reply found told is takes asked =
+      let both = edits-told n name (carried_in reply) edits asked in
+      let here : answer (Undo n version who) desk ≡ unless (against_change version deck) desk (batch_since_of n version (backs_at version deck) who desk (Some deck)) =
+      ap (undo_where n version who desk) (ap (λ (x : List ℕ). deck_named x desk) both.0 ∙ found) in
+      let past = unless-accepted (against_change version deck) desk (batch_since_of n version (backs_at version deck) who desk (Some deck)) reply (told ∙ ap (λ (x : Answer). x.reply) here) takes in
+      renamed desk next n name edits deck both.0 (by-carried n version (backs_at version deck) who reply (against_carry version (backs_at version deck) desk deck) (λ none. none)
+      (told ∙ ap (λ (x : Answer). x.reply) (here ∙ past.1)) (is ∙ ap (λ (x : Answer). x.desk) (here ∙ past.1)) takes both.1)
+  by-call (Changes n since) reply found told is takes asked = cc
+  by-call (CardsAt n version) reply found told is takes asked = cc
+  by-call (Cards n) reply found told is takes asked = cc
+  by-call Show reply found told is takes asked = cc
+  by-call Status reply found told is takes asked = cc
+  by-call Claim reply found told is takes asked = cc
+  by-call (DeliverDeck done) reply found told is takes asked = cc
+  by-call (DeliverLink number publication) reply found told is takes asked = cc
+  by-call (GiveUp number) reply found told is takes asked = cc
+
+  by-step : (made : Entry Call Reply) → deck_named name desk ≡ Some deck → Steps desk made.call made.reply next → change_in made ≡ Some (Edited name edits) → MadeEdits desk next name edits deck
+  by-step made found (inl gave) asked =
+      let both = change-told (accepts made.reply) (change_asked made.call made.reply) (Edited name edits) asked in
+      by-call made.call made.reply found gave.0 gave.1 both.0 both.1
+  by-step made found (inr starved) asked =
+      let both = change-told (accepts made.reply) (change_asked made.call made.reply) (Edited name edits) asked in
+      let no : accepts made.reply ≡ false = ap accepts starved.1 in
+      absurd (let e : true ≡ false = sym both.0 ∙ no in cc)
+
+-- nothing is behind a version where no edit is of a later one
+none-behind : (version : ℕ) (kept : List KeptEdit) → AreDated version kept → behind version kept ≡ []
+none-behind version [] dated = refl
+none-behind version (one ∷ later) dated =
+    let low = dated.0 in
+    let no : nat_lt version one.version ≡ false = false_from_ne_true (nat_lt version one.version) (λ is. let less = ltb-true version one.version is in absurd (omega (arith, low, less))) in
+    ap (λ (b : Bool). cond b (one ∷ later) (behind version later)) no ∙ none-behind version later dated.1
+
+-- behind a version stand the edits of the next one
+new-behind : (version : ℕ) (by : List ℕ) (edits : List Edit) (before : List Card) → behind version (kept_edits (version + 1) by edits before) ≡ kept_edits (version + 1) by edits before
+new-behind version by [] before = refl
+new-behind version by (edit ∷ edits) before =
+    let yes : nat_lt version (version + 1) ≡ true = lt-ltb version (version + 1) (omega arith) in
+    ap (λ (b : Bool). cond b (kept_edits (version + 1) by (edit ∷ edits) before) (behind version (kept_edits (version + 1) by edits (cards.edited before edit)))) yes
+
+-- of edits of this version all, the last is of it
+last-all : (version since count : ℕ) (by : List ℕ) (edits : List Edit) (before : List Card) → since ≡ version → last_version since (take count (kept_edits version by edits before)) ≡ version
+last-all version since zero by edits before same = same
+last-all version since (suc count) by [] before same = same
+last-all version since (suc count) by (edit ∷ edits) before same = last-all version version count by edits (cards.edited before edit) refl
+
+last-new : (version since count : ℕ) (by : List ℕ) (old : List KeptEdit) (edits : List Edit) (before : List Card) → length old < count → count ≤ length (old ++ kept_edits version by edits before) →
+    last_version since (take count (old ++ kept_edits version by edits before)) ≡ version
+last-new version since zero by old edits before late within = absurd (omega (arith, late))
+last-new version since (suc count) by [] [] before late within = absurd (omega (arith, within))
+last-new version since (suc count) by [] (edit ∷ edits) before late within = last-all version version count by edits (cards.edited before edit) refl
+last-new version since (suc count) by (one ∷ old) edits before late within = last-new version one.version count by old edits before (omega (arith, late)) (omega (arith, within))
+
+-- without some of the older ones
+drop-behind : (version count : ℕ) (old new : List KeptEdit) → AreDated version old → behind version new ≡ new → count ≤ length old → behind version (drop count (old ++ new)) ≡ new
+drop-behind version zero [] new dated all few = all
+drop-behind version zero (one ∷ old) new dated all few =
+    let low = dated.0 in
+    let no : nat_lt version one.version ≡ false = false_from_ne_true (nat_lt version one.version) (λ is. let less = ltb-true version one.version is in absurd (omega (arith, low, less))) in
+    ap (λ (b : Bool). cond b (one ∷ old ++ new) (behind version (old ++ new))) no ∙ drop-behind version zero old new dated.1 all (omega arith)
+drop-behind version (suc count) [] new dated all few = absurd (omega (arith, few))
+drop-behind version (suc count) (one ∷ old) new dated all few = drop-behind version count old new dated.1 all (omega (arith, few))
+
+module _ (version : ℕ) (by : List ℕ) (edits : List Edit) (before : List Card) (past : Past) (dated : AreDated version past.edits) where
+  abbrev new : List KeptEdit
+  new = kept_edits (version + 1) by edits before
+
+  abbrev whole : Past
+  whole = with_edits new past
+
+  kept-short : (count : ℕ) (few : Bool) → nat_le count (length past.edits) ≡ few → count ≤ length whole.edits → nat_le (version + 1) (without_oldest count whole).since ≡ false → behind version (without_oldest count whole).edits ≡ new
+  kept-short count true is within kept = drop-behind version count past.edits new dated (new-behind version by edits before) (leb-true count (length past.edits) is)
+  kept-short count false is within kept =
+      let late : length past.edits < count = leb-false count (length past.edits) is in
+      let last = last-new (version + 1) past.since count by past.edits edits before late within in
+      let yes : nat_le (version + 1) (without_oldest count whole).since ≡ true = ap (λ (n : ℕ). nat_le (version + 1) n) last ∙ le-leb (version + 1) (version + 1) (omega arith) in
+      absurd (let e : true ≡ false = sym yes ∙ kept in cc)
+
+  kept-whole : (all : Bool) → nat_le (version + 1) (cond all whole (without_oldest (length whole.edits - left_of_more) whole)).since ≡ false →
+      behind version (cond all whole (without_oldest (length whole.edits - left_of_more) whole)).edits ≡ new
+  kept-whole true kept = drop-behind version zero past.edits new dated (new-behind version by edits before) (omega arith)
+  kept-whole false kept = kept-short (length whole.edits - left_of_more) (nat_le (length whole.edits - left_of_more) (length past.edits)) refl (omega arith) kept
+
+-- what takes edits back brings back the cards that they led from
+led-brings : (before : List Card) (kept : List KeptEdit) (now : List Card) → HaveLed before kept now → cards.edited_by (backs_of kept) now ≡ before
+led-brings before [] now led = sym led
+led-brings before (one ∷ later) now led =
+    let rest = led-brings (cards.edited before one.edit) later now led.2 in
+    fold-append cards.edited now (backs_of later) (one.back ∷ [])
+    ∙ (ap (λ (cs : List Card). cards.edited cs one.back) rest
+    ∙ (ap (λ (edit : Edit). cards.edited (cards.edited before one.edit) edit) led.1 ∙ undo-made one.edit before (has-place one.edit before led.0)))
+
+not-cause : (b : Bool) (cause : Refusal) → when b cause ≡ None → b ≡ false
+not-cause true cause e = cc
+not-cause false cause e = refl
+
+-- the change of a deck that is asked for is kept where nothing speaks against it
+kept-then : (version : ℕ) (deck : DeskDeck) → against_change version deck ≡ None → nat_le version deck.past.since ≡ false
+kept-then version deck clear =
+    let none : Option Refusal = when (not (is_batch (backs_at version deck))) NoChange in
+    let a = head-clear (when (nat_lt deck.version version) (OldVersion deck.version)) (when (nat_le version deck.past.since) (Forgotten deck.past.since) ∷ none ∷ []) clear in
+    let b = head-clear (when (nat_le version deck.past.since) (Forgotten deck.past.since)) (none ∷ []) a.1 in
+    not-cause (nat_le version deck.past.since) (Forgotten deck.past.since) b.0
+
+-- a change of edits, taken back at once
+pub undone : (begun : ℕ) (history : History) (desk next last : Desk) (made : Entry Call Reply) (name who : List ℕ) (deck : DeskDeck) (edits moved : List Edit) (version before : ℕ) →
+    Runs begun history desk → deck_named name desk ≡ Some deck → Steps desk made.call made.reply next → change_in made ≡ Some (Edited name edits) →
+    Steps next (Undo name next.version who) (Carried version before moved) last → (after : DeskDeck) × (deck_named name last ≡ Some after) × (after.cards ≡ deck.cards)
+undone begun history desk next last made name who deck edits moved version before runs found step asked undoes =
+    let by_edits = by-step desk next name edits deck made found step asked in
+    at-next by_edits.by by_edits.made by_edits.applied undoes
+  where
+    at-next : (by : List ℕ) → next ≡ edited name by edits desk → first_fault edits deck.cards ≡ None → Steps next (Undo name next.version who) (Carried version before moved) last →
+        (after : DeskDeck) × (deck_named name last ≡ Some after) × (after.cards ≡ deck.cards)
+    at-next by is applied (inr starved) = absurd (let e : Carried version before moved ≡ Refused OutOfMemory = starved.1 in cc)
+    at-next by is applied (inl gave) =
+        let form = edited_deck (desk.version + 1) by edits in
+        let same : next.version ≡ desk.version + 1 = ap (λ (d : Desk). d.version) is in
+        let there : deck_named name next ≡ Some (form deck) = ap (λ (d : Desk). deck_named name d) is ∙ found-formed name form desk.decks deck (λ d. refl) found in
+        let dated : IsDated desk.version deck = (found_told (IsDated desk.version) (is_named name) desk.decks deck (dated-last begun history desk runs) found).0 in
+        let late : edits_behind next.version (form deck) ≡ [] = ap (λ (v : ℕ). edits_behind v (form deck)) same ∙ none-behind (desk.version + 1) (form deck).past.edits (dated-edited desk.version by edits deck dated) in
+        let back = latest_back next last name who next.version (form deck) version before moved there late (inl gave) in
+        let over : undo name next.version who next ≡ undo_where name next.version who next (Some (form deck)) = ap (undo_where name next.version who next) there in
+        let clear = unless-accepted (against_change next.version (form deck)) next (batch_since_of name next.version (backs_at next.version (form deck)) who next (Some (form deck))) (Carried version before moved)
+        (gave.0 ∙ ap (λ (a : Answer). a.reply) over) refl in
+        let kept : nat_le (desk.version + 1) (form deck).past.since ≡ false = sym (ap (λ (v : ℕ). nat_le v (form deck).past.since) same) ∙ kept-then next.version (form deck) clear.0 in
+        let place : next.version - 1 ≡ desk.version = omega (arith, same) in
+        let stands : behind desk.version (form deck).past.edits ≡ kept_edits (desk.version + 1) by edits deck.cards =
+        kept-whole desk.version by edits deck.cards deck.past dated (nat_le (length (with_edits (kept_edits (desk.version + 1) by edits deck.cards) deck.past).edits) most_kept) kept in
+        let brings = led-brings deck.cards (kept_edits (desk.version + 1) by edits deck.cards) (cards.edited_by edits deck.cards) (led-kept (desk.version + 1) by edits deck.cards applied) in
+        (back.0, back.1, back.2 ∙ (ap (λ (v : ℕ). cards_of v (form deck)) place ∙ (ap (λ (k : List KeptEdit). cards.edited_by (backs_of k) (cards.edited_by edits deck.cards)) stands ∙ brings)))
