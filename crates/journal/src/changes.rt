@@ -50,6 +50,11 @@ pub enum Carry {
         seen: u64,
         edits: Listed<Edit>,
     },
+    /// The change that made this version is taken back.
+    Undone {
+        name: DeckName,
+        version: u64,
+    },
 }
 
 impl Carry {
@@ -59,6 +64,7 @@ impl Carry {
     {
         match self {
             Carry::Edited { name, .. } | Carry::Batch { name, .. } => name,
+            Carry::Undone { name, .. } => name,
         }
     }
 
@@ -79,6 +85,7 @@ impl Carry {
                 edits,
                 by,
             },
+            Carry::Undone { name, version } => Call::Undo { name, version, by },
         }
     }
 }
@@ -126,6 +133,7 @@ pub fn asked_of(call: Call) -> Asked
             edits,
             ..
         } => Asked::Carry(Carry::Batch { name, seen, edits }),
+        Call::Undo { name, version, .. } => Asked::Carry(Carry::Undone { name, version }),
         other => Asked::Other(other),
     }
 }

@@ -110,6 +110,10 @@ fn command_text(rt: &impl Abort, alloc: Global, command: &Command) -> String {
             let fault = head.name.as_ref().err();
             format!(in alloc; "put {fault:?} {} {}", head.version, head.count)
         }
+        Command::Undo { name, version } => format!(in alloc;
+            "undo {} {version}",
+            one_line(rt, alloc, name.as_slice())
+        ),
         Command::Bye => format!(in alloc; "bye"),
     };
     text.expect(rt, "memory")

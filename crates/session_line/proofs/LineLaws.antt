@@ -156,7 +156,7 @@ part-back all part name is =
     ap (λ (t : Bool). if t then Ok all else made_of part (only_name (32 ∷ (name ++ [])))) (no-end 32 (name ++ []))
     ∙ ap (λ (r : Result (List ℕ) Refusal). made_of part r) (only-name name is)
 
--- DROP and CHANGES
+-- DROP, CHANGES and UNDO
 version-back : (make : List ℕ → ℕ → Command) (name : List ℕ) (version : ℕ) → is_deck_name name ≡ true → version ≤ greatest_number →
     of_version make (named_version (name_and_number name version [])) ≡ Ok (make name version)
 version-back make name version is within =
@@ -244,4 +244,5 @@ line-back command.Status _ = refl
 line-back (command.Wait version) within = number-made (λ v l. only_if (is_end l) (Ok (command.Wait v))) version [] within refl
 line-back (command.Batch head) lawful = batch-back head.name head.seen head.count lawful.0 lawful.1 lawful.2
 line-back (command.Put head) lawful = put-back head.name head.version head.count lawful.0 lawful.1 lawful.2
+line-back (command.Undo name version) lawful = version-back command.Undo name version lawful.0 lawful.1
 line-back command.Bye _ = refl

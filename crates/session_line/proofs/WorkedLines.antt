@@ -102,6 +102,19 @@ cards_at_small = refl
 pub cards_at_nobody : command_of (codes "CARDS M+ AT 7") ≡ Err BadName
 cards_at_nobody = refl
 
+-- a change taken back
+pub undo : command_of (codes "UNDO M 7") ≡ Ok (command.Undo (codes "M") 7)
+undo = refl
+
+pub undo-no_version : command_of (codes "UNDO M") ≡ Err BadCommand
+undo-no_version = refl
+
+pub undo-since : command_of (codes "UNDO M 7+") ≡ Err BadCommand
+undo-since = refl
+
+pub undo-nobody : command_of (codes "UNDO M+ 7") ≡ Err BadName
+undo-nobody = refl
+
 -- the changes behind a version
 pub changes : command_of (codes "CHANGES M 7") ≡ Ok (command.Changes (codes "M") 7)
 changes = refl

@@ -45,6 +45,9 @@ cards_at = refl
 pub changes : task_of (codes "CHANGES M 7") [] ≡ Ask (call.Changes (codes "M") 7)
 changes = refl
 
+pub undo : task_of (codes "UNDO M 7") [] ≡ Ask (call.Undo (codes "M") 7 nobody)
+undo = refl
+
 pub image : task_of (codes "IMAGE") [] ≡ ShowText Image
 image = refl
 
@@ -162,6 +165,9 @@ cards_then_foreign = unfold digits in refl
 
 pub carried : told_text (told_of_call (reply.Carried 5 4 (Insert 2 (codes "*B") ∷ []))) ≡ codes "OK 5\n"
 carried = unfold digits in refl
+
+pub no_change : told_text (told_of_call (reply.Refused desk.NoChange)) ≡ codes "NO NoChange\n"
+no_change = refl
 
 pub touched : told_text (told_of_call (reply.Refused (desk.TouchedCard 1 4))) ≡ codes "NO Touched 1 4\n"
 touched = unfold digits in refl

@@ -2,7 +2,7 @@
 use Rattle.std.specs.Prelude.{ℕ, ◌+◌, Bool, true, false, List, [], ◌∷◌, codes, Result, Ok, Err}
 use Rattle.definitions.specs.Cards.{Card}
 use Rattle.cards.specs.declared.edits.Edit.{Edit}
-use Rattle.desk_core.specs.declared.calls.Call.TheVariants.{AddDeck, PutDeck, DropDeck, EditDeck, Batch, EditSince, BatchSince, Changes, Status}
+use Rattle.desk_core.specs.declared.calls.Call.TheVariants.{AddDeck, PutDeck, DropDeck, EditDeck, Batch, EditSince, BatchSince, Undo, Changes, Status}
 use Rattle.desk_core.specs.declared.calls.Call.{Call}
 use Rattle.session_line.specs.declared.words.Seen.{Seen}
 use Rattle.session_line.specs.declared.words.Seen.TheVariants.{Exactly, Since}
@@ -104,6 +104,7 @@ task_of_command command.Status lines = Ask Status
 task_of_command (command.Wait version) lines = AwaitVersion version
 task_of_command (command.Batch head) lines = batch_named head.name head.seen (edits_of lines)
 task_of_command (command.Put head) lines = put_named head.name head.version (cards_of lines)
+task_of_command (command.Undo name version) lines = Ask (Undo name version nobody)
 task_of_command command.Bye lines = Leave
 
 -- what a first line asks for, with the lines behind it; one that is no command is refused

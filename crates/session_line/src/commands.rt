@@ -90,6 +90,11 @@ pub enum Command {
     /// A deck in the place of the one of its name, its cards on lines of their own behind this one; or a
     /// new deck, where the version is 0.
     Put(LinesHead),
+    /// The change of the deck that made this version is taken back.
+    Undo {
+        name: DeckName,
+        version: u64,
+    },
     /// The end of the session.
     Bye,
 }
@@ -341,6 +346,14 @@ fn changes_in(rest: &[u8]) -> Result<Command, Refusal>
     Ok(Command::Changes { name, version })
 }
 
+/// `name version`, behind `UNDO`.
+fn undo_in(rest: &[u8]) -> Result<Command, Refusal>
+    ensures { result ≡ of_version command.Undo (named_version rest.now) }
+{
+    let (name, version) = named_version(rest)?;
+    Ok(Command::Undo { name, version })
+}
+
 /// `name version at text`, without the text where a card goes; a plus may stand behind the version.
 fn edit_in(kind: EditKind, rest: &[u8]) -> Result<Command, Refusal>
     ensures { result ≡ edit_in kind rest.now }
@@ -473,6 +486,7 @@ fn command_by(verb: Verb, rest: &[u8]) -> Result<Command, Refusal>
         Verb::Wait => wait_in(rest),
         Verb::Batch => batch_in(rest),
         Verb::Put => put_in(rest),
+        Verb::Undo => undo_in(rest),
         Verb::Bye => alone(Command::Bye, rest),
     }
 }

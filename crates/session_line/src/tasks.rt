@@ -60,7 +60,7 @@ fn lines_behind(command: &Command) -> u64
         Command::Put(head) => head.count,
         Command::Add { .. } | Command::Load { .. } | Command::Drop { .. } => 0,
         Command::Edit { .. } | Command::Cards { .. } | Command::Save { .. } => 0,
-        Command::CardsAt { .. } | Command::Changes { .. } => 0,
+        Command::CardsAt { .. } | Command::Changes { .. } | Command::Undo { .. } => 0,
         Command::Image | Command::List | Command::Map => 0,
         Command::ImageOf { .. } | Command::ListOf { .. } | Command::Errors(_) => 0,
         Command::Status | Command::Wait { .. } | Command::Bye => 0,
@@ -216,6 +216,11 @@ fn task_of_command(alloc: Global, command: Command, edits: ItemsRead<Edit>) -> T
         Command::Wait { version } => Task::AwaitVersion(version),
         Command::Batch(head) => batch_named(head, edits),
         Command::Put(_) => unreachable!(),
+        Command::Undo { name, version } => Task::Ask(Call::Undo {
+            name,
+            version,
+            by: nobody(),
+        }),
         Command::Bye => Task::Leave,
     }
 }

@@ -32,6 +32,7 @@ pub(crate) enum Verb {
     Wait,
     Batch,
     Put,
+    Undo,
     Bye,
 }
 
@@ -83,6 +84,8 @@ fn other_verb_of(word: &[u8]) -> Option<Verb>
         Some(Verb::Batch)
     } else if is_same_text(word, b"PUT") {
         Some(Verb::Put)
+    } else if is_same_text(word, b"UNDO") {
+        Some(Verb::Undo)
     } else if is_same_text(word, b"BYE") {
         Some(Verb::Bye)
     } else {

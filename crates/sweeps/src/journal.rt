@@ -22,6 +22,7 @@ pub enum Called {
     EditDeck,
     Batch,
     EditSince,
+    Undo,
     Cards,
     CardsAt,
     Changes,
@@ -47,7 +48,7 @@ pub enum Called {
 }
 
 /// What each is called where it is told, in the order of the calls above.
-const NAMES: [&str; 38] = [
+const NAMES: [&str; 39] = [
     "Kept::new",
     "edit",
     "finish",
@@ -64,6 +65,7 @@ const NAMES: [&str; 38] = [
     "INS, REP or DEL",
     "BATCH",
     "INS with a version before",
+    "UNDO",
     "CARDS",
     "CARDS AT",
     "CHANGES",

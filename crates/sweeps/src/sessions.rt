@@ -22,7 +22,7 @@ const TURNS: u32 = 8;
 const LACKING: &str = "NO OutOfMemory\n";
 
 /// Commands with their lines, and their replies.
-const COMMANDS: [Command; 21] = [
+const COMMANDS: [Command; 23] = [
     (Called::AddDeck, "ADD M\n", "OK 1\n"),
     (Called::EditDeck, "INS M 1 1           IDENT  M\n", "OK 2\n"),
     (
@@ -71,10 +71,12 @@ const COMMANDS: [Command; 21] = [
     (Called::LoadDeck, "LOAD Q\n", "NO CannotOpen\n"),
     (Called::EditDeck, "DEL M 1 1\n", "NO OldVersion 3\n"),
     (Called::EditSince, "INS M 2+ 2 *X\n", "OK 6\n"),
+    (Called::Undo, "UNDO M 5\n", "NO NoChange\n"),
+    (Called::Undo, "UNDO M 3\n", "OK 7\n"),
     (
         Called::Status,
         "STATUS\n",
-        "OK 6 3\nPUBLISHED NONE\nM 6 4 BEHIND\nN 5 4 BEHIND\n",
+        "OK 7 3\nPUBLISHED NONE\nM 7 2 BEHIND\nN 5 4 BEHIND\n",
     ),
     (Called::Show, "IMAGE\n", "NO NoPublication\n"),
     (Called::Show, "MAP\n", "NO NoPublication\n"),
