@@ -5,6 +5,7 @@ mod RiseLaws
 mod GatherLaws
 mod ZeroLaws
 mod MergeLaws
+mod JoinLaws
 mod NothingLaws
 mod FillLaws
 pub mod OverLaws

@@ -2,6 +2,7 @@
 pub mod Packing
 pub mod Spans
 pub mod Filling
+pub mod Joining
 -- The lines of the words that fields fill.
 pub mod WordLines
 -- The text of what an object keeps.

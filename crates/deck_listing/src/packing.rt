@@ -8,6 +8,7 @@
 mod fields;
 mod filling;
 mod gathering;
+mod joining;
 mod laws;
 mod merging;
 mod nothing;

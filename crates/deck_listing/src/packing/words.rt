@@ -10,6 +10,7 @@ ghost use Rattle.deck_listing.specs.Filling.{DoSpansRise, as_stored};
 use crate::packing::fields::{Field, moved_to, parcel_bits, put_field};
 use crate::packing::filling::runs_words;
 use crate::packing::gathering::{run_words, units_of};
+use crate::packing::joining::joined;
 use crate::packing::merging::merged;
 use crate::packing::nothing::{lies_in, lies_in_any};
 use crate::packing::spans::{OpenParcel, Span};
@@ -152,8 +153,8 @@ impl Words {
 
     /// The words in which something lies, by increasing offset: the sum of what the latest run has
     /// there, and the pass instruction in each parcel that it leaves open in a central word with an
-    /// instruction. Each parcel that was begun is whole. Zeros are one span, however many they are,
-    /// and are never made where a later run lies over them. Memory is asked for only where there is a
+    /// instruction. Each parcel that was begun is whole. Equal words that stand together are one
+    /// span; zeros of a BSSZ are never made one by one, or where a later run lies over them. Memory is asked for only where there is a
     /// word.
     pub fn fill(&self, alloc: Global) -> Result<Vec<WordSpan>, AllocError>
         requires { self.now.run.filled ≡ 0 }
@@ -183,6 +184,7 @@ impl Words {
     {
         let older = runs_words(alloc, self.kind, self.earlier.as_slice())?;
         let newer = run_words(alloc, self.kind, self.run.as_slice())?;
-        merged(alloc, newer.as_slice(), older.as_slice())
+        let words = merged(alloc, newer.as_slice(), older.as_slice())?;
+        joined(alloc, words.as_slice())
     }
 }

@@ -1,0 +1,48 @@
+//! Equal words one behind the other as one span.
+ghost use Rattle.std.specs.Prelude.{◌≡◌, ◌+◌, ◌^◌, ◌≤◌, IfOk, IfSome};
+ghost use Rattle.deck_listing.specs.Filling.{DoSpansRise, as_stored};
+ghost use Rattle.deck_listing.specs.Joining.{AreJoined};
+
+use crate::packing::word_spans::WordSpan;
+use std::alloc::{AllocError, Global};
+
+/// Both spans as one, where the second goes on with the words of the first.
+fn both(first: WordSpan, second: WordSpan) -> Option<WordSpan>
+    requires order { first.offset + first.count ≤ second.offset }
+    requires small { second.offset + second.count ≤ 2 ^ 20 }
+    ensures { IfSome result (λ span. AreJoined first second span) }
+{
+    if first.value == second.value && first.offset + first.count == second.offset {
+        Some(WordSpan {
+            offset: first.offset,
+            count: first.count + second.count,
+            value: first.value,
+        })
+    } else {
+        None
+    }
+}
+
+/// The same words, those that are equal and stand one behind the other in one span.
+pub(crate) fn joined(alloc: Global, spans: &[WordSpan]) -> Result<Vec<WordSpan>, AllocError>
+    requires { DoSpansRise 0 spans.now (2 ^ 20) }
+    ensures words { IfOk result (λ joined. as_stored joined.items ≡ as_stored spans.now) }
+    ensures rise { IfOk result (λ joined. DoSpansRise 0 joined.items (2 ^ 20)) }
+{
+    let mut joined = Vec::new(alloc);
+    let Some((first, rest)) = spans.split_first() else {
+        return Ok(joined);
+    };
+    let mut last = *first;
+    for span in rest {
+        match both(last, *span) {
+            Some(more) => last = more,
+            None => {
+                joined.push(last)?;
+                last = *span;
+            }
+        }
+    }
+    joined.push(last)?;
+    Ok(joined)
+}
