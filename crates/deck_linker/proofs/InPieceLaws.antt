@@ -1,6 +1,6 @@
 -- Parts of texts: how long they are together, that each fits in a room, and what of them went out.
-use Rattle.std.proofs.Common.{ℕ, ◌≡◌, ◌+◌, ◌<◌, ◌≤◌, ◌^◌, zero, suc, List, [], ◌∷◌, ◌++◌, length, take, drop, get_or, refl, sym, ap, ap₂, subst, ◌∙◌, arith, length-append, take-append-drop}
-use Rattle.std.specs.Prelude.{Some, Vec, flat_map, map}
+use Rattle.std.proofs.Common.{ℕ, ◌≡◌, ◌+◌, ◌<◌, ◌≤◌, ◌^◌, zero, suc, List, [], ◌∷◌, ◌++◌, length, take, drop, get_or, sym, ap, ap₂, subst, ◌∙◌, arith, length-append, take-append-drop}
+use Rattle.std.specs.Prelude.{Err, IfErr, Ok, Option, Result, Some, Vec, flat_map, map}
 use Rattle.std.specs.List.{AllZip}
 use Rattle.std.proofs.lemmas.Grind.{flat_map-append}
 use Rattle.std.proofs.lemmas.List.{at_drop_more, take_more}
@@ -11,6 +11,8 @@ use Rattle.definitions.specs.DeckInput.{Deck}
 use Rattle.definitions.specs.Link.{Based, Layout, layout_of, linking_of}
 use Rattle.definitions.specs.Objects.{object_of}
 use Rattle.text_ports.proofs.SendSteps.{texts-more}
+use Rattle.text_ports.specs.Sending.{Sends}
+use Rattle.text_ports.specs.declared.writing.Broken.{Broken}
 use Rattle.deck_listing.proofs.BlockSteps.{zip-at}
 use Rattle.deck_listing.specs.BlockWords.{AreBlockWords, AreWordsOf}
 use Rattle.deck_listing.specs.Sheets.{room_of, text_of}
@@ -64,6 +66,11 @@ module _ {A : Type 0} (text : A → List ℕ) where
       let whole : flat_map text xs ≡ flat_map text (take n xs) ++ flat_map text (drop n xs) =
       ap (flat_map text) (sym (take-append-drop n xs)) ∙ flat_map-append text (take n xs) (drop n xs) in
       omega (arith, ap length whole, length-append (flat_map text (take n xs)) (flat_map text (drop n xs)))
+
+-- what was sent of a text before a fault is no more than it has
+pub sent-few : {T : Type 0} (old new : Option (List ℕ)) (text : List ℕ) (result : Result T Broken) → length text < 2 ^ 63 → Sends old new text result → IfErr result (λ broken. broken.sent < 2 ^ 63)
+sent-few old new text (Ok done) few sends = tt
+sent-few old new text (Err broken) few sends = omega (arith, few, sends.0)
 
 -- the text of a build is that of its parts
 pub parts-whole : (decks : List Deck) (layout : Layout) (mapped : List ℕ) → layout ≡ layout_of (map object_of decks) → mapped ≡ map_of decks →

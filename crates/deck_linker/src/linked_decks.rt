@@ -1,12 +1,12 @@
 //! Decks that are linked, before their texts are made: they are made part by part, each when it is
 //! written.
-ghost use Rattle.std.specs.Prelude.{◌≡◌, ◌≤◌, ◌<◌, ◌^◌, ◌+◌, flat_map, length, IfOk};
+ghost use Rattle.std.specs.Prelude.{◌≡◌, ◌≤◌, ◌<◌, ◌^◌, ◌+◌, flat_map, length, IfOk, IfErr};
 ghost use Rattle.std.specs.List.{AllZip};
-ghost use Rattle.definitions.specs.Build.{build_of};
+ghost use Rattle.definitions.specs.Build.{build_of, image_of};
 ghost use Rattle.text_ports.specs.Sending.{Sends, count_after_sending};
 ghost use Rattle.deck_linker.specs.CommonWords.{AreCommonWords};
 ghost use Rattle.deck_linker.specs.InPieces.{AreDeckWords, DoFit, deck_text, end_text};
-ghost use Rattle.deck_linker.specs.Publishing.{listings};
+ghost use Rattle.deck_linker.specs.Publishing.{listings, map_of};
 ghost use Rattle.deck_linker.specs.Sections.{deck_section};
 
 use crate::common_words::words_of_commons;
@@ -14,7 +14,7 @@ use crate::image::deck_words;
 use crate::map::with_map;
 use crate::measuring::{Measure, measure_end, measure_listings, measure_sections};
 use crate::publication::{errors_in, shared, sum};
-use crate::sending::send_all;
+use crate::sending::{send_all, send_image, send_listings};
 use crate::{Based, Layout};
 use deck_assembler::SharedObject;
 use deck_listing::Sheet;
@@ -97,6 +97,49 @@ impl LinkedDecks {
         ensures { result ≡ (build_of self.now).links }
     {
         self.links
+    }
+
+    /// The objects of the decks, in their order.
+    pub fn objects(&self) -> &[SharedObject]
+        ensures { result.now ≡ self.now }
+    {
+        self.objects.as_slice()
+    }
+
+    /// The map of their link.
+    pub fn map(&self) -> &[u8]
+        ensures text { result.now ≡ map_of self.now }
+        ensures few { length (listings self.now) + length (map_of self.now) < 2 ^ 63 }
+    {
+        self.map.as_slice()
+    }
+
+    /// Writes the listings of the decks in order, and tells how many bytes these were; or writes exactly
+    /// the first `sent` bytes of them up to the first fault. Takes no memory.
+    pub fn write_listings<W: Write>(&mut self, output: &mut Counted<W>) -> Result<usize, Broken>
+        ensures sends { Sends (W.contents output.old.0) (W.contents output.new.0) (listings self.old) result }
+        ensures count { output.new.1 ≡ count_after_sending result output.old.1 }
+        ensures len { IfOk result (λ sent. sent ≡ length (listings self.old)) }
+        ensures unchanged { self.new ≡ self.old }
+    {
+        send_listings(output, &mut self.sheet, self.objects.as_slice())
+    }
+
+    /// Writes the octal image of the link, or exactly the first `sent` bytes of it up to the first fault.
+    /// Takes no memory.
+    pub fn write_image<W: Write>(&mut self, output: &mut Counted<W>) -> Result<(), Broken>
+        ensures sends { Sends (W.contents output.old.0) (W.contents output.new.0) (image_of self.old) result }
+        ensures count { output.new.1 ≡ count_after_sending result output.old.1 }
+        ensures few { IfErr result (λ broken. broken.sent < 2 ^ 63) }
+        ensures unchanged { self.new ≡ self.old }
+    {
+        send_image(
+            output,
+            &mut self.sheet,
+            &self.layout,
+            self.words.as_slice(),
+            self.commons.as_slice(),
+        )
     }
 
     /// Writes listings, map and image in this order, or exactly the first `sent` bytes of them up to the

@@ -1,6 +1,6 @@
 //! What is published of decks: their listings with the map of their link, their octal image, and what
 //! they count.
-ghost use Rattle.std.specs.Prelude.{◌≡◌, ◌+◌, map, IfOk};
+ghost use Rattle.std.specs.Prelude.{◌≡◌, ◌<◌, ◌+◌, ◌^◌, length, map, IfOk};
 ghost use Rattle.definitions.specs.Build.{build_of, errors_in, image_of, listing_of};
 ghost use Rattle.definitions.specs.Objects.{object_of};
 ghost use Rattle.deck_linker.specs.Publishing.{listings, map_of};
@@ -68,7 +68,8 @@ impl Publication {
 
     /// The map of their link.
     pub fn map(&self) -> &[u8]
-        ensures { result.now ≡ map_of self.now.decks }
+        ensures text { result.now ≡ map_of self.now.decks }
+        ensures few { length (listings self.now.decks) + length (map_of self.now.decks) < 2 ^ 63 }
     {
         self.listing.as_slice().split_at(self.map_at).1
     }

@@ -23,17 +23,18 @@ fn send<W: Write>(output: &mut Counted<W>, sheet: &mut Sheet) -> Result<usize, B
     ensures sends { Sends (W.contents output.old.0) (W.contents output.new.0) (text_of sheet.old) result }
     ensures count { output.new.1 ≡ count_after_sending result output.old.1 }
     ensures len { IfOk result (λ sent. sent ≡ length (text_of sheet.old)) }
-    ensures clear { OnOk result (sheet.new ≡ room_of sheet.old ∷ []) }
+    ensures clear { sheet.new ≡ room_of sheet.old ∷ [] }
 {
     let bytes = sheet.as_slice();
     let len = bytes.len();
-    put_all(output, bytes)?;
+    let outcome = put_all(output, bytes);
     sheet.clear();
+    outcome?;
     Ok(len)
 }
 
 /// Sends the listings of decks, each made when it is sent, and tells how many bytes they have.
-fn send_listings<W: Write>(
+pub(crate) fn send_listings<W: Write>(
     output: &mut Counted<W>,
     sheet: &mut Sheet,
     objects: &[SharedObject],
@@ -44,7 +45,7 @@ fn send_listings<W: Write>(
     ensures sends { Sends (W.contents output.old.0) (W.contents output.new.0) (listings objects.now) result }
     ensures count { output.new.1 ≡ count_after_sending result output.old.1 }
     ensures len { IfOk result (λ sent. sent ≡ length (listings objects.now)) }
-    ensures sheet { OnOk result (sheet.new ≡ sheet.old) }
+    ensures sheet { sheet.new ≡ sheet.old }
 {
     let mut sent = 0;
     for object in objects {
@@ -100,7 +101,7 @@ fn send_sections<W: Write>(
     ensures sends { Sends (W.contents output.old.0) (W.contents output.new.0) (flat_map (deck_section layout.now) decks.now) result }
     ensures count { output.new.1 ≡ count_after_sending result output.old.1 }
     ensures len { IfOk result (λ sent. sent ≡ length (flat_map (deck_section layout.now) decks.now)) }
-    ensures sheet { OnOk result (sheet.new ≡ sheet.old) }
+    ensures sheet { sheet.new ≡ sheet.old }
 {
     let mut sent = 0;
     for (index, based) in decks.iter().enumerate() {
@@ -118,7 +119,7 @@ fn send_sections<W: Write>(
 }
 
 /// Sends the sections of all decks of a link, and what is behind them.
-fn send_image<W: Write>(
+pub(crate) fn send_image<W: Write>(
     output: &mut Counted<W>,
     sheet: &mut Sheet,
     layout: &Layout,
@@ -133,6 +134,7 @@ fn send_image<W: Write>(
     requires few { length (flat_map (deck_section layout.now) layout.now.decks) + length (end_text layout.now) < 2 ^ 63 }
     ensures sends { Sends (W.contents output.old.0) (W.contents output.new.0) (flat_map (deck_section layout.now) layout.now.decks ++ end_text layout.now) result }
     ensures count { output.new.1 ≡ count_after_sending result output.old.1 }
+    ensures sheet { sheet.new ≡ sheet.old }
 {
     let sections = send_sections(output, sheet, layout, layout.decks(), words)?;
     push_end(sheet, layout, commons);

@@ -4,7 +4,7 @@ use Rattle.definitions.specs.Link.{Based}
 use Rattle.text_ports.proofs.SendSteps.{IsPart}
 use Rattle.deck_linker.specs.InPieces.{end_text}
 use Rattle.deck_linker.specs.Sections.{deck_section}
-use Rattle.deck_linker.proofs.InPieceLaws.{clear-text}
+use Rattle.deck_linker.proofs.InPieceLaws.{clear-again, clear-text}
 use Rattle.deck_linker.proofs.ListedLaws.{part-behind-all}
 use Rattle.deck_linker.proofs.sending.send_image.Goals as goal
 
@@ -19,3 +19,11 @@ returns-in-Err-clause-sends g c =
     subst (λ (decks : List Based). IsPart old new (flat_map (deck_section layout) decks ++ end_text layout) (c.in_ok-sections.sections + more)) c.decks.ensures
     (part-behind-all old mid new (flat_map (deck_section layout) c.decks.result.now) (end_text layout) c.in_ok-sections.sections more c.in_ok-sections.ensures.len c.in_ok-sections.ensures.sends
     (subst (λ (l : List ℕ). IsPart mid new l more) text c.in-Err.ensures.sends))
+
+pub returns-in-Ok-clause-sheet : goal.returns-in-Ok-clause-sheet
+returns-in-Ok-clause-sheet g c =
+    clear-again c.args.sheet.now c.send_sections.new.sheet c.push_end.new.text (end_text c.args.layout.now) c.requires.clear c.in_ok-sections.ensures.sheet c.push_end.ensures c.send.new.sheet c.in-Ok.ensures.clear
+
+pub returns-in-Err-clause-sheet : goal.returns-in-Err-clause-sheet
+returns-in-Err-clause-sheet g c =
+    clear-again c.args.sheet.now c.send_sections.new.sheet c.push_end.new.text (end_text c.args.layout.now) c.requires.clear c.in_ok-sections.ensures.sheet c.push_end.ensures c.send.new.sheet c.in-Err.ensures.clear

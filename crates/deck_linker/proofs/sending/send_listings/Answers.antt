@@ -45,6 +45,12 @@ returns-in-Err-clause-sends g c =
     part-listing _ _ _ c.args.objects.now c.loop-object.object-index c.loop-object.sent c.in-Err.broken.sent deck (text_of c.push_listing.new.text)
     c.loop-object-test.true c.object-item.is same c.loop-object.invariant.count c.loop-object.invariant.texts c.in-Err.ensures.sends
 
+pub returns-in-Err-clause-sheet : goal.returns-in-Err-clause-sheet
+returns-in-Err-clause-sheet g c =
+    let deck = c.object-item.result in
+    let put = c.push_listing.ensures ∙ ap (λ (d : Deck). c.loop-object.sheet ++ deck_text d) c.object.ensures in
+    clear-again c.args.sheet.now c.loop-object.sheet c.push_listing.new.text (deck_text deck) c.requires.clear c.loop-object.invariant.clear put c.send.new.sheet c.in-Err.ensures.clear
+
 pub loop-object-preserved : goal.loop-object-preserved
 loop-object-preserved g c =
     let objects = c.args.objects.now in

@@ -62,6 +62,16 @@ returns-in-Err-clause-sends g c =
     let same = clear-text c.args.sheet.now c.loop-index.sheet c.push_deck.new.text (deck_section layout based) c.requires.clear c.loop-index.invariant.clear put in
     part-text (deck_section layout) _ _ _ decks i c.loop-index.sent c.in-Err.broken.sent based (text_of c.push_deck.new.text) inside c.index-decks-index.is same c.loop-index.invariant.count c.loop-index.invariant.texts c.in-Err.ensures.sends
 
+pub returns-in-Err-clause-sheet : goal.returns-in-Err-clause-sheet
+returns-in-Err-clause-sheet g c =
+    let layout = c.args.layout.now in
+    let decks = c.args.decks.now in
+    let based = c.index-decks-index.result in
+    let i = c.loop-index.index in
+    let inside : i < length decks = omega arith in
+    let put = c.push_deck.ensures layout (words-at layout decks c.args.words.now c.requires.words i based c.index-words-index.result c.as_slice.result.now inside c.index-decks-index.is c.index-words-index.is c.as_slice.ensures.value) in
+    clear-again c.args.sheet.now c.loop-index.sheet c.push_deck.new.text (deck_section layout based) c.requires.clear c.loop-index.invariant.clear put c.send.new.sheet c.in-Err.ensures.clear
+
 pub loop-index-preserved : goal.loop-index-preserved
 loop-index-preserved g c =
     let layout = c.args.layout.now in

@@ -1,4 +1,4 @@
-use Rattle.std.proofs.Common.{◌≡◌, ◌++◌, ◌∙◌, ℕ, List, ap, ap₂, arith, length, subst, sym}
+use Rattle.std.proofs.Common.{◌++◌, ◌∙◌, ℕ, List, ap, ap₂, arith, length, subst, sym}
 use Rattle.std.specs.Prelude.{flat_map}
 use Rattle.definitions.specs.Build.{build_of}
 use Rattle.definitions.specs.DeckInput.{Deck}
