@@ -19,6 +19,7 @@ mod scene;
 mod desks;
 mod folders;
 mod large;
+mod long;
 mod offices;
 mod ports;
 mod records;
@@ -51,6 +52,8 @@ enum Scenario {
     Folder,
     ManyEdits,
     ManyDecks,
+    LongRun,
+    LongPorts,
 }
 
 /// Where a scenario is gone through.
@@ -63,7 +66,7 @@ enum Size {
 }
 
 /// All scenarios with their names.
-const SCENARIOS: [(&str, Scenario, Size); 15] = [
+const SCENARIOS: [(&str, Scenario, Size); 17] = [
     ("records", Scenario::Records, Size::Small),
     ("texts", Scenario::Texts, Size::Small),
     ("runs", Scenario::Runs, Size::Small),
@@ -79,6 +82,8 @@ const SCENARIOS: [(&str, Scenario, Size); 15] = [
     ("folder", Scenario::Folder, Size::Small),
     ("many_edits", Scenario::ManyEdits, Size::Large),
     ("many_decks", Scenario::ManyDecks, Size::Large),
+    ("long_run", Scenario::LongRun, Size::Large),
+    ("long_ports", Scenario::LongPorts, Size::Large),
 ];
 
 /// The status where a check failed.
@@ -146,6 +151,8 @@ fn go_through<R: AllocGlobal + Files + Wait>(
         Scenario::Folder => folders::folder(rt, scene),
         Scenario::ManyEdits => large::edits(scene),
         Scenario::ManyDecks => large::decks(scene),
+        Scenario::LongRun => long::run(scene),
+        Scenario::LongPorts => long::ports(scene),
         lower => go_through_lower(lower, scene),
     }
 }

@@ -16,6 +16,7 @@ pub enum Piece {
     Seven,
     /// As many as a card has columns.
     Card,
+    Megabyte,
 }
 
 impl Piece {
@@ -26,6 +27,7 @@ impl Piece {
             Piece::One => 1,
             Piece::Seven => 7,
             Piece::Card => 80,
+            Piece::Megabyte => 1_000_000,
         }
     }
 }
@@ -105,7 +107,7 @@ pub fn try_twice<T: Tries>(
 }
 
 /// Fails each call of a port in turn, up to a try whose every call succeeds.
-fn fail_each<T: Tries>(
+pub fn fail_each<T: Tries>(
     scene: &mut Scene,
     call: Called,
     tried: &T,

@@ -26,16 +26,16 @@ fn went_out(taken: &[u8], wanted: &[u8], sent: usize) -> bool {
 
 /// A run of this input has this output.
 #[derive(Drop)]
-struct AsmRun {
-    input: &'static str,
-    output: Vec<u8>,
+pub struct AsmRun<'i> {
+    pub input: &'i [u8],
+    pub output: Vec<u8>,
 }
 
-impl Tries for AsmRun {
+impl<'i> Tries for AsmRun<'i> {
     /// Before all is read nothing is written; after a fault of the writer exactly the bytes that are
     /// told went out.
     fn try_once(&self, alloc: Global, failing: Failing) -> Result<Came, AllocError> {
-        let Ok(reader) = BufReader::new(alloc, failing.reader(self.input.as_bytes())) else {
+        let Ok(reader) = BufReader::new(alloc, failing.reader(self.input)) else {
             return Err(AllocError);
         };
         let mut output = failing.writer(alloc);
@@ -103,14 +103,17 @@ impl Tries for Saved {
 }
 
 /// What a run, a load and a save of these lines are held against.
-fn all_of(scene: &mut Scene, lines: &'static str) -> Result<(AsmRun, Loaded, Saved), AllocError> {
+fn all_of(
+    scene: &mut Scene,
+    lines: &'static str,
+) -> Result<(AsmRun<'static>, Loaded, Saved), AllocError> {
     let answer = asm_answer(scene.alloc, lines.as_bytes());
     let output = scene.journal.got(Called::AsmRun, answer)?;
     let cards = cards_of(scene.alloc, lines)?;
     let count = cards.len();
     Ok((
         AsmRun {
-            input: lines,
+            input: lines.as_bytes(),
             output,
         },
         Loaded { file: lines, count },
@@ -127,7 +130,7 @@ pub fn ports(scene: &mut Scene) -> Result<(), AllocError> {
 }
 
 /// Tries where no port fails.
-fn try_whole<T: Tries>(scene: &mut Scene, call: Called, tried: &T) -> Result<(), AllocError> {
+pub fn try_whole<T: Tries>(scene: &mut Scene, call: Called, tried: &T) -> Result<(), AllocError> {
     let came = try_twice(scene, call, tried, WHOLE)?;
     scene.journal.made(call, came == Came::Whole);
     Ok(())

@@ -1,0 +1,116 @@
+//! Scenarios of decks whose texts are long, so that a run makes and sends them part by part: what goes
+//! out is held against the texts that are made whole.
+
+use crate::decks::{DeckText, cards_of, name_of};
+use crate::journal::Called;
+use crate::pieces::{Piece, fail_each};
+use crate::ports::{AsmRun, try_whole};
+use crate::scene::Scene;
+use cards::MOST_CARDS;
+use deck_assembler::SharedObject;
+use deck_linker::{Publication, link};
+use edit_core::assemble;
+use statement_coder::Meter;
+use std::alloc::{AllocError, Global};
+
+/// How the decks begin: they enter names for each other, one that no deck enters is missing, and both
+/// store in a common block.
+const HEADS: [DeckText; 2] = [
+    DeckText {
+        name: "LONG1",
+        lines: "          IDENT  LONG1
+          ENTRY  FIRST
+          EXT    SECOND
+FIRST     SA1    SECOND
+          USE    /TAB/
+          DATA   1,2
+          USE    0
+",
+    },
+    DeckText {
+        name: "LONG2",
+        lines: "          IDENT  LONG2
+          ENTRY  SECOND
+          EXT    FIRST,NONE
+SECOND    SA1    FIRST
+          SA2    NONE
+          USE    /TAB/
+          DATA   3
+          USE    0
+",
+    },
+];
+
+/// A statement of a hundred words.
+const WORDS: &str = "          DIS    100,A
+";
+
+/// How many of them a deck has. Both have 100,000 words with as many fields, which is more than a run
+/// makes whole.
+const TIMES: usize = 500;
+
+/// How they end.
+const END: &str = "          END
+";
+
+/// Puts the lines of a deck behind others.
+fn push_deck(lines: &mut Vec<u8>, deck: &DeckText) -> Result<(), AllocError> {
+    lines.extend_from_slice(deck.lines.as_bytes())?;
+    for _ in 0..TIMES {
+        lines.extend_from_slice(WORDS.as_bytes())?;
+    }
+    lines.extend_from_slice(END.as_bytes())
+}
+
+/// The lines of both decks.
+fn input_of(alloc: Global) -> Result<Vec<u8>, AllocError> {
+    let mut lines = Vec::new(alloc);
+    for deck in &HEADS {
+        push_deck(&mut lines, deck)?;
+    }
+    Ok(lines)
+}
+
+/// The object of a deck.
+fn object_of(alloc: Global, deck: &DeckText) -> Result<SharedObject, AllocError> {
+    let mut lines = Vec::new(alloc);
+    push_deck(&mut lines, deck)?;
+    let cards = cards_of(alloc, str::from_utf8(&lines).unwrap_or(""))?;
+    if cards.len() > MOST_CARDS {
+        return Err(AllocError);
+    }
+    let mut meter = Meter { sized: 0, coded: 0 };
+    assemble(alloc, name_of(deck.name)?, cards, &mut meter)
+}
+
+/// The publication of both decks, whose texts are made whole.
+fn published(alloc: Global) -> Result<Publication, AllocError> {
+    let mut objects = Vec::new(alloc);
+    for deck in &HEADS {
+        objects.push(object_of(alloc, deck)?)?;
+    }
+    link(alloc, objects, 0)
+}
+
+/// What a run of these lines is held against.
+fn run_of<'i>(scene: &mut Scene, input: &'i [u8]) -> Result<AsmRun<'i>, AllocError> {
+    let published = published(scene.alloc);
+    let whole = scene.journal.got(Called::Link, published)?;
+    let mut output = Vec::from_slice(scene.alloc, whole.listing())?;
+    output.extend_from_slice(whole.image())?;
+    Ok(AsmRun { input, output })
+}
+
+/// A run in which no port fails.
+pub fn run(scene: &mut Scene) -> Result<(), AllocError> {
+    let input = input_of(scene.alloc)?;
+    let run = run_of(scene, &input)?;
+    try_whole(scene, Called::AsmRun, &run)
+}
+
+/// Each write of a run, in pieces of a megabyte.
+pub fn ports(scene: &mut Scene) -> Result<(), AllocError> {
+    let input = input_of(scene.alloc)?;
+    let run = run_of(scene, &input)?;
+    fail_each(scene, Called::AsmRun, &run, Piece::Megabyte, false)
+}
