@@ -1,20 +1,21 @@
 //! What is built of decks: their texts whole where they are short, else what these are made of part by
 //! part.
-ghost use Rattle.std.specs.Prelude.{◌≡◌, ◌≤◌, length, IfOk};
-ghost use Rattle.definitions.specs.Build.{build_of};
+ghost use Rattle.std.specs.Prelude.{◌≡◌, ◌<◌, ◌≤◌, ◌+◌, ◌^◌, length, IfErr, IfOk};
+ghost use Rattle.definitions.specs.Build.{build_of, image_of};
 ghost use Rattle.text_ports.specs.Sending.{Sends, count_after_sending};
+ghost use Rattle.deck_linker.specs.Publishing.{listings, map_of};
 ghost use Rattle.asm_main.specs.Builds.{Counts};
 ghost use Rattle.asm_main.specs.Ways.{decks_of};
 
 use crate::deck::Deck;
-use crate::publishing::objects_of;
+use crate::objects::objects_of;
 use crate::running::{Tally, tally_of};
-use crate::writing::write_texts;
+use crate::writing::{put_text, write_texts};
 use deck_assembler::{Object, SharedObject};
 use deck_linker::{LinkedDecks, Publication, link};
 use std::alloc::{AllocError, Global};
 use std::io::Write;
-use text_ports::{Broken, Counted};
+use text_ports::{Broken, Counted, put_all};
 
 /// So many cards, fields and words have texts of some eight megabytes. Up to there both texts are made
 /// whole, since each part of what is longer is made twice: to know how long it is before the first byte
@@ -23,14 +24,15 @@ const FEW: usize = 1 << 17;
 
 /// What is built of decks, in one of two ways to the same bytes.
 #[derive(Drop)]
-pub(crate) enum Built {
+pub enum Built {
     Whole(Publication),
     InPieces(LinkedDecks),
 }
 
 impl Built {
-    /// All memory is asked for here that the texts need.
-    pub(crate) fn new(alloc: Global, decks: Vec<Deck>) -> Result<Built, AllocError>
+    /// Decks, assembled and linked; all memory is asked for here that their texts need. `asm` has one
+    /// version, 0.
+    pub fn new(alloc: Global, decks: Vec<Deck>) -> Result<Built, AllocError>
         requires few { length decks.items ≤ 64 }
         ensures { IfOk result (λ built. decks_of built ≡ decks.items) }
     {
@@ -42,7 +44,7 @@ impl Built {
     }
 
     /// What a build counts.
-    pub(crate) fn tally(&self) -> Tally
+    pub fn tally(&self) -> Tally
         ensures { Counts (build_of (decks_of self.now)) result }
     {
         match self {
@@ -51,6 +53,55 @@ impl Built {
                 errors: linked.errors() as usize,
                 links: linked.links(),
             },
+        }
+    }
+
+    /// The objects of the decks, in their order.
+    pub fn objects(&self) -> &[SharedObject]
+        ensures { result.now ≡ decks_of self.now }
+    {
+        match self {
+            Built::Whole(publication) => publication.objects(),
+            Built::InPieces(linked) => linked.objects(),
+        }
+    }
+
+    /// The map of their link.
+    pub fn map(&self) -> &[u8]
+        ensures text { result.now ≡ map_of (decks_of self.now) }
+        ensures few { length (listings (decks_of self.now)) + length (map_of (decks_of self.now)) < 2 ^ 63 }
+    {
+        match self {
+            Built::Whole(publication) => publication.map(),
+            Built::InPieces(linked) => linked.map(),
+        }
+    }
+
+    /// Writes the listings of the decks, and tells how many bytes these were; or writes exactly the first
+    /// `sent` of them up to the first fault. Takes no memory.
+    pub fn write_listings<W: Write>(&mut self, output: &mut Counted<W>) -> Result<usize, Broken>
+        ensures sends { Sends (W.contents output.old.0) (W.contents output.new.0) (listings (decks_of self.old)) result }
+        ensures count { output.new.1 ≡ count_after_sending result output.old.1 }
+        ensures len { IfOk result (λ sent. sent ≡ length (listings (decks_of self.old))) }
+        ensures unchanged { decks_of self.new ≡ decks_of self.old }
+    {
+        match self {
+            Built::Whole(publication) => put_text(output, publication.listings()),
+            Built::InPieces(linked) => linked.write_listings(output),
+        }
+    }
+
+    /// Writes the octal image of the link, or exactly the first `sent` bytes of it up to the first fault.
+    /// Takes no memory.
+    pub(crate) fn write_image<W: Write>(&mut self, output: &mut Counted<W>) -> Result<(), Broken>
+        ensures sends { Sends (W.contents output.old.0) (W.contents output.new.0) (image_of (decks_of self.old)) result }
+        ensures count { output.new.1 ≡ count_after_sending result output.old.1 }
+        ensures few { IfErr result (λ broken. broken.sent < 2 ^ 63) }
+        ensures unchanged { decks_of self.new ≡ decks_of self.old }
+    {
+        match self {
+            Built::Whole(publication) => put_all(output, publication.image()),
+            Built::InPieces(linked) => linked.write_image(output),
         }
     }
 

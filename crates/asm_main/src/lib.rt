@@ -17,7 +17,7 @@ mod deck_input;
 
 // From decks to texts, and out.
 mod built;
-mod publishing;
+mod objects;
 mod texts;
 mod writing;
 
@@ -36,13 +36,13 @@ mod flags;
 mod running;
 
 pub use asm_fault::AsmFault;
+pub use built::Built;
 pub use chained::{Chained, LinePlace, Part};
 pub use deck::Deck;
 pub use fault_words::{column_of, line_of, words_of};
 pub use filter_laws::plain_stays;
 pub use filtered::{Filter, Filtered};
 pub use flags::{Flag, Flags, letter_words, link_words};
-pub use publishing::publish;
 pub use remembering::Remembering;
-pub use running::{Tally, asm_publish, asm_publish_with, asm_run, asm_status, tally_of};
+pub use running::{Tally, asm_build, asm_build_with, asm_run, asm_status};
 pub use texts::{Chosen, write_chosen};

@@ -11,7 +11,6 @@ ghost use Rattle.asm_main.specs.Runs.{IsBeforeWriting, IsReadBefore, input_count
 use crate::asm_fault::AsmFault;
 use crate::built::Built;
 use crate::deck_input::read_decks;
-use crate::publishing::publish;
 use deck_linker::Publication;
 use std::alloc::Global;
 use std::io::{BufRead, Write};
@@ -24,67 +23,13 @@ pub struct Tally {
     pub links: usize,
 }
 
-/// Reads decks of cards, and publishes them: all of a run but its output. The line that was read last
-/// is left in `line`.
-pub fn asm_publish_with<R: BufRead>(
+/// Reads decks of cards, and builds what is written of them: all of a run but its output. The line
+/// that was read last is left in `line`.
+pub fn asm_build_with<R: BufRead>(
     alloc: Global,
     input: &mut Counted<R>,
     line: &mut LineBuf,
-) -> Result<Publication, AsmFault>
-    // Where the bytes of the input are known, the decks are those of the definitions, or the fault of
-    // the input is told, its text and its status.
-    ensures decks { IfOk result (λ publication.
-        IfSome (R.remaining input.old.0) (λ bytes. AreDecksOf (input_in bytes) publication.decks)) }
-    ensures told { IfErr result (λ fault.
-        IfSome (R.remaining input.old.0) (λ bytes. IsToldBy (answer_of bytes) fault)) }
-
-    // What was read are lines that show no fault, and then one line at most.
-    ensures read { ReadsToFault (R.remaining input.old.0) (R.remaining input.new.0) }
-    ensures fault { IfErr result (λ fault.
-        IfSome (R.remaining input.old.0) (λ bytes. TellsFaultOf (input_in bytes) fault)) }
-
-    // Want of memory is told only where what was read shows no fault.
-    ensures memory { IfErr result (λ fault. IsSoundBefore fault (R.remaining input.old.0) (R.remaining input.new.0)) }
-
-    ensures all_read { OnOk result (IsAtEnd (R.remaining input.new.0)) }
-    ensures before_writing { IfErr result IsBeforeWriting }
-    ensures count_ok { OnOk result (input.new.1 ≡ input.old.1) }
-    ensures count { IfErr result (λ fault. input.new.1 ≡ input_count_after fault input.old.1) }
-{
-    let decks = read_decks(alloc, input, line)?;
-    Ok(publish(alloc, decks)?)
-}
-
-/// Reads decks of cards, and publishes them: all of a run but its output.
-pub fn asm_publish<R: BufRead>(
-    alloc: Global,
-    input: &mut Counted<R>,
-) -> Result<Publication, AsmFault>
-    // Where the bytes of the input are known, the decks are those of the definitions, or the fault of
-    // the input is told, its text and its status.
-    ensures decks { IfOk result (λ publication.
-        IfSome (R.remaining input.old.0) (λ bytes. AreDecksOf (input_in bytes) publication.decks)) }
-    ensures told { IfErr result (λ fault.
-        IfSome (R.remaining input.old.0) (λ bytes. IsToldBy (answer_of bytes) fault)) }
-
-    // What was read are lines that show no fault, and then one line at most.
-    ensures read { ReadsToFault (R.remaining input.old.0) (R.remaining input.new.0) }
-    ensures fault { IfErr result (λ fault.
-        IfSome (R.remaining input.old.0) (λ bytes. TellsFaultOf (input_in bytes) fault)) }
-
-    // Want of memory is told only where what was read shows no fault.
-    ensures memory { IfErr result (λ fault. IsSoundBefore fault (R.remaining input.old.0) (R.remaining input.new.0)) }
-
-    ensures all_read { OnOk result (IsAtEnd (R.remaining input.new.0)) }
-    ensures before_writing { IfErr result IsBeforeWriting }
-    ensures count_ok { OnOk result (input.new.1 ≡ input.old.1) }
-    ensures count { IfErr result (λ fault. input.new.1 ≡ input_count_after fault input.old.1) }
-{
-    asm_publish_with(alloc, input, &mut LineBuf::new())
-}
-
-/// Reads decks of cards, and builds what is written of them: all of a run but its output.
-fn asm_build<R: BufRead>(alloc: Global, input: &mut Counted<R>) -> Result<Built, AsmFault>
+) -> Result<Built, AsmFault>
     // Where the bytes of the input are known, the decks are those of the definitions, or the fault of
     // the input is told, its text and its status.
     ensures decks { IfOk result (λ built.
@@ -105,12 +50,37 @@ fn asm_build<R: BufRead>(alloc: Global, input: &mut Counted<R>) -> Result<Built,
     ensures count_ok { OnOk result (input.new.1 ≡ input.old.1) }
     ensures count { IfErr result (λ fault. input.new.1 ≡ input_count_after fault input.old.1) }
 {
-    let decks = read_decks(alloc, input, &mut LineBuf::new())?;
+    let decks = read_decks(alloc, input, line)?;
     Ok(Built::new(alloc, decks)?)
 }
 
+/// Reads decks of cards, and builds what is written of them: all of a run but its output.
+pub fn asm_build<R: BufRead>(alloc: Global, input: &mut Counted<R>) -> Result<Built, AsmFault>
+    // Where the bytes of the input are known, the decks are those of the definitions, or the fault of
+    // the input is told, its text and its status.
+    ensures decks { IfOk result (λ built.
+        IfSome (R.remaining input.old.0) (λ bytes. AreDecksOf (input_in bytes) (decks_of built))) }
+    ensures told { IfErr result (λ fault.
+        IfSome (R.remaining input.old.0) (λ bytes. IsToldBy (answer_of bytes) fault)) }
+
+    // What was read are lines that show no fault, and then one line at most.
+    ensures read { ReadsToFault (R.remaining input.old.0) (R.remaining input.new.0) }
+    ensures fault { IfErr result (λ fault.
+        IfSome (R.remaining input.old.0) (λ bytes. TellsFaultOf (input_in bytes) fault)) }
+
+    // Want of memory is told only where what was read shows no fault.
+    ensures memory { IfErr result (λ fault. IsSoundBefore fault (R.remaining input.old.0) (R.remaining input.new.0)) }
+
+    ensures all_read { OnOk result (IsAtEnd (R.remaining input.new.0)) }
+    ensures before_writing { IfErr result IsBeforeWriting }
+    ensures count_ok { OnOk result (input.new.1 ≡ input.old.1) }
+    ensures count { IfErr result (λ fault. input.new.1 ≡ input_count_after fault input.old.1) }
+{
+    asm_build_with(alloc, input, &mut LineBuf::new())
+}
+
 /// What a publication counts.
-pub fn tally_of(publication: &Publication) -> Tally
+pub(crate) fn tally_of(publication: &Publication) -> Tally
     ensures { Counts (build_of publication.now.decks) result }
 {
     Tally {

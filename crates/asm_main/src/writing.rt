@@ -1,11 +1,21 @@
 //! What is published, to a writer.
-ghost use Rattle.std.specs.Prelude.{◌≡◌, ◌++◌};
+ghost use Rattle.std.specs.Prelude.{◌≡◌, ◌++◌, length, IfOk};
 ghost use Rattle.definitions.specs.Build.{build_of};
 ghost use Rattle.text_ports.specs.Sending.{Sends, count_after_sending};
 
 use deck_linker::Publication;
 use std::io::Write;
 use text_ports::{Broken, Counted, put_all};
+
+/// The bytes of a text, and how many these are; or exactly the first of them up to a fault.
+pub(crate) fn put_text<W: Write>(output: &mut Counted<W>, text: &[u8]) -> Result<usize, Broken>
+    ensures sends { Sends (W.contents output.old.0) (W.contents output.new.0) text.now result }
+    ensures count { output.new.1 ≡ count_after_sending result output.old.1 }
+    ensures len { IfOk result (λ sent. sent ≡ length text.now) }
+{
+    put_all(output, text)?;
+    Ok(text.len())
+}
 
 /// The bytes of one text and of another behind it, or exactly the first of them up to a fault.
 pub(crate) fn put_both<W: Write>(

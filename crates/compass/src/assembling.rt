@@ -6,20 +6,40 @@ use crate::journal_files::{DecksFault, decks_at};
 use crate::run_faults::{RunFault, placed, tell_run};
 use crate::symbols::symbol_tables;
 use asm_main::{
-    AsmFault, Chained, Chosen, Deck, Filter, Remembering, Tally, asm_publish, asm_publish_with,
-    asm_run, publish, tally_of, write_chosen,
+    AsmFault, Built, Chained, Chosen, Deck, Filter, Remembering, Tally, asm_build, asm_build_with,
+    asm_run, write_chosen,
 };
 use clap::{Arg, ArgAction, ArgMatches, Command};
-use deck_files::write_whole;
-use deck_linker::Publication;
+use deck_files::{begin_whole, end_whole};
 use std::alloc::{AllocError, Global};
-use std::io::{self, BufReader, Read, Write};
+use std::io::{self, BufReader, ErrorKind, Read, Write};
 use std::process::ExitCode;
 use std::rt::Files;
 use text_ports::{Broken, Counted, LineBuf, Text, put_all};
 
 /// How many decks are linked at most.
 const MOST_DECKS: usize = 64;
+
+/// What goes to a file of the listings.
+const LISTING: Chosen = Chosen {
+    listing: true,
+    map: false,
+    image: false,
+};
+
+/// What goes to a file of the map.
+const MAP: Chosen = Chosen {
+    listing: false,
+    map: true,
+    image: false,
+};
+
+/// What goes to a file of the image.
+const IMAGE: Chosen = Chosen {
+    listing: false,
+    map: false,
+    image: true,
+};
 
 /// What stands below the help.
 const EXAMPLE: &str = "What has no file of its own goes to standard output.
@@ -198,8 +218,8 @@ where
         let mut output = Counted::new(io::writer(rt));
         return Ok(asm_run(rt.alloc(), &mut input, &mut output)?);
     }
-    let publication = asm_publish(rt.alloc(), &mut input)?;
-    write_parts(rt, named, &publication)
+    let mut built = asm_build(rt.alloc(), &mut input)?;
+    write_parts(rt, named, &mut built)
 }
 
 /// A run from the decks of a journal.
@@ -223,8 +243,11 @@ where
     if decks.len() > MOST_DECKS {
         return Err(RunFault::Asm(AsmFault::TooManyDecks));
     }
-    match publish(rt.alloc(), decks) {
-        Ok(publication) => write_parts(rt, named, &publication),
+    match Built::new(rt.alloc(), decks) {
+        Ok(built) => {
+            let mut built = built;
+            write_parts(rt, named, &mut built)
+        }
         Err(_) => Err(RunFault::Asm(AsmFault::OutOfMemory)),
     }
 }
@@ -255,13 +278,14 @@ where
     };
     let mut input = Counted::new(reader);
     let mut line = LineBuf::new();
-    let outcome = asm_publish_with(rt.alloc(), &mut input, &mut line);
+    let outcome = asm_build_with(rt.alloc(), &mut input, &mut line);
     let reader = input.into_inner();
     match outcome {
-        Ok(publication) => {
-            let tally = write_parts(rt, named, &publication)?;
+        Ok(built) => {
+            let mut built = built;
+            let tally = write_parts(rt, named, &mut built)?;
             if !named.quiet {
-                tell_flagged(rt, &publication, reader.get_ref(), named.inputs);
+                tell_flagged(rt, &built, reader.get_ref(), named.inputs);
             }
             Ok(tally)
         }
@@ -275,43 +299,34 @@ where
     }
 }
 
-/// The listings with the tables of symbols behind them, where these are asked for.
-fn with_symbols(
-    alloc: Global,
-    named: &Named<'_, '_>,
-    publication: &Publication,
-) -> Result<Option<Text>, AllocError> {
-    if !named.symbols {
-        return Ok(None);
+/// The tables of symbols, where they are asked for, and else no text.
+fn tables_of(alloc: Global, named: &Named<'_, '_>, built: &Built) -> Result<Text, AllocError> {
+    if named.symbols {
+        symbol_tables(alloc, built.objects())
+    } else {
+        Ok(Text::new(alloc))
     }
-    let mut text = Text::new(alloc);
-    text.push_bytes(publication.listings())?;
-    text.append(symbol_tables(alloc, publication.objects())?)?;
-    Ok(Some(text))
 }
 
-/// Writes the parts of a publication to the files that are named, and the others to standard output.
+/// Writes the parts of a build to the files that are named, and the others to standard output.
 fn write_parts<'a, R>(
     rt: &R,
     named: &Named<'_, 'a>,
-    publication: &Publication,
+    built: &mut Built,
 ) -> Result<Tally, RunFault<'a>>
 where
     R: AllocGlobal + Print + Files,
 {
-    let Ok(symbols) = with_symbols(rt.alloc(), named, publication) else {
+    let Ok(tables) = tables_of(rt.alloc(), named, built) else {
         return Err(RunFault::Asm(AsmFault::OutOfMemory));
     };
-    let listings = match &symbols {
-        Some(text) => text.as_slice(),
-        None => publication.listings(),
-    };
-    write_file(rt, named.listing, listings)?;
-    write_file(rt, named.map, publication.map())?;
-    write_file(rt, named.image, publication.image())?;
+    let tables = tables.as_slice();
+    write_file(rt, named.listing, built, LISTING, tables)?;
+    write_file(rt, named.map, built, MAP, tables)?;
+    write_file(rt, named.image, built, IMAGE, tables)?;
     let mut output = Counted::new(Remembering::new(io::writer(rt)));
-    match write_others(&mut output, publication, symbols.as_ref(), named.others()) {
-        Ok(()) => Ok(tally_of(publication)),
+    match write_texts(&mut output, built, named.others(), tables) {
+        Ok(()) => Ok(built.tally()),
         Err(broken) => {
             let fault = AsmFault::WriteFault { sent: broken.sent };
             Err(match output.into_inner().fault() {
@@ -322,34 +337,84 @@ where
     }
 }
 
-/// Writes what has no file of its own: the listings, which may be these with symbols, the map, the image.
-fn write_others<W: Write>(
+/// Writes the chosen texts: the listings with the tables of symbols behind them, the map, the image.
+fn write_texts<W: Write>(
     output: &mut Counted<W>,
-    publication: &Publication,
-    symbols: Option<&Text>,
-    others: Chosen,
+    built: &mut Built,
+    chosen: Chosen,
+    tables: &[u8],
 ) -> Result<(), Broken> {
-    let Some(text) = symbols else {
-        return write_chosen(output, publication, others);
-    };
-    let front = if others.listing { text.as_slice() } else { b"" };
-    put_all(output, front)?;
+    if tables.is_empty() || !chosen.listing {
+        return write_chosen(output, built, chosen);
+    }
+    let listed = built.write_listings(output)?;
+    put_behind(output, listed, tables)?;
+    let front = listed.saturating_add(tables.len());
     let behind = Chosen {
         listing: false,
-        ..others
+        ..chosen
     };
-    write_chosen(output, publication, behind).map_err(|broken| Broken {
-        sent: broken.sent.saturating_add(front.len()),
-    })
+    write_chosen(output, built, behind).map_err(|broken| sent_behind(front, broken))
+}
+
+/// A fault behind so many bytes that went out.
+fn sent_behind(front: usize, broken: Broken) -> Broken {
+    Broken {
+        sent: broken.sent.saturating_add(front),
+    }
+}
+
+/// Writes a text behind so many bytes.
+fn put_behind<W: Write>(output: &mut Counted<W>, front: usize, text: &[u8]) -> Result<(), Broken> {
+    put_all(output, text).map_err(|broken| sent_behind(front, broken))
 }
 
 /// Makes the file of a part of the output anew, if it has one.
-fn write_file<'a, R>(rt: &R, name: Option<&'a str>, bytes: &[u8]) -> Result<(), RunFault<'a>>
+fn write_file<'a, R>(
+    rt: &R,
+    name: Option<&'a str>,
+    built: &mut Built,
+    chosen: Chosen,
+    tables: &[u8],
+) -> Result<(), RunFault<'a>>
 where
     R: AllocGlobal + Files,
 {
     let Some(name) = name else {
         return Ok(());
     };
-    write_whole(rt, rt.alloc(), name, bytes).map_err(|error| RunFault::Output { name, error })
+    make_file(rt, name, built, chosen, tables).map_err(|error| RunFault::Output { name, error })
+}
+
+/// Makes a file of the chosen texts.
+fn make_file<R>(
+    rt: &R,
+    name: &str,
+    built: &mut Built,
+    chosen: Chosen,
+    tables: &[u8],
+) -> io::Result<()>
+where
+    R: AllocGlobal + Files,
+{
+    let mut begun = begin_whole(rt, rt.alloc(), name)?;
+    let filled = fill(begun.file(), built, chosen, tables);
+    end_whole(rt, begun, name, filled)
+}
+
+/// Writes the chosen texts into a file. A fault is what the system says.
+fn fill<F: Write>(
+    file: &mut F,
+    built: &mut Built,
+    chosen: Chosen,
+    tables: &[u8],
+) -> io::Result<()> {
+    let mut output = Counted::new(Remembering::new(file));
+    match write_texts(&mut output, built, chosen, tables) {
+        Ok(()) => Ok(()),
+        Err(_) => Err(match output.into_inner().fault() {
+            Some(error) => error,
+            None => io::Error::from(ErrorKind::WriteZero),
+        }),
+    }
 }

@@ -1,26 +1,25 @@
 //! What is flagged in files, as lines on standard error: `FILE:LINE:COLUMN: letter: what it means`.
 
-use asm_main::{Chained, Flag, Flags, LinePlace, letter_words, link_words};
+use asm_main::{Built, Chained, Flag, Flags, LinePlace, letter_words, link_words};
 use deck_assembler::SharedObject;
-use deck_linker::Publication;
 
 /// What the LINK lines of a map begin with.
 const LINK: &[u8] = b"LINK ";
 
-/// Tells the flagged statements and the LINK lines of what was published of these files.
+/// Tells the flagged statements and the LINK lines of what was built of these files.
 pub(crate) fn tell_flagged<R: Eprint, I>(
     rt: &R,
-    publication: &Publication,
+    built: &Built,
     chain: &Chained<I>,
     names: &[&str],
 ) {
-    let objects = publication.objects();
+    let objects = built.objects();
     for (number, object) in objects.iter().enumerate() {
         let first = first_line(objects.split_at(number).0);
         tell_deck(rt, Flags::new(object.object(), first), chain, names);
     }
-    if publication.links() > 0 {
-        tell_links(rt, publication, chain, names);
+    if built.tally().links > 0 {
+        tell_links(rt, built, chain, names);
     }
 }
 
@@ -62,10 +61,10 @@ fn tell_place<R: Eprint>(rt: &R, place: LinePlace, column: usize, names: &[&str]
 }
 
 /// Tells the LINK lines of the map, each at the IDENT card of its deck.
-fn tell_links<R: Eprint, I>(rt: &R, publication: &Publication, chain: &Chained<I>, names: &[&str]) {
-    for line in publication.map().split(|byte| *byte == b'\n') {
+fn tell_links<R: Eprint, I>(rt: &R, built: &Built, chain: &Chained<I>, names: &[&str]) {
+    for line in built.map().split(|byte| *byte == b'\n') {
         if let Some(link) = line.strip_prefix(LINK) {
-            tell_link(rt, link, publication.objects(), chain, names);
+            tell_link(rt, link, built.objects(), chain, names);
         }
     }
 }

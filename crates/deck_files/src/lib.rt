@@ -42,4 +42,4 @@ pub use loading::load;
 pub use memory_shelf::MemoryShelf;
 pub use saving::save;
 pub use system_folder::SystemFolder;
-pub use whole_files::{folder_of, sync_folder, write_whole};
+pub use whole_files::{Begun, begin_whole, end_whole, folder_of, sync_folder, write_whole};

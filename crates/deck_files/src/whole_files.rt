@@ -47,23 +47,19 @@ fn make_unused<R: Files>(rt: &R, alloc: Global, path: &str) -> io::Result<(Strin
     Err(io::Error::from(ErrorKind::AlreadyExists))
 }
 
-/// Writes these bytes into a new file, and waits until the system has kept them.
-fn fill<F: Write + OpenFile + Drop>(file: F, bytes: &[u8]) -> io::Result<()> {
-    let mut file = file;
-    file.write_all(bytes)?;
-    file.sync_all()
+/// A file that is being written whole.
+#[derive(Drop)]
+pub struct Begun<F> {
+    file: F,
+    /// Where it lies until all is written; what is no plain file is written as it stands.
+    new: Option<String>,
 }
 
-/// Fills a new file and gives it its path. Where that fails it is taken away, as far as that can be done.
-fn finish<R: Files>(rt: &R, new: &str, file: R::File, path: &str, bytes: &[u8]) -> io::Result<()> {
-    let made = match fill(file, bytes) {
-        Ok(()) => fs::rename(rt, new, path),
-        Err(error) => Err(error),
-    };
-    if made.is_err() {
-        let _ = fs::remove_file(rt, new);
+impl<F> Begun<F> {
+    /// Where its bytes go.
+    pub fn file(&mut self) -> &mut F {
+        &mut self.file
     }
-    made
 }
 
 /// Whether something else than a plain file has this path, as a terminal or a pipe: it is written as it
@@ -75,21 +71,71 @@ fn is_special<R: Files>(rt: &R, path: &str) -> bool {
     }
 }
 
-/// Writes what is no plain file.
-fn write_special<R: Files>(rt: &R, path: &str, bytes: &[u8]) -> io::Result<()> {
+/// Opens what is no plain file.
+fn open_special<R: Files>(rt: &R, path: &str) -> io::Result<R::File> {
     let mut how = OpenOptions::new();
     how.write(true);
-    let mut file = how.open(rt, path)?;
-    file.write_all(bytes)
+    how.open(rt, path)
+}
+
+/// Begins the file at a path anew, beside the one that stands there.
+pub fn begin_whole<R: Files>(rt: &R, alloc: Global, path: &str) -> io::Result<Begun<R::File>> {
+    if is_special(rt, path) {
+        let file = open_special(rt, path)?;
+        return Ok(Begun { file, new: None });
+    }
+    let (new, file) = make_unused(rt, alloc, path)?;
+    Ok(Begun {
+        file,
+        new: Some(new),
+    })
+}
+
+/// Waits until the system has kept a file, where it was filled, and gives it its path. Where that fails
+/// it is taken away, as far as that can be done.
+fn finish<R: Files>(
+    rt: &R,
+    new: &str,
+    file: R::File,
+    path: &str,
+    filled: io::Result<()>,
+) -> io::Result<()> {
+    let kept = match filled {
+        Ok(()) => file.sync_all(),
+        Err(error) => Err(error),
+    };
+    let made = match kept {
+        Ok(()) => fs::rename(rt, new, path),
+        Err(error) => Err(error),
+    };
+    if made.is_err() {
+        let _ = fs::remove_file(rt, new);
+    }
+    made
+}
+
+/// Ends a file that was begun at this path, and was filled or not, and waits until the system has kept
+/// it, in its folder too. Where only the folder fails, the new file is there.
+pub fn end_whole<R: Files>(
+    rt: &R,
+    begun: Begun<R::File>,
+    path: &str,
+    filled: io::Result<()>,
+) -> io::Result<()> {
+    let Begun { file, new } = begun;
+    match new {
+        Some(new) => {
+            finish(rt, new.as_str(), file, path, filled)?;
+            sync_folder(rt, folder_of(path))
+        }
+        None => filled,
+    }
 }
 
 /// Makes the file at a path anew with these bytes, and waits until the system has kept it, in its folder
 /// too. Where only the folder fails, the new file is there. What is no plain file is written as it stands.
 pub fn write_whole<R: Files>(rt: &R, alloc: Global, path: &str, bytes: &[u8]) -> io::Result<()> {
-    if is_special(rt, path) {
-        return write_special(rt, path, bytes);
-    }
-    let (new, file) = make_unused(rt, alloc, path)?;
-    finish(rt, new.as_str(), file, path, bytes)?;
-    sync_folder(rt, folder_of(path))
+    let mut begun = begin_whole(rt, alloc, path)?;
+    let filled = begun.file().write_all(bytes);
+    end_whole(rt, begun, path, filled)
 }

@@ -3,15 +3,17 @@
 
 use crate::decks::{DeckText, cards_of, name_of};
 use crate::journal::Called;
-use crate::pieces::{Piece, fail_each};
-use crate::ports::{AsmRun, try_whole};
+use crate::pieces::{Came, Failing, Piece, Tries, fail_each, held};
+use crate::ports::{AsmRun, try_whole, went_out};
 use crate::scene::Scene;
+use asm_main::{AsmFault, Built, Chosen, asm_build, write_chosen};
 use cards::MOST_CARDS;
 use deck_assembler::SharedObject;
 use deck_linker::{Publication, link};
 use edit_core::assemble;
 use statement_coder::Meter;
 use std::alloc::{AllocError, Global};
+use text_ports::Counted;
 
 /// How the decks begin: they enter names for each other, one that no deck enters is missing, and both
 /// store in a common block.
@@ -92,10 +94,15 @@ fn published(alloc: Global) -> Result<Publication, AllocError> {
     link(alloc, objects, 0)
 }
 
+/// What is held against what goes out.
+fn whole_of(scene: &mut Scene) -> Result<Publication, AllocError> {
+    let published = published(scene.alloc);
+    scene.journal.got(Called::Link, published)
+}
+
 /// What a run of these lines is held against.
 fn run_of<'i>(scene: &mut Scene, input: &'i [u8]) -> Result<AsmRun<'i>, AllocError> {
-    let published = published(scene.alloc);
-    let whole = scene.journal.got(Called::Link, published)?;
+    let whole = whole_of(scene)?;
     let mut output = Vec::from_slice(scene.alloc, whole.listing())?;
     output.extend_from_slice(whole.image())?;
     Ok(AsmRun { input, output })
@@ -113,4 +120,93 @@ pub fn ports(scene: &mut Scene) -> Result<(), AllocError> {
     let input = input_of(scene.alloc)?;
     let run = run_of(scene, &input)?;
     fail_each(scene, Called::AsmRun, &run, Piece::Megabyte, false)
+}
+
+/// The listings, which go to an output of their own, and so do the map and the image.
+const LISTING: Chosen = Chosen {
+    listing: true,
+    map: false,
+    image: false,
+};
+
+const MAP: Chosen = Chosen {
+    listing: false,
+    map: true,
+    image: false,
+};
+
+const IMAGE: Chosen = Chosen {
+    listing: false,
+    map: false,
+    image: true,
+};
+
+/// The texts of these lines, each to an output of its own.
+#[derive(Drop)]
+struct Outputs<'p> {
+    input: &'p [u8],
+    whole: &'p Publication,
+}
+
+/// Writes one of the texts to an output of its own.
+fn write_part(
+    alloc: Global,
+    failing: Failing,
+    built: &mut Built,
+    chosen: Chosen,
+    text: &[u8],
+) -> Came {
+    let mut output = failing.writer(alloc);
+    let outcome = write_chosen(&mut output, built, chosen);
+    let faults = output.faults();
+    let writer = output.into_inner();
+    let taken = writer.taken();
+    match outcome {
+        Ok(()) => held(taken == text && faults == 0, Came::Whole),
+        Err(broken) => failing.written(went_out(taken, text, broken.sent) && faults == 1),
+    }
+}
+
+/// What came of two tries: what is told of the first that did not come to its end.
+fn both(first: Came, second: Came) -> Came {
+    match first {
+        Came::Whole => second,
+        Came::Failed | Came::Lacking | Came::Wrong => first,
+    }
+}
+
+impl<'p> Outputs<'p> {
+    /// Writes all texts, the first of them behind the others once more: a fault of one output leaves
+    /// the others what they are.
+    fn write(&self, alloc: Global, failing: Failing, built: &mut Built) -> Came {
+        let image = write_part(alloc, failing, built, IMAGE, self.whole.image());
+        let listing = write_part(alloc, failing, built, LISTING, self.whole.listings());
+        let map = write_part(alloc, failing, built, MAP, self.whole.map());
+        let again = write_part(alloc, failing, built, IMAGE, self.whole.image());
+        both(both(image, listing), both(map, again))
+    }
+}
+
+impl<'p> Tries for Outputs<'p> {
+    fn try_once(&self, alloc: Global, failing: Failing) -> Result<Came, AllocError> {
+        match asm_build(alloc, &mut Counted::new(self.input)) {
+            Ok(built) => {
+                let mut built = built;
+                Ok(self.write(alloc, failing, &mut built))
+            }
+            Err(AsmFault::OutOfMemory) => Ok(Came::Lacking),
+            Err(_) => Ok(Came::Wrong),
+        }
+    }
+}
+
+/// Each write of the texts that go to outputs of their own, in pieces of a megabyte.
+pub fn parts(scene: &mut Scene) -> Result<(), AllocError> {
+    let input = input_of(scene.alloc)?;
+    let whole = whole_of(scene)?;
+    let outputs = Outputs {
+        input: &input,
+        whole: &whole,
+    };
+    fail_each(scene, Called::AsmRun, &outputs, Piece::Megabyte, false)
 }

@@ -54,6 +54,7 @@ enum Scenario {
     ManyDecks,
     LongRun,
     LongPorts,
+    LongParts,
 }
 
 /// Where a scenario is gone through.
@@ -66,7 +67,7 @@ enum Size {
 }
 
 /// All scenarios with their names.
-const SCENARIOS: [(&str, Scenario, Size); 17] = [
+const SCENARIOS: [(&str, Scenario, Size); 18] = [
     ("records", Scenario::Records, Size::Small),
     ("texts", Scenario::Texts, Size::Small),
     ("runs", Scenario::Runs, Size::Small),
@@ -84,6 +85,7 @@ const SCENARIOS: [(&str, Scenario, Size); 17] = [
     ("many_decks", Scenario::ManyDecks, Size::Large),
     ("long_run", Scenario::LongRun, Size::Large),
     ("long_ports", Scenario::LongPorts, Size::Large),
+    ("long_parts", Scenario::LongParts, Size::Large),
 ];
 
 /// The status where a check failed.
@@ -153,6 +155,7 @@ fn go_through<R: AllocGlobal + Files + Wait>(
         Scenario::ManyDecks => large::decks(scene),
         Scenario::LongRun => long::run(scene),
         Scenario::LongPorts => long::ports(scene),
+        Scenario::LongParts => long::parts(scene),
         lower => go_through_lower(lower, scene),
     }
 }

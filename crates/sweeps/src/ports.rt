@@ -20,7 +20,7 @@ const SMALL: &str = "          IDENT  T
 ";
 
 /// Whether so many bytes of a text went out, and no more.
-fn went_out(taken: &[u8], wanted: &[u8], sent: usize) -> bool {
+pub fn went_out(taken: &[u8], wanted: &[u8], sent: usize) -> bool {
     taken.len() == sent && wanted.starts_with(taken)
 }
 

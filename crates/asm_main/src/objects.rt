@@ -1,10 +1,9 @@
-//! From decks to what is published of them.
-ghost use Rattle.std.specs.Prelude.{◌≡◌, ◌≤◌, length, IfOk};
+//! From decks to their objects.
+ghost use Rattle.std.specs.Prelude.{◌≡◌, IfOk};
 ghost use Rattle.definitions.specs.DeckInput as definitions;
 
 use crate::deck::Deck;
 use deck_assembler::SharedObject;
-use deck_linker::{Publication, link};
 use edit_core::assemble;
 use statement_coder::Meter;
 use std::alloc::{AllocError, Global};
@@ -27,12 +26,4 @@ pub(crate) fn objects_of(alloc: Global, decks: Vec<Deck>) -> Result<Vec<SharedOb
         objects.push(object_of(alloc, deck, &mut meter)?)?;
     }
     Ok(objects)
-}
-
-/// The publication of decks, assembled and linked; `asm` has one version, 0.
-pub fn publish(alloc: Global, decks: Vec<Deck>) -> Result<Publication, AllocError>
-    requires few { length decks.items ≤ 64 }
-    ensures { IfOk result (λ publication. publication.decks ≡ decks.items) }
-{
-    link(alloc, objects_of(alloc, decks)?, 0)
 }

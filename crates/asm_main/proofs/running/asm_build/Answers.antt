@@ -1,8 +1,0 @@
-use Rattle.asm_main.proofs.AnswerLaws.{told-where}
-use Rattle.asm_main.proofs.FaultLaws.{IfErr-passed}
-use Rattle.asm_main.proofs.running.asm_build.Goals as goal
-
-pub returns-in_err-decks-clause-told : goal.returns-in_err-decks-clause-told
-returns-in_err-decks-clause-told g c =
-    IfErr-passed c.from_residual.result c.in_err-decks.field-0.0 _ c.from_residual.ensures.1
-    (told-where _ c.in_err-decks.field-0.0 c.in_err-decks.ensures.small c.in_err-decks.ensures.fault)
