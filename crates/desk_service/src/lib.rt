@@ -68,6 +68,7 @@ mod patience;
 mod places;
 mod publications;
 mod running;
+mod seating;
 mod service_end;
 mod timed_stream;
 

@@ -5,14 +5,15 @@ use crate::arrivals::receive_clients;
 use crate::control::{Control, hear};
 use crate::faults::ServeFault;
 use crate::opening::{Opened, open};
-use crate::pages::{Door, PAGE_THREADS, PagePlace, page_places, page_threads};
-use crate::places::{Serve, SessionPlace, WorkerPlace, session_places, worker_places};
+use crate::pages::{Door, PAGE_THREADS, PagePlace, page_threads};
+use crate::places::{Serve, SessionPlace, WorkerPlace};
 use crate::root::take_folder;
+use crate::seating::{Places, open_channels, seat_all};
 use crate::service_end::ServiceEnd;
 use crate::settings::{JOURNAL, Settings};
 use crate::system_file::SystemFile;
 use crate::versions::{Seen, VERSIONS};
-use crossbeam_channel::{Sender, bounded, unbounded};
+use crossbeam_channel::Sender;
 use deck_files::{KnownFiles, clear_folder};
 use desk_core::Desk;
 use std::alloc::{AllocError, AllocGlobal, Global};
@@ -388,26 +389,20 @@ where
     requires { AreInRange settings.now }
 {
     let Opened { desk, journal } = opened;
-    let Settings {
-        workers,
-        sessions,
-        ..
-    } = *settings;
-    let threads = sessions + page_threads(door);
-    let (office, mut seats) = Office::open(alloc, desk, workers + threads)?;
-    let (bells, heard) = unbounded(alloc)?;
-    let (arrivals, received) = bounded(alloc, 0)?;
+    let threads = settings.sessions + page_threads(door);
+    let (office, seats) = Office::open(alloc, desk, settings.workers + threads)?;
     let known = Mutex::new(KnownFiles::new(alloc));
     let end = &ServiceEnd::new(alloc, threads)?;
+    let channels = open_channels(alloc)?;
     let journal = journal.as_ref();
-    let workers = worker_places(rt, alloc, &office, &mut seats, workers, &heard, end)?;
-    let pages = page_places(
-        rt, alloc, &office, &mut seats, settings, door, &bells, &known, end, journal,
+    let Places {
+        workers,
+        sessions,
+        pages,
+    } = seat_all(
+        rt, alloc, &office, seats, settings, door, &channels, &known, end, journal,
     )?;
-    let sessions = session_places(
-        rt, alloc, &office, &mut seats, settings, &bells, &received, &known, end, journal,
-    )?;
-    drop((bells, heard, received));
+    let arrivals = channels.into_arrivals();
     let (port, page) = (port_of(listener, settings.port), page_port(door));
     let hearing = Hearing {
         rt,
