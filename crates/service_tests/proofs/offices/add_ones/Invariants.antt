@@ -1,5 +1,5 @@
 use Rattle.std.proofs.Common.{◌≡◌}
-use Rattle.service_tests.proofs.tests_offices.add_ones.Given as goal
+use Rattle.service_tests.proofs.offices.add_ones.Given as goal
 
 -- the seat stays one of its office
 abbrev pub invariant-loop : goal.invariant-loop

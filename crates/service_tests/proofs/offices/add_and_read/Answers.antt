@@ -1,9 +1,9 @@
 use Rattle.std.proofs.Common.{arith, ◌≡◌, ℕ, ◌+◌, ◌-◌, ◌^◌, min, ◌≤◌, List, ◌++◌, ◌∷◌, [], ap, ◌∙◌, sym, subst, append_assoc}
 use Rattle.turn_office.specs.declared.history.Entry.{Entry}
-use Rattle.service_tests.specs.declared.tests_offices.Sum.{Sum}
+use Rattle.service_tests.specs.declared.offices.Sum.{Sum}
 use Rattle.turn_office.specs.Histories.{entry, Leads}
 use Rattle.turn_office.proofs.Reading.{true_later}
-use Rattle.service_tests.proofs.tests_offices.add_and_read.Goals as goal
+use Rattle.service_tests.proofs.offices.add_and_read.Goals as goal
 
 -- what a step of the sum may do
 abbrev Adds : Sum → ℕ → ℕ → Sum → Type 0

@@ -1,0 +1,310 @@
+//! Steps that workers make. The deck is M, but for `result`.
+//!
+//! `claim`: the job, which is out then; `deliver`: its result is made and handed in; `giveup LEASE`;
+//! `result LEASE DECK VERSION RECORD OBJECT`: a result made of single cards, the record's deck and a colon
+//! in front of its card, or `-` for no record; `link LEASE VERSION CARD ..`: a publication of decks of a
+//! card each; `batch SEEN COUNT`: so many edits; `settle TURNS`; `image`: the version that is shown, and
+//! the last 32 bytes of its image; `meter`: how many statements were sized and coded; `lost`: a job whose
+//! edit does not apply.
+
+use crate::inputs::{card_of, cards_of, cut, cut_number, name_of, number};
+use crate::outputs::Answer;
+use cards::{Card, DeckName, Edit};
+use deck_linker::{ListedPublication, publish};
+use deck_listing::ListedObject;
+use deck_workers::{Job, Made, Runs, job_in, settle};
+use desk_core::{
+    Call, DeckCards, DeckWork, Desk, Done, Held, Listed, Reply, SharedPublication, Start,
+};
+use edit_core::{Kept, assemble};
+use statement_coder::Meter;
+use std::alloc::{AllocError, Global};
+
+/// The job that is out, and what was done for all.
+#[derive(Drop)]
+pub struct Jobs {
+    alloc: Global,
+    out: Option<Job>,
+    meter: Meter,
+}
+
+impl Jobs {
+    pub fn new(alloc: Global) -> Jobs {
+        Jobs {
+            alloc,
+            out: None,
+            meter: Meter { sized: 0, coded: 0 },
+        }
+    }
+
+    /// Makes a step of this word, if it is a worker's, and answers whether it is.
+    pub fn make(&mut self, desk: &mut Desk, word: &str, rest: &str, answer: &mut Answer) -> bool {
+        match word {
+            "claim" => self.claim(desk, answer),
+            "deliver" => self.deliver(desk, answer),
+            "settle" => self.settle(desk, number(rest), answer),
+            "image" => show_image(desk, answer),
+            "meter" => push_pair(answer, self.meter.sized, self.meter.coded),
+            "lost" => push_lost(self.alloc, answer),
+            _ => return self.call(desk, word, rest, answer),
+        }
+        answer.line("");
+        true
+    }
+
+    /// Makes a call of this word, if there is one, and answers whether there is.
+    fn call(&self, desk: &mut Desk, word: &str, rest: &str, answer: &mut Answer) -> bool {
+        let call = match word {
+            "giveup" => Ok(Call::GiveUp(number(rest))),
+            "result" => result_of(self.alloc, rest),
+            "link" => link_of(self.alloc, rest),
+            "batch" => batch_of(self.alloc, rest),
+            _ => return false,
+        };
+        match call {
+            Ok(call) => push_reply(answer, &ask(desk, call)),
+            Err(error) => answer.keep(Err(error)),
+        }
+        answer.line("");
+        true
+    }
+
+    /// Claims a job, which is out then.
+    fn claim(&mut self, desk: &mut Desk, answer: &mut Answer) {
+        let reply = ask(desk, Call::Claim);
+        push_reply(answer, &reply);
+        if let Some(job) = job_in(reply) {
+            self.out = Some(job);
+        }
+    }
+
+    /// Runs the job that is out, and hands in what it makes.
+    fn deliver(&mut self, desk: &mut Desk, answer: &mut Answer) {
+        if let Some(job) = self.out.take() {
+            let made = run(self.alloc, job, &mut self.meter);
+            if !made.is_result() {
+                answer.push("lost, ");
+            }
+            push_reply(answer, &ask(desk, made.into_call()));
+        }
+    }
+
+    fn settle(&mut self, desk: &mut Desk, turns: u64, answer: &mut Answer) {
+        let turns = u32::try_from(turns).unwrap_or(0);
+        answer.debug(&settle(self.alloc, desk, &mut self.meter, turns));
+    }
+}
+
+/// Asks a desk. What it answers is looked at and no contract of it, and so who asks has no facts of it.
+pub fn ask(desk: &mut Desk, call: Call) -> Reply {
+    desk.step(call)
+}
+
+/// Runs a job, in the same way.
+fn run(alloc: Global, job: Job, meter: &mut Meter) -> Made {
+    job.run(alloc, meter)
+}
+
+/// Two numbers.
+fn push_pair(answer: &mut Answer, first: u64, second: u64) {
+    answer.number("", first);
+    answer.number(" ", second);
+}
+
+fn show_image(desk: &mut Desk, answer: &mut Answer) {
+    match ask(desk, Call::Show) {
+        Reply::Shown(shown) => push_image(answer, shown.publication()),
+        other => push_reply(answer, &other),
+    }
+}
+
+/// The version of a publication, and the last 32 bytes of its image.
+fn push_image(answer: &mut Answer, publication: &ListedPublication) {
+    let image = publication.image();
+    let end = image.split_at(image.len().saturating_sub(32)).1;
+    answer.number("", publication.version());
+    answer.push(" ");
+    answer.bytes(end);
+}
+
+/// A reply of the desk.
+pub fn push_reply(answer: &mut Answer, reply: &Reply) {
+    match reply {
+        Reply::Changed(version) => answer.number("changed ", *version),
+        Reply::Carried { version, .. } => answer.number("carried ", *version),
+        Reply::Idle(version) => answer.number("idle ", *version),
+        Reply::AllOut => answer.push("all out"),
+        Reply::Stored => answer.push("stored"),
+        Reply::Cleared => answer.push("cleared"),
+        Reply::Refused(refusal) => answer.debug(refusal),
+        Reply::LinkJob(work) => push_out(answer, "link", work.lease, work.version),
+        Reply::DeckJob(work) => push_job(answer, work),
+        Reply::CardsAre(version, cards) => {
+            answer.number("cards ", *version);
+            push_cards(answer, cards.as_slice());
+        }
+        _ => answer.push("what a session asks for"),
+    }
+}
+
+/// A lease of something at a version.
+fn push_out(answer: &mut Answer, what: &str, lease: u64, version: u64) {
+    answer.push(what);
+    answer.number(" ", lease);
+    answer.number(" at ", version);
+}
+
+/// A job of a deck: with how many cards or with which record it begins, and the edits that go with it.
+fn push_job(answer: &mut Answer, work: &DeckWork) {
+    answer.bytes(work.name.as_slice());
+    push_out(answer, "", work.lease, work.version);
+    match &work.start {
+        Start::FromCards(cards) => push_count(answer, " cards ", cards.as_slice()),
+        Start::FromRecord(held) => push_record(answer, held.kept().cards()),
+    }
+    answer.number(" edits ", work.edits.as_slice().len() as u64);
+    for edit in work.edits.as_slice() {
+        push_edit(answer, edit);
+    }
+}
+
+fn push_count(answer: &mut Answer, what: &str, cards: &[Card]) {
+    answer.number(what, cards.len() as u64);
+}
+
+/// How many cards a record has, and the cards, where they are one or two.
+fn push_record(answer: &mut Answer, cards: &[Card]) {
+    push_count(answer, " record ", cards);
+    if cards.len() <= 2 {
+        push_cards(answer, cards);
+    }
+}
+
+/// Cards, each behind a blank.
+pub fn push_cards(answer: &mut Answer, cards: &[Card]) {
+    for card in cards {
+        answer.push(" ");
+        answer.bytes(card.as_slice());
+    }
+}
+
+fn push_edit(answer: &mut Answer, edit: &Edit) {
+    match edit {
+        Edit::Insert { at, card } | Edit::Replace { at, card } => {
+            answer.number(" ", *at);
+            answer.bytes(card.as_slice());
+        }
+        Edit::Remove { at } => answer.number(" ", *at),
+    }
+}
+
+/// The record of a deck with these cards.
+fn kept(alloc: Global, name: DeckName, lines: &str) -> Result<Kept, AllocError> {
+    let mut meter = Meter { sized: 0, coded: 0 };
+    Kept::new(alloc, name, cards_of(alloc, lines)?, &mut meter)
+}
+
+/// The record of a deck, whose name and a colon stand in front of its one card; none for `-`.
+fn record_of(alloc: Global, text: &str) -> Result<Option<Held>, AllocError> {
+    match text.split_once(":") {
+        Some((of, line)) => Ok(Held::new(kept(alloc, name_of(of)?, line)?)),
+        None => Ok(None),
+    }
+}
+
+/// The object of M with this one card.
+fn object_of(alloc: Global, line: &str) -> Result<ListedObject, AllocError> {
+    let mut meter = Meter { sized: 0, coded: 0 };
+    let object = assemble(alloc, name_of("M")?, cards_of(alloc, line)?, &mut meter)?;
+    ListedObject::new(alloc, object)
+}
+
+fn result_of(alloc: Global, text: &str) -> Result<Call, AllocError> {
+    let (lease, rest) = cut_number(text);
+    let (deck, rest) = cut_number(rest);
+    let (version, rest) = cut_number(rest);
+    let (record, object) = cut(rest);
+    Ok(Call::DeliverDeck(Done {
+        lease,
+        deck,
+        version,
+        kept: record_of(alloc, record)?,
+        object: object_of(alloc, object)?,
+    }))
+}
+
+/// The publication of decks of these cards, one each.
+fn publication_of(
+    alloc: Global,
+    lines: &str,
+    version: u64,
+) -> Result<SharedPublication, AllocError> {
+    let mut objects = Vec::new(alloc);
+    for line in lines.split_whitespace() {
+        objects.push(object_of(alloc, line)?)?;
+    }
+    SharedPublication::new(alloc, publish(alloc, objects, version)?)
+}
+
+fn link_of(alloc: Global, text: &str) -> Result<Call, AllocError> {
+    let (lease, rest) = cut_number(text);
+    let (version, lines) = cut_number(rest);
+    let publication = publication_of(alloc, lines, version)?;
+    Ok(Call::DeliverLink { lease, publication })
+}
+
+/// Edits of M by which its second card goes and comes again, so many in all.
+fn batch_of(alloc: Global, text: &str) -> Result<Call, AllocError> {
+    let (seen, count) = cut_number(text);
+    let mut edits = Vec::new(alloc);
+    for edit in 0..number(count) {
+        edits.push(to_or_fro(edit % 2 == 0)?)?;
+    }
+    Ok(Call::Batch {
+        name: name_of("M")?,
+        seen,
+        edits: Listed::new(edits),
+        by: name_of("0")?,
+    })
+}
+
+fn to_or_fro(goes: bool) -> Result<Edit, AllocError> {
+    if goes {
+        return Ok(Edit::Remove { at: 2 });
+    }
+    let card = card_of("*B")?;
+    Ok(Edit::Insert { at: 2, card })
+}
+
+/// A job of a deck of one card, of which the second is removed.
+fn job_that_does_not_apply(alloc: Global) -> Result<Job, AllocError> {
+    let mut edits = Vec::new(alloc);
+    edits.push(Edit::Remove { at: 2 })?;
+    Ok(Job::Deck(DeckWork {
+        lease: 7,
+        deck: 1,
+        version: 2,
+        name: name_of("M")?,
+        start: Start::FromCards(DeckCards::new(cards_of(alloc, "*A")?)),
+        edits: Listed::new(edits),
+    }))
+}
+
+fn push_lost(alloc: Global, answer: &mut Answer) {
+    match job_that_does_not_apply(alloc) {
+        Ok(job) => push_made(answer, &run(alloc, job, &mut Meter { sized: 0, coded: 0 })),
+        Err(error) => answer.keep(Err(error)),
+    }
+}
+
+/// What a job made that made nothing.
+fn push_made(answer: &mut Answer, made: &Made) {
+    match made {
+        Made::Lost { lease, fault } => {
+            answer.number("lost ", *lease);
+            answer.push(" ");
+            answer.debug(fault);
+        }
+        _ => answer.push("made"),
+    }
+}

@@ -1,0 +1,218 @@
+//! Goes through transcripts of the service: histories of desks and sessions as people write them down,
+//! with each reply, and threads, sockets and files as they run. A line tells how many steps a transcript
+//! has and that what comes of them is what stands there, or where the first line stands that differs;
+//! the status is 1 where one differs, and 2 where one can't be read.
+//!
+//! A transcript is a file of `data/`. A line that begins with `> ` is a step, and the lines below it are
+//! what comes of it. A line that begins with `# ` says something of the steps below, which have a new desk
+//! and a new shelf. In a step `|` ends a line. Its first word says what it is: the modules tell theirs, and a
+//! step that begins with none of them is a command of a session.
+#![tactic(auto)]
+
+mod faults;
+mod files;
+mod inputs;
+mod jobs;
+mod keeping;
+mod lines;
+mod offices;
+mod outputs;
+mod place;
+mod refusing;
+mod replies;
+mod shelves;
+mod sockets;
+mod workers;
+
+use deck_files::KnownFiles;
+use inputs::{cut, plain_text};
+use outputs::Answer;
+use place::Place;
+use std::alloc::AllocGlobal;
+use std::net::{Net, TcpListener, TcpStream};
+use std::process::ExitCode;
+use std::rt::Files;
+use std::sync::{Mutex, Wait};
+use std::thread::Threads;
+use std::time::Clock;
+use std::{fs, io};
+
+/// The transcripts, lowest first.
+const TRANSCRIPTS: [&str; 12] = [
+    "offices", "files", "folders", "runs", "desks", "results", "workers", "lines", "sessions",
+    "journals", "kept", "sockets",
+];
+
+/// The status where a transcript differs.
+const DIFFERS_STATUS: u8 = 1;
+
+/// The status where a transcript can't be read.
+const NOTHING_STATUS: u8 = 2;
+
+/// Makes a step that stands in no place, and answers whether there is one of this word.
+fn make_alone<R: AllocGlobal + Threads + Wait + Sync + Files + Clock + Clone>(
+    rt: &R,
+    known: &Mutex<KnownFiles>,
+    word: &str,
+    rest: &str,
+    answer: &mut Answer,
+) -> bool {
+    lines::make(word, rest, answer)
+        || replies::make(word, rest, answer)
+        || faults::make(rt.alloc(), word, answer)
+        || shelves::make(rt, known, word, rest, answer)
+        || offices::make(rt, word, rest, answer)
+        || workers::make(rt, word, answer)
+        || keeping::make(rt, word, rest, answer)
+}
+
+/// Makes a step.
+fn make<R>(rt: &R, place: &mut Place, known: &Mutex<KnownFiles>, step: &str, answer: &mut Answer)
+where
+    R: AllocGlobal
+        + Threads
+        + Wait
+        + Sync
+        + Files
+        + Drop
+        + Clone
+        + Clock
+        + Eprint
+        + Net<Stream = TcpStream, Listener = TcpListener>,
+    R::File: Send,
+    R::Dir: Send,
+{
+    let (word, rest) = cut(step);
+    let is_made = place.make(word, rest, answer)
+        || files::make(&mut place.file, word, rest, answer)
+        || make_alone(rt, known, word, rest, answer)
+        || sockets::make(rt, rt.alloc(), word, rest, answer);
+    if !is_made {
+        place.say(step, answer);
+    }
+}
+
+/// Goes through the steps of a transcript, and answers how many there are.
+fn go_through<R>(rt: &R, transcript: &str, answer: &mut Answer) -> u64
+where
+    R: AllocGlobal
+        + Threads
+        + Wait
+        + Sync
+        + Files
+        + Drop
+        + Clone
+        + Clock
+        + Eprint
+        + Net<Stream = TcpStream, Listener = TcpListener>,
+    R::File: Send,
+    R::Dir: Send,
+{
+    let known = Mutex::new(KnownFiles::new(rt.alloc()));
+    let mut place = Place::new(rt.alloc());
+    let mut steps = 0u64;
+    for line in transcript.lines() {
+        if let Some(step) = line.strip_prefix("> ") {
+            steps = steps.saturating_add(1);
+            answer.line(line);
+            match plain_text(rt.alloc(), step) {
+                Ok(step) => make(rt, &mut place, &known, step.as_str(), answer),
+                Err(error) => answer.keep(Err(error)),
+            }
+        } else if line.starts_with("# ") {
+            answer.line(line);
+            place = Place::new(rt.alloc());
+        }
+    }
+    steps
+}
+
+/// The number of the first line that differs; lines count from 1.
+fn first_difference(found: &str, wanted: &str) -> u64 {
+    let mut number = 0u64;
+    let mut others = wanted.lines();
+    for line in found.lines() {
+        number = number.saturating_add(1);
+        if others.next() != Some(line) {
+            return number;
+        }
+    }
+    number.saturating_add(1)
+}
+
+/// Tells what is found in a transcript of so many steps, and answers whether it is what stands there.
+fn tell<R: Print + Eprint>(
+    rt: &R,
+    name: &str,
+    steps: u64,
+    found: &str,
+    wanted: &str,
+) -> io::Result<bool> {
+    let is_same = found == wanted;
+    if is_same {
+        println!(rt; "{name}: {steps} steps are as wanted")?;
+    } else {
+        let line = first_difference(found, wanted);
+        println!(rt; "{name}: line {line} differs")?;
+        eprintln!(rt; "{found}")?;
+    }
+    Ok(is_same)
+}
+
+/// Goes through a transcript.
+fn run_one<R>(rt: &R, name: &str) -> io::Result<bool>
+where
+    R: AllocGlobal
+        + Threads
+        + Wait
+        + Sync
+        + Files
+        + Drop
+        + Clone
+        + Clock
+        + Print
+        + Eprint
+        + Net<Stream = TcpStream, Listener = TcpListener>,
+    R::File: Send,
+    R::Dir: Send,
+{
+    let transcript = fs::read_to_string(rt, name)?;
+    let mut answer = Answer::new(rt.alloc());
+    let steps = go_through(rt, transcript.as_str(), &mut answer);
+    tell(rt, name, steps, answer.text()?, transcript.as_str())
+}
+
+/// Goes through all transcripts, and answers whether all are as they stand there.
+fn run<R>(rt: &R) -> io::Result<bool>
+where
+    R: AllocGlobal
+        + Threads
+        + Wait
+        + Sync
+        + Files
+        + Drop
+        + Clone
+        + Clock
+        + Print
+        + Eprint
+        + Net<Stream = TcpStream, Listener = TcpListener>,
+    R::File: Send,
+    R::Dir: Send,
+{
+    let mut are_same = true;
+    for name in &TRANSCRIPTS {
+        are_same &= run_one(rt, name)?;
+    }
+    Ok(are_same)
+}
+
+fn main(rt: HostRuntime) -> ExitCode {
+    match run(&rt) {
+        Ok(true) => ExitCode::from(0),
+        Ok(false) => ExitCode::from(DIFFERS_STATUS),
+        Err(error) => {
+            let _ = eprintln!(&rt; "service_tests: {error}");
+            ExitCode::from(NOTHING_STATUS)
+        }
+    }
+}

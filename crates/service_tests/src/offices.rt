@@ -1,0 +1,244 @@
+//! An office over a sum, and a session from the seat of an office.
+//!
+//! `meet TOTAL AMOUNT`: one seat adds to a sum, another meets it and reads it; `close TOTAL AMOUNT`: one
+//! seat adds, and the office is closed with one seat and with both; `threads`: eight seats add 1 a thousand
+//! times each, in threads of their own; `seat LINES`: commands of a session on a desk.
+ghost use Rattle.std.specs.Prelude.{◌≡◌, ◌+◌, ◌-◌, ◌^◌, ◌≤◌, min, IfOk};
+ghost use Rattle.turn_office.specs.Seats.{AreOf};
+
+use crate::inputs::cut_number;
+use crate::outputs::Answer;
+use crate::place::serve_ports;
+use deck_files::MemoryShelf;
+use desk_core::Desk;
+use session_line::SeatCalls;
+use std::alloc::{AllocError, AllocGlobal, Global};
+use std::mem::size_of;
+use std::sync::Wait;
+use std::thread;
+use std::thread::Threads;
+use text_ports::{FaultyReader, FaultyWriter};
+use turn_office::{CloseFault, Office, Seat, SeatList, Sequential};
+
+/// How many calls each thread makes.
+const CALLS: u64 = 1000;
+
+/// Makes a step of this word, if it is one of offices, and answers whether it is.
+pub fn make<R: AllocGlobal + Threads + Wait + Sync>(
+    rt: &R,
+    word: &str,
+    rest: &str,
+    answer: &mut Answer,
+) -> bool {
+    let (first, second) = cut_number(rest);
+    let (second, _) = cut_number(second);
+    let done = match word {
+        "meet" => meet(rt, first, second, answer),
+        "close" => close_twice(rt, first, second, answer),
+        "threads" => add_in_threads(rt, answer),
+        "seat" => say_all(rt, rest, answer),
+        _ => return false,
+    };
+    answer.keep(done);
+    answer.line("");
+    true
+}
+
+/// A sum, which stays at its greatest value. A call adds to it, and the reply is the sum then.
+#[derive(Drop)]
+struct Sum {
+    total: u64,
+}
+
+impl Sequential for Sum {
+    type Call = u64;
+
+    type Reply = u64;
+
+    ghost allowed = { λ old call reply new. (reply ≡ min (old.total + call) (2 ^ 64 - 1)) × (new.total ≡ reply) };
+
+    fn step(&mut self, call: u64) -> u64 {
+        self.total = self.total.saturating_add(call);
+        self.total
+    }
+}
+
+/// One seat adds, another meets it and reads the sum: it is proved that it reads what was added, at
+/// least, whoever else adds at the same time.
+fn add_and_read<R: Wait>(
+    rt: &R,
+    office: &Office<Sum>,
+    first: &mut Seat<Sum>,
+    second: &mut Seat<Sum>,
+    amount: u64,
+) -> Result<u64, AllocError>
+    requires { (first.old.office ≡ office.now.id) × (second.old.office ≡ office.now.id) }
+    ensures same { (first.new.office ≡ first.old.office) × (second.new.office ≡ second.old.office) }
+    ensures read { IfOk result (λ sum. amount ≤ sum) }
+{
+    first.call(rt, office, amount);
+    second.meet(rt, office, first)?;
+    Ok(second.call(rt, office, 0))
+}
+
+/// Adds 1 so many times.
+fn add_ones<R: Wait>(rt: &R, office: &Office<Sum>, mut seat: Seat<Sum>, calls: u64) -> Seat<Sum>
+    requires { seat.office ≡ office.now.id }
+    ensures { result.office ≡ office.now.id }
+{
+    for _ in 0..calls {
+        seat.call(rt, office, 1);
+    }
+    seat
+}
+
+/// Each seat adds 1 a thousand times, in a thread of its own.
+fn add_from_all<R: Threads + Wait + Sync>(
+    rt: &R,
+    office: &Office<Sum>,
+    seats: SeatList<Sum>,
+) -> Result<SeatList<Sum>, AllocError>
+    requires { AreOf office.now.id seats.items }
+    ensures { IfOk result (λ list. AreOf office.now.id list.items) }
+{
+    thread::map_vec(rt, seats, &|seat| add_ones(rt, office, seat, CALLS))
+}
+
+/// An office over a sum, and its seats.
+fn open(alloc: Global, total: u64, seats: usize) -> Result<(Office<Sum>, SeatList<Sum>), AllocError>
+    requires { (1 ≤ seats) × (seats ≤ 64) }
+    ensures { IfOk result (λ opened. AreOf opened.0.id opened.1.items) }
+{
+    match Office::open(alloc, Sum { total }, seats) {
+        Ok(opened) => Ok(opened),
+        Err(_) => Err(AllocError),
+    }
+}
+
+/// One seat adds, and another meets it and reads.
+fn meet<R: AllocGlobal + Wait>(
+    rt: &R,
+    total: u64,
+    amount: u64,
+    answer: &mut Answer,
+) -> Result<(), AllocError> {
+    let (office, mut seats) = open(rt.alloc(), total, 2)?;
+    let (Some(mut second), Some(mut first)) = (seats.pop(), seats.pop()) else {
+        return Err(AllocError);
+    };
+    answer.number("seats ", first.number() as u64);
+    answer.number(" and ", second.number() as u64);
+    answer.push(", read ");
+    answer.debug(&add_and_read(rt, &office, &mut first, &mut second, amount));
+    Ok(())
+}
+
+/// Closes an office with all its seats, and tells its sum.
+fn close(office: Office<Sum>, seats: SeatList<Sum>, answer: &mut Answer)
+    requires { AreOf office.id seats.items }
+{
+    match office.close(seats) {
+        Ok(sum) => answer.number(", sum ", sum.total),
+        Err(_) => answer.push(", not closed"),
+    }
+}
+
+/// Closes an office with these seats and one more.
+fn close_with(
+    office: Office<Sum>,
+    seats: SeatList<Sum>,
+    last: Seat<Sum>,
+    answer: &mut Answer,
+) -> Result<(), AllocError>
+    requires own { AreOf office.id seats.items }
+    requires last { last.office ≡ office.id }
+{
+    let mut all = seats;
+    all.push(last)?;
+    close(office, all, answer);
+    Ok(())
+}
+
+/// Closes an office with some seats, and then with the last one, too.
+fn close_without(
+    office: Office<Sum>,
+    seats: SeatList<Sum>,
+    last: Seat<Sum>,
+    answer: &mut Answer,
+) -> Result<(), AllocError>
+    requires own { AreOf office.id seats.items }
+    requires last { last.office ≡ office.id }
+{
+    match office.close(seats) {
+        Ok(_) => Ok(()),
+        Err(CloseFault::SeatsOut { office, seats }) => {
+            answer.number(", not closed with ", seats.len() as u64);
+            close_with(office, seats, last, answer)
+        }
+        Err(CloseFault::OutOfMemory { .. }) => Err(AllocError),
+    }
+}
+
+/// Closes an office with one seat, and then with both.
+fn close_twice<R: AllocGlobal + Wait>(
+    rt: &R,
+    total: u64,
+    amount: u64,
+    answer: &mut Answer,
+) -> Result<(), AllocError> {
+    let (office, mut seats) = open(rt.alloc(), total, 2)?;
+    let Some(mut second) = seats.pop() else {
+        return Err(AllocError);
+    };
+    answer.number("reply ", second.call(rt, &office, amount));
+    close_without(office, seats, second, answer)
+}
+
+/// Eight seats add in threads of their own: the sum, and how many words a seat has.
+fn add_in_threads<R: AllocGlobal + Threads + Wait + Sync>(
+    rt: &R,
+    answer: &mut Answer,
+) -> Result<(), AllocError> {
+    let (office, seats) = open(rt.alloc(), 0, 8)?;
+    let seats = add_from_all(rt, &office, seats)?;
+    answer.debug(&(size_of::<Seat<Sum>>() == size_of::<usize>()));
+    close(office, seats, answer);
+    Ok(())
+}
+
+/// Serves commands of a session on a desk, each from the second seat of its office: the number of the seat.
+fn serve_seated<R: Wait>(
+    rt: &R,
+    alloc: Global,
+    office: &Office<Desk>,
+    seat: Seat<Desk>,
+    lines: &str,
+    answer: &mut Answer,
+)
+    requires { seat.office ≡ office.now.id }
+{
+    let mut shelf = MemoryShelf::new(alloc);
+    let mut desk = SeatCalls::new(rt, office, seat);
+    for line in lines.split_inclusive('\n') {
+        let input = FaultyReader::new(line.as_bytes(), 1, 0);
+        let output = FaultyWriter::new(alloc, 1, 0);
+        serve_ports(alloc, &mut desk, &mut shelf, input, output, answer);
+    }
+    answer.number("seat ", desk.into_seat().number() as u64);
+}
+
+fn say_all<R: AllocGlobal + Wait>(
+    rt: &R,
+    lines: &str,
+    answer: &mut Answer,
+) -> Result<(), AllocError> {
+    let alloc = rt.alloc();
+    let Ok((office, mut seats)) = Office::open(alloc, Desk::new(alloc), 2) else {
+        return Err(AllocError);
+    };
+    match seats.pop() {
+        Some(seat) => serve_seated(rt, alloc, &office, seat, lines, answer),
+        None => return Err(AllocError),
+    }
+    Ok(())
+}

@@ -1,0 +1,225 @@
+//! A desk, a shelf of memory and a file, and the steps of sessions there.
+//!
+//! A step that begins with no word below is a session's command; `say` stands in front of one that
+//! would begin so. `cut LINES`: lines that end without their end. `failing PIECE READ WRITE LINES`: the
+//! ports give and take so many bytes at a time, and fail at the calls of these numbers. `turns LINES`:
+//! two sessions, whose lines have a zero byte between them.
+//!
+//! `bytes LINES`: these are the file; `times NUMBER LINES`: they are put behind it so many times.
+//! `shelf NAME`: the file is that of the deck on the shelf; `file NAME`: the deck's file there.
+ghost use Rattle.std.specs.Prelude.{◌≤◌};
+
+use crate::inputs::{cut_number, name_of};
+use crate::jobs::Jobs;
+use crate::outputs::Answer;
+use deck_files::{MemoryShelf, Shelf};
+use desk_core::Desk;
+use session_line::{Calls, Outcome, serve_one};
+use std::alloc::{AllocError, Global};
+use std::io::{Read, Write};
+use text_ports::{Counted, FaultyReader, FaultyWriter};
+
+/// How many commands a session has at most.
+const MOST_COMMANDS: u64 = 20;
+
+/// A desk, a shelf and a file, and the job that is out.
+#[derive(Drop)]
+pub struct Place {
+    alloc: Global,
+    desk: Desk,
+    shelf: MemoryShelf,
+    jobs: Jobs,
+    pub file: Vec<u8>,
+}
+
+impl Place {
+    pub fn new(alloc: Global) -> Place {
+        Place {
+            alloc,
+            desk: Desk::new(alloc),
+            shelf: MemoryShelf::new(alloc),
+            jobs: Jobs::new(alloc),
+            file: Vec::new(alloc),
+        }
+    }
+
+    /// Makes a step of this word, if it is one of a place, and answers whether it is.
+    pub fn make(&mut self, word: &str, rest: &str, answer: &mut Answer) -> bool {
+        match word {
+            "say" => self.say(rest, answer),
+            "cut" => self.serve(rest.as_bytes(), answer),
+            "failing" => self.fail(rest, answer),
+            "turns" => self.take_turns(rest, answer),
+            "bytes" => self.begin(rest, answer),
+            "times" => self.append(rest, answer),
+            "shelf" => self.put(rest, answer),
+            "file" => self.show(rest, answer),
+            _ => return self.jobs.make(&mut self.desk, word, rest, answer),
+        }
+        true
+    }
+
+    /// Says a command, whose last line ends here.
+    pub fn say(&mut self, lines: &str, answer: &mut Answer) {
+        match format!(in self.alloc; "{lines}\n") {
+            Ok(lines) => self.serve(lines.as_bytes(), answer),
+            Err(error) => answer.keep(Err(error)),
+        }
+    }
+
+    /// Serves one command.
+    fn serve(&mut self, lines: &[u8], answer: &mut Answer) {
+        let input = FaultyReader::new(lines, 1, 0);
+        let output = FaultyWriter::new(self.alloc, 1, 0);
+        serve_ports(
+            self.alloc,
+            &mut self.desk,
+            &mut self.shelf,
+            input,
+            output,
+            answer,
+        );
+    }
+
+    /// Serves one command by ports that fail.
+    fn fail(&mut self, text: &str, answer: &mut Answer) {
+        let (piece, rest) = cut_number(text);
+        let (read, rest) = cut_number(rest);
+        let (write, lines) = cut_number(rest);
+        let piece = (piece as usize).max(1);
+        let input = FaultyReader::new(lines.as_bytes(), piece, read);
+        let output = FaultyWriter::new(self.alloc, piece, write);
+        serve_ports(
+            self.alloc,
+            &mut self.desk,
+            &mut self.shelf,
+            input,
+            output,
+            answer,
+        );
+    }
+
+    /// Serves four commands of a session, another session to its end, and then the first to its own.
+    fn take_turns(&mut self, text: &str, answer: &mut Answer) {
+        let (first, second) = text.split_once("\0").unwrap_or((text, ""));
+        let mut input = Counted::new(FaultyReader::new(first.as_bytes(), 7, 0));
+        let mut other = Counted::new(FaultyReader::new(second.as_bytes(), 1, 0));
+        self.serve_many(&mut input, 7, 4, answer);
+        self.serve_many(&mut other, 1, MOST_COMMANDS, answer);
+        self.serve_many(&mut input, 7, 1, answer);
+    }
+
+    /// Serves commands of a session up to its end, so many at most, by a writer that takes so many bytes at a time.
+    fn serve_many<R: Read>(
+        &mut self,
+        input: &mut Counted<R>,
+        piece: usize,
+        most: u64,
+        answer: &mut Answer,
+    )
+        requires { 1 ≤ piece }
+    {
+        let mut output = Counted::new(FaultyWriter::new(self.alloc, piece, 0));
+        let mut last = Outcome::Served;
+        for _ in 0..most {
+            if last == Outcome::Served {
+                last = serve(
+                    self.alloc,
+                    input,
+                    &mut output,
+                    &mut self.desk,
+                    &mut self.shelf,
+                );
+            }
+        }
+        answer.bytes(output.into_inner().taken());
+        push_outcome(answer, last);
+    }
+
+    /// Begins a file.
+    fn begin(&mut self, lines: &str, answer: &mut Answer) {
+        self.file.clear();
+        answer.keep(self.file.extend_from_slice(lines.as_bytes()));
+    }
+
+    /// Puts lines behind a file.
+    fn append(&mut self, text: &str, answer: &mut Answer) {
+        let (times, lines) = cut_number(text);
+        for _ in 0..times {
+            answer.keep(self.file.extend_from_slice(lines.as_bytes()));
+        }
+    }
+
+    /// Puts the file on the shelf.
+    fn put(&mut self, of: &str, answer: &mut Answer) {
+        answer.keep(put_file(self.alloc, &mut self.shelf, of, &self.file));
+    }
+
+    /// Shows the file of a deck.
+    fn show(&self, of: &str, answer: &mut Answer) {
+        match file_of(&self.shelf, of) {
+            Some(file) => answer.bytes(file),
+            None => answer.line("none"),
+        }
+    }
+}
+
+/// Puts a file on a shelf.
+fn put_file(
+    alloc: Global,
+    shelf: &mut MemoryShelf,
+    of: &str,
+    file: &[u8],
+) -> Result<(), AllocError> {
+    shelf.put(&name_of(of)?, file.to_vec(alloc)?)
+}
+
+/// The file of a deck.
+fn file_of<'a>(shelf: &'a MemoryShelf, of: &str) -> Option<&'a [u8]> {
+    let name = name_of(of).ok()?;
+    shelf.file(&name)
+}
+
+/// Serves one command. What it makes of all is looked at and no contract of it, and so who calls has no
+/// facts of it.
+pub fn serve<R: Read, W: Write, C: Calls, S: Shelf>(
+    alloc: Global,
+    input: &mut Counted<R>,
+    output: &mut Counted<W>,
+    desk: &mut C,
+    shelf: &mut S,
+) -> Outcome {
+    serve_one(alloc, input, output, desk, shelf)
+}
+
+/// Serves one command: what goes out, how it ends where it is not served, and how many faults the ports
+/// had, where they had some.
+pub fn serve_ports<C: Calls, S: Shelf>(
+    alloc: Global,
+    desk: &mut C,
+    shelf: &mut S,
+    input: FaultyReader<'_>,
+    output: FaultyWriter,
+    answer: &mut Answer,
+) {
+    let mut input = Counted::new(input);
+    let mut output = Counted::new(output);
+    let outcome = serve(alloc, &mut input, &mut output, desk, shelf);
+    let faults = (input.faults(), output.faults());
+    answer.bytes(output.into_inner().taken());
+    push_outcome(answer, outcome);
+    if faults != (0, 0) {
+        answer.number("faults ", faults.0);
+        answer.number(" and ", faults.1);
+        answer.line("");
+    }
+}
+
+/// How a command ended that was not served.
+pub fn push_outcome(answer: &mut Answer, outcome: Outcome) {
+    if outcome != Outcome::Served {
+        answer.push("= ");
+        answer.debug(&outcome);
+        answer.line("");
+    }
+}

@@ -1,0 +1,182 @@
+//! Shelves over folders of the system, and files there.
+//!
+//! `save_over CALL SHELF FOLDER NAME OVER VERSION LINES`, with `OVER` as a program writes it: a shelf of this
+//! number saves, whose call of the first number is refused, and none where it is 0; `load_from SHELF FOLDER
+//! NAME`. The empty text is the folder in which the program runs. `write PATH LINES`; `read PATH`; `make
+//! PATH`, a folder; `remove PATH`, a file or an empty folder: which it was; `clear_folder PATH JOURNAL`: what
+//! saves have left there.
+
+use crate::files::push_lines;
+use crate::inputs::{cards_of, cut, cut_line, cut_number, name_of, number};
+use crate::outputs::Answer;
+use crate::refusing::Refusing;
+use cards::{Card, DeckName, MOST_CARDS};
+use deck_files::{FolderShelf, KnownFiles, SaveOver, Shelf, SystemFolder, clear_folder};
+use std::alloc::{AllocError, AllocGlobal, Global};
+use std::fs;
+use std::io::{self, ErrorKind};
+use std::rt::Files;
+use std::sync::{Mutex, Wait};
+
+/// Makes a step of this word, if it is one of folders, and answers whether it is.
+pub fn make<R: AllocGlobal + Files + Wait + Clone>(
+    rt: &R,
+    known: &Mutex<KnownFiles>,
+    word: &str,
+    rest: &str,
+    answer: &mut Answer,
+) -> bool {
+    match word {
+        "save_over" => save_refused(rt, known, rest, answer),
+        "load_from" => load_from(rt, known, rest, answer),
+        _ => return change(rt, word, rest, answer),
+    }
+    true
+}
+
+/// What is saved: under which name, over what, of which version, and the cards.
+#[derive(Drop)]
+struct Saved {
+    name: DeckName,
+    over: SaveOver,
+    version: u64,
+    cards: Vec<Card>,
+}
+
+/// What may be written over.
+fn over_of(text: &str) -> SaveOver {
+    if text == "Any" {
+        SaveOver::Any
+    } else {
+        SaveOver::Known
+    }
+}
+
+fn saved_of(alloc: Global, text: &str) -> Result<Saved, AllocError> {
+    let (head, lines) = cut_line(text);
+    let (of, rest) = cut(head);
+    let (over, version) = cut(rest);
+    Ok(Saved {
+        name: name_of(of)?,
+        over: over_of(over),
+        version: number(version),
+        cards: cards_of(alloc, lines)?,
+    })
+}
+
+/// Saves cards on a shelf.
+fn save<S: Shelf>(alloc: Global, shelf: &mut S, text: &str, answer: &mut Answer) {
+    match saved_of(alloc, text) {
+        Ok(saved) => push_saved(shelf, &saved, answer),
+        Err(error) => answer.keep(Err(error)),
+    }
+    answer.line("");
+}
+
+fn push_saved<S: Shelf>(shelf: &mut S, saved: &Saved, answer: &mut Answer) {
+    if saved.cards.len() > MOST_CARDS {
+        return;
+    }
+    let done = shelf.save(&saved.name, saved.over, saved.version, &saved.cards);
+    answer.debug(&done);
+}
+
+/// Saves by a shelf of a folder, whose call of the first number is refused, and none where it is 0.
+fn save_refused<R: AllocGlobal + Files + Wait + Clone>(
+    rt: &R,
+    known: &Mutex<KnownFiles>,
+    text: &str,
+    answer: &mut Answer,
+) {
+    let (calls, rest) = cut_number(text);
+    let (number, rest) = cut_number(rest);
+    let (folder, rest) = cut(rest);
+    let files = Refusing {
+        files: SystemFolder::new(rt),
+        calls,
+    };
+    let number = number as usize;
+    let mut shelf = FolderShelf::over(files, rt, rt.alloc(), folder, number, known);
+    save(rt.alloc(), &mut shelf, rest, answer);
+}
+
+fn load_from<R: AllocGlobal + Files + Wait + Clone>(
+    rt: &R,
+    known: &Mutex<KnownFiles>,
+    text: &str,
+    answer: &mut Answer,
+) {
+    let (number, rest) = cut_number(text);
+    let (folder, of) = cut(rest);
+    let mut shelf = FolderShelf::new(rt, rt.alloc(), folder, number as usize, known);
+    load(&mut shelf, of, answer);
+}
+
+/// Loads the cards of a deck.
+fn load<S: Shelf>(shelf: &mut S, of: &str, answer: &mut Answer) {
+    let Ok(name) = name_of(of) else {
+        return;
+    };
+    match shelf.load(&name) {
+        Ok(cards) => push_lines(answer, &cards),
+        Err(fault) => {
+            answer.debug(&fault);
+            answer.line("");
+        }
+    }
+}
+
+/// Changes or reads a file, not by a shelf.
+fn change<R: AllocGlobal + Files + Clone>(
+    rt: &R,
+    word: &str,
+    rest: &str,
+    answer: &mut Answer,
+) -> bool {
+    match word {
+        "write" => write(rt, rest, answer),
+        "read" => read(rt, rest, answer),
+        "make" => push_done(fs::create_dir(rt, rest), answer),
+        "remove" => remove(rt, rest, answer),
+        "clear_folder" => clear(rt, rest),
+        _ => return false,
+    }
+    true
+}
+
+fn push_done(done: io::Result<()>, answer: &mut Answer) {
+    if done.is_err() {
+        answer.line("not done");
+    }
+}
+
+fn write<R: AllocGlobal + Files>(rt: &R, text: &str, answer: &mut Answer) {
+    let (path, bytes) = cut_line(text);
+    push_done(fs::write(rt, path, bytes), answer);
+}
+
+fn read<R: AllocGlobal + Files>(rt: &R, path: &str, answer: &mut Answer) {
+    match fs::read_to_string(rt, path) {
+        Ok(text) => {
+            answer.push("= ");
+            answer.line(text.as_str());
+        }
+        Err(_) => answer.line("none"),
+    }
+}
+
+fn remove<R: AllocGlobal + Files>(rt: &R, path: &str, answer: &mut Answer) {
+    if fs::remove_file(rt, path).is_ok() {
+        answer.line("file");
+    } else if fs::remove_dir(rt, path).is_ok() {
+        answer.line("folder");
+    } else {
+        answer.line("none");
+    }
+}
+
+/// Clears away what saves have left, and what was to be a journal of this name.
+fn clear<R: AllocGlobal + Files + Clone>(rt: &R, text: &str) {
+    let (folder, journal) = cut(text);
+    clear_folder(rt, folder, &[journal]);
+}

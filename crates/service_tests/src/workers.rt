@@ -1,0 +1,254 @@
+//! Workers work at the same time, and stop.
+//!
+//! `work_both`: two workers at their seats and the jobs of two decks, the first of which waits for the second; `work
+//! alone`: a worker whose bell can't ring again.
+ghost use Rattle.std.specs.Prelude.{◌≡◌, IfOk};
+ghost use Rattle.std.specs.Thread.{IsSync};
+
+use crate::inputs::{cards_of, name_of};
+use crate::jobs::push_reply;
+use crate::outputs::Answer;
+use crossbeam_channel::Receiver;
+use deck_workers::{Bell, Gate, NoSubscriber, OpenGate, worker};
+use desk_core::{Call, Desk, NewDeck, Reply};
+use std::alloc::{AllocError, AllocGlobal, Global};
+use std::sync::Wait;
+use std::sync::atomic::{AtomicU64, Ordering};
+use std::thread;
+use std::thread::Threads;
+use std::time::Clock;
+use turn_office::{Office, Seat};
+
+/// Makes a step of this word, if it is one of workers, and answers whether it is.
+pub fn make<R: AllocGlobal + Threads + Wait + Clock + Sync>(
+    rt: &R,
+    word: &str,
+    answer: &mut Answer,
+) -> bool {
+    let done = match word {
+        "work_both" => work_both(rt, rt.alloc(), answer),
+        "work_alone" => work_alone(rt, rt.alloc(), answer),
+        _ => return false,
+    };
+    answer.keep(done);
+    answer.line("");
+    true
+}
+
+/// How often a job looks for another before it goes on.
+const LOOKS: u64 = 1_000_000;
+
+/// A gate that holds the first job until a second has entered, for so many looks at most.
+#[derive(Drop)]
+struct MeetingGate {
+    /// How many jobs have entered.
+    entered: AtomicU64,
+    /// How many of them were not alone: another had entered by the time when they went on.
+    met: AtomicU64,
+    /// How many have left.
+    left: AtomicU64,
+}
+
+impl Gate for MeetingGate {
+    fn enter(&self, lease: u64) {
+        let _ = lease;
+        self.entered.fetch_add(1, Ordering::SeqCst);
+        for _ in 0..LOOKS {
+            if self.entered.load(Ordering::SeqCst) >= 2 {
+                self.met.fetch_add(1, Ordering::SeqCst);
+                return;
+            }
+            thread::yield_now();
+        }
+    }
+
+    fn leave(&self, lease: u64) {
+        let _ = lease;
+        self.left.fetch_add(1, Ordering::SeqCst);
+    }
+}
+
+/// Two workers at their seats.
+fn work_at_seats<R: Threads + Wait + Clock + Sync>(
+    rt: &R,
+    alloc: Global,
+    office: &Office<Desk>,
+    seats: (Seat<Desk>, Seat<Desk>),
+    gate: &MeetingGate,
+    bells: (Receiver<Bell>, Receiver<Bell>),
+) -> (Seat<Desk>, Seat<Desk>)
+    requires { (seats.0.office ≡ office.now.id) × (seats.1.office ≡ office.now.id) }
+{
+    let (first, second) = seats;
+    let (to_first, to_second) = bells;
+    thread::join(
+        rt,
+        move || -> Seat<Desk>
+            requires { IsSync R.row × (first.office ≡ office.now.id) }
+        { worker(rt, alloc, office, first, gate, &mut NoSubscriber, to_first) },
+        move || -> Seat<Desk>
+            requires { IsSync R.row × (second.office ≡ office.now.id) }
+        {
+            worker(
+                rt,
+                alloc,
+                office,
+                second,
+                gate,
+                &mut NoSubscriber,
+                to_second,
+            )
+        },
+    )
+}
+
+/// An office over a desk, and its three seats, the first in front.
+type Opened = (Office<Desk>, Seat<Desk>, Seat<Desk>, Seat<Desk>);
+
+fn open_three(alloc: Global) -> Result<Opened, AllocError>
+    ensures { IfOk result (λ r. (r.1.office ≡ r.0.id) × (r.2.office ≡ r.0.id) × (r.3.office ≡ r.0.id)) }
+{
+    let Ok((office, mut seats)) = Office::open(alloc, Desk::new(alloc), 3) else {
+        return Err(AllocError);
+    };
+    match (seats.pop(), seats.pop(), seats.pop()) {
+        (Some(third), Some(second), Some(first)) => Ok((office, first, second, third)),
+        _ => Err(AllocError),
+    }
+}
+
+/// The call that adds a deck with one card.
+fn addition(alloc: Global, of: &str) -> Result<Call, AllocError> {
+    let cards = cards_of(alloc, "          BX6    X1")?;
+    Ok(Call::AddDeck(NewDeck::new(name_of(of)?, cards)))
+}
+
+/// Makes a call from a seat. What it answers is looked at and no contract of it.
+fn ask<R: Wait>(rt: &R, office: &Office<Desk>, seat: &mut Seat<Desk>, call: Call) -> Reply
+    requires { seat.old.office ≡ office.now.id }
+    ensures { seat.new.office ≡ seat.old.office }
+{
+    seat.call(rt, office, call)
+}
+
+/// Adds a deck.
+fn add<R: Wait>(
+    rt: &R,
+    alloc: Global,
+    office: &Office<Desk>,
+    seat: &mut Seat<Desk>,
+    of: &str,
+) -> Result<(), AllocError>
+    requires { seat.old.office ≡ office.now.id }
+    ensures { seat.new.office ≡ seat.old.office }
+{
+    let call = addition(alloc, of)?;
+    ask(rt, office, seat, call);
+    Ok(())
+}
+
+/// Adds the decks A and B.
+fn add_two<R: Wait>(
+    rt: &R,
+    alloc: Global,
+    office: &Office<Desk>,
+    seat: &mut Seat<Desk>,
+) -> Result<(), AllocError>
+    requires { seat.old.office ≡ office.now.id }
+    ensures { seat.new.office ≡ seat.old.office }
+{
+    add(rt, alloc, office, seat, "A")?;
+    add(rt, alloc, office, seat, "B")
+}
+
+/// How many decks a reply shows.
+fn push_shown(reply: &Reply, answer: &mut Answer) {
+    if let Reply::Shown(shown) = reply {
+        let decks = shown.publication().objects().len() as u64;
+        answer.number(", decks ", decks);
+    }
+}
+
+/// What a call answers, and how many decks it shows.
+fn push_asked<R: Wait>(
+    rt: &R,
+    office: &Office<Desk>,
+    seat: &mut Seat<Desk>,
+    call: Call,
+    answer: &mut Answer,
+)
+    requires { seat.old.office ≡ office.now.id }
+    ensures { seat.new.office ≡ seat.old.office }
+{
+    let reply = ask(rt, office, seat, call);
+    push_reply(answer, &reply);
+    push_shown(&reply, answer);
+}
+
+/// What a claim finds to do, and how many decks the publication has.
+fn push_published<R: Wait>(
+    rt: &R,
+    office: &Office<Desk>,
+    seat: &mut Seat<Desk>,
+    answer: &mut Answer,
+)
+    requires { seat.old.office ≡ office.now.id }
+{
+    push_asked(rt, office, seat, Call::Claim, answer);
+    answer.push(", ");
+    push_asked(rt, office, seat, Call::Show, answer);
+}
+
+/// Two channels' ends for two workers, and two bells that stop them.
+fn stopped<R: Wait>(rt: &R, alloc: Global) -> Result<(Receiver<Bell>, Receiver<Bell>), AllocError> {
+    let (ring, bells) = crossbeam_channel::unbounded(alloc)?;
+    for _ in 0..2 {
+        let _ = ring.send(rt, Bell::Stop);
+    }
+    Ok((bells.clone()?, bells))
+}
+
+fn work_both<R: Threads + Wait + Clock + Sync>(
+    rt: &R,
+    alloc: Global,
+    answer: &mut Answer,
+) -> Result<(), AllocError> {
+    let bells = stopped(rt, alloc)?;
+    let (office, first, second, mut third) = open_three(alloc)?;
+    answer.keep(add_two(rt, alloc, &office, &mut third));
+    let gate = MeetingGate {
+        entered: AtomicU64::new(0),
+        met: AtomicU64::new(0),
+        left: AtomicU64::new(0),
+    };
+    work_at_seats(rt, alloc, &office, (first, second), &gate, bells);
+    answer.number("entered ", gate.entered.into_inner());
+    answer.number(", met ", gate.met.into_inner());
+    answer.number(", left ", gate.left.into_inner());
+    answer.push(", ");
+    push_published(rt, &office, &mut third, answer);
+    Ok(())
+}
+
+/// The end of a channel with one bell that can't ring again.
+fn rung_once<R: Wait>(rt: &R, alloc: Global) -> Result<Receiver<Bell>, AllocError> {
+    let (ring, bells) = crossbeam_channel::unbounded(alloc)?;
+    let _ = ring.send(rt, Bell::Work);
+    Ok(bells)
+}
+
+fn work_alone<R: Wait + Clock>(
+    rt: &R,
+    alloc: Global,
+    answer: &mut Answer,
+) -> Result<(), AllocError> {
+    let bells = rung_once(rt, alloc)?;
+    let (office, first, _, mut third) = open_three(alloc)?;
+    answer.keep(add_two(rt, alloc, &office, &mut third));
+    let none = &mut NoSubscriber;
+    let first = worker(rt, alloc, &office, first, &OpenGate, none, bells);
+    answer.number("seat ", first.number() as u64);
+    answer.push(", ");
+    push_published(rt, &office, &mut third, answer);
+    Ok(())
+}
