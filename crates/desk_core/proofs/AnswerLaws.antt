@@ -1,6 +1,6 @@
 -- Answers by what speaks against a call.
-use Rattle.std.proofs.Common.{◌≡◌, List, ◌∷◌, inr, Option, Some, None, option_map, refl, ap, IsTrue}
-use Rattle.desk_core.specs.Causes.{first_cause}
+use Rattle.std.proofs.Common.{◌≡◌, Bool, true, false, List, ◌∷◌, inr, Option, Some, None, option_map, refl, ap, IsTrue}
+use Rattle.desk_core.specs.Causes.{when, first_cause}
 use Rattle.desk_core.specs.Desks.{Desk}
 use Rattle.desk_core.specs.Calls.{Reply, Refused, Refusal, OutOfMemory}
 use Rattle.desk_core.specs.Answers.{Answer, unless}
@@ -22,7 +22,17 @@ pub lacking : (against : Option Refusal) (desk : Desk) (a : Answer) → against 
 lacking None desk a e made = inr (made, refl, refl)
 lacking (Some other) desk a e made = cc
 
+-- a reply that is no refusal tells that no cause is
+pub unrefused : (against : Option Refusal) (desk : Desk) (a : Answer) (reply : Reply) → ((refusal : Refusal) → reply ≡ Refused refusal → ⊥) → reply ≡ (unless against desk a).reply → (against ≡ None) × (unless against desk a ≡ a)
+unrefused None desk a reply other e = (refl, refl)
+unrefused (Some refusal) desk a reply other e = absurd (other refusal e)
+
 module _ {A : Type 0} where
+  -- a cause that is absent has no reason
+  pub no-reason : (b : Bool) (cause : A) → when b cause ≡ None → b ≡ false
+  no-reason true cause e = cc
+  no-reason false cause e = refl
+
   -- none of the causes is present
   pub head-clear : (cause : Option A) (causes : List (Option A)) → first_cause (cause ∷ causes) ≡ None → (cause ≡ None) × (first_cause causes ≡ None)
   head-clear None causes e = (refl, e)

@@ -34,7 +34,6 @@ pub mod AnswerLaws
 pub mod ChangeDone
 pub mod CarryDone
 pub mod UndoDone
-pub mod DatedAlways
 pub mod UndoTakesBack
 pub mod UndoneChanges
 pub mod ClaimDone
@@ -48,5 +47,9 @@ pub mod WorkEnds
 pub mod PastSteps
 pub mod UndoLaws
 pub mod PastLaws
+pub mod EachDeck
+pub mod PastRises
+pub mod PastAlways
+pub mod CardsThen
 pub mod BackSteps
 pub mod CopySteps

@@ -62,25 +62,29 @@ none-append (edit ∷ edits) more cards none also =
     let both = first-applies (fault_of edit cards) (first_fault edits (edited cards edit)) none in
     fault-later (fault_of edit cards) (first_fault (edits ++ more) (edited cards edit)) both.0 (none-append edits more (edited cards edit) both.1 also)
 
--- what takes them back applies, and brings back the cards before them
-led-back : (before : List Card) (kept : List KeptEdit) (now : List Card) → length before ≤ 20000 → HaveLed before kept now → (first_fault (backs_of kept) now ≡ None) × (edited_by (backs_of kept) now ≡ before)
-led-back before [] now few led = (refl, sym led)
-led-back before (one ∷ later) now few led =
+-- what takes edits back brings back the cards that they led from
+pub led-brings : (before : List Card) (kept : List KeptEdit) (now : List Card) → HaveLed before kept now → edited_by (backs_of kept) now ≡ before
+led-brings before [] now led = sym led
+led-brings before (one ∷ later) now led =
+    fold-append edited now (backs_of later) (one.back ∷ [])
+    ∙ (ap (λ (cards : List Card). edited cards one.back) (led-brings (edited before one.edit) later now led.2)
+    ∙ (ap (λ (edit : Edit). edited (edited before one.edit) edit) led.1 ∙ undo-made one.edit before (has-place one.edit before led.0)))
+
+-- and applies there
+led-backs : (before : List Card) (kept : List KeptEdit) (now : List Card) → length before ≤ 20000 → HaveLed before kept now → first_fault (backs_of kept) now ≡ None
+led-backs before [] now few led = refl
+led-backs before (one ∷ later) now few led =
     let none = led.0 in
-    let has = has-place one.edit before none in
-    let rest = led-back (edited before one.edit) later now (edited-few one.edit before none few) led.2 in
-    let applies : fault_of one.back (edited before one.edit) ≡ None = ap (λ (back : Edit). fault_of back (edited before one.edit)) led.1 ∙ undo-applies one.edit before has few in
-    let one_applies : first_fault (one.back ∷ []) (edited_by (backs_of later) now) ≡ None =
-    ap (λ (cards : List Card). first_fault (one.back ∷ []) cards) rest.1 ∙ fault-later (fault_of one.back (edited before one.edit)) None applies refl in
-    let back : edited_by (one.back ∷ []) (edited_by (backs_of later) now) ≡ before =
-    ap (λ (cards : List Card). edited cards one.back) rest.1 ∙ (ap (λ (edit : Edit). edited (edited before one.edit) edit) led.1 ∙ undo-made one.edit before has) in
-    (none-append (backs_of later) (one.back ∷ []) now rest.0 one_applies, fold-append edited now (backs_of later) (one.back ∷ []) ∙ back)
+    let mid : List Card = edited before one.edit in
+    let rest = led-backs mid later now (edited-few one.edit before none few) led.2 in
+    let applies : fault_of one.back mid ≡ None = ap (λ (back : Edit). fault_of back mid) led.1 ∙ undo-applies one.edit before (has-place one.edit before none) few in
+    none-append (backs_of later) (one.back ∷ []) now rest (ap (λ (cards : List Card). first_fault (one.back ∷ []) cards) (led-brings mid later now led.2) ∙ one-applies one.back mid applies)
 
 pub backs-apply : (kept : List KeptEdit) (cards : List Card) → IsPastOf kept cards → first_fault (backs_of kept) cards ≡ None
-backs-apply kept cards past = (led-back past.before kept cards past.few past.led).0
+backs-apply kept cards past = led-backs past.before kept cards past.few past.led
 
 pub backs-bring : (kept : List KeptEdit) (cards : List Card) (past : IsPastOf kept cards) → edited_by (backs_of kept) cards ≡ past.before
-backs-bring kept cards past = (led-back past.before kept cards past.few past.led).1
+backs-bring kept cards past = led-brings past.before kept cards past.led
 
 either-behind : (b : Bool) (one : KeptEdit) (kept : List KeptEdit) (later : List KeptEdit) (cards : List Card) → IsPastOf (one ∷ kept) cards → IsPastOf later cards → IsPastOf (cond b (one ∷ kept) later) cards
 either-behind true one kept later cards x y = x

@@ -2,9 +2,8 @@
 use Rattle.std.proofs.Common.{◌≡◌, ℕ, ◌==◌, false, not, ◌||◌, is_none, List, find, Option, Some, None, refl}
 use Rattle.std.specs.List.{list_any}
 use Rattle.desk_core.specs.Desks.{Desk, DeskDeck, Publication, deck_of, deck_named, with_deck, is_leased, is_leased_at}
-use Rattle.desk_core.specs.Calls.{Call, Changes, CardsAt, Cards, Show, Status, Claim, DeliverDeck, GiveUp, Done, Reply, ChangesAre, CardsBefore, NoDeck}
-use Rattle.desk_core.specs.Past.{backs_of}
-use Rattle.desk_core.specs.Earlier.{against_since, edits_behind, changes_of, changes, cards_at_of, cards_at}
+use Rattle.desk_core.specs.Calls.{Call, Changes, CardsAt, Cards, Show, Status, Claim, DeliverDeck, GiveUp, Done, Reply, NoDeck}
+use Rattle.desk_core.specs.Earlier.{against_since, changes_of, changes, cards_at_of, cards_at}
 use Rattle.desk_core.specs.Answers.{answers, against_next}
 use Rattle.desk_core.specs.Reading.{cards, cards_reply, show, show_reply, status}
 use Rattle.desk_core.specs.Claiming.{claim, claim_deck, claim_link, hand_out, hand_out_link, given, is_behind, is_free, is_published}
@@ -35,14 +34,14 @@ cards_stay name desk = tells desk (Cards name) (cards_reply (deck_named name des
 
 changes_of_stay : (name : List ℕ) (since : ℕ) (desk : Desk) (found : Option DeskDeck) → Comes desk (Changes name since) (changes_of since desk found)
 changes_of_stay name since desk None = refused_stays desk (Changes name since) NoDeck
-changes_of_stay name since desk (Some deck) = unless_comes desk (Changes name since) (against_since since deck) _ (tells desk (Changes name since) (ChangesAre deck.version (edits_behind since deck)) refl)
+changes_of_stay name since desk (Some deck) = unless_comes desk (Changes name since) (against_since since deck) _ (tells desk (Changes name since) _ refl)
 
 pub changes_stay : (name : List ℕ) (since : ℕ) (desk : Desk) → Comes desk (Changes name since) (changes name since desk)
 changes_stay name since desk = changes_of_stay name since desk (deck_named name desk)
 
 cards_at_of_stay : (name : List ℕ) (version : ℕ) (desk : Desk) (found : Option DeskDeck) → Comes desk (CardsAt name version) (cards_at_of version desk found)
 cards_at_of_stay name version desk None = refused_stays desk (CardsAt name version) NoDeck
-cards_at_of_stay name version desk (Some deck) = unless_comes desk (CardsAt name version) (against_since version deck) _ (tells desk (CardsAt name version) (CardsBefore version deck.cards (backs_of (edits_behind version deck))) refl)
+cards_at_of_stay name version desk (Some deck) = unless_comes desk (CardsAt name version) (against_since version deck) _ (tells desk (CardsAt name version) _ refl)
 
 pub cards_at_stay : (name : List ℕ) (version : ℕ) (desk : Desk) → Comes desk (CardsAt name version) (cards_at name version desk)
 cards_at_stay name version desk = cards_at_of_stay name version desk (deck_named name desk)

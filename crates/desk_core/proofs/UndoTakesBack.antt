@@ -1,5 +1,5 @@
 -- What takes a change back leads to the cards at the version before; and an undo of a deck's latest change makes it as it stands.
-use Rattle.std.proofs.Common.{◌≡◌, ℕ, zero, suc, ◌+◌, ◌-◌, ◌==◌, ◌≤◌, Bool, true, false, cond, List, [], ◌∷◌, ◌++◌, length, take, map, find, nat_lt, inl, inr, Option, Some, None, Result, Ok, Err, refl, sym, ap, ap₂, ◌∙◌, subst, arith, append_assoc, append-nil, eqb-true}
+use Rattle.std.proofs.Common.{◌≡◌, ℕ, zero, suc, ◌+◌, ◌-◌, ◌==◌, ◌≤◌, Bool, true, false, cond, List, [], ◌∷◌, ◌++◌, length, take, map, find, nat_lt, inl, inr, Option, Some, Result, Ok, Err, refl, sym, ap, ap₂, ◌∙◌, subst, arith, append_assoc, append-nil, eqb-true}
 use Rattle.std.proofs.lemmas.Bool.{ltb-true, ltb-false, false_from_ne_true, cond_both}
 use Rattle.std.proofs.lemmas.List.Sums.{fold-append}
 use Rattle.cards.specs.declared.carrying.Touched.{Touched}
@@ -8,14 +8,15 @@ use Rattle.desk_core.specs.Language.{Card, same_text}
 use Rattle.desk_core.specs.Edits.{Edit, Insert, Replace, Remove, edited, edited_by}
 use Rattle.desk_core.specs.Past.{KeptEdit, behind, change_at, backs_of}
 use Rattle.desk_core.specs.Desks.{Desk, DeskDeck, is_named, deck_named, put_if_named}
-use Rattle.desk_core.specs.Calls.{Undo, Carried, Refused, Refusal, OutOfMemory}
-use Rattle.desk_core.specs.Answers.{Answer, unless}
+use Rattle.desk_core.specs.Calls.{Undo, Carried, Refused, OutOfMemory}
+use Rattle.desk_core.specs.Answers.{Answer}
 use Rattle.desk_core.specs.Changing.{edited_deck}
 use Rattle.desk_core.specs.Changing as changing
 use Rattle.desk_core.specs.Earlier.{edits_behind}
 use Rattle.desk_core.specs.Carrying.{made_in, cards_of, carried_since, against_carry, accept_carried, batch_since_of}
 use Rattle.desk_core.specs.Undoing.{backs_at, against_change, undo, undo_where}
 use Rattle.desk_core.specs.Steps.{Steps}
+use Rattle.desk_core.proofs.AnswerLaws.{unrefused}
 
 -- those behind a version are the last of all
 either-few : (b : Bool) (one : KeptEdit) (later rest : List KeptEdit) → length rest ≤ length later → length (cond b (one ∷ later) rest) ≤ suc (length later)
@@ -63,7 +64,8 @@ change-parts version (one ∷ later) =
     either-between (nat_lt (version - 1) one.version) (nat_lt version one.version) one later (behind (version - 1) later) (behind version later)
     (not-later version one.version) (behind-parts version (one ∷ later)) (change-parts version later)
 
-backs-append : (a b : List KeptEdit) → backs_of (a ++ b) ≡ backs_of b ++ backs_of a
+-- what takes edits back, of those in front last
+pub backs-append : (a b : List KeptEdit) → backs_of (a ++ b) ≡ backs_of b ++ backs_of a
 backs-append [] b = sym (append-nil (backs_of b))
 backs-append (one ∷ a) b = ap (λ (edits : List Edit). edits ++ one.back ∷ []) (backs-append a b) ∙ append_assoc (backs_of b) (backs_of a) (one.back ∷ [])
 
@@ -120,13 +122,8 @@ carried-still stands (edit ∷ edits) still =
     ap (λ (r : Result ℕ Touched). elim r as (λ x. Result (List Edit) Touched) [ Ok now ↦ in_front (placed now edit) (carried (stands_after edit now stands) edits) | Err touched ↦ Err touched ]) (found-still stands edit still)
     ∙ ap₂ (λ (e : Edit) (r : Result (List Edit) Touched). in_front e r) (placed-still edit) (carried-still (stands_after edit (at_place edit) stands) edits (still-after stands edit still))
 
--- an answer that accepts is the one that nothing speaks against
-accepts-through : (against : Option Refusal) (desk : Desk) (a : Answer) (made before : ℕ) (edits : List Edit) → Carried made before edits ≡ (unless against desk a).reply → unless against desk a ≡ a
-accepts-through None desk a made before edits e = refl
-accepts-through (Some refusal) desk a made before edits e = cc
-
--- and of edits that were carried it tells those that were made
-accepts-made : (name who : List ℕ) (desk : Desk) (deck : DeskDeck) (moved : Result (List Edit) Touched) (made before : ℕ) (edits : List Edit) →
+-- an answer that accepts edits that were carried tells those that were made
+pub accepts-made : (name who : List ℕ) (desk : Desk) (deck : DeskDeck) (moved : Result (List Edit) Touched) (made before : ℕ) (edits : List Edit) →
     Carried made before edits ≡ (accept_carried name who desk deck moved).reply → (moved ≡ Ok edits) × ((accept_carried name who desk deck moved).desk ≡ changing.edited name who edits desk)
 accepts-made name who desk deck (Ok told) made before edits e = let same : told ≡ edits = cc in (ap (λ (es : List Edit). Ok es) same, ap (λ (es : List Edit). changing.edited name who es desk) same)
 accepts-made name who desk deck (Err touched) made before edits e = cc
@@ -157,9 +154,9 @@ latest_back desk next name who version deck made before edits found none (inl ga
     let last = accept_carried name who desk deck (carried_since version backs deck) in
     let over : undo name version who desk ≡ undo_where name version who desk (Some deck) = ap (undo_where name version who desk) found in
     let told : Carried made before edits ≡ (undo_where name version who desk (Some deck)).reply = gave.0 ∙ ap (λ (a : Answer). a.reply) over in
-    let one = accepts-through (against_change version deck) desk (batch_since_of name version backs who desk (Some deck)) made before edits told in
+    let one = (unrefused (against_change version deck) desk (batch_since_of name version backs who desk (Some deck)) (Carried made before edits) (λ refusal e. cc) told).1 in
     let told_on : Carried made before edits ≡ (batch_since_of name version backs who desk (Some deck)).reply = told ∙ ap (λ (a : Answer). a.reply) one in
-    let two = accepts-through (against_carry version backs desk deck) desk last made before edits told_on in
+    let two = (unrefused (against_carry version backs desk deck) desk last (Carried made before edits) (λ refusal e. cc) told_on).1 in
     let both = accepts-made name who desk deck (carried_since version backs deck) made before edits (told_on ∙ ap (λ (a : Answer). a.reply) two) in
     let still : carried_since version backs deck ≡ Ok backs = ap (λ (kept : List KeptEdit). carried (seen_before (made_in kept)) backs) none ∙ carried-still (seen_before []) backs (λ place. refl) in
     let same : edits ≡ backs = let e : Ok edits ≡ Ok backs = sym both.0 ∙ still in cc in

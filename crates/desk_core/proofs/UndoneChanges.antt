@@ -1,17 +1,14 @@
 -- An accepted change of edits, taken back at once: the deck has its cards again.
-use Rattle.std.proofs.Common.{◌≡◌, ℕ, zero, suc, ◌+◌, ◌-◌, ◌≤◌, ◌<◌, Bool, true, false, cond, not, nat_le, nat_lt, List, [], ◌∷◌, ◌++◌, length, take, drop, Option, Some, None, option_map, Result, Ok, Err, inl, inr, refl, sym, ap, ◌∙◌, subst, arith}
-use Rattle.std.proofs.lemmas.Bool.{ltb-true, leb-true, leb-false, le-leb, lt-ltb, false_from_ne_true}
-use Rattle.std.proofs.lemmas.List.Sums.{fold-append}
+use Rattle.std.proofs.Common.{◌≡◌, ℕ, ◌+◌, ◌-◌, ◌≤◌, ◌<◌, Bool, true, false, cond, not, nat_le, nat_lt, List, [], ◌∷◌, Option, Some, None, option_map, Result, Ok, Err, inl, inr, refl, sym, ap, ◌∙◌, subst, arith}
+use Rattle.std.proofs.lemmas.Bool.{leb-false}
 use Rattle.cards.specs.declared.carrying.Touched.{Touched}
 use Rattle.turn_office.specs.declared.history.Entry.{Entry}
-use Rattle.desk_core.specs.Language.{Card}
 use Rattle.desk_core.specs.Edits.{Edit, fault_of, first_fault}
 use Rattle.desk_core.specs.Edits as cards
 use Rattle.desk_core.specs.Causes.{when}
 use Rattle.desk_core.specs.Changes.{Change, Edited}
-use Rattle.desk_core.specs.Past.{Past, KeptEdit, kept_edits, with_edits, most_kept, left_of_more, last_version, without_oldest, behind, backs_of}
-use Rattle.desk_core.specs.Led.{HaveLed}
-use Rattle.desk_core.specs.Desks.{Desk, DeskDeck, is_named, deck_named}
+use Rattle.desk_core.specs.Past.{KeptEdit, backs_of}
+use Rattle.desk_core.specs.Desks.{Desk, DeskDeck, deck_named}
 use Rattle.desk_core.specs.Calls.{Call, AddDeck, PutDeck, DropDeck, EditDeck, Batch, EditSince, BatchSince, Undo, Changes, CardsAt, Cards, Show, Status, Claim, DeliverDeck, DeliverLink, GiveUp, Reply, Carried, Refused, Refusal, OutOfMemory, OldVersion, Forgotten, NoChange, BatchSize}
 use Rattle.desk_core.specs.Answers.{Answer, unless, against_next}
 use Rattle.desk_core.specs.Changing.{accepted, edited_deck, edited, against_seen, against_edit, against_batch, is_batch, refusal_of}
@@ -20,18 +17,16 @@ use Rattle.desk_core.specs.Carrying.{cards_of, carried_since, against_carry, acc
 use Rattle.desk_core.specs.Undoing.{backs_at, against_change, undo, undo_where}
 use Rattle.desk_core.specs.Steps.{answer, Steps}
 use Rattle.desk_core.specs.Runs.{History, Runs, accepts, carried_in, change_asked, change_in}
-use Rattle.desk_core.proofs.AnswerLaws.{head-clear, map-clear}
-use Rattle.desk_core.proofs.PastLaws.{led-kept, one-applies}
-use Rattle.desk_core.proofs.UndoLaws.{has-place, undo-made}
+use Rattle.desk_core.proofs.AnswerLaws.{unrefused, no-reason, head-clear, map-clear}
+use Rattle.desk_core.proofs.PastLaws.{one-applies}
 use Rattle.desk_core.proofs.CarryDone.{carry-clear}
-use Rattle.desk_core.proofs.TellingDecks.{found_told}
-use Rattle.desk_core.proofs.DatedAlways.{AreDated, IsDated, dated-edited, dated-last}
+use Rattle.desk_core.proofs.PastAlways.{HasPast, past-named}
+use Rattle.desk_core.proofs.PastRises.{none-behind, rise-after, cards-after}
 use Rattle.desk_core.proofs.UndoTakesBack.{found-formed, latest_back}
 
 -- an answer that accepts is the one that nothing speaks against
 unless-accepted : (against : Option Refusal) (desk : Desk) (a : Answer) (reply : Reply) → reply ≡ (unless against desk a).reply → accepts reply ≡ true → (against ≡ None) × (unless against desk a ≡ a)
-unless-accepted None desk a reply e is = (refl, refl)
-unless-accepted (Some refusal) desk a reply e is = absurd (let no : accepts reply ≡ false = ap accepts e in cc)
+unless-accepted against desk a reply e is = unrefused against desk a reply (λ refusal other. let no : accepts reply ≡ false = ap accepts other in cc) e
 
 change-told : (is : Bool) (asked : Option Change) (change : Change) → cond is asked None ≡ Some change → (is ≡ true) × (asked ≡ Some change)
 change-told true asked change e = (refl, e)
@@ -152,84 +147,13 @@ module _ (desk next : Desk) (name : List ℕ) (edits : List Edit) (deck : DeskDe
       let no : accepts made.reply ≡ false = ap accepts starved.1 in
       absurd (let e : true ≡ false = sym both.0 ∙ no in cc)
 
--- nothing is behind a version where no edit is of a later one
-none-behind : (version : ℕ) (kept : List KeptEdit) → AreDated version kept → behind version kept ≡ []
-none-behind version [] dated = refl
-none-behind version (one ∷ later) dated =
-    let low = dated.0 in
-    let no : nat_lt version one.version ≡ false = false_from_ne_true (nat_lt version one.version) (λ is. let less = ltb-true version one.version is in absurd (omega (arith, low, less))) in
-    ap (λ (b : Bool). cond b (one ∷ later) (behind version later)) no ∙ none-behind version later dated.1
-
--- behind a version stand the edits of the next one
-new-behind : (version : ℕ) (by : List ℕ) (edits : List Edit) (before : List Card) → behind version (kept_edits (version + 1) by edits before) ≡ kept_edits (version + 1) by edits before
-new-behind version by [] before = refl
-new-behind version by (edit ∷ edits) before =
-    let yes : nat_lt version (version + 1) ≡ true = lt-ltb version (version + 1) (omega arith) in
-    ap (λ (b : Bool). cond b (kept_edits (version + 1) by (edit ∷ edits) before) (behind version (kept_edits (version + 1) by edits (cards.edited before edit)))) yes
-
--- of edits of this version all, the last is of it
-last-all : (version since count : ℕ) (by : List ℕ) (edits : List Edit) (before : List Card) → since ≡ version → last_version since (take count (kept_edits version by edits before)) ≡ version
-last-all version since zero by edits before same = same
-last-all version since (suc count) by [] before same = same
-last-all version since (suc count) by (edit ∷ edits) before same = last-all version version count by edits (cards.edited before edit) refl
-
-last-new : (version since count : ℕ) (by : List ℕ) (old : List KeptEdit) (edits : List Edit) (before : List Card) → length old < count → count ≤ length (old ++ kept_edits version by edits before) →
-    last_version since (take count (old ++ kept_edits version by edits before)) ≡ version
-last-new version since zero by old edits before late within = absurd (omega (arith, late))
-last-new version since (suc count) by [] [] before late within = absurd (omega (arith, within))
-last-new version since (suc count) by [] (edit ∷ edits) before late within = last-all version version count by edits (cards.edited before edit) refl
-last-new version since (suc count) by (one ∷ old) edits before late within = last-new version one.version count by old edits before (omega (arith, late)) (omega (arith, within))
-
--- without some of the older ones
-drop-behind : (version count : ℕ) (old new : List KeptEdit) → AreDated version old → behind version new ≡ new → count ≤ length old → behind version (drop count (old ++ new)) ≡ new
-drop-behind version zero [] new dated all few = all
-drop-behind version zero (one ∷ old) new dated all few =
-    let low = dated.0 in
-    let no : nat_lt version one.version ≡ false = false_from_ne_true (nat_lt version one.version) (λ is. let less = ltb-true version one.version is in absurd (omega (arith, low, less))) in
-    ap (λ (b : Bool). cond b (one ∷ old ++ new) (behind version (old ++ new))) no ∙ drop-behind version zero old new dated.1 all (omega arith)
-drop-behind version (suc count) [] new dated all few = absurd (omega (arith, few))
-drop-behind version (suc count) (one ∷ old) new dated all few = drop-behind version count old new dated.1 all (omega (arith, few))
-
-module _ (version : ℕ) (by : List ℕ) (edits : List Edit) (before : List Card) (past : Past) (dated : AreDated version past.edits) where
-  abbrev new : List KeptEdit
-  new = kept_edits (version + 1) by edits before
-
-  abbrev whole : Past
-  whole = with_edits new past
-
-  kept-short : (count : ℕ) (few : Bool) → nat_le count (length past.edits) ≡ few → count ≤ length whole.edits → nat_le (version + 1) (without_oldest count whole).since ≡ false → behind version (without_oldest count whole).edits ≡ new
-  kept-short count true is within kept = drop-behind version count past.edits new dated (new-behind version by edits before) (leb-true count (length past.edits) is)
-  kept-short count false is within kept =
-      let late : length past.edits < count = leb-false count (length past.edits) is in
-      let last = last-new (version + 1) past.since count by past.edits edits before late within in
-      let yes : nat_le (version + 1) (without_oldest count whole).since ≡ true = ap (λ (n : ℕ). nat_le (version + 1) n) last ∙ le-leb (version + 1) (version + 1) (omega arith) in
-      absurd (let e : true ≡ false = sym yes ∙ kept in cc)
-
-  kept-whole : (all : Bool) → nat_le (version + 1) (cond all whole (without_oldest (length whole.edits - left_of_more) whole)).since ≡ false →
-      behind version (cond all whole (without_oldest (length whole.edits - left_of_more) whole)).edits ≡ new
-  kept-whole true kept = drop-behind version zero past.edits new dated (new-behind version by edits before) (omega arith)
-  kept-whole false kept = kept-short (length whole.edits - left_of_more) (nat_le (length whole.edits - left_of_more) (length past.edits)) refl (omega arith) kept
-
--- what takes edits back brings back the cards that they led from
-led-brings : (before : List Card) (kept : List KeptEdit) (now : List Card) → HaveLed before kept now → cards.edited_by (backs_of kept) now ≡ before
-led-brings before [] now led = sym led
-led-brings before (one ∷ later) now led =
-    let rest = led-brings (cards.edited before one.edit) later now led.2 in
-    fold-append cards.edited now (backs_of later) (one.back ∷ [])
-    ∙ (ap (λ (cs : List Card). cards.edited cs one.back) rest
-    ∙ (ap (λ (edit : Edit). cards.edited (cards.edited before one.edit) edit) led.1 ∙ undo-made one.edit before (has-place one.edit before led.0)))
-
-not-cause : (b : Bool) (cause : Refusal) → when b cause ≡ None → b ≡ false
-not-cause true cause e = cc
-not-cause false cause e = refl
-
 -- the change of a deck that is asked for is kept where nothing speaks against it
-kept-then : (version : ℕ) (deck : DeskDeck) → against_change version deck ≡ None → nat_le version deck.past.since ≡ false
+kept-then : (version : ℕ) (deck : DeskDeck) → against_change version deck ≡ None → deck.past.since < version
 kept-then version deck clear =
     let none : Option Refusal = when (not (is_batch (backs_at version deck))) NoChange in
     let a = head-clear (when (nat_lt deck.version version) (OldVersion deck.version)) (when (nat_le version deck.past.since) (Forgotten deck.past.since) ∷ none ∷ []) clear in
     let b = head-clear (when (nat_le version deck.past.since) (Forgotten deck.past.since)) (none ∷ []) a.1 in
-    not-cause (nat_le version deck.past.since) (Forgotten deck.past.since) b.0
+    leb-false version deck.past.since (no-reason (nat_le version deck.past.since) (Forgotten deck.past.since) b.0)
 
 -- a change of edits, taken back at once
 pub undone : (begun : ℕ) (history : History) (desk next last : Desk) (made : Entry Call Reply) (name who : List ℕ) (deck : DeskDeck) (edits moved : List Edit) (version before : ℕ) →
@@ -246,15 +170,14 @@ undone begun history desk next last made name who deck edits moved version befor
         let form = edited_deck (desk.version + 1) by edits in
         let same : next.version ≡ desk.version + 1 = ap (λ (d : Desk). d.version) is in
         let there : deck_named name next ≡ Some (form deck) = ap (λ (d : Desk). deck_named name d) is ∙ found-formed name form desk.decks deck (λ d. refl) found in
-        let dated : IsDated desk.version deck = (found_told (IsDated desk.version) (is_named name) desk.decks deck (dated-last begun history desk runs) found).0 in
-        let late : edits_behind next.version (form deck) ≡ [] = ap (λ (v : ℕ). edits_behind v (form deck)) same ∙ none-behind (desk.version + 1) (form deck).past.edits (dated-edited desk.version by edits deck dated) in
+        let has : HasPast desk.version deck.cards deck.past = past-named begun history desk name deck runs found in
+        let late : edits_behind next.version (form deck) ≡ [] =
+        ap (λ (v : ℕ). edits_behind v (form deck)) same ∙ none-behind (desk.version + 1) (form deck).past.since (desk.version + 1) (form deck).past.edits (rise-after desk.version by edits deck.cards deck.past has.rises) (omega arith) in
         let back = latest_back next last name who next.version (form deck) version before moved there late (inl gave) in
         let over : undo name next.version who next ≡ undo_where name next.version who next (Some (form deck)) = ap (undo_where name next.version who next) there in
         let clear = unless-accepted (against_change next.version (form deck)) next (batch_since_of name next.version (backs_at next.version (form deck)) who next (Some (form deck))) (Carried version before moved)
         (gave.0 ∙ ap (λ (a : Answer). a.reply) over) refl in
-        let kept : nat_le (desk.version + 1) (form deck).past.since ≡ false = sym (ap (λ (v : ℕ). nat_le v (form deck).past.since) same) ∙ kept-then next.version (form deck) clear.0 in
+        let kept : (form deck).past.since ≤ desk.version = let less = kept-then next.version (form deck) clear.0 in omega (arith, less, same) in
         let place : next.version - 1 ≡ desk.version = omega (arith, same) in
-        let stands : behind desk.version (form deck).past.edits ≡ kept_edits (desk.version + 1) by edits deck.cards =
-        kept-whole desk.version by edits deck.cards deck.past dated (nat_le (length (with_edits (kept_edits (desk.version + 1) by edits deck.cards) deck.past).edits) most_kept) kept in
-        let brings = led-brings deck.cards (kept_edits (desk.version + 1) by edits deck.cards) (cards.edited_by edits deck.cards) (led-kept (desk.version + 1) by edits deck.cards applied) in
-        (back.0, back.1, back.2 ∙ (ap (λ (v : ℕ). cards_of v (form deck)) place ∙ (ap (λ (k : List KeptEdit). cards.edited_by (backs_of k) (cards.edited_by edits deck.cards)) stands ∙ brings)))
+        let before : cards_of desk.version deck ≡ deck.cards = ap (λ (kept : List KeptEdit). cards.edited_by (backs_of kept) deck.cards) (none-behind desk.version deck.past.since desk.version deck.past.edits has.rises (omega arith)) in
+        (back.0, back.1, back.2 ∙ (ap (λ (v : ℕ). cards_of v (form deck)) place ∙ (cards-after desk.version by edits deck.cards deck.past has.rises desk.version applied (omega arith) kept ∙ before)))

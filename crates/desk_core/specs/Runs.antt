@@ -2,7 +2,7 @@
 use Rattle.std.specs.Prelude.{◌≡◌, ℕ, ◌+◌, ◌-◌, ◌≤◌, Bool, true, false, List, [], ◌∷◌, take, length, filter_map, Option, Some, None, option_map, if◌then◌else◌}
 use Rattle.turn_office.specs.declared.history.Entry.{Entry}
 use Rattle.turn_office.specs.Histories.{Leads}
-use Rattle.desk_core.specs.Language.{Deck, listing_of, image_of}
+use Rattle.desk_core.specs.Language.{Card, Deck, same_text, listing_of, image_of}
 use Rattle.desk_core.specs.Edits.{Edit}
 use Rattle.desk_core.specs.Changes.{Change, Added, Dropped, Edited, Put, decks_after}
 use Rattle.desk_core.specs.Desks.{Desk, Publication, new_desk_at, decks_of}
@@ -51,6 +51,11 @@ changes_in history = filter_map change_in history
 -- the decks at a version: after as many accepted changes as it took to come there
 abbrev pub decks_at : ℕ → ℕ → History → List Deck
 decks_at begun version history = decks_after (take (version - begun) (changes_in history))
+
+-- the cards of the deck of a name among decks, if it is there
+abbrev pub cards_named : List ℕ → List Deck → Option (List Card)
+cards_named name [] = None
+cards_named name (deck ∷ decks) = if same_text name deck.name then Some deck.cards else cards_named name decks
 
 -- a publication at its version: listing and image are the build of the decks after the accepted changes up to it, the first so many where the desk went on behind no version
 pub record IsBuildOf (begun : ℕ) (history : History) (desk : Desk) (publication : Publication) : Type 0 where

@@ -2,12 +2,15 @@
 ghost use Rattle.std.specs.Prelude.{◌≡◌, ℕ, ◌+◌, ◌-◌, ◌≤◌, true, false, List, [], Some, reverse};
 ghost use Rattle.turn_office.specs.declared.history.Entry.{Entry};
 ghost use Rattle.turn_office.specs.Histories.{Leads};
+ghost use Rattle.desk_core.specs.Language.{Card};
 ghost use Rattle.desk_core.specs.Changes.{Edited};
 ghost use Rattle.desk_core.specs.Edits.{Edit, edited_by};
-ghost use Rattle.desk_core.specs.Desks.{Desk, DeskDeck, Publication, deck_named, greatest_number};
-ghost use Rattle.desk_core.specs.Calls.{Call, Refusal, Reply, Show, Shown, Claim, Idle, DeckJob, DeckWork, Refused, Undo, Carried};
+ghost use Rattle.desk_core.specs.Past.{KeptEdit};
+ghost use Rattle.desk_core.specs.Led.{HaveLed};
+ghost use Rattle.desk_core.specs.Desks.{Desk, DeskDeck, Publication, decks_of, deck_named, greatest_number};
+ghost use Rattle.desk_core.specs.Calls.{Call, Refusal, Reply, Show, Shown, Claim, Idle, DeckJob, DeckWork, Refused, Undo, Carried, Changes, ChangesAre, CardsAt, CardsBefore};
 ghost use Rattle.desk_core.specs.Steps.{answer, Steps};
-ghost use Rattle.desk_core.specs.Runs.{History, Runs, change_in, IsBuildOf, IsUnchanged, IsOfItsChanges, IsPublishedAt, IsPublishedFrom};
+ghost use Rattle.desk_core.specs.Runs.{History, Runs, change_in, decks_at, cards_named, IsBuildOf, IsUnchanged, IsOfItsChanges, IsPublishedAt, IsPublishedFrom};
 ghost use Rattle.desk_core.specs.Jobs.{IsDue, IsPartOf, accepted_edits, handed_edits};
 ghost use Rattle.desk_core.specs.Earlier.{edits_behind};
 ghost use Rattle.desk_core.specs.Carrying.{cards_of};
@@ -78,4 +81,23 @@ pub fn undo_takes_back()
     ensures undone { (begun : ℕ) (history : History) (desk next last : Desk) (made : Entry Call Reply) (name who : List ℕ) (deck : DeskDeck) (edits moved : List Edit) (version before : ℕ) →
         Runs begun history desk → deck_named name desk ≡ Some deck → Steps desk made.call made.reply next → change_in made ≡ Some (Edited name edits) →
         Steps next (Undo name next.version who) (Carried version before moved) last → (after : DeskDeck) × (deck_named name last ≡ Some after) × (after.cards ≡ deck.cards) }
+{}
+
+/// What is kept of a deck's changes is what happened, in every run: from the version on behind which all is
+/// kept, the cards of now, with what is kept behind a version taken back, are those that the deck had at that
+/// version; and from these the edits behind it led to the cards of now, each kept with what takes it back. So
+/// the cards that a desk shows of a version, those of now with the edits beside them made, are those that the
+/// deck had, and the changes that it tells led from there to the cards of now.
+pub fn kept_changes()
+    ensures cards { (begun : ℕ) (history : History) (desk : Desk) (name : List ℕ) (deck : DeskDeck) (version : ℕ) →
+        Runs begun history desk → deck_named name desk ≡ Some deck → deck.past.since ≤ version →
+        cards_named name (decks_at begun version history) ≡ Some (cards_of version deck) }
+    ensures led { (begun : ℕ) (history : History) (desk : Desk) (name : List ℕ) (deck : DeskDeck) (version : ℕ) →
+        Runs begun history desk → deck_named name desk ≡ Some deck → HaveLed (cards_of version deck) (edits_behind version deck) deck.cards }
+    ensures shown { (begun : ℕ) (history : History) (desk next : Desk) (name : List ℕ) (version told : ℕ) (cards : List Card) (backs : List Edit) →
+        Runs begun history desk → Steps desk (CardsAt name version) (CardsBefore told cards backs) next →
+        cards_named name (decks_at begun version history) ≡ Some (edited_by backs cards) }
+    ensures told { (begun : ℕ) (history : History) (desk next : Desk) (name : List ℕ) (version last : ℕ) (edits : List KeptEdit) →
+        Runs begun history desk → Steps desk (Changes name version) (ChangesAre last edits) next →
+        (was : List Card) × (now : List Card) × (cards_named name (decks_at begun version history) ≡ Some was) × (cards_named name (decks_of desk) ≡ Some now) × HaveLed was edits now }
 {}

@@ -1,0 +1,229 @@
+-- What holds of each deck after each step: a property of its name, cards and past that the changes of a desk keep.
+use Rattle.std.proofs.Common.{◌≡◌, ℕ, ◌+◌, ◌≤◌, ◌==◌, nat_le, nat_lt, Bool, true, false, cond, not, ◌||◌, is_none, List, [], ◌∷◌, length, map, find, is_some, Option, Some, None, Result, Ok, Err, option_map, refl, sym, ap, ◌∙◌, subst, inl, inr}
+use Rattle.std.specs.List.{list_any, AllByRecursion}
+use Rattle.std.proofs.lemmas.Bool.{cond_both, ltb-false}
+use Rattle.cards.specs.declared.carrying.Touched.{Touched}
+use Rattle.turn_office.specs.Histories.{Leads}
+use Rattle.desk_core.specs.Language.{Card, Deck}
+use Rattle.desk_core.specs.Causes.{when}
+use Rattle.desk_core.specs.Edits.{Edit, most_cards, fault_of, first_fault, edited_by}
+use Rattle.desk_core.specs.Past.{Past, begun_at, past_after}
+use Rattle.desk_core.specs.Desks.{Desk, DeskDeck, Publication, most_decks, is_named, deck_named, put_if_named, is_leased, is_leased_at, decks_of}
+use Rattle.desk_core.specs.Calls.{Call, AddDeck, PutDeck, DropDeck, EditDeck, Batch, EditSince, BatchSince, Undo, Changes, CardsAt, Cards, Show, Status, Claim, DeliverDeck, DeliverLink, GiveUp, Done, Reply, Refusal, NameTaken, TooManyDecks, DeckFull, NoDeck, BatchSize}
+use Rattle.desk_core.specs.Answers.{Answer, unless, against_next}
+use Rattle.desk_core.specs.Changing.{accepted, against_add, added_deck, added, against_put, replaced_deck, put, put_where, against_drop, dropped, edited_deck, edited, against_edit, against_batch, refusal_of, is_batch, against_seen}
+use Rattle.desk_core.specs.Carrying.{carried_since, against_carry, accept_carried, edit_since_of, batch_since_of, bad_edit, alone}
+use Rattle.desk_core.specs.Undoing.{backs_at, against_change, undo_where}
+use Rattle.desk_core.specs.Earlier.{against_since, changes_of, cards_at_of}
+use Rattle.desk_core.specs.Claiming.{claim, claim_deck, claim_link, hand_out, hand_out_link, given, is_behind, is_free, is_published}
+use Rattle.desk_core.specs.Delivering.{deliver_to, take_result, deck_leased, lost, given_back, stored, is_for, is_sound, same_decks, deliver_link, give_up_of}
+use Rattle.desk_core.specs.OwnNames.{HaveOwnNames}
+use Rattle.desk_core.specs.Steps.{answer, Steps}
+use Rattle.desk_core.specs.Runs.{History}
+use Rattle.desk_core.proofs.AnswerLaws.{no-reason, head-clear, map-clear}
+use Rattle.desk_core.proofs.CarryDone.{carry-clear}
+use Rattle.desk_core.proofs.OwnAlways.{own-answer}
+use Rattle.desk_core.proofs.PastLaws.{one-applies}
+use Rattle.desk_core.proofs.Same.{equal_texts}
+use Rattle.desk_core.proofs.TellingDecks.{none_found, all_next, all_weaker, all_filtered, all_added, all_put}
+
+named-head : (name : List ℕ) (d : DeskDeck) (decks : List DeskDeck) (named : Bool) → is_named name d ≡ named → find (is_named d.name) decks ≡ None →
+    AllByRecursion (λ (x : DeskDeck). is_named name x ≡ true → find (is_named name) decks ≡ Some x) decks →
+    AllByRecursion (λ (x : DeskDeck). is_named name x ≡ true → cond named (Some d) (find (is_named name) decks) ≡ Some x) (d ∷ decks)
+named-head name d decks true is none later =
+    let names : name ≡ d.name = equal_texts name d.name is in (
+      λ named. refl,
+      all_weaker (λ (x : DeskDeck). is_named d.name x ≡ false) (λ (x : DeskDeck). is_named name x ≡ true → Some d ≡ Some x)
+          (λ x differs named. absurd (let told : is_named name x ≡ false = ap (λ (n : List ℕ). is_named n x) names ∙ differs in let e : true ≡ false = sym named ∙ told in cc)) decks (none_found (is_named d.name) decks none),
+    )
+named-head name d decks false is none later = (λ named. absurd (let e : true ≡ false = sym named ∙ is in cc), later)
+
+-- of decks with names of their own, one of a name is the one that is found
+pub named-found : (name : List ℕ) (decks : List DeskDeck) → HaveOwnNames decks → AllByRecursion (λ (x : DeskDeck). is_named name x ≡ true → find (is_named name) decks ≡ Some x) decks
+named-found name [] own = tt
+named-found name (d ∷ decks) own = named-head name d decks (is_named name d) refl own.0 (named-found name decks own.1)
+
+-- what is told of a deck at a version of its desk
+abbrev pub OfDeck : (ℕ → List ℕ → List Card → Past → Type 0) → ℕ → DeskDeck → Type 0
+OfDeck R version deck = R version deck.name deck.cards deck.past
+
+-- what the changes at a version keep: it holds of a deck that begins, of one with edits that apply, and of the others one version on
+pub record IsKept (R : ℕ → List ℕ → List Card → Past → Type 0) (version : ℕ) : Type 0 where
+  pub begins : (name : List ℕ) (cards : List Card) → length cards ≤ 20000 → R (version + 1) name cards (begun_at (version + 1))
+  pub edits : (name by : List ℕ) (made : List Edit) (cards : List Card) (past : Past) → R version name cards past → first_fault made cards ≡ None →
+      R (version + 1) name (edited_by made cards) (past_after (version + 1) by made cards past)
+  pub later : (name : List ℕ) (cards : List Card) (past : Past) → R version name cards past → R (version + 1) name cards past
+
+not-full : (cards : List Card) (refusal : Refusal) → when (nat_lt most_cards (length cards)) refusal ≡ None → length cards ≤ 20000
+not-full cards refusal none = ltb-false 20000 (length cards) (no-reason (nat_lt most_cards (length cards)) refusal none)
+
+module _ (R : ℕ → List ℕ → List Card → Past → Type 0) (desk : Desk) (keeps : IsKept R desk.version) (own : HaveOwnNames desk.decks) (all : AllByRecursion (OfDeck R desk.version) desk.decks) where
+  abbrev Told : Answer → Type 0
+  Told a = AllByRecursion (OfDeck R a.desk.version) a.desk.decks
+
+  told-unless : (against : Option Refusal) (a : Answer) → (against ≡ None → Told a) → Told (unless against desk a)
+  told-unless None a next = next refl
+  told-unless (Some refusal) a next = all
+
+  -- the decks that are as they were, at the next version
+  all-later : AllByRecursion (OfDeck R (desk.version + 1)) desk.decks
+  all-later = all_weaker (OfDeck R desk.version) (OfDeck R (desk.version + 1)) (λ d so. keeps.later d.name d.cards d.past so) desk.decks all
+
+  told-added : (deck : Deck) → length deck.cards ≤ 20000 → Told (accepted (added deck desk))
+  told-added deck few = all_added (OfDeck R (desk.version + 1)) desk.decks (added_deck (desk.version + 1) deck) all-later (keeps.begins deck.name deck.cards few)
+
+  few-added : (deck : Deck) → against_add deck desk ≡ None → length deck.cards ≤ 20000
+  few-added deck clear =
+      let next : List (Option Refusal) = against_next desk.version ∷ [] in
+      let full : Option Refusal = when (nat_lt most_cards (length deck.cards)) DeckFull in
+      let many : Option Refusal = when (nat_le most_decks (length desk.decks)) TooManyDecks in
+      let a = head-clear (when (is_some (deck_named deck.name desk)) NameTaken) (many ∷ full ∷ next) clear in
+      let b = head-clear many (full ∷ next) a.1 in
+      let c = head-clear full next b.1 in
+      not-full deck.cards DeckFull c.0
+
+  few-put : (new : Deck) (zero : Bool) → cond zero (against_add new desk) (Some NoDeck) ≡ None → length new.cards ≤ 20000
+  few-put new true clear = few-added new clear
+  few-put new false clear = cc
+
+  told-put : (new : Deck) (seen : ℕ) (found : Option DeskDeck) → Told (put_where new seen desk found)
+  told-put new seen None = told-unless (against_put seen new desk None) (accepted (put new desk None)) (λ clear. told-added new (few-put new (seen == 0) clear))
+  told-put new seen (Some deck) = told-unless (against_put seen new desk (Some deck)) (accepted (put new desk (Some deck)))
+      (λ clear.
+      let next : List (Option Refusal) = against_next desk.version ∷ [] in
+      let full : Option Refusal = when (nat_lt most_cards (length new.cards)) DeckFull in
+      let a = head-clear (against_seen seen deck) (full ∷ next) clear in
+      let b = head-clear full next a.1 in
+      all_put (OfDeck R desk.version) (OfDeck R (desk.version + 1)) new.name (replaced_deck (desk.version + 1) new.cards) (λ d so named. keeps.begins d.name new.cards (not-full new.cards DeckFull b.0)) (λ d so other. keeps.later d.name d.cards d.past so) desk.decks all)
+
+  told-edited : (name who : List ℕ) (edits : List Edit) (deck : DeskDeck) → deck_named name desk ≡ Some deck → first_fault edits deck.cards ≡ None → Told (accepted (edited name who edits desk))
+  told-edited name who edits deck found none =
+      let Found : DeskDeck → Type 0 = λ d. is_named name d ≡ true → find (is_named name) desk.decks ≡ Some d in
+      all_put (λ (d : DeskDeck). OfDeck R desk.version d × Found d) (OfDeck R (desk.version + 1)) name (edited_deck (desk.version + 1) who edits)
+      (λ d both named.
+      let same : deck ≡ d = let e : Some deck ≡ Some d = sym found ∙ both.1 named in cc in
+      keeps.edits d.name who edits d.cards d.past both.0 (subst (λ (x : DeskDeck). first_fault edits x.cards ≡ None) same none))
+      (λ d both other. keeps.later d.name d.cards d.past both.0)
+      desk.decks (all_next (OfDeck R desk.version) Found (λ (d : DeskDeck). OfDeck R desk.version d × Found d) (λ d so is. (so, is)) desk.decks all (named-found name desk.decks own))
+
+  told-edit : (name : List ℕ) (seen : ℕ) (edit : Edit) (who : List ℕ) (found : Option DeskDeck) → deck_named name desk ≡ found → Told (unless (against_edit seen edit desk found) desk (accepted (edited name who (edit ∷ []) desk)))
+  told-edit name seen edit who None none = all
+  told-edit name seen edit who (Some deck) found = told-unless (against_edit seen edit desk (Some deck)) (accepted (edited name who (edit ∷ []) desk))
+      (λ clear.
+      let next : List (Option Refusal) = against_next desk.version ∷ [] in
+      let fault : Option Refusal = option_map refusal_of (fault_of edit deck.cards) in
+      let a = head-clear (against_seen seen deck) (fault ∷ next) clear in
+      let b = head-clear fault next a.1 in
+      told-edited name who (edit ∷ []) deck found (one-applies edit deck.cards (map-clear refusal_of (fault_of edit deck.cards) b.0)))
+
+  told-batch : (name : List ℕ) (seen : ℕ) (edits : List Edit) (who : List ℕ) (found : Option DeskDeck) → deck_named name desk ≡ found → Told (unless (against_batch seen edits desk found) desk (accepted (edited name who edits desk)))
+  told-batch name seen edits who None none = all
+  told-batch name seen edits who (Some deck) found = told-unless (against_batch seen edits desk (Some deck)) (accepted (edited name who edits desk))
+      (λ clear.
+      let next : List (Option Refusal) = against_next desk.version ∷ [] in
+      let fault : Option Refusal = option_map bad_edit (first_fault edits deck.cards) in
+      let size : Option Refusal = when (not (is_batch edits)) BatchSize in
+      let a = head-clear (against_seen seen deck) (size ∷ fault ∷ next) clear in
+      let b = head-clear size (fault ∷ next) a.1 in
+      let c = head-clear fault next b.1 in
+      told-edited name who edits deck found (map-clear bad_edit (first_fault edits deck.cards) c.0))
+
+  told-carried : (name who : List ℕ) (seen : ℕ) (edits : List Edit) (deck : DeskDeck) (moved : Result (List Edit) Touched) → deck_named name desk ≡ Some deck → against_carry seen edits desk deck ≡ None →
+      carried_since seen edits deck ≡ moved → Told (accept_carried name who desk deck moved)
+  told-carried name who seen edits deck (Ok made) found clear is = told-edited name who made deck found (carry-clear seen edits made desk deck clear is).apply_now
+  told-carried name who seen edits deck (Err touched) found clear is = all
+
+  told-edit-since : (name : List ℕ) (seen : ℕ) (edit : Edit) (who : List ℕ) (found : Option DeskDeck) → deck_named name desk ≡ found → Told (edit_since_of name seen edit who desk found)
+  told-edit-since name seen edit who None none = all
+  told-edit-since name seen edit who (Some deck) found = told-unless (option_map alone (against_carry seen (edit ∷ []) desk deck)) _
+      (λ clear. told-carried name who seen (edit ∷ []) deck (carried_since seen (edit ∷ []) deck) found (map-clear alone (against_carry seen (edit ∷ []) desk deck) clear) refl)
+
+  told-batch-since : (name : List ℕ) (seen : ℕ) (edits : List Edit) (who : List ℕ) (found : Option DeskDeck) → deck_named name desk ≡ found → Told (batch_since_of name seen edits who desk found)
+  told-batch-since name seen edits who None none = all
+  told-batch-since name seen edits who (Some deck) found = told-unless (against_carry seen edits desk deck) _ (λ clear. told-carried name who seen edits deck (carried_since seen edits deck) found clear refl)
+
+  told-undo : (name : List ℕ) (version : ℕ) (who : List ℕ) (found : Option DeskDeck) → deck_named name desk ≡ found → Told (undo_where name version who desk found)
+  told-undo name version who None none = all
+  told-undo name version who (Some deck) found = told-unless (against_change version deck) _ (λ clear. told-batch-since name version (backs_at version deck) who (Some deck) found)
+
+  told-changes : (since : ℕ) (found : Option DeskDeck) → Told (changes_of since desk found)
+  told-changes since None = all
+  told-changes since (Some deck) = told-unless (against_since since deck) _ (λ clear. all)
+
+  told-cards-at : (version : ℕ) (found : Option DeskDeck) → Told (cards_at_of version desk found)
+  told-cards-at version None = all
+  told-cards-at version (Some deck) = told-unless (against_since version deck) _ (λ clear. all)
+
+  -- a form under the same name, with the same cards and past
+  told-form : (name : List ℕ) (form : DeskDeck → DeskDeck) → ((d : DeskDeck) → OfDeck R desk.version d → OfDeck R desk.version (form d)) → AllByRecursion (OfDeck R desk.version) (map (put_if_named name form) desk.decks)
+  told-form name form same = all_put (OfDeck R desk.version) (OfDeck R desk.version) name form (λ d so named. same d so) (λ d so other. so) desk.decks all
+
+  told-claim-deck : (found : Option DeskDeck) → Told (claim_deck desk found)
+  told-claim-deck None = all
+  told-claim-deck (Some deck) = told-unless (against_next desk.leases) (hand_out deck desk) (λ clear. told-form deck.name (given (desk.leases + 1)) (λ d so. so))
+
+  told-claim-link : Told (claim_link desk)
+  told-claim-link =
+      cond_both (is_published desk.version desk.publication) _ _ Told (λ shown. all)
+      (λ behind. cond_both (is_leased_at desk.version desk.link) _ _ Told (λ out. all) (λ free. told-unless (against_next desk.leases) (hand_out_link desk) (λ clear. all)))
+
+  told-claim : Told (claim desk)
+  told-claim = cond_both (list_any is_behind desk.decks) _ _ Told (λ behind. told-claim-deck (find is_free desk.decks)) (λ built. told-claim-link)
+
+  told-result : (done : Done) (deck : DeskDeck) → Told (take_result done desk deck)
+  told-result done deck =
+      cond_both (not (is_for done deck) || is_none done.kept) _ _ Told (λ other. told-form deck.name lost (λ d so. so))
+      (λ ours. cond_both (not (done.version == deck.version)) _ _ Told (λ stale. told-form deck.name (given_back done.kept) (λ d so. so))
+      (λ present. cond_both (not (is_sound done deck)) _ _ Told (λ other. told-form deck.name lost (λ d so. so))
+      (λ sound. told-form deck.name (stored done.kept) (λ d so. so))))
+
+  told-deliver-to : (done : Done) (found : Option DeskDeck) → Told (deliver_to done desk found)
+  told-deliver-to done None = all
+  told-deliver-to done (Some deck) = told-result done deck
+
+  told-link : (number : ℕ) (publication : Publication) → Told (deliver_link number publication desk)
+  told-link number publication =
+      cond_both (is_leased number desk.link) _ _ Told
+      (λ out. cond_both (not (is_leased_at publication.version desk.link)) _ _ Told (λ other. all)
+      (λ ours. cond_both (not (publication.version == desk.version)) _ _ Told (λ old. all)
+      (λ present. cond_both (not (same_decks publication.decks (decks_of desk))) _ _ Told (λ other. all) (λ same. all))))
+      (λ unknown. all)
+
+  told-give-up : (number : ℕ) (found : Option DeskDeck) → Told (give_up_of number desk found)
+  told-give-up number None = cond_both (is_leased number desk.link) _ _ Told (λ out. all) (λ unknown. all)
+  told-give-up number (Some deck) = told-form deck.name lost (λ d so. so)
+
+  -- after each answer
+  pub told-answer : (call : Call) → Told (answer call desk)
+  told-answer (AddDeck deck) = told-unless (against_add deck desk) (accepted (added deck desk)) (λ clear. told-added deck (few-added deck clear))
+  told-answer (PutDeck deck seen) = told-put deck seen (deck_named deck.name desk)
+  told-answer (DropDeck name seen) = told-unless (against_drop seen desk (deck_named name desk)) (accepted (dropped name desk)) (λ clear. all_filtered (OfDeck R (desk.version + 1)) (λ deck. not (is_named name deck)) desk.decks all-later)
+  told-answer (EditDeck name seen edit who) = told-edit name seen edit who (deck_named name desk) refl
+  told-answer (Batch name seen edits who) = told-batch name seen edits who (deck_named name desk) refl
+  told-answer (EditSince name seen edit who) = told-edit-since name seen edit who (deck_named name desk) refl
+  told-answer (BatchSince name seen edits who) = told-batch-since name seen edits who (deck_named name desk) refl
+  told-answer (Undo name version who) = told-undo name version who (deck_named name desk) refl
+  told-answer (Changes name since) = told-changes since (deck_named name desk)
+  told-answer (CardsAt name version) = told-cards-at version (deck_named name desk)
+  told-answer (Cards name) = all
+  told-answer Show = all
+  told-answer Status = all
+  told-answer Claim = told-claim
+  told-answer (DeliverDeck done) = told-deliver-to done (deck_leased done.lease desk)
+  told-answer (DeliverLink number publication) = told-link number publication
+  told-answer (GiveUp number) = told-give-up number (deck_leased number desk)
+
+-- decks with names of their own, of each of which it holds
+pub record AllSo (R : ℕ → List ℕ → List Card → Past → Type 0) (desk : Desk) : Type 0 where
+  pub own : HaveOwnNames desk.decks
+  pub all : AllByRecursion (OfDeck R desk.version) desk.decks
+
+-- after each step
+pub so-next : (R : ℕ → List ℕ → List Card → Past → Type 0) (desk : Desk) (call : Call) (reply : Reply) (next : Desk) → Steps desk call reply next → IsKept R desk.version → AllSo R desk → AllSo R next
+so-next R desk call reply next (inl gave) keeps so = subst (AllSo R) (sym gave.1) (record { own = own-answer desk so.own call; all = told-answer R desk keeps so.own so.all call })
+so-next R desk call reply next (inr starved) keeps so = subst (AllSo R) (sym starved.2) so
+
+-- what the changes at each version keep holds on each desk that is reached
+pub so-through : (R : ℕ → List ℕ → List Card → Past → Type 0) (desk last : Desk) (history : History) → ((version : ℕ) → IsKept R version) → Leads Steps desk history last → AllSo R desk → AllSo R last
+so-through R desk last [] keeps leads so = subst (AllSo R) leads so
+so-through R desk last (entry ∷ more) keeps leads so = so-through R leads.0 last more keeps leads.2 (so-next R desk entry.call entry.reply leads.0 leads.1 (keeps desk.version) so)

@@ -1,0 +1,15 @@
+use Rattle.desk_core.proofs.CardsThen.{cards_then, shown_then, told_then}
+use Rattle.desk_core.proofs.PastAlways.{led_there}
+use Rattle.desk_core.proofs.laws.kept_changes.Goals as goal
+
+pub returns-clause-cards : goal.returns-clause-cards
+returns-clause-cards c = cards_then
+
+pub returns-clause-led : goal.returns-clause-led
+returns-clause-led c = led_there
+
+pub returns-clause-shown : goal.returns-clause-shown
+returns-clause-shown c begun history desk next name version told cards backs runs step = shown_then begun history desk next name version runs told cards backs step
+
+pub returns-clause-told : goal.returns-clause-told
+returns-clause-told c begun history desk next name version last edits runs step = told_then begun history desk next name version runs last edits step
