@@ -50,6 +50,7 @@ pub mod PastLaws
 pub mod EachDeck
 pub mod PastRises
 pub mod PastAlways
+pub mod NobodyUndone
 pub mod CardsThen
 pub mod BackSteps
 pub mod CopySteps

@@ -1,5 +1,6 @@
 //! What holds in every run of a desk, each law as the contract of a function that does nothing.
-ghost use Rattle.std.specs.Prelude.{◌≡◌, ℕ, ◌+◌, ◌-◌, ◌≤◌, true, false, List, [], Some, reverse};
+ghost use Rattle.std.specs.Prelude.{◌≡◌, ℕ, ◌+◌, ◌-◌, ◌≤◌, true, false, List, [], ◌∷◌, Some, reverse};
+ghost use Rattle.cards.specs.Converging.{edits_in, Converge};
 ghost use Rattle.turn_office.specs.declared.history.Entry.{Entry};
 ghost use Rattle.turn_office.specs.Histories.{Leads};
 ghost use Rattle.desk_core.specs.Language.{Card};
@@ -8,12 +9,12 @@ ghost use Rattle.desk_core.specs.Edits.{Edit, edited_by};
 ghost use Rattle.desk_core.specs.Past.{KeptEdit};
 ghost use Rattle.desk_core.specs.Led.{HaveLed};
 ghost use Rattle.desk_core.specs.Desks.{Desk, DeskDeck, Publication, decks_of, deck_named, greatest_number};
-ghost use Rattle.desk_core.specs.Calls.{Call, Refusal, Reply, Show, Shown, Claim, Idle, DeckJob, DeckWork, Refused, Undo, Carried, Changes, ChangesAre, CardsAt, CardsBefore};
+ghost use Rattle.desk_core.specs.Calls.{Call, Refusal, Reply, Show, Shown, Claim, Idle, DeckJob, DeckWork, Refused, EditSince, BatchSince, Undo, Carried, Changes, ChangesAre, CardsAt, CardsBefore};
 ghost use Rattle.desk_core.specs.Steps.{answer, Steps};
 ghost use Rattle.desk_core.specs.Runs.{History, Runs, change_in, decks_at, cards_named, IsBuildOf, IsUnchanged, IsOfItsChanges, IsPublishedAt, IsPublishedFrom};
 ghost use Rattle.desk_core.specs.Jobs.{IsDue, IsPartOf, accepted_edits, handed_edits};
 ghost use Rattle.desk_core.specs.Earlier.{edits_behind};
-ghost use Rattle.desk_core.specs.Carrying.{cards_of};
+ghost use Rattle.desk_core.specs.Carrying.{made_in, cards_of};
 ghost use Rattle.desk_core.specs.Undoing.{backs_at};
 ghost use Rattle.desk_core.specs.Rounds.{after_rounds, most_rounds};
 ghost use Rattle.desk_core.specs.Progress.{has_leases, has_work, hands_a_deck, hands_a_link};
@@ -100,4 +101,19 @@ pub fn kept_changes()
     ensures told { (begun : ℕ) (history : History) (desk next : Desk) (name : List ℕ) (version last : ℕ) (edits : List KeptEdit) →
         Runs begun history desk → Steps desk (Changes name version) (ChangesAre last edits) next →
         (was : List Card) × (now : List Card) × (cards_named name (decks_at begun version history) ≡ Some was) × (cards_named name (decks_of desk) ≡ Some now) × HaveLed was edits now }
+{}
+
+/// Who edits by a version that he saw, or takes a change back, undoes nothing of others: in every run the edits
+/// that are made converge with those that others made behind that version. They do to the cards of now what they
+/// would have done to those of that version, and every edit of others is still made.
+pub fn nobody_is_undone()
+    ensures edit { (begun : ℕ) (history : History) (desk next : Desk) (name who : List ℕ) (deck : DeskDeck) (edit : Edit) (moved : List Edit) (seen version before : ℕ) →
+        Runs begun history desk → deck_named name desk ≡ Some deck → Steps desk (EditSince name seen edit who) (Carried version before moved) next →
+        Converge (cards_of seen deck) (edits_in (made_in (edits_behind seen deck))) (edit ∷ []) moved }
+    ensures batch { (begun : ℕ) (history : History) (desk next : Desk) (name who : List ℕ) (deck : DeskDeck) (edits moved : List Edit) (seen version before : ℕ) →
+        Runs begun history desk → deck_named name desk ≡ Some deck → Steps desk (BatchSince name seen edits who) (Carried version before moved) next →
+        Converge (cards_of seen deck) (edits_in (made_in (edits_behind seen deck))) edits moved }
+    ensures undo { (begun : ℕ) (history : History) (desk next : Desk) (name who : List ℕ) (deck : DeskDeck) (moved : List Edit) (seen version before : ℕ) →
+        Runs begun history desk → deck_named name desk ≡ Some deck → Steps desk (Undo name seen who) (Carried version before moved) next →
+        Converge (cards_of seen deck) (edits_in (made_in (edits_behind seen deck))) (backs_at seen deck) moved }
 {}

@@ -8,7 +8,8 @@
 //! that takes memory, the refusal for want of it; `Runs` and `Jobs` what is promised of each run
 //! (`every_run`, `jobs_once`), `Progress`, `Making` and `Rounds` that work is handed out, and ends
 //! (`work_is_handed_out`, `work_ends`); `undo_takes_back` says what an undo leaves, `kept_changes` that
-//! what is kept of a deck is what happened. `Stored`, `OwnNames`, `Turns` and `Delivered` say how the code keeps a desk, and no law names
+//! what is kept of a deck is what happened, `nobody_is_undone` that edits which are carried undo nothing of
+//! others. `Stored`, `OwnNames`, `Turns` and `Delivered` say how the code keeps a desk, and no law names
 //! them. The code has a method for each call, with its part of the relation as its clause. A deck is found
 //! by its name and changed at its place; a delivery compares cards by value; growth comes first. Not
 //! promised: that a job comes back, or that the desk becomes idle while others change it.
@@ -52,7 +53,8 @@ pub use desk::Desk;
 pub use held::Held;
 pub use jobs::{DeckWork, LinkWork, Start};
 pub use laws::{
-    every_run, jobs_once, kept_changes, undo_takes_back, work_ends, work_is_handed_out,
+    every_run, jobs_once, kept_changes, nobody_is_undone, undo_takes_back, work_ends,
+    work_is_handed_out,
 };
 pub use leases::Lease;
 pub use listed::Listed;
