@@ -8,6 +8,7 @@ pub mod PieceLaws
 pub mod PieceSteps
 -- The literals.
 pub mod LiteralSteps
+pub mod ToldOperands
 -- The order of the deck.
 pub mod ReverseLaws
 pub mod OntoLaws

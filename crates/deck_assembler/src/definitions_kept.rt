@@ -8,7 +8,7 @@ ghost use Rattle.deck_assembler.specs.FirstSymbols.{symbol_in, with_symbol, with
 
 use crate::symbol_table::SymbolTable;
 use expr_forms::{Form, LinkedNames, Name, Part, Relocation};
-use statement_coder::{Defines, Reading};
+use statement_coder::{Defines, KeptSizing, Reading};
 use std::alloc::AllocError;
 
 /// The value of a name that EXT defines.
@@ -67,5 +67,24 @@ pub(crate) fn define(
         Defines::Nothing => Ok(()),
         Defines::Symbol(form) => symbols.define(location, form),
         Defines::Externals => define_names(symbols, reading),
+    }
+}
+
+/// Takes in the symbol of its location field that a sized statement defines, if it defines one: without
+/// a location field it does not.
+pub(crate) fn define_own(
+    symbols: &mut SymbolTable,
+    location: &[u8],
+    sizing: &KeptSizing,
+) -> Result<(), AllocError>
+    ensures { OnOk result (symbol_in symbols.new ≡ with_defined location.now operands.Unread sizing.now.defines (symbol_in symbols.old)) }
+{
+    if location.is_empty() {
+        return Ok(());
+    }
+    match sizing.defines() {
+        Defines::Nothing => Ok(()),
+        Defines::Symbol(form) => symbols.define(location, form),
+        Defines::Externals => Ok(()),
     }
 }

@@ -5,14 +5,17 @@ ghost use Rattle.definitions.specs.Literals.{literals_in, value_literals, datum_
 ghost use Rattle.definitions.specs.Operands as operands;
 ghost use Rattle.expr_forms.specs.Elements.{literal_as, sign_as};
 ghost use Rattle.expr_forms.specs.Readings.{datum_as, bit_field_as};
+ghost use Rattle.operations.specs.OperationsAs.{operation_as};
 ghost use Rattle.statement_coder.specs.Readings.{IsReading, IsLawful};
-ghost use Rattle.deck_assembler.specs.LiteralsRead.{shape_literals, bit_literals};
+ghost use Rattle.deck_assembler.specs.LiteralsRead.{shape_literals, bit_literals, is_told, kept_literals};
+ghost use Rattle.expr_forms.specs.Kept.{field_of};
 
 use expr_forms::{
-    BitField, BitFields, ConWords, CountedItem, Datum, Expr, Field, Literal, Number, Shape, Sign,
-    item_literal, number_literal,
+    BitField, BitFields, ConWords, CountedItem, Datum, Expr, Field, KeptField, Literal, Number,
+    Shape, Sign, item_literal, number_literal,
 };
-use statement_coder::Reading;
+use operations::Operation;
+use statement_coder::{KeptReading, Reading};
 use std::alloc::AllocError;
 use use_blocks::Literals;
 
@@ -136,5 +139,55 @@ pub(crate) fn add_literals(words: &mut Literals, reading: &Reading<'_>) -> Resul
         Reading::Value(_) => Ok(()),
         Reading::Names(_) => Ok(()),
         Reading::Use(_) => Ok(()),
+    }
+}
+
+/// Takes in the literals in K or n of an instruction that was kept.
+fn add_field_kept(words: &mut Literals, field: &KeptField) -> Result<(), AllocError>
+    ensures { OnOk result (words.new ≡ with_literals (shape_literals (field_of field.now)) words.old) }
+{
+    match field {
+        KeptField::Address(expression) => add_expression(words, &expression.expression()),
+        KeptField::Count(expression) => add_expression(words, &expression.expression()),
+        KeptField::Absent => Ok(()),
+        KeptField::Zero => Ok(()),
+        KeptField::Short(_) => Ok(()),
+        KeptField::Displacement(_) => Ok(()),
+        KeptField::Shift(_) => Ok(()),
+        KeptField::Wide(_) => Ok(()),
+    }
+}
+
+/// Whether what was kept of the operand of this operation tells its literals: all but what is read again
+/// does, and the words of DATA have none.
+pub(crate) fn is_told(operation: Operation, kept: &KeptReading) -> bool
+    ensures { result ≡ is_told (operation_as operation) kept.now }
+{
+    match kept {
+        KeptReading::Again => false,
+        KeptReading::Data(_) => matches!(operation, Operation::Data),
+        KeptReading::Unread => true,
+        KeptReading::Bad => true,
+        KeptReading::Instruction(_) => true,
+        KeptReading::Vfd(_) => true,
+        KeptReading::Value(_) => true,
+        KeptReading::Use(_) => true,
+    }
+}
+
+/// Takes in the literals of an operand that was kept, without making the reading of it; DATA has none,
+/// and of one that is read again none are kept. Some of them are taken in where memory runs out.
+pub(crate) fn add_kept_literals(words: &mut Literals, kept: &KeptReading) -> Result<(), AllocError>
+    ensures { OnOk result (words.new ≡ with_literals (kept_literals kept.now) words.old) }
+{
+    match kept {
+        KeptReading::Instruction(shape) => add_field_kept(words, &shape.field),
+        KeptReading::Vfd(fields) => add_fields(words, fields.fields()),
+        KeptReading::Again => Ok(()),
+        KeptReading::Unread => Ok(()),
+        KeptReading::Bad => Ok(()),
+        KeptReading::Data(_) => Ok(()),
+        KeptReading::Value(_) => Ok(()),
+        KeptReading::Use(_) => Ok(()),
     }
 }

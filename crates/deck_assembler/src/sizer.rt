@@ -1,5 +1,5 @@
 //! The statements of a deck, sized one behind the other.
-ghost use Rattle.std.specs.Prelude.{◌≡◌, ◌≤◌, ◌+◌, ◌-◌, ◌^◌, ◌∷◌, [], List, min, reverse, IfOk, IfSome, OnOk};
+ghost use Rattle.std.specs.Prelude.{◌≡◌, ◌≤◌, ◌+◌, ◌-◌, ◌^◌, ◌∷◌, [], List, min, reverse, IfOk, OnOk};
 ghost use Rattle.definitions.specs.Cards as cards;
 ghost use Rattle.definitions.specs.Operands as operands;
 ghost use Rattle.definitions.specs.Operands.{operand_of};
@@ -13,12 +13,13 @@ ghost use Rattle.statement_coder.specs.StatementsRead.{IsRead};
 ghost use Rattle.use_blocks.specs.Changes.{IsAccepted};
 ghost use Rattle.use_blocks.specs.EffectsAs.{change_as, effect_as};
 ghost use Rattle.use_blocks.specs.BlockLengths.{block_names};
+ghost use Rattle.deck_assembler.specs.LiteralsRead.{IsTold};
 ghost use Rattle.deck_assembler.specs.PieceSteps.{with_statement};
 ghost use Rattle.deck_assembler.specs.SizedDecks.{IsSizedStatement};
 ghost use Rattle.deck_assembler.specs.Sizers.{stood, ahead, IsNext, IsNoted, IsSizer};
 
-use crate::definitions_kept::define;
-use crate::literal_words::add_literals;
+use crate::definitions_kept::{define, define_own};
+use crate::literal_words::{add_kept_literals, add_literals, is_told};
 use crate::pieces::{Piece, add_statement};
 use crate::sized_statement::{SizedStatement, label_of};
 use crate::symbol_table::SymbolTable;
@@ -133,7 +134,7 @@ impl Sizer {
     }
 
     /// Takes in the literals of a statement that was sized before, what it defines, and the words that
-    /// it reaches: its operand is read again where it was not kept.
+    /// it reaches: its operand is read again where what was kept does not tell them.
     fn note_kept(
         &mut self,
         statement: &Statement<'_>,
@@ -148,12 +149,33 @@ impl Sizer {
         ensures state { self.new.state ≡ self.old.state }
         ensures pieces { self.new.pieces ≡ self.old.pieces }
     {
-        let defines = sized.sizing.defines();
-        if let Some(reading) = bare_reading(&sized.kept) {
-            return self.note(&reading, statement.location, defines, effect);
+        if is_told(statement.operation, &sized.kept) {
+            return self.note_told(&sized.kept, statement.location, &sized.sizing, effect);
         }
+        let defines = sized.sizing.defines();
         let read = statement.read_operand(sized.sizing.number_base());
         self.note(&read.reading, statement.location, defines, effect)
+    }
+
+    /// Takes in the same of a statement whose operand was kept, which is not read for it: such an
+    /// operand gives no names. Some of it is taken in where memory runs out.
+    fn note_told(
+        &mut self,
+        kept: &KeptReading,
+        location: &[u8],
+        sizing: &KeptSizing,
+        effect: &Effect,
+    ) -> Result<(), AllocError>
+        requires blocks { block_names self.old.lengths ≡ names_of_blocks self.old.state.blocks }
+        requires accepted { IsAccepted (change_as effect.now.change) self.old.state }
+        ensures noted { OnOk result ((operand : operands.Operand) → IsTold kept.now operand → IsNoted location.now operand sizing.now.defines (effect_as effect.now) self.old self.new) }
+        ensures state { self.new.state ≡ self.old.state }
+        ensures pieces { self.new.pieces ≡ self.old.pieces }
+    {
+        add_kept_literals(&mut self.literals, kept)?;
+        define_own(&mut self.symbols, location, sizing)?;
+        self.lengths.follow(&self.state, effect)?;
+        Ok(())
     }
 
     /// Takes in what a statement gives to its deck: its literals, what it defines, and the words that
@@ -176,22 +198,5 @@ impl Sizer {
         define(&mut self.symbols, location, reading, defines)?;
         self.lengths.follow(&self.state, effect)?;
         Ok(())
-    }
-}
-
-/// What was kept of an operand that is no DATA, if anything was.
-fn bare_reading(kept: &KeptReading) -> Option<Reading<'_>>
-    ensures reading { IfSome result (λ reading. (operand : operands.Operand) → IsKeptReading kept.now operand → IsReading reading operand) }
-    ensures lawful { IfSome result IsLawful }
-{
-    match kept {
-        KeptReading::Data(_) => None,
-        KeptReading::Again => None,
-        KeptReading::Unread => kept.reading(),
-        KeptReading::Bad => kept.reading(),
-        KeptReading::Instruction(_) => kept.reading(),
-        KeptReading::Vfd(_) => kept.reading(),
-        KeptReading::Value(_) => kept.reading(),
-        KeptReading::Use(_) => kept.reading(),
     }
 }
