@@ -42,6 +42,7 @@ mod symbol_table;
 mod early_symbols;
 mod early_trial;
 mod head_deck;
+mod known_statements;
 mod old_deck;
 mod sized_deck;
 mod sizer;

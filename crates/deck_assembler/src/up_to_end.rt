@@ -5,10 +5,12 @@ ghost use Rattle.cards.specs.declared.statement_list.Span.{Span};
 ghost use Rattle.definitions.specs.Cards as deck_cards;
 ghost use Rattle.definitions.specs.DeckKinds.{is_end, up_to_end, kind_of_statements};
 ghost use Rattle.definitions.specs.Fields.{Fields, fields_of};
+ghost use Rattle.definitions.specs.Operations.{operation_of};
 ghost use Rattle.definitions.specs.Statements as statements;
 ghost use Rattle.definitions.specs.Statements.{AreNumbered};
 ghost use Rattle.definitions.specs.States.{names_of_blocks};
 ghost use Rattle.operations.specs.KindsFound.{kind_found};
+ghost use Rattle.operations.specs.OperationsAs.{operation_as};
 ghost use Rattle.statement_coder.specs.Meters.{RisesBy};
 ghost use Rattle.use_blocks.specs.BlockLengths.{block_names};
 ghost use Rattle.use_blocks.specs.Changes.{IsAccepted};
@@ -21,6 +23,7 @@ ghost use Rattle.deck_assembler.specs.Sizers.{stood, ahead, IsNext, IsSizer};
 ghost use Rattle.deck_assembler.specs.Tails.{HasTailIfAny, HasTailWithin};
 ghost use Rattle.deck_assembler.specs.declared.old_deck.Stage.TheVariants as stages;
 
+use crate::known_statements::known_statement;
 use crate::old_deck::OldDeck;
 use crate::sized_statement::SizedStatement;
 use crate::sizer::Sizer;
@@ -102,12 +105,13 @@ impl Sizer {
         requires blocks { block_names self.old.lengths ≡ names_of_blocks self.old.state.blocks }
         requires span { IsSpan (length cards.now) span }
         requires accepted { IsAccepted (change_as sized.sizing.change) self.old.state }
+        requires operation { operation_as sized.operation ≡ operation_of kind (fields_of (statement_at cards.now span).cards).operation }
         ensures end { IfOk result (λ ended. ended ≡ is_end (fields_of (statement_at cards.now span).cards)) }
         ensures kept { OnOk result ((earlier : List statements.Statement) → IsNext cards.now earlier sized.cards (statement_at cards.now span) → IsSizer kind cards.now earlier self.old →
             IsSizedStatement kind earlier (stood earlier) (ahead cards.now earlier) sized (statement_at cards.now span) →
             IsSizer kind cards.now (statement_at cards.now span ∷ earlier) self.new) }
     {
-        let statement = Statement::read(kind, span.of(cards), room);
+        let statement = known_statement(kind, sized.operation, span.of(cards), room);
         let ended = is_end(statement.name);
         self.keep(alloc, &statement, sized)?;
         Ok(ended)

@@ -22,6 +22,12 @@ keep_span-requires-clause-accepted c =
     let both = subst (λ (found : Option SizedStatement). IfSome found (IsThatOf cards span c.args.self.now c.args.old_deck.now)) c.in-Some.is c.in_ok-kept.ensures.sized kind r.0 earlier r.2 in
     sized-accepted kind cards earlier (statement_at cards span) (stood earlier) (ahead cards earlier) c.in-Some.sized c.args.self.now r.2.sizer_is both.0
 
+pub keep_span-requires-clause-operation : goal.keep_span-requires-clause-operation
+keep_span-requires-clause-operation c =
+    let r = c.requires.ready in
+    let both = subst (λ (found : Option SizedStatement). IfSome found (IsThatOf c.args.cards.now c.args.span c.args.self.now c.args.old_deck.now)) c.in-Some.is c.in_ok-kept.ensures.sized c.args.kind r.0 r.1 r.2 in
+    sym both.0.operation
+
 pub returns-in-Some-clause-taken : goal.returns-in-Some-clause-taken
 returns-in-Some-clause-taken c =
     let kind = c.args.kind in
