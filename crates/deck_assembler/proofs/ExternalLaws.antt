@@ -80,7 +80,7 @@ other-definitions v Abs _ operand location value counter e = refl
 other-definitions v Periph op.Equ operand location value counter e = refl
 other-definitions v Periph _ operand location value counter e = refl
 
-other-externals : (operation : Operation) (definitions : List Definition) → is_ext operation ≡ false → externals_by operation definitions ≡ []
+pub other-externals : (operation : Operation) (definitions : List Definition) → is_ext operation ≡ false → externals_by operation definitions ≡ []
 other-externals op.Ext definitions e = absurd (true≢false e)
 other-externals _ definitions e = refl
 

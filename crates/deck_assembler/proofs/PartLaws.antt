@@ -31,6 +31,7 @@ use Rattle.deck_assembler.specs.Walks.{Whole, IsWhole, all_settled, context_in, 
 use Rattle.deck_assembler.specs.DeckWalks.{IsDone, IsListing, shown_with}
 use Rattle.deck_assembler.specs.declared.deck_lines.DeckLines.{DeckLines}
 use Rattle.deck_assembler.specs.declared.deck_walk.Making.{Making}
+use Rattle.deck_assembler.proofs.UnlistedLaws.{all-listed}
 
 -- lines behind which no card is left
 shown-all : (kind : DeckKind) (rows : List BlockRow) (items : List code.Item) (before : ℕ) (cards : List Card) (lines : List Line) (shown : List Shown) (stood : ℕ) (ahead : List Card) →
@@ -150,7 +151,7 @@ made-parts name whole made parts is done are =
       rows = are.rows ∙ is.rows;
       literals = are.literals ∙ is.sized.literals;
       entries = are.entries ∙ done.noted.entries ∙ entries-all kind settled;
-      externals = are.externals ∙ done.noted.externals.externals;
+      externals = are.externals ∙ all-listed whole made.names is done.noted;
       shown = moved (λ k r i l. AreShown k r i 0 whole.cards l (reverse (map only_listed whole.others ++ map (shown_of context) settled)))
           (subst (AreShown kind whole.rows made.lines.items.items 0 whole.cards made.lines.lines.items) listing shown);
       coded = moved (λ k r i l. AreCoded k r i l (reverse (map (coded_of context) settled)))

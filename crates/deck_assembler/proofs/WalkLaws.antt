@@ -73,14 +73,16 @@ silent-noted whole earlier given names silent other defines noted =
     record {
       entries = noted.entries ∙ not-entered kind (all_settled whole) (settle kind before given) before silent;
       seen = noted.seen;
-      externals = nothing-followed kind before given names.externals.seen names.externals.names.items other defines noted.externals;
+      lists = noted.lists;
+      externals = λ on. nothing-followed kind before given names.externals.seen names.externals.names.items other defines (noted.externals on);
+      none = noted.none;
     }
 
 -- one that defines the symbol of its location field alone leaves the entries as they are
 pub symbol-noted : (whole : Whole) (earlier : List Statement) (given : Statement) (names : DeckNames) (new : List (ℕ × Form)) (form : Form) → let settled = settle whole.deck.kind (settled_all whole.deck.kind earlier) given in
     enters whole.deck.kind settled.read.operation ≡ false → is_ext settled.read.operation ≡ false → record { name = settled.read.fields.location; form = form } ∷ [] ≡ settled.definitions →
     symbol_in new ≡ with_symbol settled.read.fields.location form (symbol_in names.externals.seen) → AreNoted whole earlier names →
-    AreNoted whole (given ∷ earlier) (record { entries = names.entries; externals = record { seen = new; names = names.externals.names } })
+    AreNoted whole (given ∷ earlier) (record { entries = names.entries; externals = record { seen = new; names = names.externals.names }; lists = names.lists })
 symbol-noted whole earlier given names new form silent other defines symbols noted =
     let kind = whole.deck.kind in
     let before = settled_all kind earlier in
@@ -88,7 +90,23 @@ symbol-noted whole earlier given names new form silent other defines symbols not
     record {
       entries = noted.entries ∙ not-entered kind (all_settled whole) settled before silent;
       seen = noted.seen;
-      externals = symbol-followed kind before given names.externals.seen new names.externals.names.items settled.read.fields.location form other defines symbols noted.externals;
+      lists = noted.lists;
+      externals = λ on. symbol-followed kind before given names.externals.seen new names.externals.names.items settled.read.fields.location form other defines symbols (noted.externals on);
+      none = noted.none;
+    }
+
+-- one of a deck that has no EXT gives no external
+pub unlisted-noted : (whole : Whole) (earlier : List Statement) (given : Statement) (names : DeckNames) → names.lists ≡ false →
+    enters whole.deck.kind (settle whole.deck.kind (settled_all whole.deck.kind earlier) given).read.operation ≡ false → AreNoted whole earlier names → AreNoted whole (given ∷ earlier) names
+unlisted-noted whole earlier given names off silent noted =
+    let kind = whole.deck.kind in
+    let before = settled_all kind earlier in
+    record {
+      entries = noted.entries ∙ not-entered kind (all_settled whole) (settle kind before given) before silent;
+      seen = noted.seen;
+      lists = noted.lists;
+      externals = λ on. absurd (true≢false (sym on ∙ off));
+      none = noted.none;
     }
 
 -- a line stays what it is where fields are put behind those that there are

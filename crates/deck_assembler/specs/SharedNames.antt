@@ -1,5 +1,6 @@
 -- Entries and externals, as they are found in the order of the deck.
 use Rattle.std.specs.Prelude.{ℕ, ◌≡◌, ◌∷◌, ◌++◌, List, [], Bool, true, false, Option, Some, None, is_some, if◌then◌else◌}
+use Rattle.std.specs.List.{list_any}
 use Rattle.definitions.specs.Forms.{Form}
 use Rattle.definitions.specs.Operands.{Operand, NamesOperand}
 use Rattle.definitions.specs.Operations as op
@@ -9,7 +10,10 @@ use Rattle.definitions.specs.Settled.{Settled, Definition, defined, defined_in}
 use Rattle.definitions.specs.Settling.{View, external}
 use Rattle.definitions.specs.declared.deck_kind.DeckKind.{DeckKind}
 use Rattle.definitions.specs.declared.deck_kind.DeckKind.TheVariants.{Periph}
+use Rattle.operations.specs.OperationsAs.{operation_as}
+use Rattle.deck_assembler.specs.DeckParts.{DeckPiece}
 use Rattle.deck_assembler.specs.FirstSymbols.{symbol_in, with_symbol}
+use Rattle.deck_assembler.specs.declared.sized_statement.SizedStatement.{SizedStatement}
 
 -- the names that are seen are those of the entries, each with its value
 abbrev pub AreSeen : List (ℕ × Form) → List Definition → Type 0
@@ -30,6 +34,14 @@ with_new_of operand symbols so_far = so_far
 abbrev pub is_ext : Operation → Bool
 is_ext op.Ext = true
 is_ext operation = false
+
+-- whether one of these statements is an EXT
+abbrev pub has_ext : List SizedStatement → Bool
+has_ext statements = list_any (λ (sized : SizedStatement). is_ext (operation_as sized.operation)) statements
+
+-- whether one of those of some pieces is
+abbrev pub have_ext : List DeckPiece → Bool
+have_ext pieces = list_any (λ (piece : DeckPiece). has_ext piece.statements) pieces
 
 -- what statements define is seen, and the externals among it are these
 pub record AreExternals (settled : List Settled) (seen : List (ℕ × Form)) (names : List (List ℕ)) : Type 0 where

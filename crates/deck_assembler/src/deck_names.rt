@@ -9,22 +9,38 @@ ghost use Rattle.statement_coder.specs.Sizings.{IsSizing};
 ghost use Rattle.statement_coder.specs.StatementsRead.{IsRead};
 ghost use Rattle.deck_assembler.specs.Walks.{AreNoted, all_settled, IsWhole, Whole, whole_of};
 ghost use Rattle.deck_assembler.specs.SizedDecks.{IsSizedStatement};
-ghost use Rattle.deck_assembler.specs.SharedNames.{AreSeen, enters, entries_to};
+ghost use Rattle.deck_assembler.specs.SharedNames.{AreSeen, enters, entries_to, has_ext, have_ext};
 
-use crate::SizedStatement;
 use crate::deck_view::DeckView;
 use crate::entry_names::EntryNames;
 use crate::external_names::{ExternalNames, is_ext, operand};
+use crate::{Piece, SizedStatement};
 use definitions::DeckKind;
 use operations::Operation;
 use statement_coder::{Defines, KeptSizing, Statement};
 use std::alloc::{AllocError, Global};
 
-/// The entries and the externals of the statements so far.
+/// The entries and the externals of the statements so far; and whether the deck has an EXT, without
+/// which it has no externals, and none are looked for.
 #[derive(Drop)]
 pub(crate) struct DeckNames {
     pub(crate) entries: EntryNames,
     pub(crate) externals: ExternalNames,
+    pub(crate) lists: bool,
+}
+
+/// Whether one of these statements is an EXT.
+fn has_ext(statements: &[SizedStatement]) -> bool
+    ensures { result ≡ has_ext statements.now }
+{
+    statements.iter().any(|sized| is_ext(sized.operation))
+}
+
+/// Whether one of those of some pieces is an EXT.
+pub(crate) fn have_ext(pieces: &[Piece]) -> bool
+    ensures { result ≡ have_ext pieces.now }
+{
+    pieces.iter().any(|piece| has_ext(piece.statements()))
 }
 
 /// Whether a statement enters names; in a peripheral deck none does.
@@ -64,13 +80,14 @@ fn enter(
 }
 
 impl DeckNames {
-    /// Those of no statement.
-    pub(crate) fn new(alloc: Global) -> DeckNames
-        ensures { (whole : Whole) → AreNoted whole [] result }
+    /// Those of no statement of a deck, which has an EXT or not.
+    pub(crate) fn new(alloc: Global, lists: bool) -> DeckNames
+        ensures { (whole : Whole) → lists ≡ have_ext whole.deck.pieces → AreNoted whole [] result }
     {
         DeckNames {
             entries: EntryNames::new(alloc),
             externals: ExternalNames::new(alloc),
+            lists,
         }
     }
 
@@ -88,6 +105,9 @@ impl DeckNames {
     {
         if enters(kind, sized.operation) {
             return Ok(false);
+        }
+        if !self.lists {
+            return Ok(true);
         }
         if is_ext(sized.operation) {
             return Ok(false);
@@ -120,6 +140,9 @@ impl DeckNames {
             AreNoted whole earlier self.old → AreNoted whole (given ∷ earlier) self.new) }
     {
         enter(&mut self.entries, view, statement, sizing)?;
+        if !self.lists {
+            return Ok(());
+        }
         self.externals.follow(statement, sizing)
     }
 }

@@ -15,7 +15,7 @@ ghost use Rattle.deck_assembler.specs.DeckWalks.{IsDone, IsListing};
 ghost use Rattle.deck_assembler.specs.FormerLines.{IsBare, IsBeside, IsNextLine, IsWalkedBeside, MeanAsViewed};
 
 use crate::deck_lines::{DeckLines, next_cards};
-use crate::deck_names::DeckNames;
+use crate::deck_names::{DeckNames, have_ext};
 use crate::deck_view::DeckView;
 use crate::former_lines::{FormerLine, FormerLines};
 use crate::{Piece, SizedDeck, SizedStatement};
@@ -45,7 +45,7 @@ impl Making {
     {
         Ok(Making {
             lines: DeckLines::new(alloc, line_room(view.deck))?,
-            names: DeckNames::new(alloc),
+            names: DeckNames::new(alloc, have_ext(view.deck.pieces())),
         })
     }
 

@@ -5,8 +5,12 @@ use Rattle.definitions.specs.Settling.{settle, settled_all}
 use Rattle.statement_coder.specs.Definitions.{defined_by}
 use Rattle.deck_assembler.specs.FirstSymbols.{symbol_in, with_symbol}
 use Rattle.deck_assembler.specs.SharedNames.{enters, is_ext}
-use Rattle.deck_assembler.proofs.WalkLaws.{silent-noted, symbol-noted}
+use Rattle.deck_assembler.proofs.WalkLaws.{silent-noted, symbol-noted, unlisted-noted}
 use Rattle.deck_assembler.proofs.deck_names.DeckNames.note_kept.Goals as goal
+
+pub returns-then-not-self-clause-noted : goal.returns-then-not-self-clause-noted
+returns-then-not-self-clause-noted c = λ told whole earlier given stood ahead same sized noted.
+    unlisted-noted whole earlier given c.args.self.now c.if-not-self.true (ap₂ enters (sym same) sized.operation ∙ sym c.enters.ensures ∙ c.if-enters.false) noted
 
 pub returns-in-Nothing-clause-noted : goal.returns-in-Nothing-clause-noted
 returns-in-Nothing-clause-noted c =

@@ -1,3 +1,5 @@
+use Rattle.std.proofs.Common.{◌∙◌, ap}
+use Rattle.deck_assembler.specs.SharedNames.{have_ext}
 use Rattle.deck_assembler.specs.Walks.{whole_of}
 use Rattle.deck_assembler.proofs.FormerLaws.{beside-begin}
 use Rattle.deck_assembler.proofs.deck_walk.Making.new.Goals as goal
@@ -6,4 +8,4 @@ pub returns-clause-made : goal.returns-clause-made
 returns-clause-made c =
     λ known others former is beside.
     let whole = whole_of c.args.view.now known others in
-    beside-begin whole (record { lines = c.in_ok-new.field-0; names = c.new-2.result }) former is c.in_ok-new.ensures.stood (c.in_ok-new.ensures.lined whole) (c.new-2.ensures whole) beside
+    beside-begin whole (record { lines = c.in_ok-new.field-0; names = c.new-2.result }) former is c.in_ok-new.ensures.stood (c.in_ok-new.ensures.lined whole) (c.new-2.ensures whole (c.have_ext.ensures ∙ ap have_ext c.pieces.ensures)) beside
