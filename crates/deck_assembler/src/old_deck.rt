@@ -100,6 +100,7 @@ impl<'a> OldDeck<'a> {
     }
 
     /// The next of its statements.
+    #[inline(always)]
     pub(crate) fn next(&mut self) -> Option<SizedStatement>
         ensures next { left self.old ≡ option_to_list result ++ left self.new }
         ensures last { result ≡ None → left self.new ≡ [] }

@@ -65,6 +65,7 @@ impl Piece {
     }
 
     /// Puts a statement behind the others of a piece that is not full.
+    #[inline(always)]
     fn push(&mut self, sized: SizedStatement) -> Result<(), AllocError>
         requires { length self.old.statements < 128 }
         ensures { OnOk result (self.new ≡ with_pushed sized self.old) }
@@ -85,6 +86,7 @@ fn is_full(pieces: &[Piece]) -> bool
 }
 
 /// Puts a statement behind those of the last piece, which is not full.
+#[inline(always)]
 fn push_onto_last(pieces: &mut Vec<Piece>, sized: SizedStatement) -> Result<(), AllocError>
     requires { is_full (reverse pieces.old.items) ≡ false }
     ensures { OnOk result (reverse pieces.new.items ≡ onto_latest sized (reverse pieces.old.items)) }
@@ -97,6 +99,7 @@ fn push_onto_last(pieces: &mut Vec<Piece>, sized: SizedStatement) -> Result<(), 
 
 /// Puts a statement behind the others; this is the state before it. It takes memory where a piece
 /// begins alone.
+#[inline(always)]
 pub(crate) fn add_statement(
     alloc: Global,
     pieces: &mut Vec<Piece>,

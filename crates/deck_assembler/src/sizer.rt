@@ -115,6 +115,7 @@ impl Sizer {
 
     /// Puts a statement of this effect behind the others. Where memory runs out it may stand there
     /// without its effect.
+    #[inline(always)]
     fn put(
         &mut self,
         alloc: Global,
