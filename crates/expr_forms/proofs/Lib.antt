@@ -1,5 +1,6 @@
 pub mod ScaleLaws
 pub mod PieceLaws
+pub mod DigitLaws
 pub mod ItemFrontLaws
 pub mod ElementLaws
 pub mod LinkLaws

@@ -1,5 +1,7 @@
 -- Numbers of the code, in the words of the definitions.
-use Rattle.std.specs.Prelude.{ℕ}
+use Rattle.std.specs.Prelude.{ℕ, ◌≡◌, ◌≤◌, List, length}
+use Rattle.std.specs.List.{prefix_len}
+use Rattle.definitions.specs.Characters.{is_digit}
 use Rattle.definitions.specs.Symbols.{Number, Value, TooGreat}
 use Rattle.definitions.specs.declared.number_base.NumberBase.{NumberBase}
 use Rattle.definitions.specs.declared.number_base.NumberBase.TheVariants.{Decimal, Octal}
@@ -15,3 +17,8 @@ number_as number.TooGreat = TooGreat
 abbrev pub radix : NumberBase → ℕ
 radix Decimal = 10
 radix Octal = 8
+
+-- a text is digits and nothing else
+pub record AreDigits (text : List ℕ) : Type 0 where
+  pub some : 1 ≤ length text
+  pub all : prefix_len is_digit text ≡ length text

@@ -4,6 +4,7 @@ ghost use Rattle.std.specs.List.{prefix_len};
 ghost use Rattle.definitions.specs.Characters.{is_digit, is_letter, is_among, is_symbol_character, same_text};
 
 /// 0 to 9.
+#[inline(always)]
 pub(crate) fn is_digit(c: u8) -> bool
     ensures { result ≡ is_digit c }
 {
@@ -48,6 +49,7 @@ pub(crate) fn is_symbol_character(c: u8) -> bool
 }
 
 /// How many digits begin a text.
+#[inline(always)]
 pub(crate) fn digit_count(text: &[u8]) -> usize
     ensures count { result ≡ prefix_len is_digit text.now }
     ensures within { result ≤ length text.now }

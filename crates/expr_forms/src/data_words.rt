@@ -1,17 +1,18 @@
 //! The variable field of DATA: what fills its words (COMPASS 60492600, DATA).
-ghost use Rattle.std.specs.Prelude.{◌≡◌, ◌≤◌, ◌∷◌, [], length, option_map, is_some, Some, None, IfSome, IfNone, MatchResult};
-ghost use Rattle.definitions.specs.Pieces.{Inside, ByMark, IsMark, IsCountedItem, spot_behind, pieces_at, pieces_of, subfields_of};
+ghost use Rattle.std.specs.Prelude.{◌≡◌, ◌≤◌, ◌<◌, ◌∷◌, [], length, option_map, is_some, Some, None, IfSome, IfNone, MatchResult};
+ghost use Rattle.definitions.specs.Pieces.{Inside, ByMark, IsMark, IsCountedItem, Plain, spot_behind, pieces_at, pieces_of, subfields_of};
 ghost use Rattle.definitions.specs.Symbols.{number_read};
-ghost use Rattle.definitions.specs.Operands.{CountedItemWords, number_word, data_word, all_words};
+ghost use Rattle.definitions.specs.Operands.{CountedItemWords, number_word, data_word, all_words, onto_all};
 ghost use Rattle.definitions.specs.declared.letter.Letter.TheVariants as letter;
 ghost use Rattle.expr_forms.specs.Elements.{sign_as};
-ghost use Rattle.expr_forms.specs.PiecesFound.{mark_as, item_as};
+ghost use Rattle.expr_forms.specs.Numbers.{AreDigits};
+ghost use Rattle.expr_forms.specs.PiecesFound.{mark_as, item_as, pieces_in};
 ghost use Rattle.expr_forms.specs.Readings.{datum_as, alone, signed_word};
 
 use crate::elements::Sign;
 use crate::expressions::Expr;
 use crate::item_text::ItemText;
-use crate::numbers::{Number, number_read};
+use crate::numbers::{Number, digits_read, number_read};
 use crate::pieces::{Mark, Piece, piece_at_start};
 use crate::subfields::Subfields;
 use definitions::{Letter, NumberBase};
@@ -104,18 +105,63 @@ fn data_word(base: NumberBase, text: &[u8]) -> Option<Datum<'_>>
     }
 }
 
+/// What a subfield of DATA of at most one piece is, if it is lawful.
+#[inline(always)]
+fn short_word(base: NumberBase, piece: Option<Piece<'_>>) -> Option<Datum<'_>>
+    ensures { option_map datum_as result ≡ data_word base (pieces_in piece.entry) }
+{
+    match piece {
+        None => Some(Datum::Zero),
+        Some(Piece::Run(run)) => match number_read(base, run) {
+            Some(number) => Some(Datum::Number(Sign::Absent, number)),
+            None => None,
+        },
+        Some(Piece::Item(item)) => Some(Datum::Item(item)),
+        Some(Piece::Mark(_)) => None,
+    }
+}
+
+/// The number of DATA that digits are, if they are one.
+#[inline(always)]
+fn digits_word<'a>(base: NumberBase, digits: &[u8]) -> Option<Datum<'a>>
+    requires { AreDigits digits.now }
+    ensures { option_map datum_as result ≡ data_word base (Plain digits.now ∷ []) }
+{
+    match digits_read(base, digits) {
+        Some(number) => Some(Datum::Number(Sign::Absent, number)),
+        None => None,
+    }
+}
+
+/// What the next subfield of DATA is, if one is left, and if it is lawful.
+#[inline(always)]
+fn next_word<'a>(base: NumberBase, subfields: &mut Subfields<'a>) -> Option<Option<Datum<'a>>>
+    ensures none { IfNone result ((subfields.old ≡ []) × (subfields.new ≡ [])) }
+    ensures some { IfSome result (λ word. all_words (data_word base) subfields.old ≡ onto_all (option_map datum_as word) (all_words (data_word base) subfields.new)) }
+    ensures fewer { IfSome result (λ word. length subfields.new < length subfields.old) }
+{
+    if let Some(digits) = subfields.next_digits() {
+        return Some(digits_word(base, digits));
+    }
+    match subfields.next_short() {
+        Some(piece) => Some(short_word(base, piece)),
+        None => match subfields.next() {
+            None => None,
+            Some(text) => Some(data_word(base, text)),
+        },
+    }
+}
+
 /// Whether each subfield is lawful in DATA.
 fn are_words(base: NumberBase, subfields: Subfields<'_>) -> bool
     ensures { result ≡ is_some (all_words (data_word base) subfields.entry) }
 {
     let mut rest = subfields;
     'subfields: loop {
-        match rest.next() {
+        match next_word(base, &mut rest) {
             None => return true,
-            Some(text) => match data_word(base, text) {
-                None => return false,
-                Some(_) => {}
-            },
+            Some(None) => return false,
+            Some(Some(_)) => {}
         }
     }
 }
@@ -158,9 +204,22 @@ impl<'a> DataWords<'a> {
         ensures none { IfNone result ((self.old ≡ []) × (self.new ≡ [])) }
         ensures some { IfSome result (λ datum. self.old ≡ datum_as datum ∷ self.new) }
     {
-        match self.subfields.next() {
+        match self.subfields.next_digits() {
+            Some(digits) => digits_word(self.base, digits),
+            None => self.next_of_any(),
+        }
+    }
+
+    /// What fills the next words, if anything is left, digits or not. It is not inlined, since its
+    /// locals are filled wherever it is.
+    #[inline(never)]
+    fn next_of_any(&mut self) -> Option<Datum<'a>>
+        ensures none { IfNone result ((self.old ≡ []) × (self.new ≡ [])) }
+        ensures some { IfSome result (λ datum. self.old ≡ datum_as datum ∷ self.new) }
+    {
+        match next_word(self.base, &mut self.subfields) {
             None => None,
-            Some(text) => data_word(self.base, text),
+            Some(word) => word,
         }
     }
 

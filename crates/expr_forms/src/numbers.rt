@@ -3,7 +3,7 @@ ghost use Rattle.std.specs.Prelude.{◌≡◌, ◌≤◌, ◌*◌, ◌+◌, ◌-
 ghost use Rattle.std.specs.List.{list_all};
 ghost use Rattle.definitions.specs.Numerals.{number_of};
 ghost use Rattle.definitions.specs.Symbols.{scaled, scale_of, behind_digits, bounded, number_read};
-ghost use Rattle.expr_forms.specs.Numbers.{number_as, radix};
+ghost use Rattle.expr_forms.specs.Numbers.{number_as, radix, AreDigits};
 
 use crate::characters::{digit_count, is_digit};
 use crate::magnitude::Magnitude;
@@ -20,6 +20,7 @@ pub enum Number {
 }
 
 /// The number that digits make and one digit behind them, or 2^60 where it is greater.
+#[inline(always)]
 fn with_digit(base: NumberBase, value: u64, digit: u8) -> u64
     requires { value ≤ 2 ^ 60 }
     ensures { result ≡ min (value * radix base + (digit - 48)) (2 ^ 60) }
@@ -32,6 +33,7 @@ fn with_digit(base: NumberBase, value: u64, digit: u8) -> u64
 }
 
 /// The number that digits make, or 2^60 where it is greater.
+#[inline(always)]
 pub(crate) fn capped_number(base: NumberBase, digits: &[u8]) -> u64
     ensures { result ≡ min (number_of (radix base) digits.now) (2 ^ 60) }
 {
@@ -43,6 +45,7 @@ pub(crate) fn capped_number(base: NumberBase, digits: &[u8]) -> u64
 }
 
 /// A number times 2^scale; the number is known up to 2^60.
+#[inline(always)]
 fn with_scale(value: u64, scale: u32) -> Number
     ensures { (number : ℕ) → value ≡ min number (2 ^ 60) → bounded (Some (number * 2 ^ scale)) ≡ Some (number_as result) }
 {
@@ -60,6 +63,7 @@ fn with_scale(value: u64, scale: u32) -> Number
     })
 }
 
+#[inline(always)]
 fn are_octal(digits: &[u8]) -> bool
     ensures { result ≡ list_all (λ c. nat_lt c 56) digits.now }
 {
@@ -71,6 +75,7 @@ fn are_octal(digits: &[u8]) -> bool
     true
 }
 
+#[inline(always)]
 fn scaled(base: NumberBase, digits: &[u8], scale: u32) -> Option<Number>
     ensures { option_map number_as result ≡ bounded (scaled base digits.now scale) }
 {
@@ -110,6 +115,15 @@ fn behind_digits(base: NumberBase, digits: &[u8], text: &[u8]) -> Option<Number>
         Some((b'D', rest)) => scaled(NumberBase::Decimal, digits, scale_of(rest)?),
         Some(_) => scaled(base, digits, scale_of(text)?),
     }
+}
+
+/// The number that digits spell, if they spell one.
+#[inline(always)]
+pub(crate) fn digits_read(base: NumberBase, digits: &[u8]) -> Option<Number>
+    requires { AreDigits digits.now }
+    ensures { option_map number_as result ≡ number_read base digits.now }
+{
+    scaled(base, digits, 0)
 }
 
 /// The number that a text spells, if it spells one.

@@ -1,10 +1,13 @@
 //! A variable field cut into subfields at its commas, without a copy; a comma in a counted item
 //! cuts nothing (COMPASS 60492600, subfields and data items).
-ghost use Rattle.std.specs.Prelude.{◌≡◌, ◌≤◌, ◌+◌, ◌∷◌, [], length, drop, option_copied, IfNone, IfSome};
-ghost use Rattle.definitions.specs.Pieces.{AtStart, AtEquals, Inside, pieces_of, subfields_of};
-ghost use Rattle.expr_forms.specs.Subfields.{subfield_len, len_to_mark, text_behind};
+ghost use Rattle.std.specs.Prelude.{◌≡◌, ◌≤◌, ◌+◌, ◌∷◌, [], true, length, drop, option_copied, IfNone, IfSome};
+ghost use Rattle.definitions.specs.Pieces.{AtStart, AtEquals, Inside, Plain, pieces_at, pieces_of, subfields_of};
+ghost use Rattle.expr_forms.specs.Numbers.{AreDigits};
+ghost use Rattle.expr_forms.specs.PiecesFound.{pieces_in};
+ghost use Rattle.expr_forms.specs.Subfields.{subfield_len, len_to_mark, text_behind, is_ended, subfields_left};
 
-use crate::pieces::{item_at, run_len};
+use crate::characters::digit_count;
+use crate::pieces::{Mark, Piece, item_at, piece_at_start, run_len};
 use std::marker::Model;
 
 /// The subfields of a variable field that are left, from left to right; a field without a comma is
@@ -98,6 +101,77 @@ fn behind_comma(text: &[u8]) -> Option<&[u8]>
     }
 }
 
+/// A subfield of at most one piece, and the text behind the comma that ends it.
+#[derive(Clone, Copy)]
+struct ShortFound<'a> {
+    piece: Option<Piece<'a>>,
+    rest: Option<&'a [u8]>,
+}
+
+/// The text behind the end of a subfield that ends where this text begins: none behind the last one.
+#[inline(always)]
+fn behind_end(text: &[u8]) -> Option<Option<&[u8]>>
+    ensures end { IfSome result (λ rest. subfields_of (pieces_at Inside 0 text.now) ≡ [] ∷ subfields_left (option_copied rest)) }
+    ensures ended { IfSome result (λ rest. is_ended text.now ≡ true) }
+    ensures within { IfSome result (λ rest. IfSome rest (λ more. length more.now ≤ length text.now)) }
+{
+    match text.split_first() {
+        None => Some(None),
+        Some((b',', rest)) => Some(Some(rest)),
+        Some(_) => None,
+    }
+}
+
+/// A subfield of digits and nothing else, and the text behind the comma that ends it.
+#[derive(Clone, Copy)]
+struct DigitsFound<'a> {
+    digits: &'a [u8],
+    rest: Option<&'a [u8]>,
+}
+
+/// The first subfield of a text, where it is digits and nothing else.
+#[inline(always)]
+fn digits_at_start(text: &[u8]) -> Option<DigitsFound<'_>>
+    ensures subfields { IfSome result (λ found. subfields_of (pieces_of text.now) ≡ (Plain found.digits.now ∷ []) ∷ subfields_left (option_copied found.rest)) }
+    ensures digits { IfSome result (λ found. AreDigits found.digits.now) }
+    ensures within { IfSome result (λ found. IfSome found.rest (λ rest. length rest.now ≤ length text.now)) }
+{
+    let count = digit_count(text);
+    if count == 0 {
+        return None;
+    }
+    let (digits, behind) = text.split_at(count);
+    match behind_end(behind) {
+        None => None,
+        Some(rest) => Some(DigitsFound { digits, rest }),
+    }
+}
+
+/// The first subfield of a text, where it is nothing before a comma, an item or a run.
+#[inline(always)]
+fn short_at_start(text: &[u8]) -> Option<ShortFound<'_>>
+    ensures subfields { IfSome result (λ short. subfields_of (pieces_of text.now) ≡ pieces_in short.piece ∷ subfields_left (option_copied short.rest)) }
+    ensures within { IfSome result (λ short. IfSome short.rest (λ rest. length rest.now ≤ length text.now)) }
+{
+    let found = piece_at_start(text)?;
+    let piece = Some(found.piece);
+    match found.piece {
+        Piece::Mark(Mark::Comma) => Some(ShortFound {
+            piece: None,
+            rest: Some(found.rest),
+        }),
+        Piece::Mark(_) => None,
+        Piece::Item(_) => match behind_end(found.rest) {
+            None => None,
+            Some(rest) => Some(ShortFound { piece, rest }),
+        },
+        Piece::Run(_) => match behind_end(found.rest) {
+            None => None,
+            Some(rest) => Some(ShortFound { piece, rest }),
+        },
+    }
+}
+
 impl<'a> Subfields<'a> {
     /// The subfields of a variable field of at most 711 characters.
     pub fn new(text: &'a [u8]) -> Subfields<'a>
@@ -120,6 +194,44 @@ impl<'a> Subfields<'a> {
                 self.rest = behind_comma(behind);
                 Some(first)
             }
+        }
+    }
+
+    /// The next subfield, where it is digits and nothing else. Else none is taken.
+    #[inline(always)]
+    pub(crate) fn next_digits(&mut self) -> Option<&'a [u8]>
+        ensures none { IfNone result (self.new ≡ self.old) }
+        ensures some { IfSome result (λ digits. self.old ≡ (Plain digits.now ∷ []) ∷ self.new) }
+        ensures digits { IfSome result (λ digits. AreDigits digits.now) }
+    {
+        match self.rest {
+            None => None,
+            Some(text) => match digits_at_start(text) {
+                None => None,
+                Some(found) => {
+                    self.rest = found.rest;
+                    Some(found.digits)
+                }
+            },
+        }
+    }
+
+    /// The next subfield, where it is nothing before a comma, an item or a run: its piece, if it has
+    /// one. Else none is taken.
+    #[inline(always)]
+    pub(crate) fn next_short(&mut self) -> Option<Option<Piece<'a>>>
+        ensures none { IfNone result (self.new ≡ self.old) }
+        ensures some { IfSome result (λ piece. self.old ≡ pieces_in piece ∷ self.new) }
+    {
+        match self.rest {
+            None => None,
+            Some(text) => match short_at_start(text) {
+                None => None,
+                Some(short) => {
+                    self.rest = short.rest;
+                    Some(short.piece)
+                }
+            },
         }
     }
 

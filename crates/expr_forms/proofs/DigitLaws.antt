@@ -1,0 +1,120 @@
+-- A subfield of digits and nothing else.
+use Rattle.std.proofs.Common.{◌≡◌, ℕ, zero, suc, ◌+◌, ◌-◌, ◌<◌, ◌≤◌, List, [], ◌∷◌, Bool, true, false, cond, ◌==◌, nat_le, if◌then◌else◌, Option, Some, None, length, take, drop, refl, sym, ◌∙◌, ap, ap₂, subst, arith}
+use Rattle.std.specs.Prelude.{is_none, slice_index}
+use Rattle.std.specs.List.{prefix_len, onto_first}
+use Rattle.std.proofs.lemmas.Bool.{le-leb}
+use Rattle.std.proofs.lemmas.List.Folds.{length-prefix_len}
+use Rattle.std.proofs.Math.Seq.{drop-length, take-length}
+use Rattle.definitions.specs.Characters.{is_digit, comma, equals}
+use Rattle.definitions.specs.Numerals.{number_of}
+use Rattle.definitions.specs.CountedItems.{CountedSpan, counted_item_behind, counted_item_at}
+use Rattle.definitions.specs.Pieces.{Mark, Equals, AtStart, AtEquals, Inside, ByMark, Piece, Plain, mark_of, begun_by_counted_item, pieces_at, pieces_of, subfields_of}
+use Rattle.definitions.specs.Symbols.{Number, scaled, behind_digits, bounded, number_read}
+use Rattle.definitions.specs.declared.number_base.NumberBase.{NumberBase}
+use Rattle.expr_forms.specs.Numbers.{AreDigits}
+use Rattle.expr_forms.specs.Subfields.{is_ended, subfields_left}
+use Rattle.expr_forms.proofs.PieceLaws.{is_of_run, pieces_begun, pieces-run}
+
+-- the number of a text, by its digits
+abbrev number_by : NumberBase → List ℕ → List ℕ → Option Number
+number_by base digits text = if nat_le 1 (length digits) then bounded (behind_digits base digits (drop (length digits) text)) else None
+
+-- the number that digits are
+pub digits_number : (base : NumberBase) (text : List ℕ) → AreDigits text → number_read base text ≡ bounded (scaled base text 0)
+digits_number base text h =
+    ap (λ (digits : List ℕ). number_by base digits text) (ap (λ (n : ℕ). take n text) h.all ∙ take-length text)
+    ∙ ap (λ (b : Bool). if b then bounded (behind_digits base text (drop (length text) text)) else None) (le-leb 1 (length text) h.some)
+    ∙ ap (λ (rest : List ℕ). bounded (behind_digits base text rest)) (drop-length text)
+
+-- the digits that begin a text
+digits-taken : (text : List ℕ) → prefix_len is_digit (take (prefix_len is_digit text) text) ≡ length (take (prefix_len is_digit text) text)
+digits-taken [] = refl
+digits-taken (c ∷ cs) = by (is_digit c) refl (digits-taken cs)
+  where
+    by : (b : Bool) → is_digit c ≡ b → prefix_len is_digit (take (prefix_len is_digit cs) cs) ≡ length (take (prefix_len is_digit cs) cs) →
+        prefix_len is_digit (take (cond b (1 + prefix_len is_digit cs) 0) (c ∷ cs)) ≡ length (take (cond b (1 + prefix_len is_digit cs) 0) (c ∷ cs))
+    by true e before =
+        let more : suc (prefix_len is_digit cs) ≡ 1 + prefix_len is_digit cs = omega arith in
+        subst (λ (n : ℕ). prefix_len is_digit (take n (c ∷ cs)) ≡ length (take n (c ∷ cs))) more
+        (ap (λ (b : Bool). cond b (1 + prefix_len is_digit (take (prefix_len is_digit cs) cs)) 0) e ∙ omega (arith, before))
+    by false e before = refl
+
+-- a digit is no mark
+digit-other : (c : ℕ) → is_digit c ≡ true → mark_of c ≡ None
+digit-other c e = grind arith
+
+-- nor an equals sign
+digit-no_equals : (c : ℕ) → is_digit c ≡ true → (c == equals) ≡ false
+digit-no_equals c e = grind arith
+
+-- the run that begins a text is its digits, where a subfield ends behind them
+digits-run : (text : List ℕ) → is_ended (drop (prefix_len is_digit text) text) ≡ true → prefix_len is_of_run text ≡ prefix_len is_digit text
+digits-run [] ended = refl
+digits-run (c ∷ cs) ended = by (is_digit c) refl ended (digits-run cs)
+  where
+    by : (b : Bool) → is_digit c ≡ b → is_ended (drop (cond b (1 + prefix_len is_digit cs) 0) (c ∷ cs)) ≡ true →
+        (is_ended (drop (prefix_len is_digit cs) cs) ≡ true → prefix_len is_of_run cs ≡ prefix_len is_digit cs) →
+        prefix_len is_of_run (c ∷ cs) ≡ cond b (1 + prefix_len is_digit cs) 0
+    by true e ended before =
+        let more : suc (prefix_len is_digit cs) ≡ 1 + prefix_len is_digit cs = omega arith in
+        ap (λ (o : Option Mark). cond (is_none o) (1 + prefix_len is_of_run cs) 0) (digit-other c e)
+        ∙ ap (λ (n : ℕ). 1 + n) (before (ap (λ (n : ℕ). is_ended (drop n (c ∷ cs))) more ∙ ended))
+    by false e ended before = run (c == comma) refl ended
+      where
+        run : (b : Bool) → (c == comma) ≡ b → b ≡ true → prefix_len is_of_run (c ∷ cs) ≡ 0
+        run true k h = grind arith
+        run false k h = cc
+
+-- behind its count an item has a letter
+ended-none : (digits count : ℕ) (rest : List ℕ) → is_ended rest ≡ true → counted_item_behind digits count rest ≡ None
+ended-none digits count [] ended = refl
+ended-none digits count (c ∷ cs) ended = grind arith
+
+-- no item begins digits behind which a subfield ends
+digits-no_item : (text : List ℕ) → is_ended (drop (prefix_len is_digit text) text) ≡ true → counted_item_at text ≡ None
+digits-no_item text ended = by (nat_le 1 (length digits))
+  where
+    digits : List ℕ
+    digits = take (prefix_len is_digit text) text
+
+    behind : is_ended (drop (length digits) text) ≡ true
+    behind = ap (λ (n : ℕ). is_ended (drop n text)) (length-prefix_len is_digit text) ∙ ended
+
+    by : (b : Bool) → (if b then counted_item_behind (length digits) (number_of 10 digits) (drop (length digits) text) else None) ≡ None
+    by true = ended-none (length digits) (number_of 10 digits) (drop (length digits) text) behind
+    by false = refl
+
+-- a text that begins with digits behind which a subfield ends
+pieces-digits : (text : List ℕ) (count : ℕ) → count ≡ prefix_len is_digit text → 0 < count → is_ended (drop count text) ≡ true →
+    pieces_of text ≡ Plain (take count text) ∷ pieces_at Inside 0 (drop count text)
+pieces-digits [] count len some ended = absurd (omega (arith, len))
+pieces-digits (c ∷ cs) count len some ended = by (is_digit c) refl len
+  where
+    by : (b : Bool) → is_digit c ≡ b → count ≡ cond b (1 + prefix_len is_digit cs) 0 →
+        pieces_of (c ∷ cs) ≡ Plain (take count (c ∷ cs)) ∷ pieces_at Inside 0 (drop count (c ∷ cs))
+    by false e l = absurd (omega (arith, l))
+    by true e l =
+        let there : is_ended (drop (prefix_len is_digit (c ∷ cs)) (c ∷ cs)) ≡ true = ap (λ (n : ℕ). is_ended (drop n (c ∷ cs))) (sym len) ∙ ended in
+        let run : prefix_len is_of_run (c ∷ cs) ≡ prefix_len is_digit (c ∷ cs) = digits-run (c ∷ cs) there in
+        let first : prefix_len is_of_run (c ∷ cs) ≡ 1 + prefix_len is_of_run cs = ap (λ (o : Option Mark). cond (is_none o) (1 + prefix_len is_of_run cs) 0) (digit-other c e) in
+        let n : 1 + prefix_len is_of_run cs ≡ count = sym first ∙ (run ∙ sym len) in
+        ap (λ (b : Bool). pieces_begun (if b then ByMark Equals else begun_by_counted_item c (counted_item_at (c ∷ cs))) cs) (digit-no_equals c e)
+        ∙ pieces-run (c ∷ cs) (prefix_len is_of_run cs) (omega arith) (digits-no_item (c ∷ cs) there) (digit-other c e) refl
+        ∙ ap (λ (k : ℕ). Plain (take k (c ∷ cs)) ∷ pieces_at Inside 0 (drop k (c ∷ cs))) n
+
+-- the first subfield of a text that begins with digits behind which it ends
+pub digits_first : (text digits behind : List ℕ) (count : ℕ) (rest : Option (List ℕ)) → count ≡ prefix_len is_digit text → 0 < count →
+    digits ≡ take count text → behind ≡ drop count text → is_ended behind ≡ true → subfields_of (pieces_at Inside 0 behind) ≡ [] ∷ subfields_left rest →
+    subfields_of (pieces_of text) ≡ (Plain digits ∷ []) ∷ subfields_left rest
+digits_first text digits behind count rest len some front back ended more =
+    ap subfields_of (pieces-digits text count len some (ap is_ended (sym back) ∙ ended))
+    ∙ ap₂ (λ (ds bs : List ℕ). onto_first (Plain ds) (subfields_of (pieces_at Inside 0 bs))) (sym front) (sym back)
+    ∙ ap (onto_first (Plain digits)) more
+
+-- the digits that begin a text are digits
+pub digits_in_front : (text digits : List ℕ) (count : ℕ) → count ≡ prefix_len is_digit text → 0 < count → digits ≡ take count text → AreDigits digits
+digits_in_front text digits count len some front =
+    let same : digits ≡ take (prefix_len is_digit text) text = front ∙ ap (λ (n : ℕ). take n text) len in
+    let all : prefix_len is_digit digits ≡ length digits = subst (λ (ds : List ℕ). prefix_len is_digit ds ≡ length ds) (sym same) (digits-taken text) in
+    let long : length digits ≡ prefix_len is_digit text = ap length same ∙ length-prefix_len is_digit text in
+    record { some = omega (arith, long, len); all = all }
