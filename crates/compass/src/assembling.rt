@@ -5,6 +5,7 @@ use crate::input_files::{InputFault, input_of, standard_input};
 use crate::journal_files::{DecksFault, decks_at};
 use crate::run_faults::{RunFault, placed, tell_run};
 use crate::symbols::symbol_tables;
+use crate::words::{plain_word, valued_word};
 use asm_main::{
     AsmFault, Built, Chained, Chosen, Deck, Filter, Remembering, Tally, asm_build, asm_build_with,
     asm_run, write_chosen,
@@ -88,40 +89,35 @@ fn with_files<'a>(alloc: Global, command: Command<'a>) -> Result<Command<'a>, Al
         )?)
 }
 
+/// The word of a journal in place of files.
+fn journal_word<'a>(alloc: Global) -> Result<Arg<'a>, AllocError> {
+    let help = "The journal of a service, whose decks are taken in place of files";
+    valued_word(alloc, "journal", "FILE", help).conflicts_with("FILE")
+}
+
+/// The word of a version of its decks.
+fn version_word<'a>(alloc: Global) -> Result<Arg<'a>, AllocError> {
+    let help = "The version of the decks; the last one unless said";
+    valued_word(alloc, "version", "V", help)
+        .value_parser(clap::value_parser!(u64))
+        .requires_arg("journal")
+}
+
 /// The command with the words of a journal in place of files.
 fn with_journal<'a>(alloc: Global, command: Command<'a>) -> Result<Command<'a>, AllocError> {
-    let journal = Arg::new(alloc, "journal")
-        .long("journal")
-        .value_name("FILE")
-        .help("The journal of a service, whose decks are taken in place of files")
-        .action(ArgAction::Set)
-        .conflicts_with("FILE")?;
-    let version = Arg::new(alloc, "version")
-        .long("version")
-        .value_name("V")
-        .help("The version of the decks; the last one unless said")
-        .action(ArgAction::Set)
-        .value_parser(clap::value_parser!(u64))
-        .requires_arg("journal")?;
-    command.arg(journal)?.arg(version)
+    command.arg(journal_word(alloc)?)?.arg(version_word(alloc)?)
 }
 
 /// The command with the words of where the output goes.
 fn with_outputs<'a>(alloc: Global, command: Command<'a>) -> Result<Command<'a>, AllocError> {
-    let symbols = Arg::new(alloc, "symbols")
-        .long("symbols")
-        .help("Puts a table of the symbols of each deck behind the listings")
-        .action(ArgAction::SetTrue);
-    let quiet = Arg::new(alloc, "quiet")
-        .long("quiet")
-        .help("Tells no flagged statements and no LINK lines of files on standard error")
-        .action(ArgAction::SetTrue);
+    let symbols = "Puts a table of the symbols of each deck behind the listings";
+    let quiet = "Tells no flagged statements and no LINK lines of files on standard error";
     command
-        .arg(output_word(alloc, "listing", "Where the listings go"))?
-        .arg(output_word(alloc, "map", "Where the link map goes"))?
-        .arg(output_word(alloc, "image", "Where the octal image goes").short('o'))?
-        .arg(symbols)?
-        .arg(quiet)
+        .arg(valued_word(alloc, "listing", "FILE", "Where the listings go"))?
+        .arg(valued_word(alloc, "map", "FILE", "Where the link map goes"))?
+        .arg(valued_word(alloc, "image", "FILE", "Where the octal image goes").short('o'))?
+        .arg(plain_word(alloc, "symbols", symbols))?
+        .arg(plain_word(alloc, "quiet", quiet))
 }
 
 /// The words of `compass asm`.
@@ -136,11 +132,7 @@ pub(crate) fn asm_words<'a>(alloc: Global) -> Result<Command<'a>, AllocError> {
 
 /// The word of a part of the filter in front of files; a journal has none.
 fn filter_word<'a>(alloc: Global, name: &'a str, help: &'a str) -> Result<Arg<'a>, AllocError> {
-    Arg::new(alloc, name)
-        .long(name)
-        .help(help)
-        .action(ArgAction::SetTrue)
-        .conflicts_with("journal")
+    plain_word(alloc, name, help).conflicts_with("journal")
 }
 
 /// The filter that the words ask for, if they do.
@@ -151,15 +143,6 @@ fn filter_of(words: &ArgMatches<'_>) -> Option<Filter> {
         last_line: words.get_flag("last-line"),
     };
     (filter.fold_case || filter.tabs || filter.last_line).then_some(filter)
-}
-
-/// The word of a file that a part of the output goes to.
-fn output_word<'a>(alloc: Global, name: &'a str, help: &'a str) -> Arg<'a> {
-    Arg::new(alloc, name)
-        .long(name)
-        .value_name("FILE")
-        .help(help)
-        .action(ArgAction::Set)
 }
 
 impl<'w, 'a> Named<'w, 'a> {

@@ -10,6 +10,7 @@ mod run_faults;
 mod serving;
 mod stopping;
 mod symbols;
+mod words;
 
 ghost use Rattle.std.specs.Prelude.{◌≡◌, ◌≢◌, ℕ, ◌<◌, pos};
 

@@ -3,7 +3,8 @@ ghost use Rattle.std.specs.Prelude.{◌≡◌, ℕ, IfSome};
 ghost use Rattle.desk_service.specs.Services.{AreInRange};
 
 use crate::journal_files::JOURNAL_STATUS;
-use clap::{Arg, ArgAction, ArgMatches, Command};
+use crate::words::{plain_word, valued_word};
+use clap::{Arg, ArgMatches, Command};
 use desk_service::{Journaling, ServeFault, Settings, serve};
 use std::alloc::{AllocError, Global};
 use std::fs::File;
@@ -36,73 +37,48 @@ const EXAMPLE: &str = "Example:
   compass serve --root decks --port 7070 --workers 2 --sessions 4 &
   printf 'ADD M\\nINS M 1 1 *A\\nCARDS M\\nBYE\\n' | nc 127.0.0.1 7070";
 
+/// The word of a page for browsers.
+fn page_word<'a>(alloc: Global) -> Result<Arg<'a>, AllocError> {
+    let help =
+        "The port on 127.0.0.1 of a page for browsers, one that is free at 0; no page unless said, and none with --once";
+    valued_word(alloc, "page", "P", help)
+        .value_parser(clap::value_parser!(u16))
+        .conflicts_with("once")
+}
+
 /// The command with the words of where the decks lie, and of where it listens.
 fn with_places<'a>(alloc: Global, command: Command<'a>) -> Result<Command<'a>, AllocError> {
-    let root = Arg::new(alloc, "root")
-        .long("root")
-        .value_name("DIR")
-        .help("The folder of the deck files, NAME.DECK for deck NAME")
-        .required(true)
-        .action(ArgAction::Set);
-    let port = Arg::new(alloc, "port")
-        .long("port")
-        .value_name("P")
-        .help("The port on 127.0.0.1, 1 to 65535; one that is free unless said, or at 0")
-        .action(ArgAction::Set)
-        .value_parser(clap::value_parser!(u16));
-    let page = Arg::new(alloc, "page")
-        .long("page")
-        .value_name("P")
-        .help(
-            "The port on 127.0.0.1 of a page for browsers, one that is free at 0; no page unless said, and none with --once",
-        )
-        .action(ArgAction::Set)
-        .value_parser(clap::value_parser!(u16))
-        .conflicts_with("once")?;
-    command.arg(root)?.arg(port)?.arg(page)
+    let root = "The folder of the deck files, NAME.DECK for deck NAME";
+    let port = "The port on 127.0.0.1, 1 to 65535; one that is free unless said, or at 0";
+    command
+        .arg(valued_word(alloc, "root", "DIR", root).required(true))?
+        .arg(valued_word(alloc, "port", "P", port).value_parser(clap::value_parser!(u16)))?
+        .arg(page_word(alloc)?)
 }
 
 /// The command with the words of how many threads it has, and of how long it waits for a client.
 fn with_threads<'a>(alloc: Global, command: Command<'a>) -> Result<Command<'a>, AllocError> {
-    let workers = Arg::new(alloc, "workers")
-        .long("workers")
-        .value_name("W")
-        .help("How many threads assemble and link, 1 to 16; one for each processor unless said")
-        .action(ArgAction::Set)
-        .value_parser(clap::value_parser!(u64).range(1..17));
-    let sessions = Arg::new(alloc, "sessions")
-        .long("sessions")
-        .value_name("S")
-        .help("How many connections are served at once, 1 to 16; 16 unless said")
-        .action(ArgAction::Set)
-        .value_parser(clap::value_parser!(u64).range(1..17));
-    let idle = Arg::new(alloc, "idle")
-        .long("idle")
-        .value_name("SECONDS")
-        .help("How long a client may be silent before its session ends; 900 unless said")
-        .action(ArgAction::Set)
-        .value_parser(clap::value_parser!(u64).range(1..1_000_000_000));
-    command.arg(workers)?.arg(sessions)?.arg(idle)
+    let workers = "How many threads assemble and link, 1 to 16; one for each processor unless said";
+    let sessions = "How many connections are served at once, 1 to 16; 16 unless said";
+    let idle = "How long a client may be silent before its session ends; 900 unless said";
+    let threads = clap::value_parser!(u64).range(1..17);
+    let seconds = clap::value_parser!(u64).range(1..1_000_000_000);
+    command
+        .arg(valued_word(alloc, "workers", "W", workers).value_parser(threads))?
+        .arg(valued_word(alloc, "sessions", "S", sessions).value_parser(threads))?
+        .arg(valued_word(alloc, "idle", "SECONDS", idle).value_parser(seconds))
 }
 
 /// The command with the words of its journal, and of when it ends.
 fn with_journal<'a>(alloc: Global, command: Command<'a>) -> Result<Command<'a>, AllocError> {
-    let journal = Arg::new(alloc, "journal")
-        .long("journal")
-        .value_name("FILE")
-        .help(
-            "The file that keeps all changes, none for no such file; beskloun.journal in DIR unless said",
-        )
-        .action(ArgAction::Set);
-    let compact = Arg::new(alloc, "compact")
-        .long("compact")
-        .help("Begins the journal anew with the decks that it leaves")
-        .action(ArgAction::SetTrue);
-    let once = Arg::new(alloc, "once")
-        .long("once")
-        .help("Ends when each session has served one connection")
-        .action(ArgAction::SetTrue);
-    command.arg(journal)?.arg(compact)?.arg(once)
+    let journal =
+        "The file that keeps all changes, none for no such file; beskloun.journal in DIR unless said";
+    let compact = "Begins the journal anew with the decks that it leaves";
+    let once = "Ends when each session has served one connection";
+    command
+        .arg(valued_word(alloc, "journal", "FILE", journal))?
+        .arg(plain_word(alloc, "compact", compact))?
+        .arg(plain_word(alloc, "once", once))
 }
 
 /// The words of `compass serve`.

@@ -1,7 +1,8 @@
 //! `compass stop`: ends the service of a folder.
 
 use crate::serving::FOLDER_STATUS;
-use clap::{Arg, ArgAction, ArgMatches, Command};
+use crate::words::valued_word;
+use clap::{ArgMatches, Command};
 use desk_service::stop;
 use std::alloc::{AllocError, Global};
 use std::net::Net;
@@ -10,12 +11,7 @@ use std::rt::Files;
 
 /// The words of `compass stop`.
 pub(crate) fn stop_words<'a>(alloc: Global) -> Result<Command<'a>, AllocError> {
-    let root = Arg::new(alloc, "root")
-        .long("root")
-        .value_name("DIR")
-        .help("The folder of the service")
-        .required(true)
-        .action(ArgAction::Set);
+    let root = valued_word(alloc, "root", "DIR", "The folder of the service").required(true);
     Command::new(alloc, "stop")
         .about("Ends the service of a folder, once what it is answering is out")
         .arg(root)
