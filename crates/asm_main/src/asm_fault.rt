@@ -7,7 +7,7 @@ use std::fmt;
 /// Why a run wrote no whole output. Lines and columns count from 1.
 ///
 /// The text is the name, then the numbers in decimal, each after one blank.
-#[derive(Clone, Copy, Debug, PartialEq, Eq)]
+#[derive(Clone, Copy, Debug)]
 pub enum AsmFault {
     /// No memory was left.
     OutOfMemory,

@@ -17,7 +17,7 @@ pub struct Part<R> {
 }
 
 /// Where a line stands: the number of its part, from 0, and its own number there, from 1.
-#[derive(Clone, Copy, Debug, PartialEq, Eq)]
+#[derive(Clone, Copy)]
 pub struct LinePlace {
     pub part: usize,
     pub line: u64,

@@ -10,7 +10,7 @@ use std::io::Read;
 const MOST_COLUMNS: usize = 256;
 
 /// What is changed of an input.
-#[derive(Clone, Copy, Debug, PartialEq, Eq)]
+#[derive(Clone, Copy)]
 pub struct Filter {
     /// Small letters are taken as capitals.
     pub fold_case: bool,

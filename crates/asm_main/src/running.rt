@@ -17,7 +17,7 @@ use std::io::{BufRead, Write};
 use text_ports::{Counted, LineBuf};
 
 /// What a run counts: the flagged statements, and the LINK lines of the map.
-#[derive(Clone, Copy, Debug, PartialEq, Eq)]
+#[derive(Clone, Copy)]
 pub struct Tally {
     pub errors: usize,
     pub links: usize,

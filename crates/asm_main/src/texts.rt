@@ -11,7 +11,7 @@ use std::io::Write;
 use text_ports::{Broken, Counted, put_all};
 
 /// Which of the texts go to one output.
-#[derive(Clone, Copy, Debug, PartialEq, Eq)]
+#[derive(Clone, Copy)]
 pub struct Chosen {
     pub listing: bool,
     pub map: bool,

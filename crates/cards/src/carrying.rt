@@ -18,7 +18,7 @@ pub struct MadeEdit {
 }
 
 /// A card that an edit names, or the card behind an insertion, was changed since its sender looked.
-#[derive(Clone, Copy, Debug, PartialEq, Eq)]
+#[derive(Clone, Copy)]
 pub struct Touched {
     /// The number of the card among those that he saw.
     pub card: u64,

@@ -27,7 +27,7 @@ impl Model for DeckName {
 }
 
 /// The characters are no name of a deck.
-#[derive(Clone, Copy, Debug, PartialEq, Eq)]
+#[derive(Clone, Copy, Debug)]
 pub struct BadName;
 
 impl DeckName {

@@ -12,7 +12,7 @@ use std::marker::Model;
 const MOST_BETWEEN: usize = 8;
 
 /// The cards of one statement: `count` cards behind the first `start` of the deck.
-#[derive(Clone, Copy, Debug, PartialEq, Eq)]
+#[derive(Clone, Copy)]
 pub struct Span {
     pub start: usize,
     pub count: usize,

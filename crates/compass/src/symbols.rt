@@ -18,7 +18,7 @@ const NINE_DIGITS: u64 = 0o100_000_000;
 
 /// A symbol on a card, in the order of names, in which a card that defines it stands before those that
 /// read it.
-#[derive(Clone, Copy, Debug, PartialEq, Eq, PartialOrd, Ord)]
+#[derive(Clone, Copy, PartialEq, Eq, PartialOrd, Ord)]
 struct Mention {
     /// The characters of the name with blanks behind them, the first in the highest place.
     key: u64,

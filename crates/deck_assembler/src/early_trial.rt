@@ -23,7 +23,7 @@ pub(crate) struct Trial<'a> {
 }
 
 /// A piece that was found to differ: so many pieces are left from it on.
-#[derive(Clone, Copy, Debug, PartialEq, Eq)]
+#[derive(Clone, Copy)]
 pub(crate) struct Missed {
     pub(crate) pieces: usize,
 }

@@ -7,7 +7,7 @@ ghost use Rattle.deck_assembler.specs.KeptFields.{AreTogether};
 use statement_coder::{Content, InstructionItems, Item};
 
 /// The bits of known fields together, at most 60.
-#[derive(Clone, Copy, Debug)]
+#[derive(Clone, Copy)]
 pub(crate) struct KnownBits {
     width: u32,
     pub(crate) bits: u64,

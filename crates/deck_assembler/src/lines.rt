@@ -2,7 +2,7 @@
 use operations::{Letters, Operation};
 
 /// The fields of a statement, as its object keeps them.
-#[derive(Clone, Copy, Debug, PartialEq, Eq)]
+#[derive(Clone, Copy)]
 pub enum LineFields {
     /// It has none.
     Absent,
@@ -16,7 +16,7 @@ pub enum LineFields {
 
 /// A statement up to END: where it stands, and what it stores there. Place and end are in units of its
 /// block, parcels or peripheral words.
-#[derive(Clone, Copy, Debug, PartialEq, Eq)]
+#[derive(Clone, Copy)]
 pub struct CodedLine {
     pub operation: Operation,
     /// The index of its block among the blocks of the object.

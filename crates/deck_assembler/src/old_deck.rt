@@ -39,7 +39,7 @@ pub struct OldCards<'a> {
 }
 
 /// How far an edited deck has come beside the one before.
-#[derive(Clone, Copy, Debug, PartialEq, Eq)]
+#[derive(Clone, Copy)]
 pub(crate) enum Stage {
     /// The same statements were taken of both.
     Front,

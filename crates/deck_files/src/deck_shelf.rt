@@ -4,7 +4,7 @@ use crate::load_fault::LoadFault;
 use cards::{Card, DeckName};
 
 /// Why a deck was not loaded from a shelf.
-#[derive(Clone, Copy, Debug, PartialEq, Eq)]
+#[derive(Clone, Copy, Debug)]
 pub enum ShelfLoadFault {
     /// The deck's file is not there, or does not open.
     CannotOpen,
@@ -13,7 +13,7 @@ pub enum ShelfLoadFault {
 }
 
 /// What a save may write over.
-#[derive(Clone, Copy, Debug, PartialEq, Eq)]
+#[derive(Clone, Copy, Debug)]
 pub enum SaveOver {
     /// A file that was loaded or saved on this shelf.
     Known,
@@ -22,7 +22,7 @@ pub enum SaveOver {
 }
 
 /// Why a deck was not saved on a shelf.
-#[derive(Clone, Copy, Debug, PartialEq, Eq)]
+#[derive(Clone, Copy, Debug)]
 pub enum ShelfSaveFault {
     /// The deck's file can't be made.
     CannotOpen,

@@ -4,7 +4,7 @@ use std::io;
 use std::io::{Read, Write};
 
 /// What stands at a path.
-#[derive(Clone, Copy, Debug, PartialEq, Eq)]
+#[derive(Clone, Copy)]
 pub enum Standing {
     Nothing,
     PlainFile,
@@ -13,7 +13,7 @@ pub enum Standing {
 }
 
 /// Whether a link at the end of a path is followed, or is itself what stands there.
-#[derive(Clone, Copy, Debug, PartialEq, Eq)]
+#[derive(Clone, Copy)]
 pub enum Links {
     Followed,
     Shown,

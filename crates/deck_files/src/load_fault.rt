@@ -7,7 +7,7 @@ use std::fmt;
 /// Why the cards of a file were not loaded. Lines count from 1.
 ///
 /// The text is the name, then the line and the fault of its card, each after one blank.
-#[derive(Clone, Copy, Debug, PartialEq, Eq)]
+#[derive(Clone, Copy, Debug)]
 pub enum LoadFault {
     /// The reader failed.
     ReadFault,

@@ -5,7 +5,7 @@ use std::sync::Wait;
 use std::time::{Clock, Duration};
 
 /// What a worker is told.
-#[derive(Clone, Copy, Debug, Drop, PartialEq, Eq)]
+#[derive(Clone, Copy, Drop)]
 pub enum Bell {
     /// There may be work.
     Work,
@@ -14,7 +14,7 @@ pub enum Bell {
 }
 
 /// What a worker's round was.
-#[derive(Clone, Copy, Debug, PartialEq, Eq)]
+#[derive(Clone, Copy)]
 pub(crate) enum Round {
     /// It delivered something.
     Delivered,

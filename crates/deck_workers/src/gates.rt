@@ -9,7 +9,7 @@ pub trait Gate {
 }
 
 /// A gate that is always open.
-#[derive(Clone, Copy, Debug, Drop, PartialEq, Eq)]
+#[derive(Clone, Copy, Drop)]
 pub struct OpenGate;
 
 impl Gate for OpenGate {

@@ -14,7 +14,7 @@ use statement_coder::Meter;
 use std::alloc::Global;
 
 /// What settling a desk ended with.
-#[derive(Clone, Copy, Debug, PartialEq, Eq)]
+#[derive(Clone, Copy, Debug)]
 pub enum Settled {
     /// All of this version is published.
     Idle { version: u64 },

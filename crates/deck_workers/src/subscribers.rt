@@ -17,7 +17,7 @@ pub trait Subscriber {
 }
 
 /// Nobody, who hears of nothing.
-#[derive(Clone, Copy, Debug, Drop, PartialEq, Eq)]
+#[derive(Clone, Copy, Drop)]
 pub struct NoSubscriber;
 
 impl Subscriber for NoSubscriber {

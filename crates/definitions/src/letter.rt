@@ -1,7 +1,7 @@
 //! The letters that flag a statement (COMPASS 60492600, error flags).
 
 /// A letter that flags a statement.
-#[derive(Clone, Copy, Debug, PartialEq, Eq)]
+#[derive(Clone, Copy, Debug)]
 pub enum Letter {
     /// A value, count or address out of range.
     A,

@@ -3,7 +3,7 @@ ghost use Rattle.std.specs.Prelude.{◌≡◌};
 ghost use Rattle.desk_core.specs.Desks.{is_leased, is_leased_at};
 
 /// A lease: its number, and the version at which it was given.
-#[derive(Clone, Copy, Debug, PartialEq, Eq)]
+#[derive(Clone, Copy)]
 pub struct Lease {
     pub number: u64,
     pub version: u64,

@@ -7,7 +7,7 @@ use crate::shared_publication::SharedPublication;
 use cards::{Card, DeckName, Edit, EditFault};
 
 /// The state of a deck.
-#[derive(Clone, Copy, Debug, PartialEq, Eq)]
+#[derive(Clone, Copy)]
 pub enum State {
     /// Its lease is out.
     Out,

@@ -16,7 +16,7 @@ const PAUSE: u64 = 100;
 const WAIT: u64 = 200;
 
 /// What became of a connection.
-#[derive(Clone, Copy, PartialEq, Eq)]
+#[derive(Clone, Copy)]
 enum Arrival {
     /// A session has it.
     Taken,

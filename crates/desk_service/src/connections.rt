@@ -16,7 +16,7 @@ use std::time::{Clock, Duration};
 use text_ports::Counted;
 
 /// Why a thread serves no further connection.
-#[derive(Clone, Copy, Debug, PartialEq, Eq)]
+#[derive(Clone, Copy)]
 pub(crate) enum Closed {
     /// None can come any more.
     NoMore,

@@ -15,7 +15,7 @@ use text_ports::Counted;
 pub const MOST_COMMANDS: u32 = 1_000_000;
 
 /// How a session ended.
-#[derive(Clone, Copy, Debug, PartialEq, Eq)]
+#[derive(Clone, Copy)]
 pub enum Ending {
     /// Its input ended or had a line that is too long, or it said BYE.
     Left,

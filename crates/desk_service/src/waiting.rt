@@ -8,7 +8,7 @@ use std::marker::Model;
 use std::sync::Wait;
 
 /// How a sleep ended.
-#[derive(Clone, Copy, Debug, PartialEq, Eq)]
+#[derive(Clone, Copy)]
 pub enum Woken {
     /// A publication of the version, or of a later one, was delivered.
     Delivered,

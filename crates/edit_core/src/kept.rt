@@ -36,7 +36,7 @@ pub struct Kept {
 }
 
 /// Why a record gives no object.
-#[derive(Clone, Copy, Debug, PartialEq, Eq)]
+#[derive(Clone, Copy)]
 pub enum FinishFault {
     /// The record is spent.
     Spent,

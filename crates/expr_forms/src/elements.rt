@@ -16,7 +16,7 @@ use crate::symbols::{is_symbol, register_of};
 use definitions::NumberBase;
 
 /// No sign, plus or minus.
-#[derive(Clone, Copy, Debug, PartialEq, Eq)]
+#[derive(Clone, Copy, Debug)]
 pub enum Sign {
     Absent,
     Plus,
@@ -24,14 +24,14 @@ pub enum Sign {
 }
 
 /// What an equals sign stands before.
-#[derive(Clone, Copy, Debug)]
+#[derive(Clone, Copy)]
 pub enum Literal<'a> {
     Number(Sign, Number),
     Item(ItemText<'a>),
 }
 
 /// What an expression is made of.
-#[derive(Clone, Copy, Debug)]
+#[derive(Clone, Copy)]
 pub enum Element<'a> {
     Number(Number),
     Item(ItemText<'a>),

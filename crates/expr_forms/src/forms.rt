@@ -13,14 +13,14 @@ use definitions::Letter;
 use std::marker::Model;
 
 /// What is known at the pair alone: where a block stands, what an external is.
-#[derive(Clone, Copy, Debug, PartialEq, Eq)]
+#[derive(Clone, Copy, PartialEq, Eq)]
 pub enum Relocation {
     Block(Name),
     External(Name),
 }
 
 /// A relocation that is added, or subtracted.
-#[derive(Clone, Copy, Debug, PartialEq, Eq)]
+#[derive(Clone, Copy, PartialEq, Eq)]
 pub enum Part {
     Added(Relocation),
     Subtracted(Relocation),
@@ -42,7 +42,7 @@ impl Relocation {
 
 /// A number, and the relocation that is added to it or subtracted from it, if there is one.
 /// Contracts see the definitions' form.
-#[derive(Clone, Copy, Debug, PartialEq, Eq)]
+#[derive(Clone, Copy, PartialEq, Eq)]
 pub struct Form {
     number: i64,
     part: Option<Part>,

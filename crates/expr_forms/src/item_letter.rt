@@ -4,7 +4,7 @@ ghost use Rattle.definitions.specs.Characters.{is_among};
 ghost use Rattle.expr_forms.specs.CodedItems.{letter_character, is_at_end, filler};
 
 /// The letter of a counted item (COMPASS 60492600, data items).
-#[derive(Clone, Copy, Debug, PartialEq, Eq)]
+#[derive(Clone, Copy)]
 pub enum ItemLetter {
     /// In front, and blanks behind.
     H,

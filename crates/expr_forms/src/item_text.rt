@@ -3,7 +3,7 @@ ghost use Rattle.std.specs.Prelude.{◌≡◌, ◌≤◌, length, codes, true};
 ghost use Rattle.definitions.specs.Characters.{is_among};
 
 /// A counted item as it is written: its letter, one of H A L R C, and its 1 to 100 characters.
-#[derive(Clone, Copy, Debug)]
+#[derive(Clone, Copy)]
 pub struct ItemText<'a> {
     pub letter: u8,
     pub characters: &'a [u8],

@@ -12,7 +12,7 @@ use definitions::NumberBase;
 use std::marker::Model;
 
 /// What stands between two elements.
-#[derive(Clone, Copy, Debug, PartialEq, Eq)]
+#[derive(Clone, Copy, Debug)]
 pub enum Operator {
     Times,
     Divide,
@@ -21,7 +21,7 @@ pub enum Operator {
 }
 
 /// An element with the operator before it.
-#[derive(Clone, Copy, Debug)]
+#[derive(Clone, Copy)]
 pub struct Link<'a> {
     pub operator: Operator,
     pub element: Element<'a>,
@@ -36,7 +36,7 @@ pub(crate) enum LinkFound<'a> {
 }
 
 /// Whether the terms that are one register are among an expression's, or left out of it.
-#[derive(Clone, Copy, Debug, PartialEq, Eq)]
+#[derive(Clone, Copy)]
 pub(crate) enum LoneRegisters {
     Kept,
     LeftOut,

@@ -9,7 +9,7 @@ use std::marker::Model;
 const MOST_CHARACTERS: usize = 9;
 
 /// A name of at most 9 characters. Contracts see the list of its characters.
-#[derive(Clone, Copy, Debug, PartialEq, Eq)]
+#[derive(Clone, Copy, PartialEq, Eq)]
 pub struct Name {
     characters: [u8; MOST_CHARACTERS],
     len: u8,

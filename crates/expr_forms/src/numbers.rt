@@ -13,7 +13,7 @@ use definitions::NumberBase;
 const GREATEST: u64 = (1 << 60) - 1;
 
 /// A number up to 2^60 - 1, or one above it.
-#[derive(Clone, Copy, Debug, PartialEq, Eq)]
+#[derive(Clone, Copy)]
 pub enum Number {
     Value(Magnitude),
     TooGreat,

@@ -16,7 +16,7 @@ use definitions::NumberBase;
 const MOST_CHARACTERS: u64 = 100;
 
 /// The five marks that separate, and the equals sign of a literal.
-#[derive(Clone, Copy, Debug, PartialEq, Eq)]
+#[derive(Clone, Copy)]
 pub enum Mark {
     Comma,
     Plus,

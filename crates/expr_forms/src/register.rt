@@ -2,7 +2,7 @@
 ghost use Rattle.std.specs.Prelude.{◌<◌};
 
 /// The three kinds of registers.
-#[derive(Clone, Copy, Debug, PartialEq, Eq)]
+#[derive(Clone, Copy)]
 pub enum RegisterKind {
     A,
     B,
@@ -10,7 +10,7 @@ pub enum RegisterKind {
 }
 
 /// A register: its kind, and its digit, 0 to 7.
-#[derive(Clone, Copy, Debug, PartialEq, Eq)]
+#[derive(Clone, Copy)]
 pub struct Register {
     pub kind: RegisterKind,
     pub digit: u8,

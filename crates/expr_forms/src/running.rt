@@ -13,21 +13,21 @@ use crate::links::Operator;
 use definitions::Letter;
 
 /// A block or external in a sum, and how many times it was added.
-#[derive(Clone, Copy, Debug)]
+#[derive(Clone, Copy)]
 pub(crate) struct Base {
     pub(crate) relocation: Relocation,
     pub(crate) times: i64,
 }
 
 /// The number of a sum so far, and how many bases it has in its room.
-#[derive(Clone, Copy, Debug)]
+#[derive(Clone, Copy)]
 pub(crate) struct RunningSum {
     pub(crate) number: i64,
     pub(crate) bases: usize,
 }
 
 /// What comes of a term more: a sum, a letter, or no room for its base.
-#[derive(Clone, Copy, Debug)]
+#[derive(Clone, Copy)]
 pub(crate) enum Added {
     Sum(RunningSum),
     Fault(Letter),

@@ -12,7 +12,7 @@ use crate::symbols::is_symbol;
 use definitions::DeckKind;
 
 /// What the field of a USE says.
-#[derive(Clone, Copy, Debug, PartialEq, Eq)]
+#[derive(Clone, Copy)]
 pub enum UseField {
     /// A block; without a field it is the nominal one, `0`.
     UseName(Name),

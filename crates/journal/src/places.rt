@@ -15,7 +15,7 @@ pub enum Ending {
 }
 
 /// Where the reading of a journal is. The numbers stay at their greatest value.
-#[derive(Clone, Copy, Debug, PartialEq, Eq)]
+#[derive(Clone, Copy)]
 pub struct Place {
     /// How many records were read.
     pub records: u64,

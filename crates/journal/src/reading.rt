@@ -22,7 +22,7 @@ pub enum Next {
 }
 
 /// Why a journal was not read on.
-#[derive(Clone, Copy, Debug, PartialEq, Eq)]
+#[derive(Clone, Copy, Debug)]
 pub enum JournalFault {
     /// The reader failed, or gave more than 2^64 lines for one record.
     ReadFault,

@@ -23,7 +23,7 @@ pub struct Replayed {
 }
 
 /// Why the changes of a journal were not all made again.
-#[derive(Clone, Copy, Debug, PartialEq, Eq)]
+#[derive(Clone, Copy, Debug)]
 pub enum ReplayFault {
     /// The reader failed.
     ReadFault,

@@ -6,7 +6,7 @@ use crate::case_answer::CaseAnswer;
 use std::fmt;
 
 /// What differs first, of output, message and status. Lines count from 1.
-#[derive(Clone, Copy, Debug, PartialEq, Eq)]
+#[derive(Clone, Copy)]
 pub enum Difference {
     Output { line: usize },
     Message { line: usize },

@@ -7,7 +7,7 @@ ghost use Rattle.operations.specs.SortedNames.{has_number, name_number, is_below
 use crate::row::Row;
 
 /// Where the rows of a name are likely to stand in a table: `count` rows behind the first `first`.
-#[derive(Clone, Copy, Debug, PartialEq, Eq)]
+#[derive(Clone, Copy)]
 pub struct RowPlace {
     pub first: usize,
     pub count: usize,

@@ -8,7 +8,7 @@ use bytes::Bytes;
 use http::Request;
 
 /// What a request asks for.
-#[derive(Clone, Copy, Debug, PartialEq, Eq)]
+#[derive(Clone, Copy)]
 pub enum Asked {
     /// The page.
     Page,

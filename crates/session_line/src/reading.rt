@@ -13,7 +13,7 @@ use std::io::Read;
 use text_ports::{Counted, LineBuf, LineIs, next_line};
 
 /// Why a command was not read whole.
-#[derive(Clone, Copy, Debug, PartialEq, Eq)]
+#[derive(Clone, Copy)]
 pub(crate) enum Stop {
     /// The input ended, also within a line, or a line was too long.
     InputEnded,

@@ -5,7 +5,7 @@ use cards::{CardFault, EditFault};
 /// Why a command, a file or an input is refused. Lines, columns and edits count from 1.
 ///
 /// The text is the name, then the numbers in decimal, each after one blank.
-#[derive(Clone, Copy, Debug, PartialEq, Eq)]
+#[derive(Clone, Copy, Debug)]
 pub enum Refusal {
     /// No memory was left.
     OutOfMemory,

@@ -16,7 +16,7 @@ use desk_core::{Call, Listed, NewDeck};
 use std::alloc::Global;
 
 /// Which text of a publication is shown.
-#[derive(Clone, Copy, Debug, PartialEq, Eq)]
+#[derive(Clone, Copy)]
 pub(crate) enum PublishedText {
     Image,
     Listing,

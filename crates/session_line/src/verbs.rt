@@ -6,7 +6,7 @@ ghost use Rattle.session_line.specs.Verbs.{edit_kind_of, other_verb_of, verb_of}
 use definitions::is_same_text;
 
 /// What an edit does: a card comes in, takes the place of another, or goes.
-#[derive(Clone, Copy, Debug, PartialEq, Eq)]
+#[derive(Clone, Copy)]
 pub(crate) enum EditKind {
     Insert,
     Replace,
@@ -14,7 +14,7 @@ pub(crate) enum EditKind {
 }
 
 /// What the first word of a line asks for.
-#[derive(Clone, Copy, Debug, PartialEq, Eq)]
+#[derive(Clone, Copy)]
 pub(crate) enum Verb {
     Add,
     Load,

@@ -115,7 +115,7 @@ pub(crate) fn number_in(word: &[u8]) -> Option<u64>
 }
 
 /// The version of a deck that was seen.
-#[derive(Clone, Copy, Debug, PartialEq, Eq)]
+#[derive(Clone, Copy)]
 pub enum Seen {
     /// The deck has to have this version.
     Exactly(u64),

@@ -3,7 +3,7 @@ use crate::InstructionItems;
 use operations::Letters;
 
 /// The fields of a statement.
-#[derive(Clone, Copy, Debug, PartialEq, Eq)]
+#[derive(Clone, Copy)]
 pub enum CodedItems {
     /// It has none.
     Absent,

@@ -14,7 +14,7 @@ use expr_forms::{Form, is_symbol};
 use operations::Operation;
 
 /// What a statement defines.
-#[derive(Clone, Copy, Debug, PartialEq, Eq)]
+#[derive(Clone, Copy)]
 pub enum Defines {
     Nothing,
     /// The symbol of its location field, with this value.

@@ -19,7 +19,7 @@ use definitions::DeckKind;
 use expr_forms::{Expr, Field, Names, Shape};
 
 /// The fields of an instruction from left to right: its digits, and up to two behind them.
-#[derive(Clone, Copy, Debug, PartialEq, Eq)]
+#[derive(Clone, Copy)]
 pub struct InstructionItems {
     pub digits: Item,
     pub first: Option<Item>,

@@ -12,14 +12,14 @@ use definitions::{DeckKind, Letter};
 use expr_forms::{Form, Number, Sign, coded_in};
 
 /// Bits that are known, or a form that the link makes a number of.
-#[derive(Clone, Copy, Debug, PartialEq, Eq)]
+#[derive(Clone, Copy)]
 pub enum Content {
     Known(u64),
     Linked(Form),
 }
 
 /// A field of up to 60 bits: its width, what stands in it, and the letter that flags it, if one does.
-#[derive(Clone, Copy, Debug, PartialEq, Eq)]
+#[derive(Clone, Copy)]
 pub struct Item {
     pub width: u32,
     pub letter: Option<Letter>,

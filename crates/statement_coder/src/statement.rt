@@ -6,7 +6,7 @@ use operations::Operation;
 
 /// The fields of a statement in a deck of this kind, its operation, and whether it is a comma card
 /// that belongs to no other. The variable field has at most 711 characters.
-#[derive(Clone, Copy, Debug)]
+#[derive(Clone, Copy)]
 pub struct Statement<'a> {
     pub kind: DeckKind,
     pub location: &'a [u8],

@@ -68,7 +68,7 @@ impl Failing {
 }
 
 /// What came of something that was tried.
-#[derive(Clone, Copy, PartialEq, Eq)]
+#[derive(Clone, Copy)]
 pub enum Came {
     /// It came to its end.
     Whole,

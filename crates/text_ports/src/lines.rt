@@ -91,7 +91,7 @@ impl LineBuf {
 }
 
 /// What `next_line` found.
-#[derive(Clone, Copy, Debug, PartialEq, Eq)]
+#[derive(Clone, Copy, Debug)]
 pub enum LineIs {
     /// A line: the buffer has its bytes without the line feed, and without one carriage return
     /// directly before it.

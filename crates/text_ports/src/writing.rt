@@ -7,7 +7,7 @@ use crate::counted::Counted;
 use std::io::Write;
 
 /// A write that failed: `sent` bytes went out before.
-#[derive(Clone, Copy, Debug, PartialEq, Eq)]
+#[derive(Clone, Copy, Debug)]
 pub struct Broken {
     pub sent: usize,
 }

@@ -5,7 +5,7 @@ use definitions::NumberBase;
 use expr_forms::Name;
 
 /// What a statement does to the stack of blocks.
-#[derive(Clone, Copy, Debug, PartialEq, Eq)]
+#[derive(Clone, Copy)]
 pub enum BlockChange {
     Nothing,
     /// A USE that is accepted opens its block.
@@ -15,7 +15,7 @@ pub enum BlockChange {
 }
 
 /// What a statement does to the location counter of its block.
-#[derive(Clone, Copy, Debug, PartialEq, Eq)]
+#[derive(Clone, Copy, PartialEq, Eq)]
 pub enum LocationSetting {
     Unchanged,
     /// LOC sets it.
@@ -25,7 +25,7 @@ pub enum LocationSetting {
 }
 
 /// What a statement does to the state, and how many words of its block it reaches.
-#[derive(Clone, Copy, Debug, PartialEq, Eq)]
+#[derive(Clone, Copy)]
 pub struct Effect {
     pub change: BlockChange,
     /// The new position of the block in use, where the statement has a place.

@@ -12,7 +12,7 @@ use std::marker::Model;
 /// The end of the latest statement of a block that has a place, in units of the block, at most the
 /// 524,288 parcels of a block, and whether that statement asks that the next instruction is upper.
 /// Contracts see the definitions' record.
-#[derive(Clone, Copy, Debug, PartialEq, Eq)]
+#[derive(Clone, Copy)]
 pub struct Position {
     end: u32,
     asks: bool,
@@ -76,7 +76,7 @@ impl Position {
 
 /// A LOC in force: the value that it set, whose number is in the range of values, and its place in
 /// units of its block. Contracts see the definitions' record.
-#[derive(Clone, Copy, Debug, PartialEq, Eq)]
+#[derive(Clone, Copy, PartialEq, Eq)]
 pub struct Counting {
     form: Form,
     place: u32,

@@ -10,7 +10,7 @@ use expr_forms::Name;
 use std::marker::Model;
 
 /// A block that is used. Contracts see the definitions' record.
-#[derive(Clone, Copy, Debug, PartialEq, Eq)]
+#[derive(Clone, Copy)]
 pub struct UsedBlock {
     name: Name,
     position: Position,

@@ -10,7 +10,7 @@ use definitions::DeckKind;
 use std::alloc::AllocError;
 
 /// So many bits, 1 to 60, as one number, and whether an instruction has them.
-#[derive(Clone, Copy, Debug, PartialEq, Eq)]
+#[derive(Clone, Copy)]
 pub struct Field {
     pub width: u32,
     pub bits: u64,

@@ -16,7 +16,7 @@ use std::alloc::{AllocError, Global};
 const PASS: u16 = 0o46000;
 
 /// What lies in the word that is being gathered; a peripheral word has one parcel.
-#[derive(Clone, Copy, Debug)]
+#[derive(Clone, Copy)]
 pub(crate) struct OpenWord {
     pub(crate) word: u32,
     pub(crate) parcels: [Option<u16>; 4],

@@ -1,7 +1,7 @@
 //! How a run is kept: whole parcels as spans, and the bits of the parcel behind them.
 
 /// Parcels of equal bits one behind the other, counted in parcels of the block.
-#[derive(Clone, Copy, Debug, Drop)]
+#[derive(Clone, Copy, Drop)]
 pub(crate) struct Span {
     pub(crate) place: u32,
     pub(crate) count: u32,
@@ -10,7 +10,7 @@ pub(crate) struct Span {
 }
 
 /// The first bits of a parcel that is not yet whole, as one number.
-#[derive(Clone, Copy, Debug)]
+#[derive(Clone, Copy)]
 pub(crate) struct OpenParcel {
     pub(crate) place: u32,
     pub(crate) filled: u32,

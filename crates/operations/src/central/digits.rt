@@ -7,7 +7,7 @@ ghost use Rattle.operations.specs.RegistersFound.{digits_as};
 use crate::central::registers_found::RegistersFound;
 
 /// The octal digits of a code in front of K or n, as a number, and how many they are.
-#[derive(Clone, Copy, Debug, PartialEq, Eq)]
+#[derive(Clone, Copy)]
 pub struct Digits {
     pub number: u64,
     pub count: usize,

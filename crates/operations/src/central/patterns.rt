@@ -2,7 +2,7 @@
 //! one in 6 bits.
 
 /// An operand that is read subfield by subfield.
-#[derive(Clone, Copy, Debug, PartialEq, Eq)]
+#[derive(Clone, Copy)]
 pub enum OperandPattern {
     /// `K`
     K,
@@ -41,7 +41,7 @@ pub enum OperandPattern {
 }
 
 /// The registers of an operand that is a sum; its other terms make K.
-#[derive(Clone, Copy, Debug, PartialEq, Eq)]
+#[derive(Clone, Copy)]
 pub enum SumPattern {
     NoRegister,
     /// `Bi`

@@ -3,7 +3,7 @@ ghost use Rattle.std.specs.Prelude.{◌<◌};
 
 /// The digits, 0 to 7, that an operation and its operand give for i, j and k; 0 where they give
 /// none.
-#[derive(Clone, Copy, Debug, PartialEq, Eq)]
+#[derive(Clone, Copy)]
 pub struct RegistersFound {
     pub i: u8,
     pub j: u8,

@@ -9,7 +9,7 @@ ghost use Rattle.operations.specs.PeripheralCodes.{form_as, values_read};
 
 /// What stands behind the two digits of an operation (6600 reference 60100000, peripheral
 /// instructions).
-#[derive(Clone, Copy, Debug, PartialEq, Eq)]
+#[derive(Clone, Copy)]
 pub enum Form {
     /// Nothing is read, and d is 0.
     Ignored,
@@ -27,7 +27,7 @@ pub enum Form {
 }
 
 /// The two octal digits of an operation, and what stands behind them.
-#[derive(Clone, Copy, Debug, PartialEq, Eq)]
+#[derive(Clone, Copy)]
 pub struct Code {
     pub digits: u8,
     pub form: Form,
