@@ -17,10 +17,10 @@ use std::alloc::{AllocError, Global};
 use std::io::Write;
 use text_ports::{Broken, Counted, put_all};
 
-/// So many cards, fields and words have texts of some eight megabytes. Up to there both texts are made
+/// So many cards, fields and words have texts of some sixteen megabytes. Up to there both texts are made
 /// whole, since each part of what is longer is made twice: to know how long it is before the first byte
 /// goes out, and when it does.
-const FEW: usize = 1 << 17;
+const FEW: usize = 1 << 18;
 
 /// What is built of decks, in one of two ways to the same bytes.
 #[derive(Drop)]

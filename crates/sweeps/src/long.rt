@@ -47,9 +47,9 @@ SECOND    SA1    FIRST
 const WORDS: &str = "          DIS    100,A
 ";
 
-/// How many of them a deck has. Both have 100,000 words with as many fields, which is more than a run
+/// How many of them a deck has. Both have 140,000 words with as many fields, which is more than a run
 /// makes whole.
-const TIMES: usize = 500;
+const TIMES: usize = 700;
 
 /// How they end.
 const END: &str = "          END
