@@ -17,6 +17,7 @@ ghost use Rattle.std.specs.Prelude.{◌≡◌, ◌≢◌, ℕ, ◌<◌, pos};
 use asm_main::AsmFault;
 use assembling::{asm_words, assemble};
 use clap::{ArgMatches, Command, Error};
+use desk_service::VERSION;
 use journal_files::{log, log_words};
 use run_faults::tell;
 use serving::{run_service, serve_words, settings_of};
@@ -39,7 +40,7 @@ const COMMAND_LINE_STATUS: u8 = 2;
 /// The command line: its commands are `asm`, `log`, `serve` and `stop`, and `clap` writes its texts.
 fn read_words<'a>(alloc: Global, words: &'a [String]) -> Result<ArgMatches<'a>, Error> {
     Command::new(alloc, "compass")
-        .version("0.1.0")
+        .version(VERSION)
         .about("COMPASS for the Control Data 6000 series, proved")
         .subcommand_required(true)
         .subcommand(asm_words(alloc)?)?

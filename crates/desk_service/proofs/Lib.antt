@@ -3,3 +3,4 @@ pub mod SessionSteps
 pub mod PlaceSteps
 pub mod KeptChanges
 pub mod PageSessions
+pub mod CompanySteps

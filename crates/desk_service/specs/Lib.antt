@@ -1,5 +1,6 @@
 pub mod Bells
 pub mod Waiting
+pub mod Company
 pub mod SessionKeepers
 pub mod FaultTexts
 pub mod Sessions

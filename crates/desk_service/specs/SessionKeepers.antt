@@ -8,19 +8,25 @@ use Rattle.journal.specs.JournalFiles.{Step, IsKept}
 use Rattle.journal.specs.Names.{session_name}
 use Rattle.journal.specs.Records.{text_behind_version}
 
--- whether there is a journal, the number of the session, and the version of its latest change that was told as not kept
+-- whether there is a journal, the number of the session, the version of its latest change that was told as not kept, and the name by which it asks for changes
 pub record SessionKeeper : Type 0 where
   pub journaled : Bool
   pub session : ℕ
   pub missed : Option ℕ
+  pub name : List ℕ
 
 -- the name by which the session asks for changes
 abbrev pub keeper_name : SessionKeeper → List ℕ
-keeper_name keeper = session_name keeper.session
+keeper_name keeper = keeper.name
 
--- the record of a change that the session asks for at some moment
-abbrev pub IsDraft : ℕ → Change → List ℕ → Type 0
-IsDraft session change draft = (moment : List ℕ) × (draft ≡ text_behind_version moment session change)
+-- by this name it asks for changes from now on; or by its number, where it told none
+abbrev pub NamesKeeper : SessionKeeper → Option (List ℕ) → SessionKeeper → Type 0
+NamesKeeper old (Some name) new = new ≡ record old { name = name }
+NamesKeeper old None new = new ≡ record old { name = session_name old.session }
+
+-- the record of a change that a session of this name asks for at some moment
+abbrev pub IsDraft : List ℕ → Change → List ℕ → Type 0
+IsDraft name change draft = (moment : List ℕ) × (draft ≡ text_behind_version moment name change)
 
 module _ {F : Type 0} (has_done : F → List Step → Type 0) where
   -- what was told as not kept is kept now
@@ -30,12 +36,12 @@ module _ {F : Type 0} (has_done : F → List Step → Type 0) where
 
   -- what is answered where a change is asked for: its record, once what the session was told as not kept is kept; or a refusal
   abbrev pub BeginsRecord : SessionKeeper → Change → Result (List ℕ) Refusal → SessionKeeper → Type 0
-  BeginsRecord old change (Ok draft) new = (new ≡ old) × (old.journaled ≡ true → IsMadeUp old.missed × IsDraft old.session change draft)
+  BeginsRecord old change (Ok draft) new = (new ≡ old) × (old.journaled ≡ true → IsMadeUp old.missed × IsDraft old.name change draft)
   BeginsRecord old change (Err refusal) new = (new ≡ old) × ((refusal ≡ NotKept) ⊎ (refusal ≡ OutOfMemory))
 
-  -- what is answered where a change is asked for whose record is known once it is made: the session, once what it was told as not kept is kept; or a refusal
+  -- what is answered where a change is asked for whose record is known once it is made: the name of the session, once what it was told as not kept is kept; or a refusal
   abbrev pub OpensRecord : SessionKeeper → Result Stamp Refusal → SessionKeeper → Type 0
-  OpensRecord old (Ok stamp) new = (new ≡ old) × (old.journaled ≡ true → IsMadeUp old.missed × (stamp.session ≡ old.session))
+  OpensRecord old (Ok stamp) new = (new ≡ old) × (old.journaled ≡ true → IsMadeUp old.missed × (stamp.by ≡ old.name))
   OpensRecord old (Err refusal) new = (new ≡ old) × (refusal ≡ NotKept)
 
   -- what is answered where a change was made: that its record is kept, or that it is not, which the session remembers

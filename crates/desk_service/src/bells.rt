@@ -5,7 +5,9 @@ ghost use Rattle.desk_service.specs.Bells.{RingsAfter};
 use crossbeam_channel::Sender;
 use deck_workers::Bell;
 use desk_core::{Call, Reply};
-use session_line::Calls;
+use journal::DeckName;
+use session_line::{Calls, Greeting};
+use std::alloc::Global;
 use std::marker::{Model, PhantomData};
 use std::sync::Wait;
 
@@ -40,7 +42,7 @@ impl<C, B> Ringing<C, B> {
     }
 }
 
-/// The calls are the desk's. Who waits is answered by the desk.
+/// The calls are the desk's. Who waits or greets is answered by the desk.
 impl<C: Calls, B: Ring> Calls for Ringing<C, B> {
     ghost use Rattle.std.specs.Prelude.{◌≡◌};
     ghost use Rattle.desk_service.specs.Bells.{RingsAfter};
@@ -48,6 +50,10 @@ impl<C: Calls, B: Ring> Calls for Ringing<C, B> {
     ghost makes = { λ old call reply new. C.makes old.0 call reply new.0 × RingsAfter B.rings reply old.1 new.1 };
 
     ghost awaits = { λ old version reply new. C.awaits old.0 version reply new.0 × (new.1 ≡ old.1) };
+
+    ghost greets = { λ old name greeting new. C.greets old.0 name greeting new.0 × (new.1 ≡ old.1) };
+
+    ghost begins = { λ old new. C.begins old.0 new.0 × (new.1 ≡ old.1) };
 
     fn call(&mut self, call: Call) -> Reply {
         let reply = self.desk.call(call);
@@ -57,6 +63,14 @@ impl<C: Calls, B: Ring> Calls for Ringing<C, B> {
 
     fn await_version(&mut self, version: u64) -> Reply {
         self.desk.await_version(version)
+    }
+
+    fn greet(&mut self, alloc: Global, name: &DeckName) -> Greeting {
+        self.desk.greet(alloc, name)
+    }
+
+    fn begin_session(&mut self) {
+        self.desk.begin_session();
     }
 }
 

@@ -36,7 +36,7 @@ fn serve_connection<R: Clock, C: Calls, S: Shelf>(
     desk: &mut C,
     shelf: &mut S,
 )
-    ensures { ServesConnection C.makes C.awaits S.loads S.refuses_to_load S.saves S.refuses_to_save desk.old shelf.old desk.new shelf.new }
+    ensures { ServesConnection C.makes C.awaits C.greets C.begins S.loads S.refuses_to_load S.saves S.refuses_to_save desk.old shelf.old desk.new shelf.new }
 {
     let _ = stream.set_nodelay(true);
     let _ = stream.set_write_timeout(Some(idle));
@@ -71,7 +71,7 @@ fn serve_arrival<R: Wait + Clock, C: Calls, S: Shelf>(
     desk: &mut C,
     shelf: &mut S,
 )
-    ensures { ServesConnection C.makes C.awaits S.loads S.refuses_to_load S.saves S.refuses_to_save desk.old shelf.old desk.new shelf.new }
+    ensures { ServesConnection C.makes C.awaits C.greets C.begins S.loads S.refuses_to_load S.saves S.refuses_to_save desk.old shelf.old desk.new shelf.new }
 {
     let Serving {
         session,
@@ -96,7 +96,7 @@ pub(crate) fn serve_connections<R: Wait + Clock, C: Calls, S: Shelf>(
     desk: &mut C,
     shelf: &mut S,
 ) -> Closed
-    ensures { (count : ℕ) × ServesConnections C.makes C.awaits S.loads S.refuses_to_load S.saves S.refuses_to_save desk.old shelf.old desk.new shelf.new count × EndsAfter result serving.entry.once count }
+    ensures { (count : ℕ) × ServesConnections C.makes C.awaits C.greets C.begins S.loads S.refuses_to_load S.saves S.refuses_to_save desk.old shelf.old desk.new shelf.new count × EndsAfter result serving.entry.once count }
 {
     for _ in rt.forever() {
         let Ok(stream) = arrivals.recv(rt) else {

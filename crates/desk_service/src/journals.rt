@@ -8,6 +8,7 @@
 ghost use Rattle.std.specs.Prelude.{◌≡◌, is_some, true, None};
 ghost use Rattle.journal.specs.JournalFiles.{IsKept};
 ghost use Rattle.desk_service.specs.SessionKeepers.{IsMadeUp};
+ghost use Rattle.journal.specs.Names.{session_name};
 
 use desk_core::Refusal;
 use journal::{
@@ -154,8 +155,9 @@ pub(crate) fn moment_now<R: Clock>(rt: &R) -> Moment {
 }
 
 /// The end of the journal that a session has; without a journal all changes pass, and none is kept.
-/// Contracts see whether there is a journal, the number of the session, and the version of its latest change
-/// that was told as not kept: until that record is kept, it makes no other.
+/// Contracts see whether there is a journal, the number of the session, the version of its latest change
+/// that was told as not kept: until that record is kept, it makes no other; and the name by which it asks for
+/// changes: the one that it told, or its number.
 #[derive(Drop)]
 pub struct SessionKeeper<'a, R, F: RecordsFile> {
     rt: &'a R,
@@ -163,6 +165,8 @@ pub struct SessionKeeper<'a, R, F: RecordsFile> {
     journal: Option<&'a Journal<F>>,
     session: usize,
     missed: Option<u64>,
+    /// By which name it asks for changes.
+    name: DeckName,
 }
 
 impl<'a, R, F: RecordsFile> Model for SessionKeeper<'a, R, F> {
@@ -171,7 +175,7 @@ impl<'a, R, F: RecordsFile> Model for SessionKeeper<'a, R, F> {
 
     ghost Value = { keepers.SessionKeeper };
 
-    ghost view = { λ k. record { journaled = is_some k.journal; session = k.session; missed = k.missed } };
+    ghost view = { λ k. record { journaled = is_some k.journal; session = k.session; missed = k.missed; name = k.name } };
 }
 
 impl<'a, R, F: RecordsFile> SessionKeeper<'a, R, F> {
@@ -184,6 +188,7 @@ impl<'a, R, F: RecordsFile> SessionKeeper<'a, R, F> {
         ensures journaled { result.journaled ≡ is_some journal.entry }
         ensures session { result.session ≡ session }
         ensures missed { result.missed ≡ None }
+        ensures name { result.name ≡ session_name session }
     {
         SessionKeeper {
             rt,
@@ -191,12 +196,13 @@ impl<'a, R, F: RecordsFile> SessionKeeper<'a, R, F> {
             journal,
             session,
             missed: None,
+            name: session_name(session as u64),
         }
     }
 }
 
 impl<R: Wait + Clock, F: RecordsFile + Drop> Keep for SessionKeeper<'_, R, F> {
-    ghost use Rattle.desk_service.specs.SessionKeepers.{BeginsRecord, KeepsRecord, OpensRecord, keeper_name};
+    ghost use Rattle.desk_service.specs.SessionKeepers.{BeginsRecord, KeepsRecord, NamesKeeper, OpensRecord, keeper_name};
 
     ghost begins = { BeginsRecord F.has_done };
 
@@ -206,6 +212,8 @@ impl<R: Wait + Clock, F: RecordsFile + Drop> Keep for SessionKeeper<'_, R, F> {
 
     ghost opens = { OpensRecord F.has_done };
 
+    ghost names = { NamesKeeper };
+
     fn begin(&mut self, change: &Change) -> Result<Draft, Refusal> {
         let Some(journal) = self.journal else {
             return Ok(Draft::empty(self.alloc));
@@ -214,7 +222,7 @@ impl<R: Wait + Clock, F: RecordsFile + Drop> Keep for SessionKeeper<'_, R, F> {
             return Err(Refusal::NotKept);
         }
         let moment = moment_now(self.rt);
-        match draft_change(self.alloc, &moment, self.session as u64, change) {
+        match draft_change(self.alloc, &moment, &self.name, change) {
             Ok(draft) => Ok(draft),
             Err(_) => Err(Refusal::OutOfMemory),
         }
@@ -228,7 +236,7 @@ impl<R: Wait + Clock, F: RecordsFile + Drop> Keep for SessionKeeper<'_, R, F> {
         }
         Ok(Stamp {
             moment: moment_now(self.rt),
-            session: self.session as u64,
+            by: self.name.copied(),
         })
     }
 
@@ -244,6 +252,13 @@ impl<R: Wait + Clock, F: RecordsFile + Drop> Keep for SessionKeeper<'_, R, F> {
     }
 
     fn who(&self) -> DeckName {
-        session_name(self.session as u64)
+        self.name.copied()
+    }
+
+    fn be_named(&mut self, name: Option<&DeckName>) {
+        self.name = match name {
+            Some(name) => name.copied(),
+            None => session_name(self.session as u64),
+        };
     }
 }

@@ -42,6 +42,7 @@
 #![tactic(auto)]
 
 // One session, over any ports.
+mod attending;
 mod bells;
 mod page_lines;
 mod sessions;
@@ -61,6 +62,7 @@ mod laws;
 
 // Threads and sockets.
 mod arrivals;
+mod company;
 mod connections;
 mod control;
 mod pages;
@@ -72,6 +74,7 @@ mod seating;
 mod service_end;
 mod timed_stream;
 
+pub use attending::{Attend, Attending};
 pub use bells::{Ring, Ringing};
 pub use control::stop;
 pub use faults::ServeFault;
@@ -79,6 +82,7 @@ pub use journals::{Journal, SessionKeeper};
 pub use laws::told_changes_are_kept;
 pub use page_lines::DeskLines;
 pub use running::{serve, serve_on};
+pub use session_line::VERSION;
 pub use sessions::{Ending, serve_session};
 pub use settings::{Journaling, Settings};
 pub use system_file::SystemFile;

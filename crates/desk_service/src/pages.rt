@@ -7,6 +7,7 @@ ghost use Rattle.std.specs.List.{range_with_len};
 ghost use Rattle.turn_office.specs.Seats.{AreOf};
 ghost use Rattle.desk_service.specs.PageThreads.{page_threads};
 
+use crate::attending::{Attending, CompanyEnd};
 use crate::bells::{Ringing, WorkBell};
 use crate::journals::{Journal, SessionKeeper};
 use crate::page_lines::DeskLines;
@@ -59,7 +60,10 @@ pub(crate) struct Door<'a> {
 
 /// What page threads do their work at: a desk whose changes are kept, and a shelf.
 type PageDesk<'a, R, F> = DeskLines<
-    Keeping<Ringing<SeatCalls<'a, R>, WorkBell<'a, R>>, SessionKeeper<'a, R, F>>,
+    Attending<
+        Keeping<Ringing<SeatCalls<'a, R>, WorkBell<'a, R>>, SessionKeeper<'a, R, F>>,
+        CompanyEnd<'a, R>,
+    >,
     FolderShelf<'a, R>,
 >;
 
@@ -174,9 +178,9 @@ pub(crate) fn page_places<'a, R, F: RecordsFile>(
     ensures left { OnOk result (length seats.new.items ≡ length seats.old.items - page_threads door.entry) }
     ensures all { IfOk result (λ places. length places.items ≡ page_threads door.entry) }
     ensures number { IfOk result (λ places. map (λ place. place.page.1.1.number) places.items ≡ range_with_len settings.now.sessions (page_threads door.entry)) }
-    ensures keeper { IfOk result (λ places. map (λ place. place.page.1.0.1.session) places.items ≡ range_with_len settings.now.sessions (page_threads door.entry)) }
+    ensures keeper { IfOk result (λ places. map (λ place. place.page.1.0.0.1.session) places.items ≡ range_with_len settings.now.sessions (page_threads door.entry)) }
     ensures folder { IfOk result (λ places. All (λ place. place.page.1.1.folder ≡ settings.now.root.now) places.items) }
-    ensures office { IfOk result (λ places. All (λ place. place.page.1.0.0.0.seat.office ≡ office.now.id) places.items) }
+    ensures office { IfOk result (λ places. All (λ place. place.page.1.0.0.0.0.seat.office ≡ office.now.id) places.items) }
     ensures port { IfSome door.entry (λ door. IfOk result (λ places. All (λ place. place.page.0 ≡ door.port) places.items)) }
 {
     let mut places = Vec::new(alloc);
@@ -188,7 +192,8 @@ pub(crate) fn page_places<'a, R, F: RecordsFile>(
         let seat = SeatCalls::new(rt, office, take_seat(office, seats));
         let ringing = Ringing::new(seat, WorkBell::new(rt, bells.clone()?));
         let keeper = SessionKeeper::new(rt, alloc, journal, session);
-        let desk = Keeping::new(ringing, keeper);
+        let keeping = Keeping::new(ringing, keeper);
+        let desk = Attending::new(keeping, CompanyEnd::new(rt, end, session));
         let shelf = FolderShelf::new(rt, alloc, settings.root, session, known);
         let lines = DeskLines::new(alloc, desk, shelf);
         let page = PageService::new(alloc, entrance.port, lines);

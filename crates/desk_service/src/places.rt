@@ -3,6 +3,7 @@ ghost use Rattle.std.specs.Prelude.{◌≡◌, ◌-◌, ◌≤◌, All, length, 
 ghost use Rattle.std.specs.List.{range_with_len};
 ghost use Rattle.turn_office.specs.Seats.{AreOf};
 
+use crate::attending::{Attending, CompanyEnd};
 use crate::bells::{Ringing, WorkBell};
 use crate::connections::{Serving, serve_connections};
 use crate::journals::{Journal, SessionKeeper};
@@ -58,12 +59,15 @@ impl<R: Wait + Clock> Serve for WorkerPlace<'_, R> {
     }
 }
 
-/// The desk of a session: its changes are kept, and it is waited at.
-type SessionDesk<'a, R, F> = Waiting<
-    'a,
-    Keeping<Ringing<SeatCalls<'a, R>, WorkBell<'a, R>>, SessionKeeper<'a, R, F>>,
-    PublicationsEnd<'a, R>,
-    R,
+/// The desk of a session: its changes are kept, it is waited at, and its name is known to the others.
+type SessionDesk<'a, R, F> = Attending<
+    Waiting<
+        'a,
+        Keeping<Ringing<SeatCalls<'a, R>, WorkBell<'a, R>>, SessionKeeper<'a, R, F>>,
+        PublicationsEnd<'a, R>,
+        R,
+    >,
+    CompanyEnd<'a, R>,
 >;
 
 /// What a session thread works with: a desk, and a shelf.
@@ -149,8 +153,9 @@ fn session_desk<'a, R, F: RecordsFile>(
     journal: Option<&'a Journal<F>>,
 ) -> SessionDesk<'a, R, F>
     requires own { seat.office ≡ office.now.id }
-    ensures office { result.0.0.0.seat.office ≡ office.now.id }
-    ensures keeper { result.0.1.session ≡ number }
+    ensures office { result.0.0.0.0.seat.office ≡ office.now.id }
+    ensures keeper { result.0.0.1.session ≡ number }
+    ensures company { result.1 ≡ number }
 {
     let calls = SeatCalls::new(rt, office, seat);
     let bell = WorkBell::new(rt, bells);
@@ -158,7 +163,8 @@ fn session_desk<'a, R, F: RecordsFile>(
     let keeper = SessionKeeper::new(rt, alloc, journal, number);
     let keeping = Keeping::new(ringing, keeper);
     let published = PublicationsEnd::new(rt, end.publications());
-    Waiting::new(rt, keeping, published)
+    let waiting = Waiting::new(rt, keeping, published);
+    Attending::new(waiting, CompanyEnd::new(rt, end, number))
 }
 
 /// Places for the sessions of a service, with seats from the list; each has an end of the bell, waits for
@@ -181,10 +187,11 @@ pub(crate) fn session_places<'a, R, F: RecordsFile>(
     ensures all { IfOk result (λ places. length places.items ≡ settings.now.sessions) }
     ensures number { IfOk result (λ places. map (λ place. place.shelf.number) places.items ≡ range_with_len 0 settings.now.sessions) }
     ensures session { IfOk result (λ places. map (λ place. place.serving.session) places.items ≡ range_with_len 0 settings.now.sessions) }
-    ensures keeper { IfOk result (λ places. map (λ place. place.desk.0.1.session) places.items ≡ range_with_len 0 settings.now.sessions) }
+    ensures keeper { IfOk result (λ places. map (λ place. place.desk.0.0.1.session) places.items ≡ range_with_len 0 settings.now.sessions) }
+    ensures company { IfOk result (λ places. map (λ place. place.desk.1) places.items ≡ range_with_len 0 settings.now.sessions) }
     ensures folder { IfOk result (λ places. All (λ place. place.shelf.folder ≡ settings.now.root.now) places.items) }
     ensures once { IfOk result (λ places. All (λ place. place.serving.once ≡ settings.now.once) places.items) }
-    ensures office { IfOk result (λ places. All (λ place. place.desk.0.0.0.seat.office ≡ office.now.id) places.items) }
+    ensures office { IfOk result (λ places. All (λ place. place.desk.0.0.0.0.seat.office ≡ office.now.id) places.items) }
 {
     let mut places = Vec::new(alloc);
     for number in 0..settings.sessions {

@@ -392,7 +392,7 @@ where
     let threads = settings.sessions + page_threads(door);
     let (office, seats) = Office::open(alloc, desk, settings.workers + threads)?;
     let known = Mutex::new(KnownFiles::new(alloc));
-    let end = &ServiceEnd::new(alloc, threads)?;
+    let end = &ServiceEnd::new(alloc, threads, settings.sessions)?;
     let channels = open_channels(alloc)?;
     let journal = journal.as_ref();
     let Places {

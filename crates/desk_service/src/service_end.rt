@@ -1,7 +1,13 @@
 //! The end of a service, where it is asked for: no connection is taken any more, nothing more is read of
 //! those that are open, who waits for a publication is answered, and what is being answered goes out.
 
+ghost use Rattle.std.specs.Prelude.{IfOk};
+ghost use Rattle.desk_service.specs.Company.{AreListed};
+
+use crate::company::Company;
 use crate::publications::Publications;
+use journal::DeckName;
+use session_line::Connected;
 use std::alloc::{AllocError, Global};
 use std::net::{Shutdown, TcpStream};
 use std::sync::{Mutex, Wait};
@@ -12,6 +18,8 @@ struct Known {
     is_asked: bool,
     /// The connection of each session, where it serves one.
     open: Vec<Option<TcpStream>>,
+    /// The names of those that are connected; the page's threads are none.
+    company: Company,
 }
 
 /// The end of a service.
@@ -30,16 +38,22 @@ fn shut(open: &[Option<TcpStream>], how: Shutdown) {
 }
 
 impl ServiceEnd {
-    /// The end of a service with so many sessions, which nobody has asked for.
-    pub(crate) fn new(alloc: Global, sessions: usize) -> Result<ServiceEnd, AllocError> {
+    /// The end of a service in which so many threads serve connections, the first of them sessions, which
+    /// nobody has asked for.
+    pub(crate) fn new(
+        alloc: Global,
+        threads: usize,
+        sessions: usize,
+    ) -> Result<ServiceEnd, AllocError> {
         let mut open = Vec::new(alloc);
-        for _ in 0..sessions {
+        for _ in 0..threads {
             open.push(None)?;
         }
         Ok(ServiceEnd {
             known: Mutex::new(Known {
                 is_asked: false,
                 open,
+                company: Company::new(alloc, sessions)?,
             }),
             publications: Publications::new(),
         })
@@ -65,6 +79,7 @@ impl ServiceEnd {
         match (stream.try_clone(), known.open.get_mut(session)) {
             (Ok(same), Some(place)) => {
                 *place = Some(same);
+                known.company.enter(session);
                 true
             }
             _ => false,
@@ -73,9 +88,29 @@ impl ServiceEnd {
 
     /// A session has served its connection.
     pub(crate) fn leave<R: Wait>(&self, rt: &R, session: usize) {
-        if let Some(place) = self.known.lock(rt).open.get_mut(session) {
+        let mut known = self.known.lock(rt);
+        known.company.leave(session);
+        if let Some(place) = known.open.get_mut(session) {
             *place = None;
         }
+    }
+
+    /// The session of this number has told this name.
+    pub(crate) fn note<R: Wait>(&self, rt: &R, session: usize, name: &DeckName) {
+        self.known.lock(rt).company.note(session, name.copied());
+    }
+
+    /// The sessions that are connected; the one of this number tells this name.
+    pub(crate) fn list<R: Wait>(
+        &self,
+        rt: &R,
+        alloc: Global,
+        session: usize,
+        name: &DeckName,
+    ) -> Result<Vec<Connected>, AllocError>
+        ensures { IfOk result (λ sessions. AreListed session name.now sessions.items) }
+    {
+        self.known.lock(rt).company.listed(alloc, session, name)
     }
 
     /// Asks for the end: nothing more is read of the connections that are open, and nobody waits for a

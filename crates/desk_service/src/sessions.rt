@@ -3,7 +3,7 @@ ghost use Rattle.std.specs.Prelude.{◌≡◌, true, Some};
 ghost use Rattle.std.specs.Io.KnownBytes.{Keeps};
 ghost use Rattle.text_ports.specs.Faults.{count_after_flush};
 ghost use Rattle.session_line.specs.Serving.{sides};
-ghost use Rattle.desk_service.specs.Sessions.{ServesLine, ServesSession, ending_after, is_fault, standing, read_faults_at, write_faults_at};
+ghost use Rattle.desk_service.specs.Sessions.{ServesLine, ServesSession, ServesToEnd, ending_after, is_fault, standing, read_faults_at, write_faults_at};
 
 use deck_files::Shelf;
 use session_line::{Calls, Outcome, serve_one};
@@ -61,7 +61,7 @@ fn serve_line<R: Read, W: Write, C: Calls, S: Shelf>(
     desk: &mut C,
     shelf: &mut S,
 ) -> Option<Ending>
-    ensures line { ServesLine C.makes C.awaits S.loads S.refuses_to_load S.saves S.refuses_to_save
+    ensures line { ServesLine C.makes C.awaits C.greets S.loads S.refuses_to_load S.saves S.refuses_to_save
         (standing (sides (R.remaining input.old.0) (W.contents output.old.0) desk.old shelf.old) input.old.1 output.old.1)
         (standing (sides (R.remaining input.new.0) (W.contents output.new.0) desk.new shelf.new) input.new.1 output.new.1) result }
     ensures read_faults { input.new.1 ≡ read_faults_at result input.old.1 }
@@ -72,17 +72,17 @@ fn serve_line<R: Read, W: Write, C: Calls, S: Shelf>(
     ending_after(outcome, flushed)
 }
 
-/// Serves a session: its lines one after the other, each once and each reply sent on before the next
+/// Serves the lines of a session one after the other, each once and each reply sent on before the next
 /// line is read, up to the first that ends it, or to the millionth command. It ends by a fault of the
 /// reader or the writer only where that one's count rose.
-pub fn serve_session<R: Read, W: Write, C: Calls, S: Shelf>(
+fn serve_lines<R: Read, W: Write, C: Calls, S: Shelf>(
     alloc: Global,
     input: &mut Counted<R>,
     output: &mut Counted<W>,
     desk: &mut C,
     shelf: &mut S,
 ) -> Ending
-    ensures session { ServesSession C.makes C.awaits S.loads S.refuses_to_load S.saves S.refuses_to_save
+    ensures session { ServesToEnd C.makes C.awaits C.greets S.loads S.refuses_to_load S.saves S.refuses_to_save
         (standing (sides (R.remaining input.old.0) (W.contents output.old.0) desk.old shelf.old) input.old.1 output.old.1)
         (standing (sides (R.remaining input.new.0) (W.contents output.new.0) desk.new shelf.new) input.new.1 output.new.1) result }
     ensures read_faults { input.new.1 ≡ read_faults_at (Some result) input.old.1 }
@@ -94,4 +94,24 @@ pub fn serve_session<R: Read, W: Write, C: Calls, S: Shelf>(
         }
     }
     Ending::Full
+}
+
+/// Serves a session, which has told no name yet: its lines one after the other, each once and each reply
+/// sent on before the next line is read, up to the first that ends it, or to the millionth command. It ends
+/// by a fault of the reader or the writer only where that one's count rose.
+pub fn serve_session<R: Read, W: Write, C: Calls, S: Shelf>(
+    alloc: Global,
+    input: &mut Counted<R>,
+    output: &mut Counted<W>,
+    desk: &mut C,
+    shelf: &mut S,
+) -> Ending
+    ensures session { ServesSession C.makes C.awaits C.greets C.begins S.loads S.refuses_to_load S.saves S.refuses_to_save
+        (standing (sides (R.remaining input.old.0) (W.contents output.old.0) desk.old shelf.old) input.old.1 output.old.1)
+        (standing (sides (R.remaining input.new.0) (W.contents output.new.0) desk.new shelf.new) input.new.1 output.new.1) result }
+    ensures read_faults { input.new.1 ≡ read_faults_at (Some result) input.old.1 }
+    ensures write_faults { output.new.1 ≡ write_faults_at (Some result) output.old.1 }
+{
+    desk.begin_session();
+    serve_lines(alloc, input, output, desk, shelf)
 }

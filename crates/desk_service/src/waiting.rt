@@ -3,7 +3,9 @@ ghost use Rattle.std.specs.Prelude.{◌≡◌};
 ghost use Rattle.desk_service.specs.Waiting.{AwaitsPublication, is_reached, is_shown};
 
 use desk_core::{Call, Reply};
-use session_line::Calls;
+use journal::DeckName;
+use session_line::{Calls, Greeting};
+use std::alloc::Global;
 use std::marker::Model;
 use std::sync::Wait;
 
@@ -52,7 +54,7 @@ impl<'a, C, S, R> Waiting<'a, C, S, R> {
     }
 }
 
-/// The calls are the desk's. Who waits asks it for the status, and sleeps between two questions.
+/// The calls are the desk's, and so is what who greets is answered. Who waits asks it for the status, and sleeps between two questions.
 impl<C: Calls, S: Sleep, R: Wait> Calls for Waiting<'_, C, S, R> {
     ghost use Rattle.std.specs.Prelude.{◌≡◌};
     ghost use Rattle.desk_service.specs.Waiting.{AwaitsPublication};
@@ -61,12 +63,24 @@ impl<C: Calls, S: Sleep, R: Wait> Calls for Waiting<'_, C, S, R> {
 
     ghost awaits = { λ old version reply new. AwaitsPublication C.makes S.sleeps version old.0 old.1 reply new.0 new.1 };
 
+    ghost greets = { λ old name greeting new. C.greets old.0 name greeting new.0 × (new.1 ≡ old.1) };
+
+    ghost begins = { λ old new. C.begins old.0 new.0 × (new.1 ≡ old.1) };
+
     fn call(&mut self, call: Call) -> Reply {
         self.desk.call(call)
     }
 
     fn await_version(&mut self, version: u64) -> Reply {
         await_publication(self.rt, &mut self.desk, &mut self.sleeper, version)
+    }
+
+    fn greet(&mut self, alloc: Global, name: &DeckName) -> Greeting {
+        self.desk.greet(alloc, name)
+    }
+
+    fn begin_session(&mut self) {
+        self.desk.begin_session();
     }
 }
 

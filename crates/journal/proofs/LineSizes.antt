@@ -125,15 +125,15 @@ entry-fits (Made change) lawful = change-fits change lawful
 pub first-line : (r : Record) → IsLawful r → IsLine (first_line r)
 first-line r lawful =
     let told = behind_a_blank (line_of_entry r.entry) in
-    let third = behind_a_blank (decimal r.session ++ told) in
+    let third = behind_a_blank (r.by ++ told) in
     let second = behind_a_blank (r.moment ++ third) in
     let first = behind_a_blank (decimal r.version ++ second) in
     let moment : Fits 20 r.moment = record { plain = moment-plain r.moment lawful.moment; short = moment-short r.moment lawful.moment } in
-    line-fits (first_line r) (fits-more 203 256 (first_line r) (omega arith)
-    (fits-word 197 (codes "RECORD") first (record { plain = refl; short = omega arith })
-    (fits-behind 196 (decimal r.version ++ second) (fits-append 19 177 (decimal r.version) second (fits-number r.version lawful.version)
-    (fits-behind 176 (r.moment ++ third) (fits-append 20 156 r.moment third moment
-    (fits-behind 155 (decimal r.session ++ told) (fits-append 19 136 (decimal r.session) told (fits-number r.session lawful.session)
+    line-fits (first_line r) (fits-more 191 256 (first_line r) (omega arith)
+    (fits-word 185 (codes "RECORD") first (record { plain = refl; short = omega arith })
+    (fits-behind 184 (decimal r.version ++ second) (fits-append 19 165 (decimal r.version) second (fits-number r.version lawful.version)
+    (fits-behind 164 (r.moment ++ third) (fits-append 20 144 r.moment third moment
+    (fits-behind 143 (r.by ++ told) (fits-append 7 136 r.by told (fits-name r.by lawful.by)
     (fits-behind 135 (line_of_entry r.entry) (entry-fits r.entry lawful.entry))))))))))
 
 -- the line of a card, of an edit, and of a check sum

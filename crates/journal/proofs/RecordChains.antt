@@ -16,7 +16,7 @@ use Rattle.session_line.specs.Words.{first_word, first_number, behind_word, grea
 use Rattle.session_line.specs.Edits.{is_end}
 use Rattle.session_line.specs.declared.words.Seen.TheVariants.{Exactly}
 use Rattle.session_line.specs.Lines.{behind_a_blank, line_of_edit, line_in_batch, IsLawfulEdit}
-use Rattle.session_line.proofs.ReadBack.{word-decimal, first-word, behind-word, first-number}
+use Rattle.session_line.proofs.ReadBack.{word-decimal, word-name, first-word, behind-word, first-number}
 use Rattle.session_line.proofs.LineLaws.{line-back, batch_line-back}
 use Rattle.journal.specs.declared.changes.Change.TheVariants.{Added, Put, Dropped, Edited, Batch}
 use Rattle.journal.specs.declared.records.Entry.{Entry}
@@ -28,7 +28,7 @@ use Rattle.journal.specs.declared.steps.Step.TheVariants.{Ends, Wrong}
 use Rattle.journal.specs.CheckSums.{first_sum, sum_after, sum_over, check_sum}
 use Rattle.journal.specs.Moments.{moment_of}
 use Rattle.journal.specs.Records.{ended, text_of_lines, line_of_entry, lines_behind, first_line, lines_of_record, sum_line}
-use Rattle.journal.specs.Begun.{given, begun_by, begun_of, open_with, opened}
+use Rattle.journal.specs.Begun.{given, begun_by, begun_of, name_of, open_with, opened}
 use Rattle.journal.specs.Steps.{deck_with_card, deck_with, edits_with, entry_with, inner_step, has_all, sum_in, end_step, first_step, line_step}
 use Rattle.journal.specs.Lawful.{IsLawfulEntry, IsLawful}
 use Rattle.journal.proofs.LineChains.{IsLine, IsChain}
@@ -61,32 +61,35 @@ bare-back (entry.Made (Edited name seen edit)) lawful = bare-edit name seen edit
 bare-back (entry.Made (Batch name seen edits)) lawful =
     ap begun_by (line-back (command.Batch (record { name = Ok name; seen = Exactly seen; count = length edits })) (lawful.0, lawful.1, lawful.2))
 
-parts-given : (line : List ℕ) (first : Option ℕ) (second : Option (List ℕ)) (third : Option ℕ) (fourth : Option Begun) (version : ℕ) (moment : List ℕ) (session : ℕ) (begun : Begun) →
-    first ≡ Some version → second ≡ Some moment → third ≡ Some session → fourth ≡ Some begun →
-    given first (λ v. given second (λ m. given third (λ s. option_map (open_with line v m s) fourth))) ≡ Some (open_with line version moment session begun)
-parts-given line first second third fourth version moment session begun a b c d =
+parts-given : (line : List ℕ) (first : Option ℕ) (second : Option (List ℕ)) (third : Option (List ℕ)) (fourth : Option Begun) (version : ℕ) (moment : List ℕ) (by : List ℕ) (begun : Begun) →
+    first ≡ Some version → second ≡ Some moment → third ≡ Some by → fourth ≡ Some begun →
+    given first (λ v. given second (λ m. given third (λ s. option_map (open_with line v m s) fourth))) ≡ Some (open_with line version moment by begun)
+parts-given line first second third fourth version moment by begun a b c d =
     ap (λ (o : Option ℕ). given {A = ℕ} {B = Open} o (λ v. given second (λ m. given third (λ s. option_map (open_with line v m s) fourth)))) a
     ∙ ap (λ (o : Option (List ℕ)). given {A = List ℕ} {B = Open} o (λ m. given third (λ s. option_map (open_with line version m s) fourth))) b
-    ∙ ap (λ (o : Option ℕ). given {A = ℕ} {B = Open} o (λ s. option_map (open_with line version moment s) fourth)) c
-    ∙ ap (λ (o : Option Begun). option_map (open_with line version moment session) o) d
+    ∙ ap (λ (o : Option (List ℕ)). given {A = List ℕ} {B = Open} o (λ s. option_map (open_with line version moment s) fourth)) c
+    ∙ ap (λ (o : Option Begun). option_map (open_with line version moment by) o) d
 
 -- the first line of a record opens it
-opened-back : (r : Record) → IsLawful r → opened (first_line r) ≡ Some (open_with (first_line r) r.version r.moment r.session (bare r.entry))
+opened-back : (r : Record) → IsLawful r → opened (first_line r) ≡ Some (open_with (first_line r) r.version r.moment r.by (bare r.entry))
 opened-back r lawful =
     let fourth = 32 ∷ line_of_entry r.entry in
-    let third = 32 ∷ (decimal r.session ++ fourth) in
+    let third = 32 ∷ (r.by ++ fourth) in
     let second = 32 ∷ (r.moment ++ third) in
     let first = 32 ∷ (decimal r.version ++ second) in
     let one : behind_word first ≡ second = behind-word (decimal r.version) second (word-decimal r.version lawful.version) refl in
     let two : behind_word second ≡ third = behind-word r.moment third (moment-word r.moment lawful.moment) refl in
-    let three : behind_word third ≡ fourth = behind-word (decimal r.session) fourth (word-decimal r.session lawful.session) refl in
-    parts-given (first_line r) (first_number first) (option_and_then moment_of (first_word (behind_word first))) (first_number (behind_word (behind_word first)))
-    (begun_of (drop 1 (behind_word (behind_word (behind_word first))))) r.version r.moment r.session (bare r.entry)
+    let three : behind_word third ≡ fourth = behind-word r.by fourth (word-name r.by lawful.by) refl in
+    parts-given (first_line r) (first_number first) (option_and_then moment_of (first_word (behind_word first))) (option_and_then name_of (first_word (behind_word (behind_word first))))
+    (begun_of (drop 1 (behind_word (behind_word (behind_word first))))) r.version r.moment r.by (bare r.entry)
     (first-number r.version second lawful.version refl)
     (ap (λ (l : List ℕ). option_and_then moment_of (first_word l)) one
     ∙ ap (λ (o : Option (List ℕ)). option_and_then moment_of o) (first-word r.moment third (moment-word r.moment lawful.moment) refl)
     ∙ ap (λ (t : Bool). if t then Some r.moment else None) lawful.moment)
-    (ap (λ (l : List ℕ). first_number (behind_word l)) one ∙ ap first_number two ∙ first-number r.session fourth lawful.session refl)
+    (ap (λ (l : List ℕ). option_and_then name_of (first_word (behind_word l))) one
+    ∙ ap (λ (l : List ℕ). option_and_then name_of (first_word l)) two
+    ∙ ap (λ (o : Option (List ℕ)). option_and_then name_of o) (first-word r.by fourth (word-name r.by lawful.by) refl)
+    ∙ ap (λ (t : Bool). if t then Some r.by else None) lawful.by)
     (ap (λ (l : List ℕ). begun_of (drop 1 (behind_word (behind_word l)))) one
     ∙ ap (λ (l : List ℕ). begun_of (drop 1 (behind_word l))) two
     ∙ ap (λ (l : List ℕ). begun_of (drop 1 l)) three
@@ -173,7 +176,7 @@ pub record-chain : (r : Record) → IsLawful r → IsChain None (lines_of_record
 record-chain r lawful =
     let line = first_line r in
     let behind = text_of_lines (map behind_a_blank (lines_behind r.entry)) in
-    let next = open_with line r.version r.moment r.session (bare r.entry) in
+    let next = open_with line r.version r.moment r.by (bare r.entry) in
     let sums : sum_over (sum_over first_sum (ended line)) behind ≡ check_sum (ended line ++ behind) = sym (fold-append sum_after first_sum (ended line) behind) in
     let P : ℕ → Type 0 = λ n. IsChain (Some next) (map behind_a_blank (lines_behind r.entry)) (open_at r (bare r.entry).lines r.entry n) in (
       first-line r lawful,

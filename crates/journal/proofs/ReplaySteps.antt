@@ -25,7 +25,6 @@ use Rattle.journal.specs.declared.places.Ending.TheVariants.{Whole, Cut, Faulty}
 use Rattle.journal.specs.declared.reading.Next.TheVariants.{Found, Ended}
 use Rattle.journal.specs.Places.{at_start}
 use Rattle.journal.specs.Journals.{Journal, in_front, journal_from, journal_of}
-use Rattle.journal.specs.Names.{session_name}
 use Rattle.journal.specs.Reading.{TellsEnd, ReadsNext}
 use Rattle.journal.specs.Replaying.{call_of, change_of, change_in_entry, change_told, changes_told, begun_at, begun_by, fronted, IsTakenAs, IsTaken, IsReplayed, TellsJournal, Replays}
 
@@ -95,7 +94,7 @@ AreMade-more old mid new first desk next place after r so_far read taken = told-
         ∙ ap (fronted so_far.records) (read.told rest)
         ∙ fronted-more so_far.records r (journal_from None after rest)
 
-    told-by : (e : Entry) → r.entry ≡ e → IsTakenAs first r.version r.session e desk next → AreMade old new false next after
+    told-by : (e : Entry) → r.entry ≡ e → IsTakenAs first r.version r.by e desk next → AreMade old new false next after
     told-by Begun told is =
         let only : so_far.records ++ r ∷ [] ≡ r ∷ [] = ap (λ (rs : List Record). rs ++ r ∷ []) (so_far.none is.0) in
         record {
@@ -109,7 +108,7 @@ AreMade-more old mid new first desk next place after r so_far read taken = told-
           goes = goes;
         }
     told-by (Made asked) told is =
-        let by = session_name r.session in
+        let by = r.by in
         let P : ℕ → Type 0 = λ (begun : ℕ). Runs begun (so_far.history ++ entry 0 (call_of by asked) (Changed r.version) ∷ []) next in
         record {
           records = so_far.records ++ r ∷ [];

@@ -1,6 +1,7 @@
--- How a record begins (ours): its first line tells the version, when it was made, the session, and what was done.
+-- How a record begins (ours): its first line tells the version, when it was made, the name of the session, and what was done.
 use Rattle.std.specs.Prelude.{ℕ, List, [], Option, Some, None, Result, Ok, Err, codes, drop, option_and_then, option_map, if◌then◌else◌}
 use Rattle.definitions.specs.Characters.{same_text}
+use Rattle.definitions.specs.DeckInput.{is_deck_name}
 use Rattle.definitions.specs.Fields.{unbroken_front}
 use Rattle.session_line.specs.declared.commands.Command.{Command}
 use Rattle.session_line.specs.declared.commands.Command.TheVariants as command
@@ -62,10 +63,14 @@ begun_by _ = None
 abbrev pub begun_of : List ℕ → Option Begun
 begun_of text = if same_text text (codes "BEGIN") then alone entry.Begun else begun_by (command_of text)
 
+-- the name of a session that a word is
+abbrev pub name_of : List ℕ → Option (List ℕ)
+name_of word = if is_deck_name word then Some word else None
+
 -- an open record, whose first line is this one
-abbrev pub open_with : List ℕ → ℕ → List ℕ → ℕ → Begun → Open
-open_with line version moment session begun =
-    record { so_far = record { version = version; moment = moment; session = session; entry = begun.entry }; lines = begun.lines; sum = sum_over first_sum (ended line) }
+abbrev pub open_with : List ℕ → ℕ → List ℕ → List ℕ → Begun → Open
+open_with line version moment by begun =
+    record { so_far = record { version = version; moment = moment; by = by; entry = begun.entry }; lines = begun.lines; sum = sum_over first_sum (ended line) }
 
 -- the parts of a first line
 abbrev pub opened_by : List ℕ → List ℕ → Option Open
@@ -74,8 +79,8 @@ opened_by line rest =
     let third = behind_word second in
     given (first_number rest) (λ version.
     given (option_and_then moment_of (first_word second)) (λ moment.
-    given (first_number third) (λ session.
-    option_map (open_with line version moment session) (begun_of (drop 1 (behind_word third))))))
+    given (option_and_then name_of (first_word third)) (λ by.
+    option_map (open_with line version moment by) (begun_of (drop 1 (behind_word third))))))
 
 -- the record that a line begins
 abbrev pub opened : List ℕ → Option Open

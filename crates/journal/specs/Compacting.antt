@@ -4,10 +4,11 @@ use Rattle.definitions.specs.DeckInput.{Deck}
 use Rattle.journal.specs.declared.changes.Change.TheVariants.{Added}
 use Rattle.journal.specs.declared.records.Entry.TheVariants.{Begun, Made}
 use Rattle.journal.specs.declared.records.Record.{Record}
+use Rattle.journal.specs.Names.{session_name}
 
 -- the record of a deck that is added
 abbrev pub added_record : List ℕ → ℕ → Deck → Record
-added_record moment version deck = record { version = version; moment = moment; session = 0; entry = Made (Added deck) }
+added_record moment version deck = record { version = version; moment = moment; by = session_name 0; entry = Made (Added deck) }
 
 -- the records of decks that are added one after the other, behind a version
 abbrev pub added_records : List ℕ → ℕ → List Deck → List Record
@@ -16,7 +17,7 @@ added_records moment version (deck ∷ decks) = added_record moment (version + 1
 
 -- the record that begins a journal behind a version
 abbrev pub begun_record : List ℕ → ℕ → Record
-begun_record moment version = record { version = version; moment = moment; session = 0; entry = Begun }
+begun_record moment version = record { version = version; moment = moment; by = session_name 0; entry = Begun }
 
 -- the records of a journal that begins behind a version with decks
 abbrev pub compacted : List ℕ → ℕ → List Deck → List Record

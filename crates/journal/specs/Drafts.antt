@@ -10,8 +10,8 @@ use Rattle.journal.specs.Records.{text_behind_version}
 -- the text of a record from behind its version
 abbrev pub form_text : Form → List ℕ
 form_text (Written text) = text
-form_text (Told stamp change) = text_behind_version stamp.moment stamp.session change
+form_text (Told stamp change) = text_behind_version stamp.moment stamp.by change
 
 -- that of a change that was carried: a batch of its edits as they were made, by who has seen the version before it
 abbrev pub carried_text : Stamp → List ℕ → ℕ → List Edit → List ℕ
-carried_text stamp name seen edits = text_behind_version stamp.moment stamp.session (Batch name seen edits)
+carried_text stamp name seen edits = text_behind_version stamp.moment stamp.by (Batch name seen edits)

@@ -28,9 +28,9 @@ abbrev pub IsLawfulEntry : Entry → Type 0
 IsLawfulEntry entry.Begun = ⊤
 IsLawfulEntry (entry.Made change) = IsLawfulChange change
 
--- a record with a moment, and numbers that can be told
+-- a record with a moment, a name, and numbers that can be told
 pub record IsLawful (r : Record) : Type 0 where
   pub version : r.version ≤ greatest_number
   pub moment : IsTrue (is_moment r.moment)
-  pub session : r.session ≤ greatest_number
+  pub by : IsTrue (is_deck_name r.by)
   pub entry : IsLawfulEntry r.entry

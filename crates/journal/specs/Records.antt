@@ -43,9 +43,9 @@ abbrev pub lines_behind : Entry → List (List ℕ)
 lines_behind Begun = []
 lines_behind (Made change) = lines_behind_change change
 
--- a record as one line: the version, when it was made, the session, and what the record tells
+-- a record as one line: the version, when it was made, the name of the session, and what the record tells
 abbrev pub log_line : Record → List ℕ
-log_line r = decimal r.version ++ behind_a_blank (r.moment ++ behind_a_blank (decimal r.session ++ behind_a_blank (line_of_entry r.entry)))
+log_line r = decimal r.version ++ behind_a_blank (r.moment ++ behind_a_blank (r.by ++ behind_a_blank (line_of_entry r.entry)))
 
 -- the first line of its text
 abbrev pub first_line : Record → List ℕ
@@ -64,9 +64,9 @@ abbrev pub text_of_record : Record → List ℕ
 text_of_record r = let text = text_of_lines (lines_of_record r) in text ++ ended (sum_line (check_sum text))
 
 -- the text of the record of a change, from behind its version to in front of its check sum
-abbrev pub text_behind_version : List ℕ → ℕ → Change → List ℕ
-text_behind_version moment session change =
-    behind_a_blank moment ++ (behind_a_blank (decimal session) ++ (codes " " ++ (line_of_change change ++ (line_feed ∷ [] ++ text_of_lines (map behind_a_blank (lines_behind_change change))))))
+abbrev pub text_behind_version : List ℕ → List ℕ → Change → List ℕ
+text_behind_version moment by change =
+    behind_a_blank moment ++ (behind_a_blank by ++ (codes " " ++ (line_of_change change ++ (line_feed ∷ [] ++ text_of_lines (map behind_a_blank (lines_behind_change change))))))
 
 -- the text of a record, by its version and the text behind it
 abbrev pub text_with_version : ℕ → List ℕ → List ℕ

@@ -20,7 +20,6 @@ use Rattle.journal.specs.declared.reading.JournalFault.TheVariants as fault
 use Rattle.journal.specs.declared.replaying.ReplayFault.{ReplayFault}
 use Rattle.journal.specs.declared.replaying.ReplayFault.TheVariants as replay
 use Rattle.journal.specs.Journals.{Journal, journal_of}
-use Rattle.journal.specs.Names.{session_name}
 
 -- the call by which who has a name asks for a change
 abbrev pub call_of : List ℕ → Change → Call
@@ -70,12 +69,12 @@ abbrev pub MakesAgain : ℕ → List ℕ → Change → Desk → Desk → Type 0
 MakesAgain version by asked desk next = Steps desk (call_of by asked) (Changed version) next
 
 -- what a record tells is taken: it begins the journal, where it is the first; or it has a change, which is made again
-abbrev pub IsTakenAs : Bool → ℕ → ℕ → Entry → Desk → Desk → Type 0
-IsTakenAs first version session Begun desk next = (first ≡ true) × (next ≡ new_desk_at version)
-IsTakenAs first version session (Made asked) desk next = MakesAgain version (session_name session) asked desk next
+abbrev pub IsTakenAs : Bool → ℕ → List ℕ → Entry → Desk → Desk → Type 0
+IsTakenAs first version by Begun desk next = (first ≡ true) × (next ≡ new_desk_at version)
+IsTakenAs first version by (Made asked) desk next = MakesAgain version by asked desk next
 
 abbrev pub IsTaken : Bool → Record → Desk → Desk → Type 0
-IsTaken first r desk next = IsTakenAs first r.version r.session r.entry desk next
+IsTaken first r desk next = IsTakenAs first r.version r.by r.entry desk next
 
 -- a desk on which the changes of records were made again: one history from a new desk leads to it, which accepted exactly these changes; so its version is as many behind that with which they begin, and its decks are those that they leave
 pub record IsReplayed (records : List Record) (desk : Desk) : Type 0 where

@@ -3,7 +3,7 @@ ghost use Rattle.std.specs.Prelude.{◌≡◌, List, Result, option_map, option_
 ghost use Rattle.session_line.specs.Words.{first_word};
 ghost use Rattle.session_line.specs.declared.refusals.Refusal.{Refusal as Reason};
 ghost use Rattle.journal.specs.Moments.{moment_of};
-ghost use Rattle.journal.specs.Begun.{alone, begun_by, begun_of, batch_named, batch_seen, edit_seen, put_named, opened, opened_by};
+ghost use Rattle.journal.specs.Begun.{alone, begun_by, begun_of, batch_named, batch_seen, edit_seen, name_of, put_named, opened, opened_by};
 
 use crate::changes::Change;
 use crate::check_sums::{FIRST_SUM, sum_over_line};
@@ -124,7 +124,7 @@ fn begun_by(alloc: Global, command: Result<Command, Refusal>) -> Option<Begun>
     }
 }
 
-/// What a record tells, by the text behind its session.
+/// What a record tells, by the text behind the name of its session.
 fn begun_of(alloc: Global, text: &[u8]) -> Option<Begun>
     ensures { result ≡ begun_of text.now }
 {
@@ -145,6 +145,16 @@ fn moment_in(rest: &[u8]) -> Option<Moment>
     }
 }
 
+/// The name behind the blank that begins a rest.
+fn name_in(rest: &[u8]) -> Option<DeckName>
+    ensures { result ≡ option_and_then name_of (first_word rest.now) }
+{
+    match DeckName::read(first_word(rest)?) {
+        Ok(name) => Some(name),
+        Err(_) => None,
+    }
+}
+
 /// The parts of a first line, from behind its first word on.
 fn opened_by(alloc: Global, line: &[u8], rest: &[u8]) -> Option<Open>
     ensures { result ≡ opened_by line.now rest.now }
@@ -153,13 +163,13 @@ fn opened_by(alloc: Global, line: &[u8], rest: &[u8]) -> Option<Open>
     let third = behind_word(second);
     let version = first_number(rest)?;
     let moment = moment_in(second)?;
-    let session = first_number(third)?;
+    let by = name_in(third)?;
     let begun = begun_of(alloc, behind_blank(behind_word(third)))?;
     Some(Open {
         so_far: Record {
             version,
             moment,
-            session,
+            by,
             entry: begun.entry,
         },
         lines: begun.lines,

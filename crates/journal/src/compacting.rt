@@ -6,6 +6,7 @@ ghost use Rattle.journal.specs.Records.{text_of_record, text_of_records};
 
 use crate::changes::Change;
 use crate::moments::Moment;
+use crate::names::session_name;
 use crate::records::{Entry, Record};
 use crate::writing::record_text;
 use desk_core::{Desk, StoredDeck};
@@ -25,7 +26,7 @@ fn push_added(
     let record = Record {
         version,
         moment: moment.copied(),
-        session: 0,
+        by: session_name(0),
         entry: Entry::Made(Change::Added(deck.copied(alloc)?)),
     };
     text.append(record_text(alloc, &record)?)
@@ -46,7 +47,7 @@ fn text_of_decks(
         &Record {
             version: begun,
             moment: moment.copied(),
-            session: 0,
+            by: session_name(0),
             entry: Entry::Begun,
         },
     )?;

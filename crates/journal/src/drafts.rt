@@ -12,11 +12,11 @@ use std::alloc::{AllocError, Global};
 use std::marker::Model;
 use text_ports::Text;
 
-/// When a change is asked for, and by which session.
+/// When a change is asked for, and the name of the session that asks.
 #[derive(Drop)]
 pub struct Stamp {
     pub moment: Moment,
-    pub session: u64,
+    pub by: DeckName,
 }
 
 /// How a record is there before it is written.
@@ -44,17 +44,17 @@ impl Model for Draft {
     ghost view = { λ d. form_text d.form };
 }
 
-/// The record of a change that a session asks for at a moment.
+/// The record of a change that a session of this name asks for at a moment.
 pub fn draft_change(
     alloc: Global,
     moment: &Moment,
-    session: u64,
+    by: &DeckName,
     change: &Change,
 ) -> Result<Draft, AllocError>
-    ensures { IfOk result (λ draft. draft ≡ text_behind_version moment.now session change.now) }
+    ensures { IfOk result (λ draft. draft ≡ text_behind_version moment.now by.now change.now) }
 {
     Ok(Draft {
-        form: Form::Written(text_behind_version(alloc, moment, session, change)?),
+        form: Form::Written(text_behind_version(alloc, moment, by, change)?),
     })
 }
 
@@ -83,7 +83,7 @@ impl Draft {
         match &self.form {
             Form::Written(behind) => text_with_version(alloc, version, behind.as_slice()),
             Form::Told(stamp, change) => {
-                let behind = text_behind_version(alloc, &stamp.moment, stamp.session, change)?;
+                let behind = text_behind_version(alloc, &stamp.moment, &stamp.by, change)?;
                 text_with_version(alloc, version, behind.as_slice())
             }
         }

@@ -1,17 +1,19 @@
 //! A desk whose changes are kept: none is told as made before its record is.
-ghost use Rattle.std.specs.Prelude.{◌≡◌};
+ghost use Rattle.std.specs.Prelude.{◌≡◌, Some};
+ghost use Rattle.session_line.specs.Greetings.{WhereMet};
 ghost use Rattle.journal.specs.Keeping.{MakesCarried, MakesChange, TellsCarried, TellsKept, told_of};
 
 use crate::changes::{Asked, Carry, Change, asked_of};
 use crate::drafts::{Draft, Stamp, draft_carried};
 use cards::DeckName;
 use desk_core::{Call, Refusal, Reply};
-use session_line::Calls;
+use session_line::{Calls, Greeting};
+use std::alloc::Global;
 use std::marker::Model;
 
 /// Who keeps the records of changes. The members say what its calls make of it.
 pub trait Keep {
-    ghost use Rattle.std.specs.Prelude.{◌≡◌, ℕ, List, Bool, Result};
+    ghost use Rattle.std.specs.Prelude.{◌≡◌, ℕ, List, Bool, Option, Result, option_map};
     ghost use Rattle.desk_core.specs.declared.replies.Refusal.{Refusal as Reason};
     ghost use Rattle.journal.specs.declared.changes.Change.{Change as Asking};
     ghost use Rattle.journal.specs.declared.drafts.Stamp.{Stamp as Stamped};
@@ -30,6 +32,10 @@ pub trait Keep {
     // The name of who asks for changes here.
     ghost who: { Self → List ℕ };
 
+    // The keeper before, the name by which changes are asked for from now on, or that none is told, and the
+    // keeper after.
+    ghost names: { Self → Option (List ℕ) → Self → Type 0 };
+
     /// Makes the record of a change that is asked for, or refuses the change.
     fn begin(&mut self, change: &Change) -> Result<Draft, Refusal>
         ensures { begins self.old change.now result self.new };
@@ -45,6 +51,10 @@ pub trait Keep {
     /// The name of who asks for changes here.
     fn who(&self) -> DeckName
         ensures { result ≡ who self.now };
+
+    /// By this name changes are asked for from now on; or by the one of who has told none.
+    fn be_named(&mut self, name: Option<&DeckName>)
+        ensures { names self.old (option_map (λ name. name.now) name.entry) self.new };
 }
 
 /// A desk with a keeper of its changes, who tells by which name they are asked for. A change for whose record there is no memory, or that the keeper
@@ -137,16 +147,30 @@ fn make_carried<C: Calls, K: Keep>(desk: &mut C, keeper: &mut K, carry: Carry) -
     }
 }
 
+/// Tells a keeper a name, where it holds.
+fn name_where<K: Keep>(keeper: &mut K, holds: bool, name: &DeckName)
+    ensures { WhereMet (λ before after. K.names before (Some name.now) after) holds keeper.old keeper.new }
+{
+    if holds {
+        keeper.be_named(Some(name));
+    }
+}
+
 /// The calls are the desk's, but for changes that are refused, or not kept. Who waits is answered by the
-/// desk.
+/// desk, and so is who greets; the keeper is told the name where it holds.
 impl<C: Calls, K: Keep> Calls for Keeping<C, K> {
-    ghost use Rattle.std.specs.Prelude.{◌≡◌};
+    ghost use Rattle.std.specs.Prelude.{◌≡◌, None, Some};
     ghost use Rattle.journal.specs.Asking.{asked_of};
     ghost use Rattle.journal.specs.Keeping.{MakesKept};
+    ghost use Rattle.session_line.specs.Greetings.{WhereMet, is_met};
 
     ghost makes = { λ old call reply new. MakesKept C.makes K.begins K.keeps K.who K.opens old (asked_of call) reply new };
 
     ghost awaits = { λ old version reply new. C.awaits old.0 version reply new.0 × (new.1 ≡ old.1) };
+
+    ghost greets = { λ old name greeting new. C.greets old.0 name greeting new.0 × WhereMet (λ keeper after. K.names keeper (Some name) after) (is_met greeting) old.1 new.1 };
+
+    ghost begins = { λ old new. C.begins old.0 new.0 × K.names old.1 None new.1 };
 
     fn call(&mut self, call: Call) -> Reply {
         match asked_of(call) {
@@ -158,5 +182,16 @@ impl<C: Calls, K: Keep> Calls for Keeping<C, K> {
 
     fn await_version(&mut self, version: u64) -> Reply {
         self.desk.await_version(version)
+    }
+
+    fn greet(&mut self, alloc: Global, name: &DeckName) -> Greeting {
+        let greeting = self.desk.greet(alloc, name);
+        name_where(&mut self.keeper, greeting.is_met(), name);
+        greeting
+    }
+
+    fn begin_session(&mut self) {
+        self.desk.begin_session();
+        self.keeper.be_named(None);
     }
 }

@@ -2,6 +2,7 @@
 
 use crate::changes::Change;
 use crate::moments::Moment;
+use cards::DeckName;
 
 /// What a record tells.
 #[derive(Drop)]
@@ -12,11 +13,11 @@ pub enum Entry {
     Made(Change),
 }
 
-/// A record: a version, when it was made, by which session, and what it tells.
+/// A record: a version, when it was made, the name of the session that made it, and what it tells.
 #[derive(Drop)]
 pub struct Record {
     pub version: u64,
     pub moment: Moment,
-    pub session: u64,
+    pub by: DeckName,
     pub entry: Entry,
 }

@@ -4,7 +4,6 @@ ghost use Rattle.desk_core.specs.Steps.{Steps};
 ghost use Rattle.journal.specs.Replaying.{IsTaken, MakesAgain, Replays, call_of};
 
 use crate::changes::Change;
-use crate::names::session_name;
 use crate::places::{Ending, Place};
 use crate::reading::{JournalFault, Next, next_record};
 use crate::records::{Entry, Record};
@@ -107,7 +106,7 @@ fn take_record(
     };
     let Record {
         version,
-        session,
+        by,
         entry,
         ..
     } = found;
@@ -117,7 +116,7 @@ fn take_record(
             Ok(())
         }
         Entry::Begun => Err(unmade),
-        Entry::Made(change) => make_again(desk, change, session_name(session), version, unmade),
+        Entry::Made(change) => make_again(desk, change, by, version, unmade),
     }
 }
 

@@ -97,7 +97,7 @@ fn inner_step(current: Open, line: &[u8]) -> Result<Step, AllocError>
     let Record {
         version,
         moment,
-        session,
+        by,
         entry,
     } = so_far;
     let Some(entry) = entry_with(entry, behind_blank(line))? else {
@@ -106,7 +106,7 @@ fn inner_step(current: Open, line: &[u8]) -> Result<Step, AllocError>
     let so_far = Record {
         version,
         moment,
-        session,
+        by,
         entry,
     };
     let sum = sum_over_line(sum, line);

@@ -149,7 +149,7 @@ fn push_log_line(text: &mut Text, record: &Record) -> Result<(), AllocError>
     let mut buffer = Buffer::new();
     text.push_bytes(buffer.format(record.version).as_bytes())?;
     push_word(text, record.moment.as_slice())?;
-    push_number(text, record.session)?;
+    push_word(text, record.by.as_slice())?;
     text.push_byte(b' ')?;
     push_entry(text, &record.entry)?;
     text.push_byte(b'\n')
@@ -163,8 +163,8 @@ fn push_first_line(text: &mut Text, record: &Record) -> Result<(), AllocError>
     push_log_line(text, record)
 }
 
-/// A record as one line, with its line feed: the version, when it was made, the session, and the line
-/// that asked for the change.
+/// A record as one line, with its line feed: the version, when it was made, the name of the session, and
+/// the line that asked for the change.
 pub fn log_line(alloc: Global, record: &Record) -> Result<Text, AllocError>
     ensures { IfOk result (λ text. text ≡ ended (log_line record.now)) }
 {
@@ -243,14 +243,14 @@ pub fn record_text(alloc: Global, record: &Record) -> Result<Text, AllocError>
 pub(crate) fn text_behind_version(
     alloc: Global,
     moment: &Moment,
-    session: u64,
+    by: &DeckName,
     change: &Change,
 ) -> Result<Text, AllocError>
-    ensures { IfOk result (λ text. text ≡ text_behind_version moment.now session change.now) }
+    ensures { IfOk result (λ text. text ≡ text_behind_version moment.now by.now change.now) }
 {
     let mut text = Text::new(alloc);
     push_word(&mut text, moment.as_slice())?;
-    push_number(&mut text, session)?;
+    push_word(&mut text, by.as_slice())?;
     text.push_byte(b' ')?;
     push_change(&mut text, change)?;
     text.push_byte(b'\n')?;

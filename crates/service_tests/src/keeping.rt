@@ -256,7 +256,7 @@ fn put_dropped<F: RecordsFile>(
 ) -> Result<(), AllocError> {
     let name = name_of("M")?;
     let change = Change::Dropped { name, seen: 1 };
-    let record = draft_change(alloc, &Moment::of_seconds(0), 2, &change)?;
+    let record = draft_change(alloc, &Moment::of_seconds(0), &name_of("2")?, &change)?;
     queue.put(session, version, record);
     Ok(())
 }

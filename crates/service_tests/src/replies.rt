@@ -43,6 +43,7 @@ fn is_within(reply: &Reply<'_>) -> bool
         Reply::Found { cards, .. } => cards.len() <= MOST_CARDS,
         Reply::Errors { decks, .. } => decks.len() <= 64,
         Reply::Status { decks, .. } => decks.len() <= 64,
+        Reply::Sessions { sessions, .. } => sessions.len() <= 64,
         Reply::Done { .. } | Reply::Text { .. } | Reply::Listing(_) => true,
         Reply::Bye | Reply::Refused(_) => true,
     }

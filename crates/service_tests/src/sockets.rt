@@ -3,7 +3,7 @@
 //! `serve FOLDER JOURNAL WORKERS SESSIONS LINES`: a service, each of whose sessions ends after one connection, and
 //! clients of it, one behind the other. `.` is the folder in which the program runs, and no journal. A line is the
 //! number of a client and a command, whose reply is read; `poll FIRST`, which asks for the image until its reply
-//! begins so; or `send TEXT` and `send_line TEXT`, of which nothing is read, from a client that goes away then. An empty line stands
+//! begins so; `head COMMAND`, of whose reply the first line alone is shown; or `send TEXT` and `send_line TEXT`, of which nothing is read, from a client that goes away then. An empty line stands
 //! between two of them. `gather` in place of them: sixteen clients insert five cards each in one deck at the same
 //! time, and the first reads them all.
 ghost use Rattle.std.specs.Prelude.{◌≡◌, ◌≤◌, true};
@@ -259,7 +259,7 @@ fn say_all<R: Net<Stream = TcpStream> + Clock>(
             _ => {
                 let client = client_at(rt, alloc, address, &mut clients, number(word) as usize)?;
                 say(rt, client, rest)?;
-                answer.push(client.reply.as_str());
+                push_said(answer, rest, client.reply.as_str());
             }
         }
     }
@@ -301,7 +301,17 @@ fn say<R: Clock>(rt: &R, client: &mut Client, command: &str) -> io::Result<()> {
     match command.strip_prefix("poll ") {
         // The worker gets to the image by the bell alone.
         Some(first) => client.poll(rt, "IMAGE", first),
-        None => client.ask(command),
+        None => client.ask(command.strip_prefix("head ").unwrap_or(command)),
+    }
+}
+
+/// What is shown of the reply to what a client said.
+fn push_said(answer: &mut Answer, command: &str, reply: &str) {
+    if command.starts_with("head ") {
+        answer.push(cut_line(reply).0);
+        answer.line("");
+    } else {
+        answer.push(reply);
     }
 }
 

@@ -345,6 +345,25 @@ put_of_nobody = refl
 pub batch_of_nobody : command_of (codes "BATCH M+ 4 0") ≡ Err BadCommand
 batch_of_nobody = refl
 
+-- a session's name, and what is none
+pub hello : command_of (codes "HELLO PAT") ≡ Ok (command.Hello (codes "PAT"))
+hello = refl
+
+pub hello_number : command_of (codes "HELLO 007") ≡ Ok (command.Hello (codes "007"))
+hello_number = refl
+
+pub hello_nobody : command_of (codes "HELLO") ≡ Err BadCommand
+hello_nobody = refl
+
+pub hello_twice : command_of (codes "HELLO PAT JO+") ≡ Err BadCommand
+hello_twice = refl
+
+pub hello_small : command_of (codes "HELLO pat") ≡ Err BadName
+hello_small = refl
+
+pub hello_long : command_of (codes "HELLO PATRICIA") ≡ Err BadName
+hello_long = refl
+
 -- the order of refusals: the line, then the name, then the card
 pub line_first : command_of (codes "INS M+ 1 X a") ≡ Err BadCommand
 line_first = refl

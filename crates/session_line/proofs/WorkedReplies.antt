@@ -7,6 +7,7 @@ use Rattle.session_line.specs.declared.refusals.Refusal.TheVariants as refusal
 use Rattle.session_line.specs.declared.replies.Reply.TheVariants as reply
 use Rattle.desk_core.specs.declared.replies.State.TheVariants.{Behind}
 use Rattle.session_line.specs.Replies.{text_of_reply, row_text, published_text, counted_text, line_count, numbers_text}
+use Rattle.session_line.specs.Greetings.{connected_text, service_text}
 use Rattle.session_line.specs.Views.{numbers_from}
 
 -- a version; names with their numbers
@@ -44,6 +45,13 @@ published = unfold digits in refl
 
 pub none_published : published_text None ≡ codes "PUBLISHED NONE"
 none_published = refl
+
+-- the lines of who is connected
+pub connected : connected_text (record { number = 12; who = codes "PAT" }) ≡ codes "SESSION 12 PAT"
+connected = unfold digits in refl
+
+pub service : service_text ≡ codes "SERVICE beskloun 0.1.0"
+service = refl
 
 -- a first line that tells how many follow
 pub counted : counted_text 5 4 ≡ codes "OK 5 4"

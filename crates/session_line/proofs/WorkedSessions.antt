@@ -15,10 +15,11 @@ use Rattle.session_line.specs.Commands.{command_of}
 use Rattle.session_line.specs.declared.errors.ErrorsView.TheVariants.{Every, Of}
 use Rattle.session_line.specs.declared.views.CardsView.TheVariants.{All, From, With}
 use Rattle.session_line.specs.declared.tasks.PublishedText.TheVariants.{Image, Listing, Map}
-use Rattle.session_line.specs.declared.tasks.Task.TheVariants.{Ask, AwaitVersion, ShowCards, ShowCardsAt, ShowText, ShowPart, ShowErrors, LoadDeck, SaveDeck, Leave, Refuse}
+use Rattle.session_line.specs.declared.tasks.Task.TheVariants.{Ask, AwaitVersion, ShowCards, ShowCardsAt, ShowText, ShowPart, ShowErrors, LoadDeck, SaveDeck, Greet, Leave, Refuse}
 use Rattle.session_line.specs.Tasks.{lines_due, nobody, task_of}
-use Rattle.session_line.specs.Answers.{told_of_call, told_of_wait, told_of_cards, told_of_cards_at, told_of_publication, told_of_part, told_of_errors, told_text}
+use Rattle.session_line.specs.Answers.{told_of_call, told_of_wait, told_of_greeting, told_of_cards, told_of_cards_at, told_of_publication, told_of_part, told_of_errors, told_text}
 use Rattle.session_line.specs.Parts.{part_of}
+use Rattle.session_line.specs.Greetings.{met}
 
 -- which call of the desk a line is
 pub add : task_of (codes "ADD M") [] ≡ Ask (call.AddDeck (record { name = codes "M"; cards = [] }))
@@ -47,6 +48,9 @@ changes = refl
 
 pub undo : task_of (codes "UNDO M 7") [] ≡ Ask (call.Undo (codes "M") 7 nobody)
 undo = refl
+
+pub hello : task_of (codes "HELLO PAT") [] ≡ Greet (codes "PAT")
+hello = refl
 
 pub image : task_of (codes "IMAGE") [] ≡ ShowText Image
 image = refl
@@ -231,6 +235,20 @@ awaited = unfold digits in refl
 
 pub awaited_in_vain : told_text (told_of_wait (reply.StatusIs 0 None [])) ≡ codes "OK 0 1\nPUBLISHED NONE\n"
 awaited_in_vain = unfold digits in refl
+
+-- who greets is told the service and who is connected; or why there is no status
+pub greeted : told_text (told_of_greeting (met (reply.StatusIs 9 (Some 7) []) (record { number = 0; who = codes "PAT" } ∷ record { number = 3; who = codes "3" } ∷ [])))
+    ≡ codes "OK 9 3\nSERVICE beskloun 0.1.0\nSESSION 0 PAT\nSESSION 3 3\n"
+greeted = unfold digits in refl
+
+pub greeted_alone : told_text (told_of_greeting (met (reply.StatusIs 0 None []) [])) ≡ codes "OK 0 1\nSERVICE beskloun 0.1.0\n"
+greeted_alone = unfold digits in refl
+
+pub greeted_in_vain : told_text (told_of_greeting (met (reply.Refused desk.OutOfMemory) [])) ≡ codes "NO OutOfMemory\n"
+greeted_in_vain = unfold digits in refl
+
+pub greeted_foreign : told_text (told_of_greeting (met (reply.Changed 4) [])) ≡ codes "NO Foreign\n"
+greeted_foreign = unfold digits in refl
 
 pub published : told_text (told_of_publication Image (reply.Shown (record { version = 0; decks = [] }))) ≡ codes "OK 0 1\nEND\n"
 published = unfold digits in refl

@@ -12,8 +12,11 @@ use Rattle.deck_files.specs.DeckFiles.{file_of}
 use Rattle.session_line.specs.declared.refusals.Refusal.{Refusal}
 use Rattle.session_line.specs.declared.refusals.Refusal.TheVariants as refusal
 use Rattle.session_line.specs.Refusals.{refusal_text}
-use Rattle.session_line.specs.Replies.{line_of, line_count, ok_text, counted_text, published_text, rows_text, numbers_text, text_of_lines}
+use Rattle.session_line.specs.Replies.{line_of, line_count, ok_text, counted_text, published_text, rows_text, sessions_text, numbers_text, text_of_lines}
 use Rattle.session_line.specs.Reasons.{desk_reason}
+use Rattle.session_line.specs.Greetings.{service_text}
+use Rattle.session_line.specs.declared.greetings.Connected.{Connected}
+use Rattle.session_line.specs.declared.greetings.Greeting.{Greeting}
 use Rattle.session_line.specs.declared.views.CardsView.{CardsView}
 use Rattle.session_line.specs.declared.views.CardsView.TheVariants.{All, From, With}
 use Rattle.session_line.specs.Views.{cards_from, numbers_of}
@@ -41,6 +44,10 @@ most_kept = 2000
 abbrev pub most_decks : ℕ
 most_decks = 64
 
+-- how many sessions are connected at most: as many as an office has seats
+abbrev pub most_sessions : ℕ
+most_sessions = 64
+
 -- what no desk replies to such a call is refused as foreign
 abbrev pub foreign : Told
 foreign = told.Refused refusal.Foreign
@@ -59,6 +66,16 @@ abbrev pub told_of_wait : Reply → Told
 told_of_wait (StatusIs version published rows) = told.Standing version published
 told_of_wait (Refused reason) = told.Refused (desk_reason reason)
 told_of_wait _ = foreign
+
+-- what is told of a status to who greets; no more sessions than may be connected
+abbrev pub told_of_sessions : Reply → List Connected → Told
+told_of_sessions (StatusIs version published rows) sessions = if nat_le (length sessions) most_sessions then told.Sessions version sessions else foreign
+told_of_sessions (Refused reason) sessions = told.Refused (desk_reason reason)
+told_of_sessions _ sessions = foreign
+
+-- what is told of the answer to who greets
+abbrev pub told_of_greeting : Greeting → Told
+told_of_greeting greeting = told_of_sessions greeting.status greeting.sessions
 
 -- what is told of the reply to a call for the cards of a deck, of which this is shown; no more than a deck may have
 abbrev pub told_of_cards : CardsView → Reply → Told
@@ -164,6 +181,7 @@ told_text (told.Part publication text name) = part_text publication.version (sho
 told_text (told.Errors publication view) = errors_text publication.version view publication.decks (map_of publication.decks)
 told_text (told.Status version published rows) = status_text version published rows
 told_text (told.Standing version published) = status_text version published []
+told_text (told.Sessions version sessions) = with_body (counted_text version (length sessions + 1)) (line_of service_text ++ sessions_text sessions)
 told_text (told.Refused reason) = refused_text reason
 told_text told.Bye = with_body (codes "BYE") []
 
@@ -172,12 +190,13 @@ abbrev pub is_bye : Told → Bool
 is_bye told.Bye = true
 is_bye _ = false
 
--- what is told has no more cards, edits and decks than may be
+-- what is told has no more cards, edits, decks and sessions than may be
 abbrev pub IsTellable : Told → Type 0
 IsTellable (told.Cards version cards view) = length cards ≤ most_cards
 IsTellable (told.Changes version kept) = length kept ≤ most_kept
 IsTellable (told.Errors publication view) = length publication.decks ≤ most_decks
 IsTellable (told.Status version published rows) = length rows ≤ most_decks
+IsTellable (told.Sessions version sessions) = length sessions ≤ most_sessions
 IsTellable _ = ⊤
 
 -- what is told after a call of the desk

@@ -10,12 +10,13 @@ use Rattle.desk_core.specs.declared.replies.Reply.{Reply}
 use Rattle.desk_core.specs.declared.calls.Call.TheVariants.{AddDeck, Cards, CardsAt, Show}
 use Rattle.session_line.specs.declared.views.CardsView.TheVariants.{All}
 use Rattle.session_line.specs.declared.tasks.Task.{Task}
-use Rattle.session_line.specs.declared.tasks.Task.TheVariants.{Ask, AwaitVersion, ShowCards, ShowCardsAt, ShowText, ShowPart, ShowErrors, LoadDeck, SaveDeck, Leave, Refuse}
+use Rattle.session_line.specs.declared.tasks.Task.TheVariants.{Ask, AwaitVersion, ShowCards, ShowCardsAt, ShowText, ShowPart, ShowErrors, LoadDeck, SaveDeck, Greet, Leave, Refuse}
 use Rattle.session_line.specs.declared.answers.Told.{Told}
 use Rattle.session_line.specs.declared.answers.Told.TheVariants as told
 use Rattle.session_line.specs.declared.answers.Answer.{Answer}
 use Rattle.session_line.specs.Reasons.{load_reason, save_reason}
-use Rattle.session_line.specs.Answers.{told_of_call, told_of_wait, told_of_cards, told_of_publication, told_of_part, told_of_errors, IsToldAt, called, uncalled}
+use Rattle.session_line.specs.declared.greetings.Greeting.{Greeting}
+use Rattle.session_line.specs.Answers.{told_of_call, told_of_wait, told_of_greeting, told_of_cards, told_of_publication, told_of_part, told_of_errors, IsToldAt, called, uncalled}
 
 module _ {C : Type 0} (makes : C → Call → Reply → C → Type 0) where
   -- one call of the desk, and what is told of its reply
@@ -75,7 +76,14 @@ module _ {C : Type 0} (awaits : C → ℕ → Reply → C → Type 0) where
     pub awaited : awaits desk version reply next
     pub answered : answer ≡ called (told_of_wait reply)
 
-module _ {C S : Type 0} (makes : C → Call → Reply → C → Type 0) (awaits : C → ℕ → Reply → C → Type 0) (loads : S → List ℕ → List Card → S → Type 0)
+module _ {C : Type 0} (greets : C → List ℕ → Greeting → C → Type 0) where
+  -- HELLO: the desk is told the name, and what is told of its answer
+  pub record Greets (name : List ℕ) (desk next : C) (answer : Answer) : Type 0 where
+    pub greeting : Greeting
+    pub greeted : greets desk name greeting next
+    pub answered : answer ≡ called (told_of_greeting greeting)
+
+module _ {C S : Type 0} (makes : C → Call → Reply → C → Type 0) (awaits : C → ℕ → Reply → C → Type 0) (greets : C → List ℕ → Greeting → C → Type 0) (loads : S → List ℕ → List Card → S → Type 0)
     (refuses_to_load : S → List ℕ → ShelfLoadFault → S → Type 0)
     (saves : S → Saving → S → Type 0) (refuses_to_save : S → Saving → ShelfSaveFault → S → Type 0) where
   -- nothing is called, and this is told
@@ -93,5 +101,6 @@ module _ {C S : Type 0} (makes : C → Call → Reply → C → Type 0) (awaits 
   Executes (ShowErrors view) desk next shelf after answer = Asks makes Show (told_of_errors view) desk next answer × (after ≡ shelf)
   Executes (LoadDeck name) desk next shelf after answer = LoadsDeck makes loads refuses_to_load name desk next shelf after answer
   Executes (SaveDeck name over) desk next shelf after answer = SavesDeck makes saves refuses_to_save name over desk next shelf after answer
+  Executes (Greet name) desk next shelf after answer = Greets greets name desk next answer × (after ≡ shelf)
   Executes Leave desk next shelf after answer = OnlyTells (uncalled told.Bye) desk next shelf after answer
   Executes (Refuse reason) desk next shelf after answer = OnlyTells (uncalled (told.Refused reason)) desk next shelf after answer

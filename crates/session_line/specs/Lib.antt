@@ -8,6 +8,7 @@ pub mod Commands
 pub mod Lines
 pub mod ChangeLines
 pub mod Refusals
+pub mod Greetings
 pub mod Replies
 pub mod FlagWalks
 pub mod ChangeWalks

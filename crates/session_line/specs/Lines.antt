@@ -80,6 +80,7 @@ line_of_command (command.Wait version) = codes "WAIT" ++ behind_a_blank (decimal
 line_of_command (command.Batch head) = line_of_head (codes "BATCH") head.name head.seen head.count
 line_of_command (command.Put head) = line_of_head (codes "PUT") head.name (Exactly head.version) head.count
 line_of_command (command.Undo name version) = codes "UNDO" ++ name_and_number name version []
+line_of_command (command.Hello name) = codes "HELLO" ++ behind_a_blank (name ++ [])
 line_of_command command.Bye = codes "BYE"
 
 -- a place that can be told, and a card
@@ -126,4 +127,5 @@ IsLawful (command.Wait version) = version ≤ greatest_number
 IsLawful (command.Batch head) = IsLawfulName head.name × IsLawfulSeen head.seen × IsTrue (is_batch_size head.count)
 IsLawful (command.Put head) = IsLawfulName head.name × (head.version ≤ greatest_number) × IsTrue (is_put_size head.count)
 IsLawful (command.Undo name version) = IsTrue (is_deck_name name) × (version ≤ greatest_number)
+IsLawful (command.Hello name) = IsTrue (is_deck_name name)
 IsLawful command.Bye = ⊤

@@ -4,6 +4,8 @@ use Rattle.definitions.specs.Build.{listing_of}
 use Rattle.definitions.specs.Characters.{line_feed}
 use Rattle.deck_files.specs.DeckFiles.{file_of}
 use Rattle.session_line.specs.Refusals.{refusal_text}
+use Rattle.session_line.specs.Greetings.{service_text, connected_text}
+use Rattle.session_line.specs.declared.greetings.Connected.{Connected}
 use Rattle.session_line.specs.Errors.{error_lines}
 use Rattle.session_line.specs.Views.{numbers_of}
 use Rattle.session_line.specs.ChangeLines.{change_lines}
@@ -54,12 +56,17 @@ head_text (reply.Text version text) = counted_text version (line_count text.now)
 head_text (reply.Listing publication) = counted_text publication.now.version (line_count (listing_of publication.now.decks))
 head_text (reply.Errors version view decks map) = counted_text version (length (error_lines view.now decks.now map.now))
 head_text (reply.Status version published decks) = counted_text version (length decks.now + 1)
+head_text (reply.Sessions version sessions) = counted_text version (length sessions.now + 1)
 head_text reply.Bye = codes "BYE"
 head_text (reply.Refused refusal) = codes "NO " ++ refusal_text refusal
 
 -- the lines of some decks in a status
 abbrev pub rows_text : List Row → List ℕ
 rows_text rows = flat_map (λ row. line_of (row_text row)) rows
+
+-- the lines of sessions that are connected
+abbrev pub sessions_text : List Connected → List ℕ
+sessions_text sessions = flat_map (λ connected. line_of (connected_text connected)) sessions
 
 -- numbers, each on a line of its own
 abbrev pub numbers_text : List ℕ → List ℕ
@@ -79,6 +86,7 @@ body_text (reply.Text version text) = text.now
 body_text (reply.Listing publication) = listing_of publication.now.decks
 body_text (reply.Errors version view decks map) = text_of_lines (error_lines view.now decks.now map.now)
 body_text (reply.Status version published decks) = line_of (published_text published) ++ rows_text decks.now
+body_text (reply.Sessions version sessions) = line_of service_text ++ sessions_text sessions.now
 body_text reply.Bye = []
 body_text (reply.Refused refusal) = []
 
@@ -86,7 +94,7 @@ body_text (reply.Refused refusal) = []
 abbrev pub text_of_reply : Reply → List ℕ
 text_of_reply reply = line_of (head_text reply) ++ body_text reply
 
--- no more cards than a deck may have, no more changes than are kept of it, and no more decks than a desk may have
+-- no more cards than a deck may have, no more changes than are kept of it, no more decks than a desk may have, and no more sessions than an office has seats
 abbrev pub IsWithinLimits : Reply → Type 0
 IsWithinLimits (reply.Done version) = ⊤
 IsWithinLimits (reply.Cards version cards) = length cards.now ≤ 20000
@@ -96,5 +104,6 @@ IsWithinLimits (reply.Text version text) = ⊤
 IsWithinLimits (reply.Listing publication) = ⊤
 IsWithinLimits (reply.Errors version view decks map) = length decks.now ≤ 64
 IsWithinLimits (reply.Status version published decks) = length decks.now ≤ 64
+IsWithinLimits (reply.Sessions version sessions) = length sessions.now ≤ 64
 IsWithinLimits reply.Bye = ⊤
 IsWithinLimits (reply.Refused refusal) = ⊤

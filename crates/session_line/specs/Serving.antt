@@ -14,6 +14,7 @@ use Rattle.session_line.specs.declared.reading.Stop.TheVariants.{InputEnded, Inp
 use Rattle.session_line.specs.declared.answers.Answer.{Answer}
 use Rattle.session_line.specs.declared.serving.Outcome.{Outcome}
 use Rattle.session_line.specs.declared.serving.Outcome.TheVariants.{Served, Ended, ReadFault, WriteFault}
+use Rattle.session_line.specs.declared.greetings.Greeting.{Greeting}
 use Rattle.session_line.specs.Answers.{told_text, is_bye}
 use Rattle.session_line.specs.Taking.{TakesTask, Stops}
 use Rattle.session_line.specs.Executing.{Executes}
@@ -54,7 +55,7 @@ module _ {C S : Type 0} where
     pub desk : new.desk ≡ old.desk
     pub shelf : new.shelf ≡ old.shelf
 
-module _ {C S : Type 0} (makes : C → Call → Reply → C → Type 0) (awaits : C → ℕ → Reply → C → Type 0) (loads : S → List ℕ → List Card → S → Type 0)
+module _ {C S : Type 0} (makes : C → Call → Reply → C → Type 0) (awaits : C → ℕ → Reply → C → Type 0) (greets : C → List ℕ → Greeting → C → Type 0) (loads : S → List ℕ → List Card → S → Type 0)
     (refuses_to_load : S → List ℕ → ShelfLoadFault → S → Type 0)
     (saves : S → Saving → S → Type 0) (refuses_to_save : S → Saving → ShelfSaveFault → S → Type 0) where
   -- one command is taken whole, executed once and answered
@@ -62,7 +63,7 @@ module _ {C S : Type 0} (makes : C → Call → Reply → C → Type 0) (awaits 
     pub task : Task
     pub answer : Answer
     pub taken : TakesTask old.input new.input task
-    pub executed : Executes makes awaits loads refuses_to_load saves refuses_to_save task old.desk new.desk old.shelf new.shelf answer
+    pub executed : Executes makes awaits greets loads refuses_to_load saves refuses_to_save task old.desk new.desk old.shelf new.shelf answer
     pub sent : GoesOut old.output new.output answer outcome
 
   -- one line of a session is served

@@ -2,10 +2,11 @@
 ghost use Rattle.std.specs.Prelude.{◌≡◌, ◌≤◌, ◌⊎◌, length, option_map};
 ghost use Rattle.session_line.specs.Replies.{text_of_reply, IsWithinLimits};
 ghost use Rattle.deck_linker.specs.Publishing.{map_of};
-ghost use Rattle.session_line.specs.Answers.{foreign, told_of_call, told_of_wait, told_of_cards, told_of_backs, told_of_part, told_of_errors, told_of_publication, lines_text, part_text, errors_text, shown_part, shown_text, view_text, told_text, is_bye, IsTellable, IsToldAt};
+ghost use Rattle.session_line.specs.Answers.{foreign, told_of_call, told_of_wait, told_of_greeting, told_of_cards, told_of_backs, told_of_part, told_of_errors, told_of_publication, lines_text, part_text, errors_text, shown_part, shown_text, view_text, told_text, is_bye, IsTellable, IsToldAt};
 
 use crate::Refusal;
 use crate::errors::{ErrorsView, shows_any};
+use crate::greetings::{Connected, Greeting};
 use crate::parts::part_of;
 use crate::reasons::desk_reason;
 use crate::tasks::PublishedText;
@@ -20,6 +21,9 @@ const MOST_KEPT: usize = 2_000;
 
 /// How many decks a desk has at most.
 const MOST_DECKS: usize = 64;
+
+/// How many sessions are connected at most.
+const MOST_SESSIONS: usize = 64;
 
 /// What a session is told.
 #[derive(Drop)]
@@ -40,6 +44,8 @@ pub(crate) enum Told {
     Status(u64, Option<u64>, Listed<Row>),
     /// The desk's version and the published one.
     Standing(u64, Option<u64>),
+    /// The desk's version, and the sessions that are connected.
+    Sessions(u64, Listed<Connected>),
     /// Why nothing was done.
     Refused(Refusal),
     /// The end of the session.
@@ -93,6 +99,24 @@ pub(crate) fn told_of_wait(reply: Reply) -> Told
 {
     match reply {
         Reply::StatusIs(version, published, _) => Told::Standing(version, published),
+        Reply::Refused(refusal) => Told::Refused(desk_reason(refusal)),
+        _ => foreign(),
+    }
+}
+
+/// What is told of the answer to who greets: no more sessions than may be connected.
+pub(crate) fn told_of_greeting(greeting: Greeting) -> Told
+    ensures told { result ≡ told_of_greeting greeting }
+    ensures fits { IsTellable result }
+{
+    match greeting.status {
+        Reply::StatusIs(version, _, _) => {
+            if greeting.sessions.as_slice().len() <= MOST_SESSIONS {
+                Told::Sessions(version, greeting.sessions)
+            } else {
+                foreign()
+            }
+        }
         Reply::Refused(refusal) => Told::Refused(desk_reason(refusal)),
         _ => foreign(),
     }
@@ -311,6 +335,10 @@ impl Told {
                 version: *version,
                 published: *published,
                 decks: &[],
+            },
+            Told::Sessions(version, sessions) => crate::Reply::Sessions {
+                version: *version,
+                sessions: sessions.as_slice(),
             },
             Told::Refused(refusal) => crate::Reply::Refused(*refusal),
             Told::Bye => crate::Reply::Bye,

@@ -95,6 +95,10 @@ pub enum Command {
         name: DeckName,
         version: u64,
     },
+    /// The name by which the session changes decks from now on, and who is connected.
+    Hello {
+        name: DeckName,
+    },
     /// The end of the session.
     Bye,
 }
@@ -487,6 +491,9 @@ fn command_by(verb: Verb, rest: &[u8]) -> Result<Command, Refusal>
         Verb::Batch => batch_in(rest),
         Verb::Put => put_in(rest),
         Verb::Undo => undo_in(rest),
+        Verb::Hello => Ok(Command::Hello {
+            name: only_name(rest)?,
+        }),
         Verb::Bye => alone(Command::Bye, rest),
     }
 }

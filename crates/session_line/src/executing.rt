@@ -1,12 +1,12 @@
 //! Executes a task once.
 ghost use Rattle.std.specs.Prelude.{◌≡◌, ◌≤◌, length};
-ghost use Rattle.session_line.specs.Answers.{IsTellable, called, most_cards, told_of_call, told_of_cards, told_of_errors, told_of_part, told_of_publication, told_of_wait, uncalled};
-ghost use Rattle.session_line.specs.Executing.{Asks, AsksAt, AwaitsVersion, Executes, LoadsDeck, SavesCards, SavesDeck};
+ghost use Rattle.session_line.specs.Answers.{IsTellable, called, most_cards, told_of_call, told_of_cards, told_of_errors, told_of_greeting, told_of_part, told_of_publication, told_of_wait, uncalled};
+ghost use Rattle.session_line.specs.Executing.{Asks, AsksAt, AwaitsVersion, Executes, Greets, LoadsDeck, SavesCards, SavesDeck};
 ghost use Rattle.desk_core.specs.declared.calls.Call.TheVariants.{Cards, Show};
 
 use crate::answers::{
-    Answer, Told, told_of_call, told_of_cards, told_of_cards_at, told_of_errors, told_of_part,
-    told_of_publication, told_of_wait,
+    Answer, Told, told_of_call, told_of_cards, told_of_cards_at, told_of_errors, told_of_greeting,
+    told_of_part, told_of_publication, told_of_wait,
 };
 use crate::calls::Calls;
 use crate::errors::ErrorsView;
@@ -52,6 +52,14 @@ fn await_version<C: Calls>(desk: &mut C, version: u64) -> Answer
     ensures fits { IsTellable result.told }
 {
     called(told_of_wait(desk.await_version(version)))
+}
+
+/// The desk is told the name of the session.
+fn greet<C: Calls>(alloc: Global, desk: &mut C, name: &DeckName) -> Answer
+    ensures greets { Greets C.greets name.now desk.old desk.new result }
+    ensures fits { IsTellable result.told }
+{
+    called(told_of_greeting(desk.greet(alloc, name)))
 }
 
 /// The desk is asked for the cards of the deck.
@@ -149,7 +157,7 @@ pub(crate) fn execute<C: Calls, S: Shelf>(
     shelf: &mut S,
     task: Task,
 ) -> Answer
-    ensures executes { Executes C.makes C.awaits S.loads S.refuses_to_load S.saves S.refuses_to_save task desk.old desk.new shelf.old shelf.new result }
+    ensures executes { Executes C.makes C.awaits C.greets S.loads S.refuses_to_load S.saves S.refuses_to_save task desk.old desk.new shelf.old shelf.new result }
     ensures fits { IsTellable result.told }
 {
     match task {
@@ -162,6 +170,7 @@ pub(crate) fn execute<C: Calls, S: Shelf>(
         Task::ShowErrors(view) => show_errors(desk, view),
         Task::LoadDeck(name) => load_deck(desk, shelf, name),
         Task::SaveDeck(name, over) => save_deck(desk, shelf, &name, over),
+        Task::Greet(name) => greet(alloc, desk, &name),
         Task::Leave => uncalled(Told::Bye),
         Task::Refuse(refusal) => uncalled(Told::Refused(refusal)),
     }

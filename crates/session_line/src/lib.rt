@@ -31,10 +31,12 @@ mod refusal_texts;
 mod replies;
 mod reply_line;
 mod reply_texts;
+mod session_writing;
 mod writing;
 
 // The desk that is called.
 mod calls;
+mod greetings;
 mod seat_calls;
 
 // What is asked.
@@ -59,6 +61,7 @@ pub use desk_core::{Row, State};
 pub use desk_laws::a_desk_answers_sessions;
 pub use edits::read_batch_line;
 pub use errors::ErrorsView;
+pub use greetings::{Connected, Greeting, VERSION};
 pub use laws::lines_read_back;
 pub use refusals::Refusal;
 pub use replies::Reply;

@@ -1,6 +1,7 @@
 //! The replies of a session.
 
 use crate::errors::ErrorsView;
+use crate::greetings::Connected;
 use crate::refusals::Refusal;
 use cards::Card;
 use deck_linker::ListedPublication;
@@ -50,6 +51,11 @@ pub enum Reply<'a> {
         version: u64,
         published: Option<u64>,
         decks: &'a [Row],
+    },
+    /// `OK version n`, then a line for the service, and one for each session that is connected.
+    Sessions {
+        version: u64,
+        sessions: &'a [Connected],
     },
     /// `BYE`
     Bye,

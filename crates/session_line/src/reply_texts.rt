@@ -1,11 +1,13 @@
 //! The lines of replies.
 ghost use Rattle.std.specs.Prelude.{◌≡◌, ◌+◌, ◌≤◌, ◌++◌, length};
 ghost use Rattle.definitions.specs.Build.{listing_of};
+ghost use Rattle.session_line.specs.Greetings.{connected_text, service_text};
 ghost use Rattle.session_line.specs.Replies.{IsWithinLimits, line_of, line_count, counted_text, ok_text, head_text, numbers_text, published_text, row_text, state_text};
 ghost use Rattle.session_line.specs.Views.{has_text, number_where};
 
 use crate::change_lines::change_line_count;
 use crate::errors::error_count;
+use crate::greetings::{Connected, service_version};
 use crate::refusal_texts::put_refusal;
 use crate::refusals::Refusal;
 use crate::replies::Reply;
@@ -97,6 +99,7 @@ pub(crate) fn head_line(reply: &Reply<'_>) -> ReplyLine
             map,
         } => counted_line(*version, error_count(view, decks, map)),
         Reply::Status { version, decks, .. } => counted_line(*version, decks.len() + 1),
+        Reply::Sessions { version, sessions } => counted_line(*version, sessions.len() + 1),
         Reply::Bye => bye_line(),
         Reply::Refused(refusal) => refusal_line(refusal),
     }
@@ -111,6 +114,30 @@ pub(crate) fn found_line(number: u64, card: &Card, text: &[u8]) -> ReplyLine
         line.put_number(number);
         line.end();
     }
+    line
+}
+
+/// The service and its version.
+pub(crate) fn service_line() -> ReplyLine
+    ensures { result ≡ line_of service_text }
+{
+    let mut line = ReplyLine::new();
+    line.put(b"SERVICE beskloun ");
+    line.put(service_version());
+    line.end();
+    line
+}
+
+/// The line of a session that is connected.
+pub(crate) fn connected_line(connected: &Connected) -> ReplyLine
+    ensures { result ≡ line_of (connected_text connected.now) }
+{
+    let mut line = ReplyLine::new();
+    line.put(b"SESSION ");
+    line.put_number(connected.number);
+    line.put(b" ");
+    line.put(connected.who.as_slice());
+    line.end();
     line
 }
 

@@ -2,7 +2,10 @@
 ghost use Rattle.std.specs.Prelude.{◌≡◌};
 
 use crate::calls::Calls;
+use crate::greetings::Greeting;
+use cards::DeckName;
 use desk_core::{Call, Desk, Reply};
+use std::alloc::Global;
 use std::sync::Wait;
 use turn_office::{Office, Seat};
 
@@ -36,10 +39,12 @@ impl<'a, R> SeatCalls<'a, R> {
 }
 
 /// Each reply is the desk's at one point of one legal history, which begins with all that the seat
-/// had seen and ends with the call. It knows of no bell, so it answers at once who waits.
+/// had seen and ends with the call. It knows of no bell, so it answers at once who waits, and of
+/// no session, so it keeps no names.
 impl<R: Wait> Calls for SeatCalls<'_, R> {
     ghost use Rattle.desk_core.specs.Steps.{Steps};
     ghost use Rattle.desk_core.specs.declared.calls.Call.TheVariants.{Status};
+    ghost use Rattle.std.specs.Prelude.{◌≡◌, []};
     ghost use Rattle.turn_office.specs.Histories.{Answers};
 
     ghost makes = { λ old call reply new. (new.office.now ≡ old.office.now) × (new.seat.office ≡ old.seat.office) × (new.seat.number ≡ old.seat.number)
@@ -47,6 +52,11 @@ impl<R: Wait> Calls for SeatCalls<'_, R> {
 
     ghost awaits = { λ old version reply new. (new.office.now ≡ old.office.now) × (new.seat.office ≡ old.seat.office) × (new.seat.number ≡ old.seat.number)
         × Answers Steps old.office.now.seats old.office.now.first old.seat.number Status reply old.seat.seen new.seat.seen };
+
+    ghost greets = { λ old name greeting new. (new.office.now ≡ old.office.now) × (new.seat.office ≡ old.seat.office) × (new.seat.number ≡ old.seat.number)
+        × Answers Steps old.office.now.seats old.office.now.first old.seat.number Status greeting.status old.seat.seen new.seat.seen × (greeting.sessions ≡ []) };
+
+    ghost begins = { λ old new. new ≡ old };
 
     fn call(&mut self, call: Call) -> Reply {
         self.seat.call(self.rt, self.office, call)
@@ -56,4 +66,11 @@ impl<R: Wait> Calls for SeatCalls<'_, R> {
         let _ = version;
         self.seat.call(self.rt, self.office, Call::Status)
     }
+
+    fn greet(&mut self, alloc: Global, name: &DeckName) -> Greeting {
+        let _ = name;
+        Greeting::alone(alloc, self.seat.call(self.rt, self.office, Call::Status))
+    }
+
+    fn begin_session(&mut self) {}
 }

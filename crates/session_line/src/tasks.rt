@@ -45,6 +45,8 @@ pub(crate) enum Task {
     LoadDeck(DeckName),
     /// The cards of the deck of this name go to the shelf, over what may be written over.
     SaveDeck(DeckName, SaveOver),
+    /// This is the session's name, and who is connected is shown.
+    Greet(DeckName),
     /// The end of the session.
     Leave,
     /// Nothing, for this reason.
@@ -63,7 +65,7 @@ fn lines_behind(command: &Command) -> u64
         Command::CardsAt { .. } | Command::Changes { .. } | Command::Undo { .. } => 0,
         Command::Image | Command::List | Command::Map => 0,
         Command::ImageOf { .. } | Command::ListOf { .. } | Command::Errors(_) => 0,
-        Command::Status | Command::Wait { .. } | Command::Bye => 0,
+        Command::Status | Command::Wait { .. } | Command::Hello { .. } | Command::Bye => 0,
     }
 }
 
@@ -221,6 +223,7 @@ fn task_of_command(alloc: Global, command: Command, edits: ItemsRead<Edit>) -> T
             version,
             by: nobody(),
         }),
+        Command::Hello { name } => Task::Greet(name),
         Command::Bye => Task::Leave,
     }
 }

@@ -33,6 +33,7 @@ pub(crate) enum Verb {
     Batch,
     Put,
     Undo,
+    Hello,
     Bye,
 }
 
@@ -86,6 +87,8 @@ fn other_verb_of(word: &[u8]) -> Option<Verb>
         Some(Verb::Put)
     } else if is_same_text(word, b"UNDO") {
         Some(Verb::Undo)
+    } else if is_same_text(word, b"HELLO") {
+        Some(Verb::Hello)
     } else if is_same_text(word, b"BYE") {
         Some(Verb::Bye)
     } else {

@@ -8,6 +8,7 @@ use crate::change_writing::write_changes;
 use crate::error_writing::write_errors;
 use crate::replies::Reply;
 use crate::reply_texts::{found_line, head_line, published_line, row_line};
+use crate::session_writing::write_sessions;
 use cards::Card;
 use deck_files::save;
 use desk_core::Row;
@@ -99,6 +100,7 @@ fn write_body<W: Write>(output: &mut Counted<W>, reply: &Reply<'_>) -> Result<()
             map,
             ..
         } => write_errors(output, view, decks, map),
+        Reply::Sessions { sessions, .. } => write_sessions(output, sessions),
         Reply::Status {
             published,
             decks,
@@ -109,7 +111,7 @@ fn write_body<W: Write>(output: &mut Counted<W>, reply: &Reply<'_>) -> Result<()
 
 /// Writes a reply: its bytes, or exactly the first `sent` of them up to the first fault. Takes no
 /// memory. A reply has no more cards than a deck may have, no more edits
-/// than are kept of it, and no more decks than a desk may have.
+/// than are kept of it, no more decks than a desk may have, and no more sessions than an office has seats.
 pub fn write_reply<W: Write>(output: &mut Counted<W>, reply: &Reply<'_>) -> Result<(), Broken>
     requires limits { IsWithinLimits reply.now }
     ensures sends { Sends (W.contents output.old.0) (W.contents output.new.0) (text_of_reply reply.now) result }

@@ -7,7 +7,7 @@ use crate::journal::Called;
 use crate::scene::Scene;
 use cards::{CardFault, MOST_CARDS};
 use desk_core::{Row, State};
-use session_line::{Refusal, Reply, reply_text, write_reply};
+use session_line::{Connected, Refusal, Reply, reply_text, write_reply};
 use std::alloc::{AllocError, Global};
 use text_ports::Counted;
 
@@ -41,6 +41,7 @@ fn is_within(reply: &Reply<'_>) -> bool
         Reply::Changes { kept, .. } => kept.len() <= 2_000,
         Reply::Errors { decks, .. } => decks.len() <= 64,
         Reply::Status { decks, .. } => decks.len() <= 64,
+        Reply::Sessions { sessions, .. } => sessions.len() <= 64,
         Reply::Done { .. } | Reply::Text { .. } | Reply::Listing(_) => true,
         Reply::Bye | Reply::Refused(_) => true,
     }
@@ -116,11 +117,31 @@ fn compare_status(scene: &mut Scene) -> Result<(), AllocError> {
     compare(scene, &status)
 }
 
+/// The reply that shows who is connected.
+fn compare_sessions(scene: &mut Scene) -> Result<(), AllocError> {
+    let sessions = [
+        Connected {
+            number: 0,
+            who: name_of("PAT")?,
+        },
+        Connected {
+            number: 15,
+            who: name_of("15")?,
+        },
+    ];
+    let greeted = Reply::Sessions {
+        version: 12,
+        sessions: &sessions,
+    };
+    compare(scene, &greeted)
+}
+
 /// Each sort of reply.
 pub fn replies(scene: &mut Scene) -> Result<(), AllocError> {
     for reply in &few() {
         compare(scene, reply)?;
     }
     compare_cards(scene)?;
-    compare_status(scene)
+    compare_status(scene)?;
+    compare_sessions(scene)
 }

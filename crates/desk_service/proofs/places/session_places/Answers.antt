@@ -10,8 +10,9 @@ loop-number-preserved g c = record {
   number = numbers-more _ _ _ _ _ c.loop-number.invariant.number c.in_ok-push.ensures.items c.new-shelf.ensures.number;
   session = numbers-more _ _ _ _ _ c.loop-number.invariant.session c.in_ok-push.ensures.items refl;
   keeper = numbers-more _ _ _ _ _ c.loop-number.invariant.keeper c.in_ok-push.ensures.items c.session_desk-desk.ensures.keeper;
+  company = numbers-more _ _ _ _ _ c.loop-number.invariant.company c.in_ok-push.ensures.items c.session_desk-desk.ensures.company;
   folder = all-more (λ place. place.shelf.folder ≡ c.args.settings.now.root.now) _ _ _ c.loop-number.invariant.folder c.in_ok-push.ensures.items c.new-shelf.ensures.folder;
   once = all-more (λ place. place.serving.once ≡ c.args.settings.now.once) _ _ _ c.loop-number.invariant.once c.in_ok-push.ensures.items refl;
   office =
-      all-more (λ place. place.desk.0.0.0.seat.office ≡ c.args.office.now.id) _ _ _ c.loop-number.invariant.office c.in_ok-push.ensures.items c.session_desk-desk.ensures.office;
+      all-more (λ place. place.desk.0.0.0.0.seat.office ≡ c.args.office.now.id) _ _ _ c.loop-number.invariant.office c.in_ok-push.ensures.items c.session_desk-desk.ensures.office;
 }

@@ -1,0 +1,43 @@
+-- Who greets, and the lines that it is told (ours): the service and its version, and who is connected.
+use Rattle.std.specs.Prelude.{ℕ, ◌≡◌, Bool, true, false, List, [], ◌++◌, codes, decimal}
+use Rattle.desk_core.specs.declared.calls.Call.{Call}
+use Rattle.desk_core.specs.declared.calls.Call.TheVariants.{Status}
+use Rattle.desk_core.specs.declared.replies.Reply.{Reply}
+use Rattle.desk_core.specs.declared.replies.Reply.TheVariants.{StatusIs}
+use Rattle.session_line.specs.declared.greetings.Connected.{Connected}
+use Rattle.session_line.specs.declared.greetings.Greeting.{Greeting}
+
+-- the version of the program
+abbrev pub service_version : List ℕ
+service_version = codes "0.1.0"
+
+-- the service
+abbrev pub service_text : List ℕ
+service_text = codes "SERVICE beskloun " ++ service_version
+
+-- the number of a session, and who it is
+abbrev pub connected_text : Connected → List ℕ
+connected_text connected = codes "SESSION " ++ (decimal connected.number ++ (codes " " ++ connected.who))
+
+-- a status, and the sessions that are connected
+abbrev pub met : Reply → List Connected → Greeting
+met status sessions = record { status = status; sessions = sessions }
+
+-- whether a status is told
+abbrev pub is_status_reply : Reply → Bool
+is_status_reply (StatusIs version published rows) = true
+is_status_reply _ = false
+
+-- whether the name holds from now on: where the status is told
+abbrev pub is_met : Greeting → Bool
+is_met greeting = is_status_reply greeting.status
+
+-- this is done where a name holds, and else nothing
+abbrev pub WhereMet : {K : Type 0} → (K → K → Type 0) → Bool → K → K → Type 0
+WhereMet does true old new = does old new
+WhereMet does false old new = new ≡ old
+
+module _ {C : Type 0} (makes : C → Call → Reply → C → Type 0) where
+  -- who knows of no session asks for the status
+  abbrev pub MeetsAlone : C → Greeting → C → Type 0
+  MeetsAlone old greeting new = makes old Status greeting.status new × (greeting.sessions ≡ [])
