@@ -17,7 +17,7 @@ use std::thread;
 use std::thread::Threads;
 use std::time::Clock;
 
-/// How many workers, and how many sessions, a service has at most.
+/// How many workers, how many sessions, and how many readers a service has at most.
 const MOST_THREADS: usize = 16;
 
 /// How many seconds a client may be idle where nothing else is said.
@@ -60,12 +60,16 @@ fn with_places<'a>(alloc: Global, command: Command<'a>) -> Result<Command<'a>, A
 fn with_threads<'a>(alloc: Global, command: Command<'a>) -> Result<Command<'a>, AllocError> {
     let workers = "How many threads assemble and link, 1 to 16; one for each processor unless said";
     let sessions = "How many connections are served at once, 1 to 16; 16 unless said";
+    let readers =
+        "How many further connections may ask and change nothing, 0 to 16; none unless said";
     let idle = "How long a client may be silent before its session ends; 900 unless said";
     let threads = clap::value_parser!(u64).range(1..17);
+    let threads_or_none = clap::value_parser!(u64).range(0..17);
     let seconds = clap::value_parser!(u64).range(1..1_000_000_000);
     command
         .arg(valued_word(alloc, "workers", "W", workers).value_parser(threads))?
         .arg(valued_word(alloc, "sessions", "S", sessions).value_parser(threads))?
+        .arg(valued_word(alloc, "readers", "N", readers).value_parser(threads_or_none))?
         .arg(valued_word(alloc, "idle", "SECONDS", idle).value_parser(seconds))
 }
 
@@ -74,7 +78,7 @@ fn with_journal<'a>(alloc: Global, command: Command<'a>) -> Result<Command<'a>, 
     let journal =
         "The file that keeps all changes, none for no such file; beskloun.journal in DIR unless said";
     let compact = "Begins the journal anew with the decks that it leaves";
-    let once = "Ends when each session has served one connection";
+    let once = "Ends when each session and each reader has served one connection";
     command
         .arg(valued_word(alloc, "journal", "FILE", journal))?
         .arg(plain_word(alloc, "compact", compact))?
@@ -122,11 +126,13 @@ pub(crate) fn settings_of<'a>(rt: &impl Threads, words: &ArgMatches<'a>) -> Opti
     let port = words.get_one("port").unwrap_or(0);
     let workers = number_or(words, "workers", processors(rt).min(MOST_THREADS));
     let sessions = number_or(words, "sessions", MOST_THREADS);
+    let readers = number_or(words, "readers", 0);
     let idle = words.get_one("idle").unwrap_or(IDLE_SECONDS);
     if workers < 1
         || workers > MOST_THREADS
         || sessions < 1
         || sessions > MOST_THREADS
+        || readers > MOST_THREADS
         || idle < 1
     {
         return None;
@@ -138,6 +144,7 @@ pub(crate) fn settings_of<'a>(rt: &impl Threads, words: &ArgMatches<'a>) -> Opti
         port,
         workers,
         sessions,
+        readers,
         idle,
         once: words.get_flag("once"),
     })
@@ -187,7 +194,7 @@ fn tell<R: Eprint>(rt: &R, fault: ServeFault, settings: &Settings<'_>, page: u16
             "compass: {fault}: the page can't be at 127.0.0.1:{page}; another program may have the port, choose another with --page"
         ),
         ServeFault::OutOfMemory => eprintln!(rt;
-            "compass: {fault}: free some, or take fewer --workers and --sessions"
+            "compass: {fault}: free some, or take fewer --workers, --sessions and --readers"
         ),
         ServeFault::NoFolder => eprintln!(rt;
             "compass: {fault}: {root} is not there, is no folder, or can't be written in; make it, or choose another with --root"

@@ -5,6 +5,7 @@ use Rattle.deck_files.specs.declared.deck_shelf.ShelfLoadFault.{ShelfLoadFault}
 use Rattle.deck_files.specs.declared.deck_shelf.ShelfSaveFault.{ShelfSaveFault}
 use Rattle.deck_files.specs.Savings.{Saving}
 use Rattle.desk_core.specs.declared.calls.Call.{Call}
+use Rattle.session_line.specs.declared.rights.Rights.TheVariants.{Edits}
 use Rattle.session_line.specs.declared.greetings.Greeting.{Greeting}
 use Rattle.desk_core.specs.declared.replies.Reply.{Reply}
 use Rattle.session_line.specs.Serving.{sides}
@@ -27,6 +28,6 @@ module _ {C S : Type 0} (makes : C → Call → Reply → C → Type 0) (awaits 
     pub read_faults : ℕ
     pub write_faults : ℕ
     pub ending : Ending
-    pub session : ServesSession makes awaits greets begins loads refuses_to_load saves refuses_to_save
+    pub session : ServesSession Edits makes awaits greets begins loads refuses_to_load saves refuses_to_save
         (standing (sides (Some lines) (Some []) old.0 old.1) 0 0) (standing (sides (Some left) (Some replies) new.0 new.1) read_faults write_faults) ending
     pub told : whole ≡ is_whole ending

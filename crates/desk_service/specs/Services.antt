@@ -5,9 +5,9 @@ use Rattle.std.specs.declared.net.ip_addr.IpAddr.TheVariants as Ip
 use Rattle.std.specs.Net.Socket.{socket_ip, socket_port}
 use Rattle.desk_service.specs.declared.settings.Settings.{Settings}
 
--- 1 to 16 workers, and as many sessions; a client may be idle for a second at least
+-- 1 to 16 workers, as many sessions, and up to 16 readers; a client may be idle for a second at least
 abbrev pub AreInRange : Settings → Type 0
-AreInRange settings = (1 ≤ settings.workers) × (settings.workers ≤ 16) × (1 ≤ settings.sessions) × (settings.sessions ≤ 16) × (1 ≤ settings.idle)
+AreInRange settings = (1 ≤ settings.workers) × (settings.workers ≤ 16) × (1 ≤ settings.sessions) × (settings.sessions ≤ 16) × (settings.readers ≤ 16) × (1 ≤ settings.idle)
 
 -- the address is 127.0.0.1, which no other machine reaches, with this port
 abbrev pub IsLocal : SocketAddr → ℕ → Type 0

@@ -7,6 +7,7 @@ use Rattle.deck_files.specs.declared.deck_shelf.ShelfLoadFault.{ShelfLoadFault}
 use Rattle.deck_files.specs.declared.deck_shelf.ShelfSaveFault.{ShelfSaveFault}
 use Rattle.deck_files.specs.Savings.{Saving}
 use Rattle.desk_core.specs.declared.calls.Call.{Call}
+use Rattle.session_line.specs.declared.rights.Rights.{Rights}
 use Rattle.session_line.specs.declared.greetings.Greeting.{Greeting}
 use Rattle.desk_core.specs.declared.replies.Reply.{Reply}
 use Rattle.session_line.specs.declared.serving.Outcome.{Outcome}
@@ -64,7 +65,7 @@ module _ {C S : Type 0} where
     pub reader : new.read_faults ≡ old.read_faults
     pub writer : new.write_faults ≡ count_after_flush sent old.write_faults
 
-module _ {C S : Type 0} (makes : C → Call → Reply → C → Type 0) (awaits : C → ℕ → Reply → C → Type 0) (greets : C → List ℕ → Greeting → C → Type 0) (loads : S → List ℕ → List Card → S → Type 0)
+module _ {C S : Type 0} (rights : Rights) (makes : C → Call → Reply → C → Type 0) (awaits : C → ℕ → Reply → C → Type 0) (greets : C → List ℕ → Greeting → C → Type 0) (loads : S → List ℕ → List Card → S → Type 0)
     (refuses_to_load : S → List ℕ → ShelfLoadFault → S → Type 0)
     (saves : S → Saving → S → Type 0) (refuses_to_save : S → Saving → ShelfSaveFault → S → Type 0) where
   -- one line is served, its reply is sent on, and this is how the session ends there, if it ends
@@ -72,7 +73,7 @@ module _ {C S : Type 0} (makes : C → Call → Reply → C → Type 0) (awaits 
     pub middle : Standing C S
     pub outcome : Outcome
     pub flushed : Bool
-    pub served : Serves makes awaits greets loads refuses_to_load saves refuses_to_save old.sides middle.sides outcome
+    pub served : Serves rights makes awaits greets loads refuses_to_load saves refuses_to_save old.sides middle.sides outcome
     pub reads : middle.read_faults ≡ read_faults_after outcome old.read_faults
     pub writes : middle.write_faults ≡ write_faults_after outcome old.write_faults
     pub sent : SendsOn flushed middle new
@@ -92,11 +93,11 @@ module _ {C S : Type 0} (makes : C → Call → Reply → C → Type 0) (awaits 
 abbrev pub with_desk : {C S : Type 0} → Standing C S → C → Standing C S
 with_desk standing desk = record standing { sides = record standing.sides { desk = desk } }
 
-module _ {C S : Type 0} (makes : C → Call → Reply → C → Type 0) (awaits : C → ℕ → Reply → C → Type 0) (greets : C → List ℕ → Greeting → C → Type 0) (begins : C → C → Type 0) (loads : S → List ℕ → List Card → S → Type 0)
+module _ {C S : Type 0} (rights : Rights) (makes : C → Call → Reply → C → Type 0) (awaits : C → ℕ → Reply → C → Type 0) (greets : C → List ℕ → Greeting → C → Type 0) (begins : C → C → Type 0) (loads : S → List ℕ → List Card → S → Type 0)
     (refuses_to_load : S → List ℕ → ShelfLoadFault → S → Type 0)
     (saves : S → Saving → S → Type 0) (refuses_to_save : S → Saving → ShelfSaveFault → S → Type 0) where
   -- a session: it begins, and its lines are served to its end
   pub record ServesSession (first last : Standing C S) (ending : Ending) : Type 0 where
     pub begun : C
     pub begins_so : begins first.sides.desk begun
-    pub served : ServesToEnd makes awaits greets loads refuses_to_load saves refuses_to_save (with_desk first begun) last ending
+    pub served : ServesToEnd rights makes awaits greets loads refuses_to_load saves refuses_to_save (with_desk first begun) last ending

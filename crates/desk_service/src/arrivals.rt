@@ -1,4 +1,4 @@
-//! Clients that come: each gets a session that is free, or is told that there is none.
+//! Clients that come: each gets a session that is free, or one that may ask alone, or is told that there is none.
 
 use crate::service_end::ServiceEnd;
 use crossbeam_channel::{SendTimeoutError, Sender};
@@ -36,11 +36,38 @@ fn turn_away(stream: &TcpStream) {
     let _ = stream.shutdown(Shutdown::Write);
 }
 
-/// Accepts one connection and gives it to a session that waits for one.
+/// Where clients are sent to: those that may edit, and those that may ask.
+#[derive(Drop)]
+pub(crate) struct Arrivals {
+    pub(crate) to_edit: Sender<TcpStream>,
+    pub(crate) to_read: Sender<TcpStream>,
+}
+
+/// Gives a connection to a session that may ask and waits for one, or turns it away.
+fn offer_to_read<R: Wait + Clock>(
+    rt: &R,
+    stream: TcpStream,
+    to_read: &Sender<TcpStream>,
+) -> Arrival {
+    match to_read.send_timeout(rt, stream, Duration::from_millis(WAIT)) {
+        Ok(()) => Arrival::Taken,
+        Err(
+            SendTimeoutError::Disconnected(stream)
+            | SendTimeoutError::Timeout(stream)
+            | SendTimeoutError::OutOfMemory(stream),
+        ) => {
+            turn_away(&stream);
+            Arrival::TurnedAway
+        }
+    }
+}
+
+/// Accepts one connection and gives it to a session that waits for one: to one that may edit, or else to one
+/// that may ask.
 fn receive_client<R: Wait + Clock>(
     rt: &R,
     listener: &TcpListener,
-    arrivals: &Sender<TcpStream>,
+    arrivals: &Arrivals,
     end: &ServiceEnd,
 ) -> Arrival {
     let Ok((stream, _)) = listener.accept() else {
@@ -50,12 +77,12 @@ fn receive_client<R: Wait + Clock>(
     if end.is_asked(rt) {
         return Arrival::NoSessions;
     }
-    match arrivals.send_timeout(rt, stream, Duration::from_millis(WAIT)) {
+    let waiting = Duration::from_millis(WAIT);
+    match arrivals.to_edit.send_timeout(rt, stream, waiting) {
         Ok(()) => Arrival::Taken,
         Err(SendTimeoutError::Disconnected(_)) => Arrival::NoSessions,
         Err(SendTimeoutError::Timeout(stream) | SendTimeoutError::OutOfMemory(stream)) => {
-            turn_away(&stream);
-            Arrival::TurnedAway
+            offer_to_read(rt, stream, &arrivals.to_read)
         }
     }
 }
@@ -67,7 +94,7 @@ fn receive_client<R: Wait + Clock>(
 pub(crate) fn receive_clients<R: Wait + Clock>(
     rt: &R,
     listener: &TcpListener,
-    arrivals: &Sender<TcpStream>,
+    arrivals: &Arrivals,
     most: Option<usize>,
     end: &ServiceEnd,
 ) {

@@ -1,26 +1,38 @@
 //! Who is connected: the names of the sessions that are.
 ghost use Rattle.std.specs.Prelude.{◌≡◌, ◌++◌, IfOk, OnOk, None, Some, option_map, set};
-ghost use Rattle.desk_service.specs.Company.{listed_at, listed_from, seated};
+ghost use Rattle.desk_service.specs.Company.{listed_at, listed_from, rights_at, seated};
 ghost use Rattle.journal.specs.Names.{session_name};
 
 use journal::{DeckName, session_name};
-use session_line::Connected;
+use session_line::{Connected, Rights};
 use std::alloc::{AllocError, Global};
 use std::marker::Model;
 
-/// The sessions of a service, by their numbers: the name of each that is connected. Contracts see the list of
-/// these.
+/// The sessions of a service, by their numbers: the name of each that is connected. So many of the first may
+/// edit, and the others may ask.
 #[derive(Drop)]
 pub(crate) struct Company {
+    editors: usize,
     seats: Vec<Option<DeckName>>,
 }
 
 impl Model for Company {
-    ghost use Rattle.std.specs.Prelude.{ℕ, List, Option};
+    ghost use Rattle.desk_service.specs.Company as companies;
 
-    ghost Value = { List (Option (List ℕ)) };
+    ghost Value = { companies.Company };
 
-    ghost view = { λ c. c.seats.items };
+    ghost view = { λ c. record { editors = c.editors; seats = c.seats.items } };
+}
+
+/// What the session of a number may do, where so many may edit.
+pub(crate) fn rights_at(editors: usize, number: usize) -> Rights
+    ensures { result ≡ rights_at editors number }
+{
+    if number < editors {
+        Rights::Edits
+    } else {
+        Rights::Reads
+    }
 }
 
 /// The name of a session: the one of this number tells this.
@@ -42,40 +54,46 @@ fn seated<'a>(
 /// Puts a session of this number behind others, if it is connected.
 fn push_connected(
     sessions: &mut Vec<Connected>,
+    editors: usize,
     at: usize,
     who: Option<&DeckName>,
 ) -> Result<(), AllocError>
-    ensures { OnOk result (sessions.new.items ≡ sessions.old.items ++ listed_at at (option_map (λ who. who.now) who.entry)) }
+    ensures { OnOk result (sessions.new.items ≡ sessions.old.items ++ listed_at editors at (option_map (λ who. who.now) who.entry)) }
 {
     if let Some(who) = who {
         sessions.push(Connected {
             number: at as u64,
             who: who.copied(),
+            rights: rights_at(editors, at),
         })?;
     }
     Ok(())
 }
 
 impl Company {
-    /// So many sessions, none of which is connected.
-    pub(crate) fn new(alloc: Global, sessions: usize) -> Result<Company, AllocError> {
+    /// So many sessions, of which so many may edit; none is connected.
+    pub(crate) fn new(
+        alloc: Global,
+        sessions: usize,
+        editors: usize,
+    ) -> Result<Company, AllocError> {
         let mut seats = Vec::new(alloc);
         for _ in 0..sessions {
             seats.push(None)?;
         }
-        Ok(Company { seats })
+        Ok(Company { editors, seats })
     }
 
     /// The session of this number is connected, and has told no name.
     pub(crate) fn enter(&mut self, number: usize)
-        ensures { self.new ≡ set self.old number (Some (session_name number)) }
+        ensures { self.new ≡ record self.old { seats = set self.old.seats number (Some (session_name number)) } }
     {
         self.note(number, session_name(number as u64));
     }
 
     /// The session of this number has told this name.
     pub(crate) fn note(&mut self, number: usize, name: DeckName)
-        ensures { self.new ≡ set self.old number (Some name) }
+        ensures { self.new ≡ record self.old { seats = set self.old.seats number (Some name) } }
     {
         if let Some(seat) = self.seats.get_mut(number) {
             *seat = Some(name);
@@ -84,7 +102,7 @@ impl Company {
 
     /// The session of this number is connected no more.
     pub(crate) fn leave(&mut self, number: usize)
-        ensures { self.new ≡ set self.old number None }
+        ensures { self.new ≡ record self.old { seats = set self.old.seats number None } }
     {
         if let Some(seat) = self.seats.get_mut(number) {
             *seat = None;
@@ -98,11 +116,12 @@ impl Company {
         number: usize,
         name: &DeckName,
     ) -> Result<Vec<Connected>, AllocError>
-        ensures { IfOk result (λ sessions. sessions.items ≡ listed_from 0 number name.now self.now) }
+        ensures { IfOk result (λ sessions. sessions.items ≡ listed_from self.now.editors 0 number name.now self.now.seats) }
     {
         let mut sessions = Vec::new(alloc);
         for (at, seat) in self.seats.iter().enumerate() {
-            push_connected(&mut sessions, at, seated(at, number, name, seat))?;
+            let who = seated(at, number, name, seat);
+            push_connected(&mut sessions, self.editors, at, who)?;
         }
         Ok(sessions)
     }

@@ -7,7 +7,7 @@ use crate::service_end::ServiceEnd;
 use crate::sessions::serve_session;
 use crossbeam_channel::Receiver;
 use deck_files::Shelf;
-use session_line::Calls;
+use session_line::{Calls, Rights};
 use std::alloc::Global;
 use std::io::{BufReader, BufWriter};
 use std::net::TcpStream;
@@ -33,10 +33,11 @@ fn serve_connection<R: Clock, C: Calls, S: Shelf>(
     alloc: Global,
     stream: &TcpStream,
     idle: Duration,
+    rights: Rights,
     desk: &mut C,
     shelf: &mut S,
 )
-    ensures { ServesConnection C.makes C.awaits C.greets C.begins S.loads S.refuses_to_load S.saves S.refuses_to_save desk.old shelf.old desk.new shelf.new }
+    ensures { ServesConnection rights C.makes C.awaits C.greets C.begins S.loads S.refuses_to_load S.saves S.refuses_to_save desk.old shelf.old desk.new shelf.new }
 {
     let _ = stream.set_nodelay(true);
     let _ = stream.set_write_timeout(Some(idle));
@@ -47,7 +48,7 @@ fn serve_connection<R: Clock, C: Calls, S: Shelf>(
         return;
     };
     let (mut input, mut output) = (Counted::new(reader), Counted::new(writer));
-    serve_session(alloc, &mut input, &mut output, desk, shelf);
+    serve_session(alloc, rights, &mut input, &mut output, desk, shelf);
 }
 
 /// How a session serves connections.
@@ -55,6 +56,8 @@ fn serve_connection<R: Clock, C: Calls, S: Shelf>(
 pub(crate) struct Serving<'a> {
     /// The number of its place.
     pub(crate) session: usize,
+    /// What its clients may do.
+    pub(crate) rights: Rights,
     /// How long a client may be idle.
     pub(crate) idle: Duration,
     /// Whether it ends after one connection.
@@ -71,16 +74,17 @@ fn serve_arrival<R: Wait + Clock, C: Calls, S: Shelf>(
     desk: &mut C,
     shelf: &mut S,
 )
-    ensures { ServesConnection C.makes C.awaits C.greets C.begins S.loads S.refuses_to_load S.saves S.refuses_to_save desk.old shelf.old desk.new shelf.new }
+    ensures { ServesConnection serving.entry.rights C.makes C.awaits C.greets C.begins S.loads S.refuses_to_load S.saves S.refuses_to_save desk.old shelf.old desk.new shelf.new }
 {
     let Serving {
         session,
+        rights,
         idle,
         end,
         ..
     } = serving;
     if end.enter(rt, session, stream) {
-        serve_connection(rt, alloc, stream, idle, desk, shelf);
+        serve_connection(rt, alloc, stream, idle, rights, desk, shelf);
         end.leave(rt, session);
     }
 }
@@ -96,7 +100,7 @@ pub(crate) fn serve_connections<R: Wait + Clock, C: Calls, S: Shelf>(
     desk: &mut C,
     shelf: &mut S,
 ) -> Closed
-    ensures { (count : ℕ) × ServesConnections C.makes C.awaits C.greets C.begins S.loads S.refuses_to_load S.saves S.refuses_to_save desk.old shelf.old desk.new shelf.new count × EndsAfter result serving.entry.once count }
+    ensures { (count : ℕ) × ServesConnections serving.entry.rights C.makes C.awaits C.greets C.begins S.loads S.refuses_to_load S.saves S.refuses_to_save desk.old shelf.old desk.new shelf.new count × EndsAfter result serving.entry.once count }
 {
     for _ in rt.forever() {
         let Ok(stream) = arrivals.recv(rt) else {

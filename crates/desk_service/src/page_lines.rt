@@ -5,7 +5,7 @@ ghost use Rattle.desk_service.specs.PageLines.{is_whole};
 use crate::sessions::{Ending, serve_session};
 use deck_files::Shelf;
 use page::{Replies, ServeLines, Served};
-use session_line::Calls;
+use session_line::{Calls, Rights};
 use std::alloc::Global;
 use std::marker::Model;
 use text_ports::Counted;
@@ -50,7 +50,14 @@ impl<C: Calls, S: Shelf> ServeLines for DeskLines<C, S> {
     fn serve(&mut self, lines: &[u8], replies: Replies) -> Served {
         let (mut input, mut output) = (Counted::new(lines), Counted::new(replies));
         let (desk, shelf) = (&mut self.desk, &mut self.shelf);
-        let ending = serve_session(self.alloc, &mut input, &mut output, desk, shelf);
+        let ending = serve_session(
+            self.alloc,
+            Rights::Edits,
+            &mut input,
+            &mut output,
+            desk,
+            shelf,
+        );
         Served {
             replies: output.into_inner(),
             is_whole: is_whole(ending),

@@ -2,7 +2,7 @@
 //!
 //! They wait at a listener of their own, and have seats, a shelf and places in the journal of their own. A
 //! browser that says nothing, or does not take its answer, holds one of them for some seconds and nobody else.
-ghost use Rattle.std.specs.Prelude.{◌≡◌, ◌-◌, ◌≤◌, All, length, map, IfOk, IfSome, OnOk};
+ghost use Rattle.std.specs.Prelude.{◌≡◌, ◌+◌, ◌-◌, ◌≤◌, All, length, map, IfOk, IfSome, OnOk};
 ghost use Rattle.std.specs.List.{range_with_len};
 ghost use Rattle.turn_office.specs.Seats.{AreOf};
 ghost use Rattle.desk_service.specs.PageThreads.{page_threads};
@@ -158,7 +158,7 @@ pub(crate) fn page_threads(door: Option<Door<'_>>) -> usize
 }
 
 /// Places for the threads of the page, if there is a door, with seats from the list. Their numbers, in the
-/// journal and among the shelves of the folder, are those behind the sessions'.
+/// journal and among the shelves of the folder, are those behind the sessions' and the readers'.
 pub(crate) fn page_places<'a, R, F: RecordsFile>(
     rt: &'a R,
     alloc: Global,
@@ -173,12 +173,12 @@ pub(crate) fn page_places<'a, R, F: RecordsFile>(
 ) -> Result<Vec<PagePlace<'a, R, F>>, AllocError>
     requires own { AreOf office.now.id seats.old.items }
     requires enough { page_threads door ≤ length seats.old.items }
-    requires few { settings.now.sessions ≤ 16 }
+    requires few { settings.now.sessions + settings.now.readers ≤ 32 }
     ensures own { OnOk result (AreOf office.now.id seats.new.items) }
     ensures left { OnOk result (length seats.new.items ≡ length seats.old.items - page_threads door.entry) }
     ensures all { IfOk result (λ places. length places.items ≡ page_threads door.entry) }
-    ensures number { IfOk result (λ places. map (λ place. place.page.1.1.number) places.items ≡ range_with_len settings.now.sessions (page_threads door.entry)) }
-    ensures keeper { IfOk result (λ places. map (λ place. place.page.1.0.0.1.session) places.items ≡ range_with_len settings.now.sessions (page_threads door.entry)) }
+    ensures number { IfOk result (λ places. map (λ place. place.page.1.1.number) places.items ≡ range_with_len (settings.now.sessions + settings.now.readers) (page_threads door.entry)) }
+    ensures keeper { IfOk result (λ places. map (λ place. place.page.1.0.0.1.session) places.items ≡ range_with_len (settings.now.sessions + settings.now.readers) (page_threads door.entry)) }
     ensures folder { IfOk result (λ places. All (λ place. place.page.1.1.folder ≡ settings.now.root.now) places.items) }
     ensures office { IfOk result (λ places. All (λ place. place.page.1.0.0.0.0.seat.office ≡ office.now.id) places.items) }
     ensures port { IfSome door.entry (λ door. IfOk result (λ places. All (λ place. place.page.0 ≡ door.port) places.items)) }
@@ -188,7 +188,7 @@ pub(crate) fn page_places<'a, R, F: RecordsFile>(
         return Ok(places);
     };
     for turn in 0..PAGE_THREADS {
-        let session = settings.sessions + turn;
+        let session = settings.sessions + settings.readers + turn;
         let seat = SeatCalls::new(rt, office, take_seat(office, seats));
         let ringing = Ringing::new(seat, WorkBell::new(rt, bells.clone()?));
         let keeper = SessionKeeper::new(rt, alloc, journal, session);

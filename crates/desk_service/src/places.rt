@@ -1,10 +1,12 @@
 //! The places of a service's threads: what each works with, made before any thread starts.
-ghost use Rattle.std.specs.Prelude.{◌≡◌, ◌-◌, ◌≤◌, All, length, map, IfOk, OnOk};
+ghost use Rattle.std.specs.Prelude.{◌≡◌, ◌+◌, ◌-◌, ◌≤◌, All, length, map, IfOk, OnOk};
 ghost use Rattle.std.specs.List.{range_with_len};
+ghost use Rattle.desk_service.specs.Company.{rights_at};
 ghost use Rattle.turn_office.specs.Seats.{AreOf};
 
 use crate::attending::{Attending, CompanyEnd};
 use crate::bells::{Ringing, WorkBell};
+use crate::company::rights_at;
 use crate::connections::{Serving, serve_connections};
 use crate::journals::{Journal, SessionKeeper};
 use crate::publications::PublicationsEnd;
@@ -16,7 +18,7 @@ use deck_files::{FolderShelf, KnownFiles};
 use deck_workers::{Bell, OpenGate, worker};
 use desk_core::Desk;
 use journal::{Keeping, RecordsFile};
-use session_line::SeatCalls;
+use session_line::{Rights, SeatCalls};
 use std::alloc::{AllocError, Global};
 use std::net::TcpStream;
 use std::rt::Files;
@@ -167,8 +169,20 @@ fn session_desk<'a, R, F: RecordsFile>(
     Attending::new(waiting, CompanyEnd::new(rt, end, number))
 }
 
-/// Places for the sessions of a service, with seats from the list; each has an end of the bell, waits for
-/// connections, keeps its changes in the journal, if there is one, and has a shelf of a number of its own
+/// Where the connections come from of a session that may do this.
+fn arrivals_for<'a>(
+    rights: Rights,
+    to_edit: &'a Receiver<TcpStream>,
+    to_read: &'a Receiver<TcpStream>,
+) -> &'a Receiver<TcpStream> {
+    match rights {
+        Rights::Edits => to_edit,
+        Rights::Reads => to_read,
+    }
+}
+
+/// Places for the sessions of a service, those that may edit first, with seats from the list; each has an end
+/// of the bell, waits for connections, keeps its changes in the journal, if there is one, and has a shelf of a number of its own
 /// over the folder; all note what they loaded and saved at one place.
 pub(crate) fn session_places<'a, R, F: RecordsFile>(
     rt: &'a R,
@@ -177,24 +191,28 @@ pub(crate) fn session_places<'a, R, F: RecordsFile>(
     seats: &mut SeatList<Desk>,
     settings: &Settings<'a>,
     bells: &Sender<Bell>,
-    arrivals: &Receiver<TcpStream>,
+    to_edit: &Receiver<TcpStream>,
+    to_read: &Receiver<TcpStream>,
     known: &'a Mutex<KnownFiles>,
     end: &'a ServiceEnd,
     journal: Option<&'a Journal<F>>,
 ) -> Result<Vec<SessionPlace<'a, R, F>>, AllocError>
     requires own { AreOf office.now.id seats.old.items }
-    requires enough { settings.now.sessions ≤ length seats.old.items }
-    ensures all { IfOk result (λ places. length places.items ≡ settings.now.sessions) }
-    ensures number { IfOk result (λ places. map (λ place. place.shelf.number) places.items ≡ range_with_len 0 settings.now.sessions) }
-    ensures session { IfOk result (λ places. map (λ place. place.serving.session) places.items ≡ range_with_len 0 settings.now.sessions) }
-    ensures keeper { IfOk result (λ places. map (λ place. place.desk.0.0.1.session) places.items ≡ range_with_len 0 settings.now.sessions) }
-    ensures company { IfOk result (λ places. map (λ place. place.desk.1) places.items ≡ range_with_len 0 settings.now.sessions) }
+    requires enough { settings.now.sessions + settings.now.readers ≤ length seats.old.items }
+    requires few { settings.now.sessions + settings.now.readers ≤ 32 }
+    ensures all { IfOk result (λ places. length places.items ≡ settings.now.sessions + settings.now.readers) }
+    ensures number { IfOk result (λ places. map (λ place. place.shelf.number) places.items ≡ range_with_len 0 (settings.now.sessions + settings.now.readers)) }
+    ensures session { IfOk result (λ places. map (λ place. place.serving.session) places.items ≡ range_with_len 0 (settings.now.sessions + settings.now.readers)) }
+    ensures keeper { IfOk result (λ places. map (λ place. place.desk.0.0.1.session) places.items ≡ range_with_len 0 (settings.now.sessions + settings.now.readers)) }
+    ensures company { IfOk result (λ places. map (λ place. place.desk.1) places.items ≡ range_with_len 0 (settings.now.sessions + settings.now.readers)) }
+    ensures rights { IfOk result (λ places. All (λ place. place.serving.rights ≡ rights_at settings.now.sessions place.serving.session) places.items) }
     ensures folder { IfOk result (λ places. All (λ place. place.shelf.folder ≡ settings.now.root.now) places.items) }
     ensures once { IfOk result (λ places. All (λ place. place.serving.once ≡ settings.now.once) places.items) }
     ensures office { IfOk result (λ places. All (λ place. place.desk.0.0.0.0.seat.office ≡ office.now.id) places.items) }
 {
     let mut places = Vec::new(alloc);
-    for number in 0..settings.sessions {
+    for number in 0..settings.sessions + settings.readers {
+        let rights = rights_at(settings.sessions, number);
         let desk = session_desk(
             rt,
             alloc,
@@ -209,9 +227,10 @@ pub(crate) fn session_places<'a, R, F: RecordsFile>(
         places.push(SessionPlace {
             rt,
             alloc,
-            arrivals: arrivals.clone()?,
+            arrivals: arrivals_for(rights, to_edit, to_read).clone()?,
             serving: Serving {
                 session: number,
+                rights,
                 idle: Duration::from_secs(settings.idle),
                 once: settings.once,
                 end,

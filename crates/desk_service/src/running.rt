@@ -1,7 +1,7 @@
 //! The service: its threads start, and end.
 ghost use Rattle.desk_service.specs.Services.{AreInRange, IsLocal};
 
-use crate::arrivals::receive_clients;
+use crate::arrivals::{Arrivals, receive_clients};
 use crate::control::{Control, hear};
 use crate::faults::ServeFault;
 use crate::opening::{Opened, open};
@@ -13,7 +13,6 @@ use crate::service_end::ServiceEnd;
 use crate::settings::{JOURNAL, Settings};
 use crate::system_file::SystemFile;
 use crate::versions::{Seen, VERSIONS};
-use crossbeam_channel::Sender;
 use deck_files::{KnownFiles, clear_folder};
 use desk_core::Desk;
 use std::alloc::{AllocError, AllocGlobal, Global};
@@ -61,6 +60,13 @@ fn announce<R: Eprint>(rt: &R, address: SocketAddr, settings: &Settings<'_>) {
     );
 }
 
+/// Tells on standard error how many further connections may ask, if any may.
+fn announce_readers<R: Eprint>(rt: &R, readers: usize) {
+    if readers > 0 {
+        let _ = eprintln!(rt; "compass: up to {readers} connections more may read");
+    }
+}
+
 /// Tells on standard error where the page is, if there is one.
 fn announce_page<R: Eprint>(rt: &R, page: Option<u16>) {
     if let Some(port) = page {
@@ -71,7 +77,7 @@ fn announce_page<R: Eprint>(rt: &R, page: Option<u16>) {
 /// After how many connections a service ends, where it does.
 fn most_clients(settings: &Settings<'_>) -> Option<usize> {
     if settings.once {
-        Some(settings.sessions)
+        Some(settings.sessions.saturating_add(settings.readers))
     } else {
         None
     }
@@ -85,7 +91,7 @@ struct Receiving<'a, R> {
     settings: &'a Settings<'a>,
     port: u16,
     page: Option<u16>,
-    arrivals: Sender<TcpStream>,
+    arrivals: Arrivals,
     end: &'a ServiceEnd,
 }
 
@@ -93,6 +99,7 @@ struct Receiving<'a, R> {
 impl<R: Wait + Clock + Eprint> Serve for Receiving<'_, R> {
     fn serve(self) {
         announce(self.rt, local_address(self.port), self.settings);
+        announce_readers(self.rt, self.settings.readers);
         announce_page(self.rt, self.page);
         let most = most_clients(self.settings);
         receive_clients(self.rt, self.listener, &self.arrivals, most, self.end);
@@ -389,10 +396,11 @@ where
     requires { AreInRange settings.now }
 {
     let Opened { desk, journal } = opened;
-    let threads = settings.sessions + page_threads(door);
+    let sessions = settings.sessions + settings.readers;
+    let threads = sessions + page_threads(door);
     let (office, seats) = Office::open(alloc, desk, settings.workers + threads)?;
     let known = Mutex::new(KnownFiles::new(alloc));
-    let end = &ServiceEnd::new(alloc, threads, settings.sessions)?;
+    let end = &ServiceEnd::new(alloc, threads, sessions, settings.sessions)?;
     let channels = open_channels(alloc)?;
     let journal = journal.as_ref();
     let Places {
@@ -446,7 +454,7 @@ where
         rt,
         alloc,
         settings,
-        settings.sessions,
+        settings.sessions + settings.readers,
         &Seen::nothing(alloc),
     )?;
     serve_opened(rt, alloc, listener, None, None, settings, opened)
@@ -483,7 +491,7 @@ where
     R::Stream: Send,
     requires { AreInRange settings.now }
 {
-    let threads = settings.sessions + page_threads(door);
+    let threads = settings.sessions + settings.readers + page_threads(door);
     let opened = open_in_folder(rt, alloc, settings, threads)?;
     let control = Control::open(rt, alloc, settings.root);
     serve_opened(

@@ -3,6 +3,7 @@ ghost use Rattle.std.specs.Prelude.{◌≡◌, ◌≤◌, ◌+◌, length, IfOk}
 ghost use Rattle.desk_service.specs.PageThreads.{page_threads};
 ghost use Rattle.turn_office.specs.Seats.{AreOf};
 
+use crate::arrivals::Arrivals;
 use crate::journals::Journal;
 use crate::pages::{Door, PagePlace, page_places};
 use crate::places::{SessionPlace, WorkerPlace, session_places, worker_places};
@@ -23,14 +24,15 @@ use turn_office::{Office, SeatList};
 pub(crate) struct Channels {
     bells: Sender<Bell>,
     heard: Receiver<Bell>,
-    arrivals: Sender<TcpStream>,
+    arrivals: Arrivals,
     received: Receiver<TcpStream>,
+    received_to_read: Receiver<TcpStream>,
 }
 
 impl Channels {
     /// Where clients are sent to. All other ends here are gone then, so that who receives hears when the
     /// last of those who send has ended.
-    pub(crate) fn into_arrivals(self) -> Sender<TcpStream> {
+    pub(crate) fn into_arrivals(self) -> Arrivals {
         let Channels { arrivals, .. } = self;
         arrivals
     }
@@ -39,12 +41,14 @@ impl Channels {
 /// Channels at which nobody waits.
 pub(crate) fn open_channels(alloc: Global) -> Result<Channels, AllocError> {
     let (bells, heard) = unbounded(alloc)?;
-    let (arrivals, received) = bounded(alloc, 0)?;
+    let (to_edit, received) = bounded(alloc, 0)?;
+    let (to_read, received_to_read) = bounded(alloc, 0)?;
     Ok(Channels {
         bells,
         heard,
-        arrivals,
+        arrivals: Arrivals { to_edit, to_read },
         received,
+        received_to_read,
     })
 }
 
@@ -71,10 +75,10 @@ pub(crate) fn seat_all<'a, R, F: RecordsFile>(
     journal: Option<&'a Journal<F>>,
 ) -> Result<Places<'a, R, F>, AllocError>
     requires own { AreOf office.now.id seats.items }
-    requires enough { settings.now.workers + (settings.now.sessions + page_threads door) ≤ length seats.items }
-    requires few { settings.now.sessions ≤ 16 }
+    requires enough { settings.now.workers + (settings.now.sessions + settings.now.readers + page_threads door) ≤ length seats.items }
+    requires few { settings.now.sessions + settings.now.readers ≤ 32 }
     ensures workers { IfOk result (λ places. length places.workers.items ≡ settings.now.workers) }
-    ensures sessions { IfOk result (λ places. length places.sessions.items ≡ settings.now.sessions) }
+    ensures sessions { IfOk result (λ places. length places.sessions.items ≡ settings.now.sessions + settings.now.readers) }
     ensures pages { IfOk result (λ places. length places.pages.items ≡ page_threads door.entry) }
 {
     let mut left = seats;
@@ -107,6 +111,7 @@ pub(crate) fn seat_all<'a, R, F: RecordsFile>(
         settings,
         &channels.bells,
         &channels.received,
+        &channels.received_to_read,
         known,
         end,
         journal,

@@ -38,12 +38,13 @@ fn shut(open: &[Option<TcpStream>], how: Shutdown) {
 }
 
 impl ServiceEnd {
-    /// The end of a service in which so many threads serve connections, the first of them sessions, which
-    /// nobody has asked for.
+    /// The end of a service in which so many threads serve connections, the first of them sessions, those that
+    /// may edit first; nobody has asked for it.
     pub(crate) fn new(
         alloc: Global,
         threads: usize,
         sessions: usize,
+        editors: usize,
     ) -> Result<ServiceEnd, AllocError> {
         let mut open = Vec::new(alloc);
         for _ in 0..threads {
@@ -53,7 +54,7 @@ impl ServiceEnd {
             known: Mutex::new(Known {
                 is_asked: false,
                 open,
-                company: Company::new(alloc, sessions)?,
+                company: Company::new(alloc, sessions, editors)?,
             }),
             publications: Publications::new(),
         })

@@ -6,7 +6,7 @@ ghost use Rattle.session_line.specs.Serving.{sides};
 ghost use Rattle.desk_service.specs.Sessions.{ServesLine, ServesSession, ServesToEnd, ending_after, is_fault, standing, read_faults_at, write_faults_at};
 
 use deck_files::Shelf;
-use session_line::{Calls, Outcome, serve_one};
+use session_line::{Calls, Outcome, Rights, serve_one};
 use std::alloc::Global;
 use std::io::{Read, Write};
 use text_ports::Counted;
@@ -56,18 +56,19 @@ fn send_on<W: Write>(output: &mut Counted<W>, outcome: Outcome) -> bool
 /// told only where its count rose.
 fn serve_line<R: Read, W: Write, C: Calls, S: Shelf>(
     alloc: Global,
+    rights: Rights,
     input: &mut Counted<R>,
     output: &mut Counted<W>,
     desk: &mut C,
     shelf: &mut S,
 ) -> Option<Ending>
-    ensures line { ServesLine C.makes C.awaits C.greets S.loads S.refuses_to_load S.saves S.refuses_to_save
+    ensures line { ServesLine rights C.makes C.awaits C.greets S.loads S.refuses_to_load S.saves S.refuses_to_save
         (standing (sides (R.remaining input.old.0) (W.contents output.old.0) desk.old shelf.old) input.old.1 output.old.1)
         (standing (sides (R.remaining input.new.0) (W.contents output.new.0) desk.new shelf.new) input.new.1 output.new.1) result }
     ensures read_faults { input.new.1 ≡ read_faults_at result input.old.1 }
     ensures write_faults { output.new.1 ≡ write_faults_at result output.old.1 }
 {
-    let outcome = serve_one(alloc, input, output, desk, shelf);
+    let outcome = serve_one(alloc, rights, input, output, desk, shelf);
     let flushed = send_on(output, outcome);
     ending_after(outcome, flushed)
 }
@@ -77,41 +78,43 @@ fn serve_line<R: Read, W: Write, C: Calls, S: Shelf>(
 /// reader or the writer only where that one's count rose.
 fn serve_lines<R: Read, W: Write, C: Calls, S: Shelf>(
     alloc: Global,
+    rights: Rights,
     input: &mut Counted<R>,
     output: &mut Counted<W>,
     desk: &mut C,
     shelf: &mut S,
 ) -> Ending
-    ensures session { ServesToEnd C.makes C.awaits C.greets S.loads S.refuses_to_load S.saves S.refuses_to_save
+    ensures session { ServesToEnd rights C.makes C.awaits C.greets S.loads S.refuses_to_load S.saves S.refuses_to_save
         (standing (sides (R.remaining input.old.0) (W.contents output.old.0) desk.old shelf.old) input.old.1 output.old.1)
         (standing (sides (R.remaining input.new.0) (W.contents output.new.0) desk.new shelf.new) input.new.1 output.new.1) result }
     ensures read_faults { input.new.1 ≡ read_faults_at (Some result) input.old.1 }
     ensures write_faults { output.new.1 ≡ write_faults_at (Some result) output.old.1 }
 {
     for _ in 0..MOST_COMMANDS {
-        if let Some(ending) = serve_line(alloc, input, output, desk, shelf) {
+        if let Some(ending) = serve_line(alloc, rights, input, output, desk, shelf) {
             return ending;
         }
     }
     Ending::Full
 }
 
-/// Serves a session, which has told no name yet: its lines one after the other, each once and each reply
+/// Serves a session, which has told no name yet, and may do this: its lines one after the other, each once and each reply
 /// sent on before the next line is read, up to the first that ends it, or to the millionth command. It ends
 /// by a fault of the reader or the writer only where that one's count rose.
 pub fn serve_session<R: Read, W: Write, C: Calls, S: Shelf>(
     alloc: Global,
+    rights: Rights,
     input: &mut Counted<R>,
     output: &mut Counted<W>,
     desk: &mut C,
     shelf: &mut S,
 ) -> Ending
-    ensures session { ServesSession C.makes C.awaits C.greets C.begins S.loads S.refuses_to_load S.saves S.refuses_to_save
+    ensures session { ServesSession rights C.makes C.awaits C.greets C.begins S.loads S.refuses_to_load S.saves S.refuses_to_save
         (standing (sides (R.remaining input.old.0) (W.contents output.old.0) desk.old shelf.old) input.old.1 output.old.1)
         (standing (sides (R.remaining input.new.0) (W.contents output.new.0) desk.new shelf.new) input.new.1 output.new.1) result }
     ensures read_faults { input.new.1 ≡ read_faults_at (Some result) input.old.1 }
     ensures write_faults { output.new.1 ≡ write_faults_at (Some result) output.old.1 }
 {
     desk.begin_session();
-    serve_lines(alloc, input, output, desk, shelf)
+    serve_lines(alloc, rights, input, output, desk, shelf)
 }

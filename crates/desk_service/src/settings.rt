@@ -42,6 +42,8 @@ pub struct Settings<'a> {
     pub port: u16,
     pub workers: usize,
     pub sessions: usize,
+    /// How many further connections may ask, and change nothing.
+    pub readers: usize,
     pub idle: u64,
     pub once: bool,
 }

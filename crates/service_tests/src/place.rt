@@ -1,7 +1,7 @@
 //! A desk, a shelf of memory and a file, and the steps of sessions there.
 //!
 //! A step that begins with no word below is a session's command; `say` stands in front of one that
-//! would begin so. `cut LINES`: lines that end without their end. `failing PIECE READ WRITE LINES`: the
+//! would begin so, and `asking` in front of one of a session that may ask alone. `cut LINES`: lines that end without their end. `failing PIECE READ WRITE LINES`: the
 //! ports give and take so many bytes at a time, and fail at the calls of these numbers. `turns LINES`:
 //! two sessions, whose lines have a zero byte between them.
 //!
@@ -14,7 +14,7 @@ use crate::jobs::Jobs;
 use crate::outputs::Answer;
 use deck_files::{MemoryShelf, Shelf};
 use desk_core::Desk;
-use session_line::{Calls, Outcome, serve_one};
+use session_line::{Calls, Outcome, Rights, serve_one};
 use std::alloc::{AllocError, Global};
 use std::io::{Read, Write};
 use text_ports::{Counted, FaultyReader, FaultyWriter};
@@ -47,6 +47,7 @@ impl Place {
     pub fn make(&mut self, word: &str, rest: &str, answer: &mut Answer) -> bool {
         match word {
             "say" => self.say(rest, answer),
+            "asking" => self.ask(rest, answer),
             "cut" => self.serve(rest.as_bytes(), answer),
             "failing" => self.fail(rest, answer),
             "turns" => self.take_turns(rest, answer),
@@ -63,6 +64,27 @@ impl Place {
     pub fn say(&mut self, lines: &str, answer: &mut Answer) {
         match format!(in self.alloc; "{lines}\n") {
             Ok(lines) => self.serve(lines.as_bytes(), answer),
+            Err(error) => answer.keep(Err(error)),
+        }
+    }
+
+    /// Says a command of a session that may ask alone.
+    fn ask(&mut self, lines: &str, answer: &mut Answer) {
+        let mut output = Counted::new(Vec::new(self.alloc));
+        match format!(in self.alloc; "{lines}\n") {
+            Ok(lines) => {
+                let mut input = Counted::new(lines.as_bytes());
+                let (desk, shelf) = (&mut self.desk, &mut self.shelf);
+                serve_one(
+                    self.alloc,
+                    Rights::Reads,
+                    &mut input,
+                    &mut output,
+                    desk,
+                    shelf,
+                );
+                answer.bytes(&output.into_inner());
+            }
             Err(error) => answer.keep(Err(error)),
         }
     }
@@ -189,7 +211,7 @@ pub fn serve<R: Read, W: Write, C: Calls, S: Shelf>(
     desk: &mut C,
     shelf: &mut S,
 ) -> Outcome {
-    serve_one(alloc, input, output, desk, shelf)
+    serve_one(alloc, Rights::Edits, input, output, desk, shelf)
 }
 
 /// Serves one command: what goes out, how it ends where it is not served, and how many faults the ports

@@ -78,7 +78,7 @@ fn push_replies(answer: &mut Answer) {
 
 const BAD: CardFault = CardFault::BadCharacter { column: 1 };
 
-const REFUSALS: [Refusal; 15] = [
+const REFUSALS: [Refusal; 16] = [
     Refusal::BadCommand,
     Refusal::BadName,
     Refusal::NoPublication,
@@ -93,6 +93,7 @@ const REFUSALS: [Refusal; 15] = [
         version: 4,
     },
     Refusal::NoChange,
+    Refusal::ReadOnly,
     Refusal::LastLineCut,
     Refusal::WriteFault { sent: 3 },
     Refusal::BadLine {

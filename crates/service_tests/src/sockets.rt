@@ -1,6 +1,6 @@
 //! Sessions over real sockets, with workers and a folder, in one process.
 //!
-//! `serve FOLDER JOURNAL WORKERS SESSIONS LINES`: a service, each of whose sessions ends after one connection, and
+//! `serve FOLDER JOURNAL WORKERS SESSIONS [READERS] LINES`: a service, each of whose sessions ends after one connection, and
 //! clients of it, one behind the other. `.` is the folder in which the program runs, and no journal. A line is the
 //! number of a client and a command, whose reply is read; `poll FIRST`, which asks for the image until its reply
 //! begins so; `head COMMAND`, of whose reply the first line alone is shown; or `send TEXT` and `send_line TEXT`, of which nothing is read, from a client that goes away then. An empty line stands
@@ -146,6 +146,7 @@ fn are_in_range(settings: &Settings<'_>) -> bool
         && settings.workers <= 16
         && 1 <= settings.sessions
         && settings.sessions <= 16
+        && settings.readers <= 16
         && 1 <= settings.idle
 }
 
@@ -173,6 +174,7 @@ fn settings_of(text: &str) -> (Settings<'_>, &str) {
     let (folder, rest) = cut(head);
     let (journal, rest) = cut(rest);
     let (workers, rest) = cut_number(rest);
+    let (sessions, rest) = cut_number(rest);
     let settings = Settings {
         root: if folder == "." { "" } else { folder },
         journal: if journal == "." {
@@ -183,7 +185,8 @@ fn settings_of(text: &str) -> (Settings<'_>, &str) {
         compact: false,
         port: 0,
         workers: workers as usize,
-        sessions: number(rest) as usize,
+        sessions: sessions as usize,
+        readers: number(rest) as usize,
         idle: 900,
         once: true,
     };

@@ -7,6 +7,7 @@ use Rattle.session_line.specs.declared.refusals.Refusal.TheVariants as refusal
 use Rattle.session_line.specs.declared.replies.Reply.TheVariants as reply
 use Rattle.desk_core.specs.declared.replies.State.TheVariants.{Behind}
 use Rattle.session_line.specs.Replies.{text_of_reply, row_text, published_text, counted_text, line_count, numbers_text}
+use Rattle.session_line.specs.declared.rights.Rights.TheVariants.{Edits, Reads}
 use Rattle.session_line.specs.Greetings.{connected_text, service_text}
 use Rattle.session_line.specs.Views.{numbers_from}
 
@@ -32,6 +33,9 @@ bad_edit = unfold digits in refl
 pub write_fault : text_of_reply (reply.Refused (refusal.WriteFault 3)) ≡ codes "NO WriteFault 3\n"
 write_fault = unfold digits in refl
 
+pub read_only : text_of_reply (reply.Refused refusal.ReadOnly) ≡ codes "NO ReadOnly\n"
+read_only = refl
+
 -- numbers, each on a line of its own
 pub numbers : numbers_text (numbers_from 9 (codes "SB1") (codes "A SB1" ∷ codes "" ∷ codes "SB1" ∷ [])) ≡ codes "9\n11\n"
 numbers = unfold digits in refl
@@ -47,8 +51,11 @@ pub none_published : published_text None ≡ codes "PUBLISHED NONE"
 none_published = refl
 
 -- the lines of who is connected
-pub connected : connected_text (record { number = 12; who = codes "PAT" }) ≡ codes "SESSION 12 PAT"
+pub connected : connected_text (record { number = 12; who = codes "PAT"; rights = Edits }) ≡ codes "SESSION 12 PAT"
 connected = unfold digits in refl
+
+pub reader : connected_text (record { number = 17; who = codes "17"; rights = Reads }) ≡ codes "READER 17 17"
+reader = unfold digits in refl
 
 pub service : service_text ≡ codes "SERVICE beskloun 0.1.0"
 service = refl

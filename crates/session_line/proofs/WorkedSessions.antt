@@ -9,7 +9,7 @@ use Rattle.desk_core.specs.declared.replies.Reply.TheVariants as reply
 use Rattle.desk_core.specs.declared.replies.State.TheVariants.{Behind}
 use Rattle.desk_core.specs.declared.replies.Refusal.TheVariants as desk
 use Rattle.deck_files.specs.declared.deck_shelf.SaveOver.TheVariants.{Known}
-use Rattle.session_line.specs.declared.refusals.Refusal.TheVariants.{BadCommand, BadName, BadCard, BadLine}
+use Rattle.session_line.specs.declared.refusals.Refusal.TheVariants.{BadCommand, BadName, BadCard, BadLine, ReadOnly}
 use Rattle.definitions.specs.DeckInput.{Deck}
 use Rattle.session_line.specs.Commands.{command_of}
 use Rattle.session_line.specs.declared.errors.ErrorsView.TheVariants.{Every, Of}
@@ -20,6 +20,8 @@ use Rattle.session_line.specs.Tasks.{lines_due, nobody, task_of}
 use Rattle.session_line.specs.Answers.{told_of_call, told_of_wait, told_of_greeting, told_of_cards, told_of_cards_at, told_of_publication, told_of_part, told_of_errors, told_text}
 use Rattle.session_line.specs.Parts.{part_of}
 use Rattle.session_line.specs.Greetings.{met}
+use Rattle.session_line.specs.Rights.{allowed}
+use Rattle.session_line.specs.declared.rights.Rights.TheVariants.{Edits, Reads}
 
 -- which call of the desk a line is
 pub add : task_of (codes "ADD M") [] ≡ Ask (call.AddDeck (record { name = codes "M"; cards = [] }))
@@ -236,9 +238,61 @@ awaited = unfold digits in refl
 pub awaited_in_vain : told_text (told_of_wait (reply.StatusIs 0 None [])) ≡ codes "OK 0 1\nPUBLISHED NONE\n"
 awaited_in_vain = unfold digits in refl
 
+-- who may only ask asks for anything, and changes nothing: a line that is refused anyhow is refused for that
+pub reads_cards : allowed Reads (task_of (codes "CARDS M") []) ≡ ShowCards (codes "M") All
+reads_cards = refl
+
+pub reads_changes : allowed Reads (task_of (codes "CHANGES M 7") []) ≡ Ask (call.Changes (codes "M") 7)
+reads_changes = refl
+
+pub reads_status : allowed Reads (task_of (codes "STATUS") []) ≡ Ask call.Status
+reads_status = refl
+
+pub reads_hello : allowed Reads (task_of (codes "HELLO PAT") []) ≡ Greet (codes "PAT")
+reads_hello = refl
+
+pub reads_bye : allowed Reads (task_of (codes "BYE") []) ≡ Leave
+reads_bye = refl
+
+pub adds_nothing : allowed Reads (task_of (codes "ADD M") []) ≡ Refuse ReadOnly
+adds_nothing = refl
+
+pub loads_nothing : allowed Reads (task_of (codes "LOAD M") []) ≡ Refuse ReadOnly
+loads_nothing = refl
+
+pub drops_nothing : allowed Reads (task_of (codes "DROP M 2") []) ≡ Refuse ReadOnly
+drops_nothing = refl
+
+pub edits_nothing : allowed Reads (task_of (codes "DEL M 2+ 1") []) ≡ Refuse ReadOnly
+edits_nothing = refl
+
+pub batches_nothing : allowed Reads (task_of (codes "BATCH M 2 1") (codes "DEL 1" ∷ [])) ≡ Refuse ReadOnly
+batches_nothing = refl
+
+pub puts_nothing : allowed Reads (task_of (codes "PUT M 0 0") []) ≡ Refuse ReadOnly
+puts_nothing = refl
+
+pub undoes_nothing : allowed Reads (task_of (codes "UNDO M 2") []) ≡ Refuse ReadOnly
+undoes_nothing = refl
+
+pub saves_nothing : allowed Reads (task_of (codes "SAVE M FORCE") []) ≡ Refuse ReadOnly
+saves_nothing = refl
+
+pub line_before_rights : allowed Reads (task_of (codes "ADD  M") []) ≡ Refuse BadCommand
+line_before_rights = refl
+
+pub name_before_rights : allowed Reads (task_of (codes "ADD M+") []) ≡ Refuse BadName
+name_before_rights = refl
+
+pub card_before_rights : allowed Reads (task_of (codes "BATCH M 2 1") (codes "INS 1 a" ∷ [])) ≡ Refuse (BadCard (card.BadCharacter 1))
+card_before_rights = refl
+
+pub editors_edit : allowed Edits (task_of (codes "ADD M") []) ≡ Ask (call.AddDeck (record { name = codes "M"; cards = [] }))
+editors_edit = refl
+
 -- who greets is told the service and who is connected; or why there is no status
-pub greeted : told_text (told_of_greeting (met (reply.StatusIs 9 (Some 7) []) (record { number = 0; who = codes "PAT" } ∷ record { number = 3; who = codes "3" } ∷ [])))
-    ≡ codes "OK 9 3\nSERVICE beskloun 0.1.0\nSESSION 0 PAT\nSESSION 3 3\n"
+pub greeted : told_text (told_of_greeting (met (reply.StatusIs 9 (Some 7) []) (record { number = 0; who = codes "PAT"; rights = Edits } ∷ record { number = 3; who = codes "3"; rights = Reads } ∷ [])))
+    ≡ codes "OK 9 3\nSERVICE beskloun 0.1.0\nSESSION 0 PAT\nREADER 3 3\n"
 greeted = unfold digits in refl
 
 pub greeted_alone : told_text (told_of_greeting (met (reply.StatusIs 0 None []) [])) ≡ codes "OK 0 1\nSERVICE beskloun 0.1.0\n"

@@ -6,6 +6,8 @@ use Rattle.desk_core.specs.declared.replies.Reply.{Reply}
 use Rattle.desk_core.specs.declared.replies.Reply.TheVariants.{StatusIs}
 use Rattle.session_line.specs.declared.greetings.Connected.{Connected}
 use Rattle.session_line.specs.declared.greetings.Greeting.{Greeting}
+use Rattle.session_line.specs.declared.rights.Rights.{Rights}
+use Rattle.session_line.specs.declared.rights.Rights.TheVariants.{Edits, Reads}
 
 -- the version of the program
 abbrev pub service_version : List ℕ
@@ -15,9 +17,14 @@ service_version = codes "0.1.0"
 abbrev pub service_text : List ℕ
 service_text = codes "SERVICE beskloun " ++ service_version
 
--- the number of a session, and who it is
+-- the word for a session, by what it may do
+abbrev pub session_word : Rights → List ℕ
+session_word Edits = codes "SESSION "
+session_word Reads = codes "READER "
+
+-- what a session is, its number, and who it is
 abbrev pub connected_text : Connected → List ℕ
-connected_text connected = codes "SESSION " ++ (decimal connected.number ++ (codes " " ++ connected.who))
+connected_text connected = session_word connected.rights ++ (decimal connected.number ++ (codes " " ++ connected.who))
 
 -- a status, and the sessions that are connected
 abbrev pub met : Reply → List Connected → Greeting

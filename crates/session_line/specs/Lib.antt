@@ -13,6 +13,7 @@ pub mod Replies
 pub mod FlagWalks
 pub mod ChangeWalks
 pub mod Tasks
+pub mod Rights
 pub mod Taking
 pub mod LineItems
 pub mod Reasons

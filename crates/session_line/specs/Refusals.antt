@@ -42,4 +42,5 @@ refusal_text refusal.Busy = codes "Busy"
 refusal_text refusal.NotKept = codes "NotKept"
 refusal_text (refusal.Forgotten oldest) = codes "Forgotten " ++ decimal oldest
 refusal_text refusal.NoChange = codes "NoChange"
+refusal_text refusal.ReadOnly = codes "ReadOnly"
 refusal_text (refusal.Touched card version) = codes "Touched " ++ (decimal card ++ (codes " " ++ decimal version))

@@ -18,6 +18,8 @@ use Rattle.session_line.specs.declared.greetings.Greeting.{Greeting}
 use Rattle.session_line.specs.Answers.{told_text, is_bye}
 use Rattle.session_line.specs.Taking.{TakesTask, Stops}
 use Rattle.session_line.specs.Executing.{Executes}
+use Rattle.session_line.specs.Rights.{allowed}
+use Rattle.session_line.specs.declared.rights.Rights.{Rights}
 
 -- what a session stands between: the bytes that its reader has left and that its writer took, where they are known; the desk and the shelf
 pub record Sides (C S : Type 0) : Type 0 where
@@ -55,15 +57,15 @@ module _ {C S : Type 0} where
     pub desk : new.desk ≡ old.desk
     pub shelf : new.shelf ≡ old.shelf
 
-module _ {C S : Type 0} (makes : C → Call → Reply → C → Type 0) (awaits : C → ℕ → Reply → C → Type 0) (greets : C → List ℕ → Greeting → C → Type 0) (loads : S → List ℕ → List Card → S → Type 0)
+module _ {C S : Type 0} (rights : Rights) (makes : C → Call → Reply → C → Type 0) (awaits : C → ℕ → Reply → C → Type 0) (greets : C → List ℕ → Greeting → C → Type 0) (loads : S → List ℕ → List Card → S → Type 0)
     (refuses_to_load : S → List ℕ → ShelfLoadFault → S → Type 0)
     (saves : S → Saving → S → Type 0) (refuses_to_save : S → Saving → ShelfSaveFault → S → Type 0) where
-  -- one command is taken whole, executed once and answered
+  -- one command is taken whole, and what the session may do of it is executed once and answered
   pub record ServesCommand (old new : Sides C S) (outcome : Outcome) : Type 0 where
     pub task : Task
     pub answer : Answer
     pub taken : TakesTask old.input new.input task
-    pub executed : Executes makes awaits greets loads refuses_to_load saves refuses_to_save task old.desk new.desk old.shelf new.shelf answer
+    pub executed : Executes makes awaits greets loads refuses_to_load saves refuses_to_save (allowed rights task) old.desk new.desk old.shelf new.shelf answer
     pub sent : GoesOut old.output new.output answer outcome
 
   -- one line of a session is served

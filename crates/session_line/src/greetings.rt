@@ -2,6 +2,7 @@
 ghost use Rattle.std.specs.Prelude.{◌≡◌, []};
 ghost use Rattle.session_line.specs.Greetings.{is_met, met, service_version};
 
+use crate::rights::Rights;
 use cards::DeckName;
 use desk_core::{Listed, Reply};
 use std::alloc::Global;
@@ -9,11 +10,13 @@ use std::alloc::Global;
 /// The version of the program.
 pub const VERSION: &str = "0.1.0";
 
-/// A session that is connected: its number, and its name; the number as text where it told none.
+/// A session that is connected: its number, its name, the number as text where it told none, and what it may
+/// do.
 #[derive(Drop)]
 pub struct Connected {
     pub number: u64,
     pub who: DeckName,
+    pub rights: Rights,
 }
 
 /// What a session is answered that says its name: the status of the desk, or why there is none; and the

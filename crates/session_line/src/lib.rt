@@ -42,6 +42,7 @@ mod seat_calls;
 // What is asked.
 mod line_items;
 mod reading;
+mod rights;
 mod tasks;
 
 // What is done and told.
@@ -65,6 +66,7 @@ pub use greetings::{Connected, Greeting, VERSION};
 pub use laws::lines_read_back;
 pub use refusals::Refusal;
 pub use replies::Reply;
+pub use rights::Rights;
 pub use seat_calls::SeatCalls;
 pub use serving::{Outcome, serve_one};
 pub use views::CardsView;

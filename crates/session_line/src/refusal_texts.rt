@@ -81,6 +81,7 @@ pub(crate) fn put_refusal(line: &mut ReplyLine, refusal: &Refusal)
         Refusal::Forgotten { oldest } => put_numbered(line, b"Forgotten ", oldest),
         Refusal::Touched { card, version } => put_touched(line, card, version),
         Refusal::NoChange => line.put(b"NoChange"),
+        Refusal::ReadOnly => line.put(b"ReadOnly"),
     }
 }
 

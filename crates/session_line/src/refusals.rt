@@ -67,4 +67,6 @@ pub enum Refusal {
     Touched { card: u64, version: u64 },
     /// No change of the deck made this version.
     NoChange,
+    /// The session may ask, and change nothing.
+    ReadOnly,
 }

@@ -1,7 +1,7 @@
 //! The lines of replies.
 ghost use Rattle.std.specs.Prelude.{◌≡◌, ◌+◌, ◌≤◌, ◌++◌, length};
 ghost use Rattle.definitions.specs.Build.{listing_of};
-ghost use Rattle.session_line.specs.Greetings.{connected_text, service_text};
+ghost use Rattle.session_line.specs.Greetings.{connected_text, service_text, session_word};
 ghost use Rattle.session_line.specs.Replies.{IsWithinLimits, line_of, line_count, counted_text, ok_text, head_text, numbers_text, published_text, row_text, state_text};
 ghost use Rattle.session_line.specs.Views.{has_text, number_where};
 
@@ -12,6 +12,7 @@ use crate::refusal_texts::put_refusal;
 use crate::refusals::Refusal;
 use crate::replies::Reply;
 use crate::reply_line::ReplyLine;
+use crate::rights::Rights;
 use crate::views::{count_with, has_text};
 use cards::Card;
 use deck_linker::ListedPublication;
@@ -128,12 +129,23 @@ pub(crate) fn service_line() -> ReplyLine
     line
 }
 
+/// The word for a session, by what it may do.
+fn session_word(rights: Rights) -> &'static [u8]
+    ensures text { result.now ≡ session_word rights }
+    ensures short { length result.now ≤ 8 }
+{
+    match rights {
+        Rights::Edits => b"SESSION ",
+        Rights::Reads => b"READER ",
+    }
+}
+
 /// The line of a session that is connected.
 pub(crate) fn connected_line(connected: &Connected) -> ReplyLine
     ensures { result ≡ line_of (connected_text connected.now) }
 {
     let mut line = ReplyLine::new();
-    line.put(b"SESSION ");
+    line.put(session_word(connected.rights));
     line.put_number(connected.number);
     line.put(b" ");
     line.put(connected.who.as_slice());

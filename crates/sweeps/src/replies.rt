@@ -7,7 +7,7 @@ use crate::journal::Called;
 use crate::scene::Scene;
 use cards::{CardFault, MOST_CARDS};
 use desk_core::{Row, State};
-use session_line::{Connected, Refusal, Reply, reply_text, write_reply};
+use session_line::{Connected, Refusal, Reply, Rights, reply_text, write_reply};
 use std::alloc::{AllocError, Global};
 use text_ports::Counted;
 
@@ -123,10 +123,12 @@ fn compare_sessions(scene: &mut Scene) -> Result<(), AllocError> {
         Connected {
             number: 0,
             who: name_of("PAT")?,
+            rights: Rights::Edits,
         },
         Connected {
             number: 15,
             who: name_of("15")?,
+            rights: Rights::Reads,
         },
     ];
     let greeted = Reply::Sessions {

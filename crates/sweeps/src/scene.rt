@@ -6,7 +6,7 @@ use crate::journal::{Called, Journal};
 use deck_files::{MemoryShelf, Shelf};
 use deck_workers::{Settled, settle};
 use desk_core::Desk;
-use session_line::{Calls, serve_one};
+use session_line::{Calls, Rights, serve_one};
 use statement_coder::Meter;
 use std::alloc::{AllocError, Global};
 use text_ports::Counted;
@@ -31,7 +31,8 @@ fn replied<C: Calls, S: Shelf>(
     lines: &[u8],
 ) -> Result<Vec<u8>, AllocError> {
     let mut output = Counted::new(Vec::with_capacity(alloc, ROOM)?);
-    serve_one(alloc, &mut Counted::new(lines), &mut output, desk, shelf);
+    let mut input = Counted::new(lines);
+    serve_one(alloc, Rights::Edits, &mut input, &mut output, desk, shelf);
     if output.faults() > 0 {
         return Err(AllocError);
     }

@@ -4,7 +4,7 @@
 use crate::journal::Called;
 use crate::pieces::{Came, Failing, Tries, fail_all, held};
 use crate::scene::{Command, Scene};
-use session_line::{Outcome, serve_one};
+use session_line::{Outcome, Rights, serve_one};
 use std::alloc::{AllocError, Global};
 use text_ports::{Counted, FaultyReader, FaultyWriter};
 
@@ -125,6 +125,7 @@ fn serve_all(
         executed = number;
         outcome = serve_one(
             place.alloc,
+            Rights::Edits,
             input,
             output,
             &mut place.desk,

@@ -13,8 +13,8 @@ loop-turn-preserved g c =
       own = c.take_seat.ensures.own;
       left = omega (arith, c.take_seat.ensures.left, before.left, c.loop-turn-test.true, c.requires.enough, four);
       all = ap length pushed ∙ (length-append c.loop-turn.places.items _ ∙ ap (λ n. n + 1) before.all);
-      number = numbers-more-from c.args.settings.now.sessions _ _ _ _ _ before.number pushed (ap (λ p. p.1.1.number) page ∙ c.new-shelf.ensures.number);
-      keeper = numbers-more-from c.args.settings.now.sessions _ _ _ _ _ before.keeper pushed (ap (λ p. p.1.0.0.1.session) page ∙ (ap (λ desk. desk.0.1.session) c.new-desk.ensures ∙ (ap (λ keeping. keeping.1.session) c.new-keeping.ensures ∙ c.new-keeper.ensures.session)));
+      number = numbers-more-from (c.args.settings.now.sessions + c.args.settings.now.readers) _ _ _ _ _ before.number pushed (ap (λ p. p.1.1.number) page ∙ c.new-shelf.ensures.number);
+      keeper = numbers-more-from (c.args.settings.now.sessions + c.args.settings.now.readers) _ _ _ _ _ before.keeper pushed (ap (λ p. p.1.0.0.1.session) page ∙ (ap (λ desk. desk.0.1.session) c.new-desk.ensures ∙ (ap (λ keeping. keeping.1.session) c.new-keeping.ensures ∙ c.new-keeper.ensures.session)));
       folder = all-more (λ place. place.page.1.1.folder ≡ c.args.settings.now.root.now) _ _ _ before.folder pushed (ap (λ p. p.1.1.folder) page ∙ c.new-shelf.ensures.folder);
       office =
           all-more (λ place. place.page.1.0.0.0.0.seat.office ≡ c.args.office.now.id) _ _ _ before.office pushed

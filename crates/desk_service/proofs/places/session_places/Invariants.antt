@@ -1,5 +1,6 @@
 use Rattle.std.proofs.Common.{◌≡◌, ◌+◌, All, length, map}
 use Rattle.std.specs.List.{range_with_len}
+use Rattle.desk_service.specs.Company.{rights_at}
 use Rattle.turn_office.specs.Seats.{AreOf}
 use Rattle.desk_service.proofs.places.session_places.Given as goal
 
@@ -13,6 +14,7 @@ invariant-loop-number g l = record {
   session : map (λ place. place.serving.session) l.places.items ≡ range_with_len 0 l.number;
   keeper : map (λ place. place.desk.0.0.1.session) l.places.items ≡ range_with_len 0 l.number;
   company : map (λ place. place.desk.1) l.places.items ≡ range_with_len 0 l.number;
+  rights : All (λ place. place.serving.rights ≡ rights_at l.settings.sessions place.serving.session) l.places.items;
   folder : All (λ place. place.shelf.folder ≡ l.settings.root.now) l.places.items;
   once : All (λ place. place.serving.once ≡ l.settings.once) l.places.items;
   office : All (λ place. place.desk.0.0.0.0.seat.office ≡ l.office.id) l.places.items;

@@ -1,0 +1,33 @@
+-- What a session may do (ours): one that may only ask is refused whatever changes a deck or a file, behind what its lines are refused for, and nothing is called.
+use Rattle.std.specs.Prelude.{Bool, true, false, if◌then◌else◌}
+use Rattle.desk_core.specs.declared.calls.Call.{Call}
+use Rattle.desk_core.specs.declared.calls.Call.TheVariants as call
+use Rattle.session_line.specs.declared.refusals.Refusal.TheVariants.{ReadOnly}
+use Rattle.session_line.specs.declared.rights.Rights.{Rights}
+use Rattle.session_line.specs.declared.rights.Rights.TheVariants.{Edits, Reads}
+use Rattle.session_line.specs.declared.tasks.Task.{Task}
+use Rattle.session_line.specs.declared.tasks.Task.TheVariants.{Ask, LoadDeck, SaveDeck, Refuse}
+
+-- whether a call changes decks
+abbrev pub makes_change : Call → Bool
+makes_change (call.AddDeck deck) = true
+makes_change (call.PutDeck deck seen) = true
+makes_change (call.DropDeck name seen) = true
+makes_change (call.EditDeck name seen edit by) = true
+makes_change (call.Batch name seen edits by) = true
+makes_change (call.EditSince name seen edit by) = true
+makes_change (call.BatchSince name seen edits by) = true
+makes_change (call.Undo name version by) = true
+makes_change _ = false
+
+-- whether a task changes a deck or a file
+abbrev pub changes : Task → Bool
+changes (Ask call) = makes_change call
+changes (LoadDeck name) = true
+changes (SaveDeck name over) = true
+changes _ = false
+
+-- what is done of a task, by what the session may do
+abbrev pub allowed : Rights → Task → Task
+allowed Edits task = task
+allowed Reads task = if changes task then Refuse ReadOnly else task
