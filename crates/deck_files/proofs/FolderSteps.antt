@@ -8,7 +8,7 @@ use Rattle.deck_files.specs.declared.deck_shelf.ShelfLoadFault.{ShelfLoadFault}
 use Rattle.deck_files.specs.declared.deck_shelf.ShelfSaveFault.{ShelfSaveFault}
 use Rattle.deck_files.specs.Loads.{LoadsFault}
 use Rattle.deck_files.specs.Folders.{Place, deck_path}
-use Rattle.deck_files.specs.Steps.{Asked, Answered, Step, Refused, Done, Found, Gave, changed_by, AreAmong, ChangesAmong, ChangeAmong, TakesSteps, ChangesOnly}
+use Rattle.deck_files.specs.Steps.{Asked, Answered, Step, Refused, Done, Found, Gave, Holds, changed_by, AreAmong, ChangesAmong, ChangeAmong, TakesSteps, ChangesOnly}
 use Rattle.deck_files.specs.FolderLoads.{IsUnopened, DoesNotOpen, HasFault, LoadsFile, LoadFails, read, not_opened, opened_steps}
 use Rattle.deck_files.specs.FolderSaves.{IsFaultOfFolder, IsFaultOfNew, refused_tries}
 
@@ -38,12 +38,14 @@ ChangesAmong-asked A asked Refused among = tt
 ChangesAmong-asked A asked Done among = among
 ChangesAmong-asked A asked (Found standing) among = among
 ChangesAmong-asked A asked (Gave bytes) among = among
+ChangesAmong-asked A asked (Holds entries) among = among
 
 ChangesAmong-more : {A B : List ℕ → Type 0} → ((path : List ℕ) → A path → B path) → (asked : Asked) (answer : Answered) → ChangesAmong A asked answer → ChangesAmong B asked answer
 ChangesAmong-more more asked Refused holds = tt
 ChangesAmong-more more asked Done holds = AreAmong-more more (changed_by asked) holds
 ChangesAmong-more more asked (Found standing) holds = AreAmong-more more (changed_by asked) holds
 ChangesAmong-more more asked (Gave bytes) holds = AreAmong-more more (changed_by asked) holds
+ChangesAmong-more more asked (Holds entries) holds = AreAmong-more more (changed_by asked) holds
 
 ChangeAmong-more : {A B : List ℕ → Type 0} → ((path : List ℕ) → A path → B path) → (steps : List Step) → ChangeAmong A steps → ChangeAmong B steps
 ChangeAmong-more more [] holds = tt

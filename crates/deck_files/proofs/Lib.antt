@@ -4,3 +4,5 @@ pub mod FileSteps
 pub mod FolderSteps
 pub mod SaveFaults
 pub mod PathSteps
+pub mod ListSteps
+pub mod WorkedRows

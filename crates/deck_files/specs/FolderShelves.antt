@@ -1,5 +1,5 @@
 -- What contracts see of a shelf over a folder, and what one load or save makes of it (ours).
-use Rattle.std.specs.Prelude.{ℕ, ◌≡◌, ◌⊎◌, List, Bool}
+use Rattle.std.specs.Prelude.{ℕ, ◌≡◌, ◌⊎◌, List, Bool, Result, Ok, Err}
 use Rattle.definitions.specs.Cards.{Card}
 use Rattle.deck_files.specs.declared.deck_shelf.ShelfLoadFault.{ShelfLoadFault}
 use Rattle.deck_files.specs.declared.deck_shelf.ShelfSaveFault.{ShelfSaveFault}
@@ -7,6 +7,8 @@ use Rattle.deck_files.specs.DeckFiles.{file_of}
 use Rattle.deck_files.specs.Folders.{Place, place, deck_path}
 use Rattle.deck_files.specs.FolderLoads.{LoadsFile, LoadFails}
 use Rattle.deck_files.specs.FolderSaves.{SavesSo, SaveFails}
+use Rattle.deck_files.specs.FolderLists.{ListsFiles, ListFails}
+use Rattle.deck_files.specs.declared.file_rows.FileRow.{FileRow}
 use Rattle.deck_files.specs.Savings.{Saving}
 use Rattle.deck_files.specs.Steps.{Step, Done}
 
@@ -38,3 +40,8 @@ module _ {F : Type 0} (has_done : F → List Step → Type 0) where
 
   abbrev pub SavesNoDeck : FolderShelf F → Saving → ShelfSaveFault → FolderShelf F → Type 0
   SavesNoDeck old saved fault new = IsSameShelf old new × ((known : Bool) × SaveFails has_done (place_on old saved.name) saved.over known (file_of saved.cards) fault old.files new.files)
+
+  -- the rows are those of the files of decks in the folder, or it was not read
+  abbrev pub ListsDecks : FolderShelf F → Result (List FileRow) ShelfLoadFault → FolderShelf F → Type 0
+  ListsDecks old (Ok rows) new = IsSameShelf old new × ListsFiles has_done old.folder old.number rows old.files new.files
+  ListsDecks old (Err fault) new = IsSameShelf old new × ListFails has_done old.folder old.number fault old.files new.files

@@ -4,8 +4,11 @@ pub mod FaultTexts
 pub mod Files
 pub mod KnownFiles
 pub mod Savings
+pub mod Moments
 pub mod Folders
+pub mod FileRows
 pub mod Steps
 pub mod FolderLoads
 pub mod FolderSaves
+pub mod FolderLists
 pub mod FolderShelves

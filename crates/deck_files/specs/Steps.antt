@@ -1,9 +1,11 @@
 -- What a shelf asks of a folder, step by step, and what the folder answers (ours).
 use Rattle.std.specs.Prelude.{ℕ, ⊤, List, [], ◌∷◌, ◌++◌, Option, Result, Ok, Err}
+use Rattle.std.specs.Global.{Vec}
 use Rattle.deck_files.specs.declared.folders.Standing.{Standing}
 use Rattle.deck_files.specs.declared.folders.Links.{Links}
+use Rattle.deck_files.specs.declared.file_rows.DeckEntry.{DeckEntry}
 
--- what is asked, each with its paths: what stands there, to open a file, to make one, to keep what a new file's writer has, to give it owner and mode of another, a new path, a second one, to take it away, to keep which files the folder has
+-- what is asked, each with its paths: what stands there, to open a file, to make one, to keep what a new file's writer has, to give it owner and mode of another, a new path, a second one, to take it away, to keep which files the folder has, and which decks have files in it
 pub data Asked : Type 0 where
   Look : Links → List ℕ → Asked
   Open : List ℕ → Asked
@@ -14,13 +16,15 @@ pub data Asked : Type 0 where
   Link : List ℕ → List ℕ → Asked
   Remove : List ℕ → Asked
   KeepFolder : List ℕ → Asked
+  Decks : List ℕ → Asked
 
--- the answer: refused, and nothing is changed; done; what stands there; a file, with the bytes that its reader has left or its writer has, where these are known
+-- the answer: refused, and nothing is changed; done; what stands there; a file, with the bytes that its reader has left or its writer has, where these are known; the decks that have files
 pub data Answered : Type 0 where
   Refused : Answered
   Done : Answered
   Found : Standing → Answered
   Gave : Option (List ℕ) → Answered
+  Holds : List DeckEntry → Answered
 
 abbrev pub Step : Type 0
 Step = Asked × Answered
@@ -37,6 +41,10 @@ abbrev pub gave_if : {T E : Type 0} → (T → Option (List ℕ)) → Result T E
 gave_if bytes (Ok file) = Gave (bytes file)
 gave_if bytes (Err error) = Refused
 
+abbrev pub holds_if : {E : Type 0} → Result (Vec DeckEntry) E → Answered
+holds_if (Ok entries) = Holds entries.items
+holds_if (Err error) = Refused
+
 -- the paths at which something else may stand once this was done
 abbrev pub changed_by : Asked → List (List ℕ)
 changed_by (Look links path) = []
@@ -48,6 +56,7 @@ changed_by (Rename from to) = from ∷ to ∷ []
 changed_by (Link path other) = other ∷ []
 changed_by (Remove path) = path ∷ []
 changed_by (KeepFolder folder) = []
+changed_by (Decks folder) = []
 
 -- each of the paths is one of these
 abbrev pub AreAmong : (List ℕ → Type 0) → List (List ℕ) → Type 0
@@ -60,6 +69,7 @@ ChangesAmong Among asked Refused = ⊤
 ChangesAmong Among asked Done = AreAmong Among (changed_by asked)
 ChangesAmong Among asked (Found standing) = AreAmong Among (changed_by asked)
 ChangesAmong Among asked (Gave bytes) = AreAmong Among (changed_by asked)
+ChangesAmong Among asked (Holds entries) = AreAmong Among (changed_by asked)
 
 -- no step changes another path than these
 abbrev pub ChangeAmong : (List ℕ → Type 0) → List Step → Type 0

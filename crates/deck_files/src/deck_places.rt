@@ -24,6 +24,13 @@ impl<'a> Model for DeckPlace<'a> {
     ghost view = { λ p. place p.folder.now p.name.now p.number };
 }
 
+/// A folder by a path of its own.
+pub(crate) fn path_of(folder: &str) -> &str
+    ensures { result.now ≡ folder_path folder.now }
+{
+    if folder.is_empty() { "." } else { folder }
+}
+
 impl<'a> DeckPlace<'a> {
     /// The place of a deck, whose name is one of letters and digits.
     pub(crate) fn new(
@@ -54,11 +61,7 @@ impl<'a> DeckPlace<'a> {
     pub(crate) fn folder(&self) -> &str
         ensures { result.now ≡ folder_path self.now.folder }
     {
-        if self.folder.is_empty() {
-            "."
-        } else {
-            self.folder
-        }
+        path_of(self.folder)
     }
 
     /// The path of the deck's file.

@@ -1,5 +1,6 @@
 //! Shelves: where the decks of a desk are kept as files.
 
+use crate::file_rows::FileRow;
 use crate::load_fault::LoadFault;
 use cards::{Card, DeckName};
 
@@ -37,7 +38,9 @@ pub enum ShelfSaveFault {
 /// Where decks are kept, each as a file under its name. The members say what one call makes of the
 /// shelf: which shelf it finds and leaves, and what it answers.
 pub trait Shelf {
-    ghost use Rattle.std.specs.Prelude.{ℕ, List};
+    ghost use Rattle.std.specs.Prelude.{ℕ, List, Result, Ok, Err};
+    ghost use Rattle.deck_files.specs.declared.file_rows.FileRow.{FileRow as Row};
+    ghost use Rattle.deck_files.specs.FileRows.{most_files};
     ghost use Rattle.deck_files.specs.declared.deck_shelf.ShelfLoadFault.{ShelfLoadFault};
     ghost use Rattle.deck_files.specs.declared.deck_shelf.ShelfSaveFault.{ShelfSaveFault};
     ghost use Rattle.deck_files.specs.Savings.{Saving, saving};
@@ -54,6 +57,9 @@ pub trait Shelf {
 
     // The shelf before, what is saved, the fault, and the shelf after.
     ghost refuses_to_save: { Self → Saving → ShelfSaveFault → Self → Type 0 };
+
+    // The shelf before, the rows of its files or why there are none, and the shelf after.
+    ghost lists: { Self → Result (List Row) ShelfLoadFault → Self → Type 0 };
 
     /// Loads the deck with this name.
     fn load(&mut self, name: &DeckName) -> Result<Vec<Card>, ShelfLoadFault>
@@ -73,4 +79,10 @@ pub trait Shelf {
         requires { length cards.now ≤ 20000 }
         ensures saved { OnOk result (saves self.old (saving name.now over version cards.now) self.new) }
         ensures fault { IfErr result (λ fault. refuses_to_save self.old (saving name.now over version cards.now) fault self.new) };
+
+    /// The files of decks that are there, in the order of their names.
+    fn list(&mut self) -> Result<Vec<FileRow>, ShelfLoadFault>
+        ensures rows { IfOk result (λ rows. lists self.old (Ok rows.items) self.new) }
+        ensures few { IfOk result (λ rows. length rows.items ≤ most_files) }
+        ensures fault { IfErr result (λ fault. lists self.old (Err fault) self.new) };
 }

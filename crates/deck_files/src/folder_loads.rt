@@ -27,7 +27,7 @@ fn read_cards<R: Read + Drop>(alloc: Global, file: R) -> Result<Vec<Card>, LoadF
 }
 
 /// Why the file of a deck did not open.
-fn load_fault(kind: ErrorKind) -> ShelfLoadFault
+pub(crate) fn load_fault(kind: ErrorKind) -> ShelfLoadFault
     ensures memory { kind ≡ ErrorKind.OutOfMemory → result ≡ ShelfLoadFault.BadFile LoadFault.OutOfMemory }
     ensures other { kind ≢ ErrorKind.OutOfMemory → result ≡ ShelfLoadFault.CannotOpen }
     ensures one { IsUnopened result }

@@ -9,6 +9,8 @@ ghost use Rattle.deck_files.specs.Steps.{Done};
 
 use crate::deck_places::DeckPlace;
 use crate::deck_shelf::{SaveOver, Shelf, ShelfLoadFault, ShelfSaveFault};
+use crate::file_rows::FileRow;
+use crate::folder_lists::{Within, list_files};
 use crate::folder_loads::load_deck;
 use crate::folder_saves::make_way;
 use crate::folders::Folder;
@@ -178,7 +180,7 @@ fn save_in_order<F: Folder>(
 }
 
 impl<'a, R: Wait, F: Folder> Shelf for FolderShelf<'a, R, F> {
-    ghost use Rattle.deck_files.specs.FolderShelves.{LoadsDeck, LoadsNoDeck, SavesDeck, SavesNoDeck};
+    ghost use Rattle.deck_files.specs.FolderShelves.{ListsDecks, LoadsDeck, LoadsNoDeck, SavesDeck, SavesNoDeck};
 
     ghost loads = { LoadsDeck F.has_done };
 
@@ -187,6 +189,8 @@ impl<'a, R: Wait, F: Folder> Shelf for FolderShelf<'a, R, F> {
     ghost saves = { SavesDeck F.has_done };
 
     ghost refuses_to_save = { SavesNoDeck F.has_done };
+
+    ghost lists = { ListsDecks F.has_done };
 
     fn load(&mut self, name: &DeckName) -> Result<Vec<Card>, ShelfLoadFault> {
         let Some(place) = DeckPlace::new(self.alloc, self.folder, self.number, name) else {
@@ -208,5 +212,14 @@ impl<'a, R: Wait, F: Folder> Shelf for FolderShelf<'a, R, F> {
         let mut known = self.known.lock(self.rt);
         let files = &mut self.files;
         save_in_order(files, &mut known, &place, name, over, version, cards)
+    }
+
+    fn list(&mut self) -> Result<Vec<FileRow>, ShelfLoadFault> {
+        let within = Within {
+            alloc: self.alloc,
+            folder: self.folder,
+            number: self.number,
+        };
+        list_files(&mut self.files, &within)
     }
 }

@@ -1,5 +1,7 @@
 //! What a shelf asks of a folder.
 
+use crate::file_rows::DeckEntry;
+use std::alloc::Global;
 use std::io;
 use std::io::{Read, Write};
 
@@ -23,9 +25,10 @@ pub enum Links {
 /// asked, with its answer; the member says which steps a folder may have behind it. A step that is refused
 /// changes nothing.
 pub trait Folder {
-    ghost use Rattle.std.specs.Prelude.{List};
-    ghost use Rattle.deck_files.specs.Steps.{Step, TakesStep, done_if, found_if, gave_if};
-    ghost use Rattle.deck_files.specs.Steps.{Keep, KeepFolder, Link, Look, Make, Open, Remove, Rename, TakeAfter};
+    ghost use Rattle.std.specs.Prelude.{◌≤◌, List, IfOk, length};
+    ghost use Rattle.deck_files.specs.FileRows.{most_files};
+    ghost use Rattle.deck_files.specs.Steps.{Step, TakesStep, done_if, found_if, gave_if, holds_if};
+    ghost use Rattle.deck_files.specs.Steps.{Decks, Keep, KeepFolder, Link, Look, Make, Open, Remove, Rename, TakeAfter};
 
     /// A file that is read.
     type File: Read + Drop;
@@ -72,4 +75,10 @@ pub trait Folder {
     /// Waits until it is kept which files a folder has, also if the machine fails.
     fn keep_folder(&mut self, folder: &str) -> io::Result<()>
         ensures { TakesStep has_done self.old (KeepFolder folder.now, done_if result) self.new };
+
+    /// The decks that have files in a folder, in any order, and when each file was last written; refused
+    /// where there are more than 1,000.
+    fn decks(&mut self, alloc: Global, folder: &str) -> io::Result<Vec<DeckEntry>>
+        ensures told { TakesStep has_done self.old (Decks folder.now, holds_if result) self.new }
+        ensures few { IfOk result (λ entries. length entries.items ≤ most_files) };
 }

@@ -15,9 +15,12 @@ mod loading;
 mod saving;
 
 // Shelves of files.
+mod calendar;
 mod deck_places;
 mod deck_shelf;
+mod file_rows;
 mod folder_laws;
+mod folder_lists;
 mod folder_loads;
 mod folder_saves;
 mod folder_shelf;
@@ -25,6 +28,7 @@ mod folders;
 mod known_files;
 mod leftovers;
 mod memory_shelf;
+mod moments;
 mod new_files;
 mod system_folder;
 
@@ -32,6 +36,7 @@ mod system_folder;
 mod whole_files;
 
 pub use deck_shelf::{SaveOver, Shelf, ShelfLoadFault, ShelfSaveFault};
+pub use file_rows::{DeckEntry, FileRow, MOST_FILES};
 pub use folder_laws::decks_stand_apart;
 pub use folder_shelf::FolderShelf;
 pub use folders::{Folder, Links, Standing};
@@ -40,6 +45,7 @@ pub use leftovers::clear_folder;
 pub use load_fault::LoadFault;
 pub use loading::load;
 pub use memory_shelf::MemoryShelf;
+pub use moments::Moment;
 pub use saving::save;
 pub use system_folder::SystemFolder;
 pub use whole_files::{Begun, begin_whole, end_whole, folder_of, sync_folder, write_whole};

@@ -6,6 +6,7 @@ ghost use Rattle.deck_files.specs.Loads.{FaultsSo};
 ghost use Rattle.deck_files.specs.Files.{named, with_named};
 
 use crate::deck_shelf::{SaveOver, Shelf, ShelfLoadFault, ShelfSaveFault};
+use crate::file_rows::FileRow;
 use crate::load_fault::LoadFault;
 use crate::loading::load;
 use crate::saving::save_file;
@@ -73,6 +74,8 @@ fn load_file(alloc: Global, file: &[u8]) -> Result<Vec<Card>, LoadFault>
 
 impl Shelf for MemoryShelf {
     ghost use Rattle.deck_files.specs.Files.{LoadsFrom, LoadsNotFrom};
+    ghost use Rattle.std.specs.Prelude.{Err};
+    ghost use Rattle.deck_files.specs.declared.deck_shelf.ShelfLoadFault.TheVariants.{CannotOpen};
     ghost use Rattle.deck_files.specs.declared.deck_shelf.ShelfSaveFault.TheVariants.{OutOfMemory};
 
     ghost loads = { λ old name cards new. (new ≡ old) × LoadsFrom (named name old) cards };
@@ -82,6 +85,8 @@ impl Shelf for MemoryShelf {
     ghost saves = { λ old saving new. new ≡ with_named saving.name (file_of saving.cards) old };
 
     ghost refuses_to_save = { λ old saving fault new. (new ≡ old) × (fault ≡ OutOfMemory) };
+
+    ghost lists = { λ old listed new. (new ≡ old) × (listed ≡ Err CannotOpen) };
 
     fn load(&mut self, name: &DeckName) -> Result<Vec<Card>, ShelfLoadFault> {
         let Some(file) = self.file(name) else {
@@ -107,5 +112,10 @@ impl Shelf for MemoryShelf {
             Ok(()) => Ok(()),
             Err(_) => Err(ShelfSaveFault::OutOfMemory),
         }
+    }
+
+    /// There is no folder that could be read.
+    fn list(&mut self) -> Result<Vec<FileRow>, ShelfLoadFault> {
+        Err(ShelfLoadFault::CannotOpen)
     }
 }

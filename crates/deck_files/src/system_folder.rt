@@ -1,7 +1,10 @@
 //! The file system as a folder.
 
+use crate::file_rows::{DeckEntry, MOST_FILES, deck_in};
 use crate::folders::{Folder, Links, Standing};
-use std::fs::{Metadata, OpenFile, OpenOptions};
+use crate::moments::Moment;
+use std::alloc::{AllocGlobal, Global};
+use std::fs::{DirEntry, Metadata, OpenFile, OpenOptions};
 use std::io::ErrorKind;
 use std::os::unix::fs::MetadataExt;
 use std::rt::Files;
@@ -39,7 +42,43 @@ fn take_owner_and_mode<R: Files>(rt: &R, new: &str, old: &Metadata) -> io::Resul
     fs::set_permissions(rt, new, old.permissions())
 }
 
-impl<R: Files> Folder for SystemFolder<'_, R> {
+/// When a file was last written; the first moment of 1970 stands for any before it.
+fn written_at(about: &Metadata) -> Moment {
+    Moment::of_seconds(u64::try_from(about.mtime()).unwrap_or(0))
+}
+
+/// What the system tells of what stands at a path, a link followed where it leads to something.
+fn about<R: Files>(rt: &R, path: &str) -> io::Result<Metadata> {
+    match fs::metadata(rt, path) {
+        Ok(about) => Ok(about),
+        Err(_) => fs::symlink_metadata(rt, path),
+    }
+}
+
+/// The deck whose file an entry of a folder is, if it is one's that still stands there. A name that is no
+/// text is no deck's.
+fn deck_of<R: Files + Drop>(
+    rt: &R,
+    entry: io::Result<DirEntry<R>>,
+) -> io::Result<Option<DeckEntry>> {
+    let entry = match entry {
+        Ok(entry) => entry,
+        Err(error) if error.kind() == ErrorKind::InvalidFilename => return Ok(None),
+        Err(error) => return Err(error),
+    };
+    let Some(name) = deck_in(entry.file_name().as_bytes()) else {
+        return Ok(None);
+    };
+    match about(rt, entry.path().as_str()) {
+        Ok(about) => Ok(Some(DeckEntry {
+            name,
+            written: written_at(&about),
+        })),
+        Err(_) => Ok(None),
+    }
+}
+
+impl<R: Files + AllocGlobal + Clone + Drop> Folder for SystemFolder<'_, R> {
     ghost use Rattle.std.specs.Prelude.{⊤};
 
     type File = R::File;
@@ -99,5 +138,19 @@ impl<R: Files> Folder for SystemFolder<'_, R> {
 
     fn keep_folder(&mut self, folder: &str) -> io::Result<()> {
         fs::open(self.rt, folder)?.sync_all()
+    }
+
+    fn decks(&mut self, alloc: Global, folder: &str) -> io::Result<Vec<DeckEntry>> {
+        let mut decks = Vec::new(alloc);
+        for entry in fs::read_dir(self.rt, folder)? {
+            let Some(deck) = deck_of(self.rt, entry)? else {
+                continue;
+            };
+            if decks.len() >= MOST_FILES {
+                return Err(io::Error::from(ErrorKind::FileTooLarge));
+            }
+            decks.push(deck)?;
+        }
+        Ok(decks)
     }
 }

@@ -22,7 +22,7 @@ use desk_core::Desk;
 use journal::{Keeping, RecordsFile};
 use page::{PageService, serve_page};
 use session_line::{Calls, SeatCalls};
-use std::alloc::{AllocError, Global};
+use std::alloc::{AllocError, AllocGlobal, Global};
 use std::hash::RandomState;
 use std::io::Read;
 use std::net::{Shutdown, TcpListener, TcpStream};
@@ -128,7 +128,8 @@ fn serve_next<R: Wait + Clock, C: Calls, S: Shelf>(
 }
 
 /// A page thread serves connections until the end of the service is asked for.
-impl<R: Wait + Clock + Files, F: RecordsFile + Drop> Serve for PagePlace<'_, R, F> {
+impl<R: Wait + Clock + Files + AllocGlobal + Clone + Drop, F: RecordsFile + Drop> Serve
+    for PagePlace<'_, R, F> {
     fn serve(self) {
         let PagePlace {
             rt,

@@ -320,7 +320,7 @@ fn run_sessions<R, P, H>(
     hearing: H,
 ) -> Result<(), AllocError>
 where
-    R: Threads + Wait + Sync + Clock + Eprint + Files,
+    R: Threads + Wait + Sync + Clock + Eprint + Files + AllocGlobal + Clone + Drop,
     R::File: Send,
     R::Dir: Send,
     P: Serve + Send + Drop,
@@ -340,7 +340,7 @@ fn run_pages<R, H>(
     hearing: H,
 ) -> Result<(), AllocError>
 where
-    R: Threads + Wait + Sync + Clock + Eprint + Files,
+    R: Threads + Wait + Sync + Clock + Eprint + Files + AllocGlobal + Clone + Drop,
     R::File: Send,
     R::Dir: Send,
     H: Hear + Send + Copy,
@@ -359,7 +359,7 @@ fn run_hearing<R>(
     hearing: Hearing<'_, R>,
 ) -> Result<(), AllocError>
 where
-    R: Threads + Wait + Sync + Clock + Eprint + Files + Net,
+    R: Threads + Wait + Sync + Clock + Eprint + Files + AllocGlobal + Clone + Drop + Net,
     R::File: Send,
     R::Dir: Send,
     R::Listener: Send,
@@ -388,7 +388,7 @@ fn serve_opened<'a, R>(
     opened: Opened<SystemFile<R::File>>,
 ) -> Result<(), ServeFault>
 where
-    R: Threads + Wait + Sync + Files + Drop + Clock + Eprint + Net,
+    R: Threads + Wait + Sync + Files + AllocGlobal + Clone + Drop + Clock + Eprint + Net,
     R::File: Send,
     R::Dir: Send,
     R::Listener: Send,
@@ -443,7 +443,7 @@ pub fn serve_on<'a, R>(
     settings: &'a Settings<'a>,
 ) -> Result<(), ServeFault>
 where
-    R: Threads + Wait + Sync + Files + Drop + Clock + Eprint + Net,
+    R: Threads + Wait + Sync + Files + AllocGlobal + Clone + Drop + Clock + Eprint + Net,
     R::File: Send,
     R::Dir: Send,
     R::Listener: Send,
@@ -484,7 +484,7 @@ fn serve_folder<'a, R>(
     settings: &'a Settings<'a>,
 ) -> Result<(), ServeFault>
 where
-    R: Threads + Wait + Sync + Files + Drop + Clock + Eprint + Net,
+    R: Threads + Wait + Sync + Files + AllocGlobal + Clone + Drop + Clock + Eprint + Net,
     R::File: Send,
     R::Dir: Send,
     R::Listener: Send,

@@ -15,7 +15,7 @@ use Rattle.definitions.specs.DeckInput.{is_deck_name}
 use Rattle.text_ports.specs.Lines.{line_feed, IsUnbroken}
 use Rattle.session_line.specs.Words.{greatest_number}
 use Rattle.session_line.proofs.ReadBack.{all-by, digit-no_blank, no_blank, spells-decimal, IsWord}
-use Rattle.journal.specs.Moments.{moment_form, fits_one, fits, is_moment}
+use Rattle.deck_files.specs.Moments.{moment_form, fits_one, fits, is_moment}
 
 -- a character from the blank on
 abbrev pub is_plain : ℕ → Bool

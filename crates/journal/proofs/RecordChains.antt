@@ -26,7 +26,7 @@ use Rattle.journal.specs.declared.beginning.Begun.{Begun}
 use Rattle.journal.specs.declared.beginning.Open.{Open}
 use Rattle.journal.specs.declared.steps.Step.TheVariants.{Ends, Wrong}
 use Rattle.journal.specs.CheckSums.{first_sum, sum_after, sum_over, check_sum}
-use Rattle.journal.specs.Moments.{moment_of}
+use Rattle.deck_files.specs.Moments.{moment_of}
 use Rattle.journal.specs.Records.{ended, text_of_lines, line_of_entry, lines_behind, first_line, lines_of_record, sum_line}
 use Rattle.journal.specs.Begun.{given, begun_by, begun_of, name_of, open_with, opened}
 use Rattle.journal.specs.Steps.{deck_with_card, deck_with, edits_with, entry_with, inner_step, has_all, sum_in, end_step, first_step, line_step}

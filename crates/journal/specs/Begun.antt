@@ -18,7 +18,7 @@ use Rattle.journal.specs.declared.records.Entry.TheVariants.{Made}
 use Rattle.journal.specs.declared.beginning.Begun.{Begun}
 use Rattle.journal.specs.declared.beginning.Open.{Open}
 use Rattle.journal.specs.CheckSums.{first_sum, sum_over}
-use Rattle.journal.specs.Moments.{moment_of}
+use Rattle.deck_files.specs.Moments.{moment_of}
 use Rattle.journal.specs.Records.{ended}
 
 -- what is made of a part that a line needs, if it has it

@@ -10,7 +10,7 @@ use Rattle.journal.specs.declared.changes.Change.TheVariants.{Added, Put, Droppe
 use Rattle.journal.specs.declared.records.Entry.{Entry}
 use Rattle.journal.specs.declared.records.Entry.TheVariants as entry
 use Rattle.journal.specs.declared.records.Record.{Record}
-use Rattle.journal.specs.Moments.{is_moment}
+use Rattle.deck_files.specs.Moments.{is_moment}
 
 -- a deck with a lawful name and cards
 abbrev pub IsLawfulDeck : Deck → Type 0

@@ -1,5 +1,4 @@
 pub mod CheckSums
-pub mod Moments
 pub mod Names
 pub mod Records
 pub mod Drafts

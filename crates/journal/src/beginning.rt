@@ -2,14 +2,14 @@
 ghost use Rattle.std.specs.Prelude.{◌≡◌, List, Result, option_map, option_and_then};
 ghost use Rattle.session_line.specs.Words.{first_word};
 ghost use Rattle.session_line.specs.declared.refusals.Refusal.{Refusal as Reason};
-ghost use Rattle.journal.specs.Moments.{moment_of};
+ghost use Rattle.deck_files.specs.Moments.{moment_of};
 ghost use Rattle.journal.specs.Begun.{alone, begun_by, begun_of, batch_named, batch_seen, edit_seen, name_of, put_named, opened, opened_by};
 
 use crate::changes::Change;
 use crate::check_sums::{FIRST_SUM, sum_over_line};
-use crate::moments::Moment;
 use crate::records::{Entry, Record};
 use cards::{DeckName, Edit};
+use deck_files::Moment;
 use definitions::is_same_text;
 use desk_core::{Listed, NewDeck};
 use session_line::{

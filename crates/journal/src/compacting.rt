@@ -5,10 +5,10 @@ ghost use Rattle.journal.specs.Compacting.{added_record, added_records, compacte
 ghost use Rattle.journal.specs.Records.{text_of_record, text_of_records};
 
 use crate::changes::Change;
-use crate::moments::Moment;
 use crate::names::session_name;
 use crate::records::{Entry, Record};
 use crate::writing::record_text;
+use deck_files::Moment;
 use desk_core::{Desk, StoredDeck};
 use std::alloc::{AllocError, Global};
 use text_ports::Text;

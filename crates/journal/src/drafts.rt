@@ -4,9 +4,9 @@ ghost use Rattle.journal.specs.Drafts.{carried_text, form_text};
 ghost use Rattle.journal.specs.Records.{text_behind_version, text_with_version};
 
 use crate::changes::Change;
-use crate::moments::Moment;
 use crate::writing::{text_behind_version, text_with_version};
 use cards::{DeckName, Edit};
+use deck_files::Moment;
 use desk_core::Listed;
 use std::alloc::{AllocError, Global};
 use std::marker::Model;

@@ -18,10 +18,8 @@
 #![tactic(auto)]
 
 // What a record has.
-mod calendar;
 mod changes;
 mod check_sums;
-mod moments;
 mod names;
 mod records;
 
@@ -52,12 +50,12 @@ mod laws;
 pub use cards::DeckName;
 pub use changes::{Asked, Carry, Change, asked_of};
 pub use compacting::compacted_text;
+pub use deck_files::Moment;
 pub use drafts::{Draft, Stamp, draft_change};
 pub use journal_file::JournalFile;
 pub use keeping::{Keep, Keeping};
 pub use kept_records::KeptRecords;
 pub use laws::{cut_records_are_left_out, records_read_back};
-pub use moments::Moment;
 pub use names::session_name;
 pub use places::{Ending, Place};
 pub use queue::{Batch, Queue};

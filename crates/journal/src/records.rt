@@ -1,8 +1,8 @@
 //! The records of a journal.
 
 use crate::changes::Change;
-use crate::moments::Moment;
 use cards::DeckName;
+use deck_files::Moment;
 
 /// What a record tells.
 #[derive(Drop)]

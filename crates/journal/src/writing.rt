@@ -7,9 +7,9 @@ ghost use Rattle.journal.specs.Records.{ended, first_line, line_of_change, line_
 
 use crate::changes::Change;
 use crate::check_sums::{FIRST_SUM, sum_over};
-use crate::moments::Moment;
 use crate::records::{Entry, Record};
 use cards::{Card, DeckName, Edit};
+use deck_files::Moment;
 use itoa::Buffer;
 use std::alloc::{AllocError, Global};
 use text_ports::Text;

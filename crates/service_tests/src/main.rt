@@ -50,7 +50,7 @@ const DIFFERS_STATUS: u8 = 1;
 const NOTHING_STATUS: u8 = 2;
 
 /// Makes a step that stands in no place, and answers whether there is one of this word.
-fn make_alone<R: AllocGlobal + Threads + Wait + Sync + Files + Clock + Clone>(
+fn make_alone<R: AllocGlobal + Threads + Wait + Sync + Files + Clock + Clone + Drop>(
     rt: &R,
     known: &Mutex<KnownFiles>,
     word: &str,

@@ -1,5 +1,6 @@
 //! A folder that refuses one of its calls.
-use deck_files::{Folder, Links, Standing};
+use deck_files::{DeckEntry, Folder, Links, Standing};
+use std::alloc::Global;
 use std::io;
 use std::io::ErrorKind;
 
@@ -93,5 +94,12 @@ impl<F: Folder> Folder for Refusing<F> {
             return Err(refused());
         }
         self.files.keep_folder(folder)
+    }
+
+    fn decks(&mut self, alloc: Global, folder: &str) -> io::Result<Vec<DeckEntry>> {
+        if self.is_refused() {
+            return Err(refused());
+        }
+        self.files.decks(alloc, folder)
     }
 }

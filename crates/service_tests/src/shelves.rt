@@ -2,7 +2,7 @@
 //!
 //! `save_over CALL SHELF FOLDER NAME OVER VERSION LINES`, with `OVER` as a program writes it: a shelf of this
 //! number saves, whose call of the first number is refused, and none where it is 0; `load_from SHELF FOLDER
-//! NAME`. The empty text is the folder in which the program runs. `write PATH LINES`; `read PATH`; `make
+//! NAME`; `list_in CALL FOLDER`: which decks have files. The empty text is the folder in which the program runs. `write PATH LINES`; `read PATH`; `make
 //! PATH`, a folder; `remove PATH`, a file or an empty folder: which it was; `clear_folder PATH JOURNAL`: what
 //! saves have left there.
 
@@ -11,7 +11,7 @@ use crate::inputs::{cards_of, cut, cut_line, cut_number, name_of, number};
 use crate::outputs::Answer;
 use crate::refusing::Refusing;
 use cards::{Card, DeckName, MOST_CARDS};
-use deck_files::{FolderShelf, KnownFiles, SaveOver, Shelf, SystemFolder, clear_folder};
+use deck_files::{FileRow, FolderShelf, KnownFiles, SaveOver, Shelf, SystemFolder, clear_folder};
 use std::alloc::{AllocError, AllocGlobal, Global};
 use std::fs;
 use std::io::{self, ErrorKind};
@@ -19,7 +19,7 @@ use std::rt::Files;
 use std::sync::{Mutex, Wait};
 
 /// Makes a step of this word, if it is one of folders, and answers whether it is.
-pub fn make<R: AllocGlobal + Files + Wait + Clone>(
+pub fn make<R: AllocGlobal + Files + Wait + Clone + Drop>(
     rt: &R,
     known: &Mutex<KnownFiles>,
     word: &str,
@@ -29,6 +29,7 @@ pub fn make<R: AllocGlobal + Files + Wait + Clone>(
     match word {
         "save_over" => save_refused(rt, known, rest, answer),
         "load_from" => load_from(rt, known, rest, answer),
+        "list_in" => list_refused(rt, known, rest, answer),
         _ => return change(rt, word, rest, answer),
     }
     true
@@ -82,7 +83,7 @@ fn push_saved<S: Shelf>(shelf: &mut S, saved: &Saved, answer: &mut Answer) {
 }
 
 /// Saves by a shelf of a folder, whose call of the first number is refused, and none where it is 0.
-fn save_refused<R: AllocGlobal + Files + Wait + Clone>(
+fn save_refused<R: AllocGlobal + Files + Wait + Clone + Drop>(
     rt: &R,
     known: &Mutex<KnownFiles>,
     text: &str,
@@ -100,7 +101,7 @@ fn save_refused<R: AllocGlobal + Files + Wait + Clone>(
     save(rt.alloc(), &mut shelf, rest, answer);
 }
 
-fn load_from<R: AllocGlobal + Files + Wait + Clone>(
+fn load_from<R: AllocGlobal + Files + Wait + Clone + Drop>(
     rt: &R,
     known: &Mutex<KnownFiles>,
     text: &str,
@@ -123,6 +124,42 @@ fn load<S: Shelf>(shelf: &mut S, of: &str, answer: &mut Answer) {
             answer.debug(&fault);
             answer.line("");
         }
+    }
+}
+
+/// Lists the files of decks by a shelf of a folder, whose call of the first number is refused, and none
+/// where it is 0.
+fn list_refused<R: AllocGlobal + Files + Wait + Clone + Drop>(
+    rt: &R,
+    known: &Mutex<KnownFiles>,
+    text: &str,
+    answer: &mut Answer,
+) {
+    let (calls, folder) = cut_number(text);
+    let files = Refusing {
+        files: SystemFolder::new(rt),
+        calls,
+    };
+    let mut shelf = FolderShelf::over(files, rt, rt.alloc(), folder, 0, known);
+    match shelf.list() {
+        Ok(rows) => push_rows(answer, &rows),
+        Err(fault) => {
+            answer.debug(&fault);
+            answer.line("");
+        }
+    }
+}
+
+/// How many files there are, then name and number of cards of each, and whether it has a date of our days.
+fn push_rows(answer: &mut Answer, rows: &[FileRow]) {
+    answer.number("", rows.len() as u64);
+    answer.line("");
+    for row in rows {
+        answer.bytes(row.name.as_slice());
+        answer.push(" ");
+        answer.debug(&row.cards);
+        let is_of_now = row.written.as_slice() > b"2026-11".as_slice();
+        answer.line(if is_of_now { " now" } else { " before" });
     }
 }
 

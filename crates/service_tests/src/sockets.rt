@@ -12,7 +12,7 @@ ghost use Rattle.desk_service.specs.Services.{AreInRange};
 use crate::inputs::{cut, cut_line, cut_number, number};
 use crate::outputs::Answer;
 use desk_service::{Journaling, Settings, serve_on};
-use std::alloc::Global;
+use std::alloc::{AllocGlobal, Global};
 use std::io::{self, BufRead, BufReader, Write};
 use std::net::{Net, SocketAddr, TcpListener, TcpStream};
 use std::rt::Files;
@@ -157,6 +157,8 @@ where
         + Wait
         + Sync
         + Files
+        + AllocGlobal
+        + Clone
         + Drop
         + Clock
         + Eprint
@@ -201,6 +203,8 @@ where
         + Wait
         + Sync
         + Files
+        + AllocGlobal
+        + Clone
         + Drop
         + Clock
         + Eprint

@@ -107,9 +107,39 @@ fn save_all<S: Shelf>(scene: &mut Scene, shelf: &mut S) -> Result<(), AllocError
     Ok(())
 }
 
-/// Three versions of a deck that are saved in the folder in which the program runs, one over the other.
-pub fn folder<R: AllocGlobal + Files + Wait>(rt: &R, scene: &mut Scene) -> Result<(), AllocError> {
+/// Whether the shelf tells that a deck has so many cards; none where it tells nothing.
+fn tells_once<S: Shelf>(shelf: &mut S, deck: &[u8], cards: usize) -> Option<bool> {
+    match shelf.list() {
+        Ok(rows) => Some(
+            rows.iter().any(|row| row.name.as_slice() == deck && row.cards == Some(cards)),
+        ),
+        Err(_) => None,
+    }
+}
+
+/// Lists the files of the shelf, once more where there is no memory, and finds the last version of the deck.
+fn list<S: Shelf>(scene: &mut Scene, shelf: &mut S) -> Result<(), AllocError> {
+    let cards = match DECKS.last() {
+        Some(deck) => cards_of(scene.alloc, deck.lines)?.len(),
+        None => 0,
+    };
+    let mut told = tells_once(shelf, b"SWEPT", cards);
+    if told.is_none() {
+        scene.journal.refused(Called::ListShelf, true);
+        told = tells_once(shelf, b"SWEPT", cards);
+    }
+    scene.journal.made(Called::ListShelf, told == Some(true));
+    Ok(())
+}
+
+/// Three versions of a deck that are saved in the folder in which the program runs, one over the other; and
+/// the list of the files there.
+pub fn folder<R: AllocGlobal + Files + Clone + Drop + Wait>(
+    rt: &R,
+    scene: &mut Scene,
+) -> Result<(), AllocError> {
     let known = Mutex::new(KnownFiles::new(scene.alloc));
     let mut shelf = FolderShelf::new(rt, scene.alloc, "", 0, &known);
-    save_all(scene, &mut shelf)
+    save_all(scene, &mut shelf)?;
+    list(scene, &mut shelf)
 }

@@ -45,10 +45,11 @@ pub enum Called {
     Close,
     LoadShelf,
     SaveShelf,
+    ListShelf,
 }
 
 /// What each is called where it is told, in the order of the calls above.
-const NAMES: [&str; 39] = [
+const NAMES: [&str; 40] = [
     "Kept::new",
     "edit",
     "finish",
@@ -88,6 +89,7 @@ const NAMES: [&str; 39] = [
     "close",
     "Shelf::load",
     "Shelf::save",
+    "Shelf::list",
 ];
 
 impl Called {

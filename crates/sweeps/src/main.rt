@@ -140,7 +140,7 @@ fn go_through_lower(scenario: Scenario, scene: &mut Scene) -> Result<(), AllocEr
 }
 
 /// Goes through any scenario.
-fn go_through<R: AllocGlobal + Files + Wait>(
+fn go_through<R: AllocGlobal + Files + Clone + Drop + Wait>(
     rt: &R,
     scenario: Scenario,
     scene: &mut Scene,
@@ -161,7 +161,7 @@ fn go_through<R: AllocGlobal + Files + Wait>(
 }
 
 /// The journal of a scenario.
-fn journal_of<R: AllocGlobal + Files + Wait>(rt: &R, scenario: Scenario) -> Journal {
+fn journal_of<R: AllocGlobal + Files + Clone + Drop + Wait>(rt: &R, scenario: Scenario) -> Journal {
     let mut scene = Scene::new(rt.alloc());
     let done = go_through(rt, scenario, &mut scene);
     scene.journal.keep(done);
@@ -197,7 +197,7 @@ fn tell<R: Print + Eprint>(rt: &R, name: &str, journal: &Journal) -> io::Result<
 }
 
 /// Goes through a scenario.
-fn run_once<R: AllocGlobal + Files + Wait + Print + Eprint>(
+fn run_once<R: AllocGlobal + Files + Clone + Drop + Wait + Print + Eprint>(
     rt: &R,
     name: &str,
     scenario: Scenario,
@@ -208,7 +208,7 @@ fn run_once<R: AllocGlobal + Files + Wait + Print + Eprint>(
 }
 
 /// Goes through a scenario, once more where its own memory is refused.
-fn run_one<R: AllocGlobal + Files + Wait + Print + Eprint>(
+fn run_one<R: AllocGlobal + Files + Clone + Drop + Wait + Print + Eprint>(
     rt: &R,
     name: &str,
     scenario: Scenario,
@@ -228,7 +228,7 @@ fn is_chosen(word: &str, name: &str, size: Size) -> bool {
 }
 
 /// Goes through the scenarios that a word chooses.
-fn run_chosen<R: AllocGlobal + Files + Wait + Print + Eprint>(
+fn run_chosen<R: AllocGlobal + Files + Clone + Drop + Wait + Print + Eprint>(
     rt: &R,
     word: &str,
 ) -> io::Result<Ended> {
@@ -242,7 +242,9 @@ fn run_chosen<R: AllocGlobal + Files + Wait + Print + Eprint>(
 }
 
 /// Goes through what the arguments name.
-fn run<R: AllocGlobal + Env + Files + Wait + Print + Eprint>(rt: &R) -> io::Result<Ended> {
+fn run<R: AllocGlobal + Env + Files + Clone + Drop + Wait + Print + Eprint>(
+    rt: &R,
+) -> io::Result<Ended> {
     let words: Vec<String> = env::args(rt)?.collect(rt.alloc())?;
     match words.get(1) {
         Some(word) => run_chosen(rt, word.as_str()),

@@ -1,6 +1,6 @@
 //! Moments of time as text.
 ghost use Rattle.std.specs.Prelude.{◌≡◌, length, true};
-ghost use Rattle.journal.specs.Moments.{fits, fits_one, is_moment, moment_of};
+ghost use Rattle.deck_files.specs.Moments.{fits, fits_one, is_moment, moment_of};
 
 use crate::calendar::characters_at;
 use std::marker::Model;
@@ -76,7 +76,8 @@ impl Moment {
         }
     }
 
-    pub(crate) fn copied(&self) -> Moment
+    /// The same moment once more.
+    pub fn copied(&self) -> Moment
         ensures { result ≡ self.now }
     {
         Moment {
