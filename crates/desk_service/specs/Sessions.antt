@@ -1,11 +1,12 @@
 -- A session: lines that are served one after the other, and what ends it (ours).
-use Rattle.std.specs.Prelude.{ℕ, ◌≡◌, ◌+◌, ◌<◌, Bool, true, false, List, Option, Some, None}
+use Rattle.std.specs.Prelude.{ℕ, ◌≡◌, ◌+◌, ◌<◌, Bool, true, false, List, Result, Option, Some, None}
 use Rattle.std.specs.Io.KnownBytes.{Keeps}
 use Rattle.definitions.specs.Cards.{Card}
 use Rattle.text_ports.specs.Faults.{count_up, count_after_flush}
 use Rattle.deck_files.specs.declared.deck_shelf.ShelfLoadFault.{ShelfLoadFault}
 use Rattle.deck_files.specs.declared.deck_shelf.ShelfSaveFault.{ShelfSaveFault}
 use Rattle.deck_files.specs.Savings.{Saving}
+use Rattle.deck_files.specs.declared.file_rows.FileRow.{FileRow}
 use Rattle.desk_core.specs.declared.calls.Call.{Call}
 use Rattle.session_line.specs.declared.rights.Rights.{Rights}
 use Rattle.session_line.specs.declared.greetings.Greeting.{Greeting}
@@ -67,13 +68,14 @@ module _ {C S : Type 0} where
 
 module _ {C S : Type 0} (rights : Rights) (makes : C → Call → Reply → C → Type 0) (awaits : C → ℕ → Reply → C → Type 0) (greets : C → List ℕ → Greeting → C → Type 0) (loads : S → List ℕ → List Card → S → Type 0)
     (refuses_to_load : S → List ℕ → ShelfLoadFault → S → Type 0)
-    (saves : S → Saving → S → Type 0) (refuses_to_save : S → Saving → ShelfSaveFault → S → Type 0) where
+    (saves : S → Saving → S → Type 0) (refuses_to_save : S → Saving → ShelfSaveFault → S → Type 0)
+    (lists : S → Result (List FileRow) ShelfLoadFault → S → Type 0) where
   -- one line is served, its reply is sent on, and this is how the session ends there, if it ends
   pub record ServesLine (old new : Standing C S) (told : Option Ending) : Type 0 where
     pub middle : Standing C S
     pub outcome : Outcome
     pub flushed : Bool
-    pub served : Serves rights makes awaits greets loads refuses_to_load saves refuses_to_save old.sides middle.sides outcome
+    pub served : Serves rights makes awaits greets loads refuses_to_load saves refuses_to_save lists old.sides middle.sides outcome
     pub reads : middle.read_faults ≡ read_faults_after outcome old.read_faults
     pub writes : middle.write_faults ≡ write_faults_after outcome old.write_faults
     pub sent : SendsOn flushed middle new
@@ -95,9 +97,10 @@ with_desk standing desk = record standing { sides = record standing.sides { desk
 
 module _ {C S : Type 0} (rights : Rights) (makes : C → Call → Reply → C → Type 0) (awaits : C → ℕ → Reply → C → Type 0) (greets : C → List ℕ → Greeting → C → Type 0) (begins : C → C → Type 0) (loads : S → List ℕ → List Card → S → Type 0)
     (refuses_to_load : S → List ℕ → ShelfLoadFault → S → Type 0)
-    (saves : S → Saving → S → Type 0) (refuses_to_save : S → Saving → ShelfSaveFault → S → Type 0) where
+    (saves : S → Saving → S → Type 0) (refuses_to_save : S → Saving → ShelfSaveFault → S → Type 0)
+    (lists : S → Result (List FileRow) ShelfLoadFault → S → Type 0) where
   -- a session: it begins, and its lines are served to its end
   pub record ServesSession (first last : Standing C S) (ending : Ending) : Type 0 where
     pub begun : C
     pub begins_so : begins first.sides.desk begun
-    pub served : ServesToEnd rights makes awaits greets loads refuses_to_load saves refuses_to_save (with_desk first begun) last ending
+    pub served : ServesToEnd rights makes awaits greets loads refuses_to_load saves refuses_to_save lists (with_desk first begun) last ending

@@ -9,7 +9,7 @@ ghost use Rattle.session_line.specs.Replies.{IsWithinLimits};
 use crate::inputs::{cards_of, cut_line, name_of, number};
 use crate::outputs::Answer;
 use cards::{Card, CardFault, EditFault, MOST_CARDS};
-use deck_files::LoadFault;
+use deck_files::{LoadFault, MOST_FILES};
 use desk_core::{Row, State};
 use desk_service::ServeFault;
 use journal::Moment;
@@ -43,6 +43,7 @@ fn is_within(reply: &Reply<'_>) -> bool
         Reply::Found { cards, .. } => cards.len() <= MOST_CARDS,
         Reply::Errors { decks, .. } => decks.len() <= 64,
         Reply::Status { decks, .. } => decks.len() <= 64,
+        Reply::Files { files, .. } => files.len() <= MOST_FILES,
         Reply::Sessions { sessions, .. } => sessions.len() <= 64,
         Reply::Done { .. } | Reply::Text { .. } | Reply::Listing(_) => true,
         Reply::Bye | Reply::Refused(_) => true,

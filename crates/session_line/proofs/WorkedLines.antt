@@ -214,6 +214,15 @@ errors_of_two = refl
 pub blank_behind_errors : command_of (codes "ERRORS ") ≡ Err BadCommand
 blank_behind_errors = refl
 
+pub files : command_of (codes "FILES") ≡ Ok command.Files
+files = refl
+
+pub files-named : command_of (codes "FILES M") ≡ Err BadCommand
+files-named = refl
+
+pub files-blank : command_of (codes "FILES ") ≡ Err BadCommand
+files-blank = refl
+
 pub status : command_of (codes "STATUS") ≡ Ok command.Status
 status = refl
 

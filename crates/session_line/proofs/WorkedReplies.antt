@@ -7,6 +7,7 @@ use Rattle.session_line.specs.declared.refusals.Refusal.TheVariants as refusal
 use Rattle.session_line.specs.declared.replies.Reply.TheVariants as reply
 use Rattle.desk_core.specs.declared.replies.State.TheVariants.{Behind}
 use Rattle.session_line.specs.Replies.{text_of_reply, row_text, published_text, counted_text, line_count, numbers_text}
+use Rattle.session_line.specs.FileLines.{file_line}
 use Rattle.session_line.specs.declared.rights.Rights.TheVariants.{Edits, Reads}
 use Rattle.session_line.specs.Greetings.{connected_text, service_text}
 use Rattle.session_line.specs.Views.{numbers_from}
@@ -49,6 +50,13 @@ published = unfold digits in refl
 
 pub none_published : published_text None ≡ codes "PUBLISHED NONE"
 none_published = refl
+
+-- the lines of files
+pub file : file_line (record { name = codes "M"; cards = Some 12; written = codes "2026-11-26T22:50:03Z" }) ≡ codes "M 12 2026-11-26T22:50:03Z\n"
+file = unfold digits in refl
+
+pub unreadable_file : file_line (record { name = codes "B"; cards = None; written = codes "2026-11-26T22:50:03Z" }) ≡ codes "B UNREADABLE 2026-11-26T22:50:03Z\n"
+unreadable_file = refl
 
 -- the lines of who is connected
 pub connected : connected_text (record { number = 12; who = codes "PAT"; rights = Edits }) ≡ codes "SESSION 12 PAT"

@@ -15,7 +15,7 @@ use Rattle.session_line.specs.Commands.{command_of}
 use Rattle.session_line.specs.declared.errors.ErrorsView.TheVariants.{Every, Of}
 use Rattle.session_line.specs.declared.views.CardsView.TheVariants.{All, From, With}
 use Rattle.session_line.specs.declared.tasks.PublishedText.TheVariants.{Image, Listing, Map}
-use Rattle.session_line.specs.declared.tasks.Task.TheVariants.{Ask, AwaitVersion, ShowCards, ShowCardsAt, ShowText, ShowPart, ShowErrors, LoadDeck, SaveDeck, Greet, Leave, Refuse}
+use Rattle.session_line.specs.declared.tasks.Task.TheVariants.{Ask, AwaitVersion, ShowCards, ShowCardsAt, ShowText, ShowPart, ShowErrors, LoadDeck, SaveDeck, ShowFiles, Greet, Leave, Refuse}
 use Rattle.session_line.specs.Tasks.{lines_due, nobody, task_of}
 use Rattle.session_line.specs.Answers.{told_of_call, told_of_wait, told_of_greeting, told_of_cards, told_of_cards_at, told_of_publication, told_of_part, told_of_errors, told_text}
 use Rattle.session_line.specs.Parts.{part_of}
@@ -71,6 +71,9 @@ errors = refl
 
 pub errors_of : task_of (codes "ERRORS M") [] ≡ ShowErrors (Of (codes "M"))
 errors_of = refl
+
+pub files : task_of (codes "FILES") [] ≡ ShowFiles
+files = refl
 
 pub wait : task_of (codes "WAIT 7") [] ≡ AwaitVersion 7
 wait = refl
@@ -247,6 +250,9 @@ reads_changes = refl
 
 pub reads_status : allowed Reads (task_of (codes "STATUS") []) ≡ Ask call.Status
 reads_status = refl
+
+pub reads_files : allowed Reads (task_of (codes "FILES") []) ≡ ShowFiles
+reads_files = refl
 
 pub reads_hello : allowed Reads (task_of (codes "HELLO PAT") []) ≡ Greet (codes "PAT")
 reads_hello = refl

@@ -9,10 +9,12 @@ use Rattle.desk_core.specs.declared.replies.Reply.{Reply}
 use Rattle.desk_core.specs.declared.replies.Row.{Row}
 use Rattle.desk_core.specs.declared.replies.Reply.TheVariants.{Changed, Carried, CardsAre, ChangesAre, CardsBefore, Shown, StatusIs, Refused}
 use Rattle.deck_files.specs.DeckFiles.{file_of}
+use Rattle.deck_files.specs.FileRows.{most_files}
 use Rattle.session_line.specs.declared.refusals.Refusal.{Refusal}
 use Rattle.session_line.specs.declared.refusals.Refusal.TheVariants as refusal
 use Rattle.session_line.specs.Refusals.{refusal_text}
 use Rattle.session_line.specs.Replies.{line_of, line_count, ok_text, counted_text, published_text, rows_text, sessions_text, numbers_text, text_of_lines}
+use Rattle.session_line.specs.FileLines.{files_text}
 use Rattle.session_line.specs.Reasons.{desk_reason}
 use Rattle.session_line.specs.Greetings.{service_text}
 use Rattle.session_line.specs.declared.greetings.Connected.{Connected}
@@ -181,6 +183,7 @@ told_text (told.Part publication text name) = part_text publication.version (sho
 told_text (told.Errors publication view) = errors_text publication.version view publication.decks (map_of publication.decks)
 told_text (told.Status version published rows) = status_text version published rows
 told_text (told.Standing version published) = status_text version published []
+told_text (told.Files version rows) = with_body (counted_text version (length rows)) (files_text rows)
 told_text (told.Sessions version sessions) = with_body (counted_text version (length sessions + 1)) (line_of service_text ++ sessions_text sessions)
 told_text (told.Refused reason) = refused_text reason
 told_text told.Bye = with_body (codes "BYE") []
@@ -190,12 +193,13 @@ abbrev pub is_bye : Told → Bool
 is_bye told.Bye = true
 is_bye _ = false
 
--- what is told has no more cards, edits, decks and sessions than may be
+-- what is told has no more cards, edits, decks, files and sessions than may be
 abbrev pub IsTellable : Told → Type 0
 IsTellable (told.Cards version cards view) = length cards ≤ most_cards
 IsTellable (told.Changes version kept) = length kept ≤ most_kept
 IsTellable (told.Errors publication view) = length publication.decks ≤ most_decks
 IsTellable (told.Status version published rows) = length rows ≤ most_decks
+IsTellable (told.Files version rows) = length rows ≤ most_files
 IsTellable (told.Sessions version sessions) = length sessions ≤ most_sessions
 IsTellable _ = ⊤
 

@@ -183,6 +183,7 @@ command_by verb.List rest = list_in rest
 command_by verb.Map rest = alone command.Map rest
 command_by verb.Errors rest = errors_in rest
 command_by verb.Status rest = alone command.Status rest
+command_by verb.Files rest = alone command.Files rest
 command_by verb.Wait rest = wait_in rest
 command_by verb.Batch rest = batch_by (head_in rest)
 command_by verb.Put rest = put_by (head_in rest)

@@ -5,17 +5,19 @@ use Rattle.deck_files.specs.declared.deck_shelf.ShelfLoadFault.{ShelfLoadFault}
 use Rattle.deck_files.specs.declared.deck_shelf.ShelfSaveFault.{ShelfSaveFault}
 use Rattle.deck_files.specs.declared.deck_shelf.SaveOver.{SaveOver}
 use Rattle.deck_files.specs.Savings.{Saving, saving}
+use Rattle.deck_files.specs.declared.file_rows.FileRow.{FileRow}
 use Rattle.desk_core.specs.declared.calls.Call.{Call}
 use Rattle.desk_core.specs.declared.replies.Reply.{Reply}
 use Rattle.desk_core.specs.declared.calls.Call.TheVariants.{AddDeck, Cards, CardsAt, Show}
 use Rattle.session_line.specs.declared.views.CardsView.TheVariants.{All}
 use Rattle.session_line.specs.declared.tasks.Task.{Task}
-use Rattle.session_line.specs.declared.tasks.Task.TheVariants.{Ask, AwaitVersion, ShowCards, ShowCardsAt, ShowText, ShowPart, ShowErrors, LoadDeck, SaveDeck, Greet, Leave, Refuse}
+use Rattle.session_line.specs.declared.tasks.Task.TheVariants.{Ask, AwaitVersion, ShowCards, ShowCardsAt, ShowText, ShowPart, ShowErrors, LoadDeck, SaveDeck, ShowFiles, Greet, Leave, Refuse}
 use Rattle.session_line.specs.declared.answers.Told.{Told}
 use Rattle.session_line.specs.declared.answers.Told.TheVariants as told
 use Rattle.session_line.specs.declared.answers.Answer.{Answer}
 use Rattle.session_line.specs.Reasons.{load_reason, save_reason}
 use Rattle.session_line.specs.declared.greetings.Greeting.{Greeting}
+use Rattle.session_line.specs.FileTasks.{ShowsFiles}
 use Rattle.session_line.specs.Answers.{told_of_call, told_of_wait, told_of_greeting, told_of_cards, told_of_publication, told_of_part, told_of_errors, IsToldAt, called, uncalled}
 
 module _ {C : Type 0} (makes : C → Call → Reply → C → Type 0) where
@@ -85,7 +87,8 @@ module _ {C : Type 0} (greets : C → List ℕ → Greeting → C → Type 0) wh
 
 module _ {C S : Type 0} (makes : C → Call → Reply → C → Type 0) (awaits : C → ℕ → Reply → C → Type 0) (greets : C → List ℕ → Greeting → C → Type 0) (loads : S → List ℕ → List Card → S → Type 0)
     (refuses_to_load : S → List ℕ → ShelfLoadFault → S → Type 0)
-    (saves : S → Saving → S → Type 0) (refuses_to_save : S → Saving → ShelfSaveFault → S → Type 0) where
+    (saves : S → Saving → S → Type 0) (refuses_to_save : S → Saving → ShelfSaveFault → S → Type 0)
+    (lists : S → Result (List FileRow) ShelfLoadFault → S → Type 0) where
   -- nothing is called, and this is told
   abbrev pub OnlyTells : Answer → C → C → S → S → Answer → Type 0
   OnlyTells what desk next shelf after answer = (next ≡ desk) × (after ≡ shelf) × (answer ≡ what)
@@ -101,6 +104,7 @@ module _ {C S : Type 0} (makes : C → Call → Reply → C → Type 0) (awaits 
   Executes (ShowErrors view) desk next shelf after answer = Asks makes Show (told_of_errors view) desk next answer × (after ≡ shelf)
   Executes (LoadDeck name) desk next shelf after answer = LoadsDeck makes loads refuses_to_load name desk next shelf after answer
   Executes (SaveDeck name over) desk next shelf after answer = SavesDeck makes saves refuses_to_save name over desk next shelf after answer
+  Executes ShowFiles desk next shelf after answer = ShowsFiles makes lists desk next shelf after answer
   Executes (Greet name) desk next shelf after answer = Greets greets name desk next answer × (after ≡ shelf)
   Executes Leave desk next shelf after answer = OnlyTells (uncalled told.Bye) desk next shelf after answer
   Executes (Refuse reason) desk next shelf after answer = OnlyTells (uncalled (told.Refused reason)) desk next shelf after answer

@@ -8,6 +8,7 @@ pub mod Commands
 pub mod Lines
 pub mod ChangeLines
 pub mod Refusals
+pub mod FileLines
 pub mod Greetings
 pub mod Replies
 pub mod FlagWalks
@@ -18,6 +19,7 @@ pub mod Taking
 pub mod LineItems
 pub mod Reasons
 pub mod Answers
+pub mod FileTasks
 pub mod Executing
 pub mod Serving
 pub mod Kinds

@@ -3,7 +3,9 @@ use Rattle.std.specs.Prelude.{ℕ, ◌+◌, ◌≤◌, ◌==◌, ⊤, List, [], 
 use Rattle.definitions.specs.Build.{listing_of}
 use Rattle.definitions.specs.Characters.{line_feed}
 use Rattle.deck_files.specs.DeckFiles.{file_of}
+use Rattle.deck_files.specs.FileRows.{most_files}
 use Rattle.session_line.specs.Refusals.{refusal_text}
+use Rattle.session_line.specs.FileLines.{files_text}
 use Rattle.session_line.specs.Greetings.{service_text, connected_text}
 use Rattle.session_line.specs.declared.greetings.Connected.{Connected}
 use Rattle.session_line.specs.Errors.{error_lines}
@@ -56,6 +58,7 @@ head_text (reply.Text version text) = counted_text version (line_count text.now)
 head_text (reply.Listing publication) = counted_text publication.now.version (line_count (listing_of publication.now.decks))
 head_text (reply.Errors version view decks map) = counted_text version (length (error_lines view.now decks.now map.now))
 head_text (reply.Status version published decks) = counted_text version (length decks.now + 1)
+head_text (reply.Files version files) = counted_text version (length files.now)
 head_text (reply.Sessions version sessions) = counted_text version (length sessions.now + 1)
 head_text reply.Bye = codes "BYE"
 head_text (reply.Refused refusal) = codes "NO " ++ refusal_text refusal
@@ -86,6 +89,7 @@ body_text (reply.Text version text) = text.now
 body_text (reply.Listing publication) = listing_of publication.now.decks
 body_text (reply.Errors version view decks map) = text_of_lines (error_lines view.now decks.now map.now)
 body_text (reply.Status version published decks) = line_of (published_text published) ++ rows_text decks.now
+body_text (reply.Files version files) = files_text files.now
 body_text (reply.Sessions version sessions) = line_of service_text ++ sessions_text sessions.now
 body_text reply.Bye = []
 body_text (reply.Refused refusal) = []
@@ -94,7 +98,7 @@ body_text (reply.Refused refusal) = []
 abbrev pub text_of_reply : Reply → List ℕ
 text_of_reply reply = line_of (head_text reply) ++ body_text reply
 
--- no more cards than a deck may have, no more changes than are kept of it, no more decks than a desk may have, and no more sessions than an office has seats
+-- no more cards than a deck may have, no more changes than are kept of it, no more decks than a desk may have, no more files than are listed, and no more sessions than an office has seats
 abbrev pub IsWithinLimits : Reply → Type 0
 IsWithinLimits (reply.Done version) = ⊤
 IsWithinLimits (reply.Cards version cards) = length cards.now ≤ 20000
@@ -104,6 +108,7 @@ IsWithinLimits (reply.Text version text) = ⊤
 IsWithinLimits (reply.Listing publication) = ⊤
 IsWithinLimits (reply.Errors version view decks map) = length decks.now ≤ 64
 IsWithinLimits (reply.Status version published decks) = length decks.now ≤ 64
+IsWithinLimits (reply.Files version files) = length files.now ≤ most_files
 IsWithinLimits (reply.Sessions version sessions) = length sessions.now ≤ 64
 IsWithinLimits reply.Bye = ⊤
 IsWithinLimits (reply.Refused refusal) = ⊤

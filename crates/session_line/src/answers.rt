@@ -12,6 +12,7 @@ use crate::reasons::desk_reason;
 use crate::tasks::PublishedText;
 use crate::views::{CardsView, cards_from};
 use cards::{Card, DeckName, Edit, MOST_CARDS, edited_copy, first_fault};
+use deck_files::FileRow;
 use deck_linker::ListedPublication;
 use desk_core::{KeptEdit, Listed, Reply, Row, SharedPublication};
 use std::alloc::Global;
@@ -44,6 +45,8 @@ pub(crate) enum Told {
     Status(u64, Option<u64>, Listed<Row>),
     /// The desk's version and the published one.
     Standing(u64, Option<u64>),
+    /// The desk's version, and the rows of the files of decks.
+    Files(u64, Listed<FileRow>),
     /// The desk's version, and the sessions that are connected.
     Sessions(u64, Listed<Connected>),
     /// Why nothing was done.
@@ -335,6 +338,10 @@ impl Told {
                 version: *version,
                 published: *published,
                 decks: &[],
+            },
+            Told::Files(version, files) => crate::Reply::Files {
+                version: *version,
+                files: files.as_slice(),
             },
             Told::Sessions(version, sessions) => crate::Reply::Sessions {
                 version: *version,

@@ -81,6 +81,8 @@ pub enum Command {
     Errors(ErrorsView),
     /// The versions and states of all decks.
     Status,
+    /// The deck files of the shelf.
+    Files,
     /// The desk's version and the published one, once this version or a later one is published.
     Wait {
         version: u64,
@@ -487,6 +489,7 @@ fn command_by(verb: Verb, rest: &[u8]) -> Result<Command, Refusal>
         Verb::Map => alone(Command::Map, rest),
         Verb::Errors => errors_in(rest),
         Verb::Status => alone(Command::Status, rest),
+        Verb::Files => alone(Command::Files, rest),
         Verb::Wait => wait_in(rest),
         Verb::Batch => batch_in(rest),
         Verb::Put => put_in(rest),

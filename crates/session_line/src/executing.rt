@@ -10,6 +10,7 @@ use crate::answers::{
 };
 use crate::calls::Calls;
 use crate::errors::ErrorsView;
+use crate::file_tasks::show_files;
 use crate::reasons::{load_reason, save_reason};
 use crate::tasks::{PublishedText, Task};
 use crate::views::CardsView;
@@ -19,7 +20,7 @@ use desk_core::{Call, NewDeck};
 use std::alloc::Global;
 
 /// The answer after a call of the desk.
-fn called(told: Told) -> Answer
+pub(crate) fn called(told: Told) -> Answer
     ensures { result ≡ called told }
 {
     Answer {
@@ -157,7 +158,7 @@ pub(crate) fn execute<C: Calls, S: Shelf>(
     shelf: &mut S,
     task: Task,
 ) -> Answer
-    ensures executes { Executes C.makes C.awaits C.greets S.loads S.refuses_to_load S.saves S.refuses_to_save task desk.old desk.new shelf.old shelf.new result }
+    ensures executes { Executes C.makes C.awaits C.greets S.loads S.refuses_to_load S.saves S.refuses_to_save S.lists task desk.old desk.new shelf.old shelf.new result }
     ensures fits { IsTellable result.told }
 {
     match task {
@@ -170,6 +171,7 @@ pub(crate) fn execute<C: Calls, S: Shelf>(
         Task::ShowErrors(view) => show_errors(desk, view),
         Task::LoadDeck(name) => load_deck(desk, shelf, name),
         Task::SaveDeck(name, over) => save_deck(desk, shelf, &name, over),
+        Task::ShowFiles => show_files(desk, shelf),
         Task::Greet(name) => greet(alloc, desk, &name),
         Task::Leave => uncalled(Told::Bye),
         Task::Refuse(refusal) => uncalled(Told::Refused(refusal)),

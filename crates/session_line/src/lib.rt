@@ -26,6 +26,7 @@ mod views;
 mod change_lines;
 mod change_writing;
 mod error_writing;
+mod file_writing;
 mod parts;
 mod refusal_texts;
 mod replies;
@@ -48,6 +49,7 @@ mod tasks;
 // What is done and told.
 mod answers;
 mod executing;
+mod file_tasks;
 mod reasons;
 mod serving;
 
@@ -58,6 +60,7 @@ mod laws;
 pub use calls::Calls;
 pub use cards::{Edit, EditFault};
 pub use commands::{BatchHead, Command, LinesHead, only_name, read_command};
+pub use deck_files::FileRow;
 pub use desk_core::{Row, State};
 pub use desk_laws::a_desk_answers_sessions;
 pub use edits::read_batch_line;

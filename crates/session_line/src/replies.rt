@@ -4,6 +4,7 @@ use crate::errors::ErrorsView;
 use crate::greetings::Connected;
 use crate::refusals::Refusal;
 use cards::Card;
+use deck_files::FileRow;
 use deck_linker::ListedPublication;
 use deck_listing::ListedObject;
 use desk_core::{KeptEdit, Row};
@@ -51,6 +52,11 @@ pub enum Reply<'a> {
         version: u64,
         published: Option<u64>,
         decks: &'a [Row],
+    },
+    /// `OK version n`, then a line for each file of a deck.
+    Files {
+        version: u64,
+        files: &'a [FileRow],
     },
     /// `OK version n`, then a line for the service, and one for each session that is connected.
     Sessions {

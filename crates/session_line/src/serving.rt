@@ -48,10 +48,10 @@ fn send<W: Write>(output: &mut Counted<W>, answer: &Answer) -> Outcome
 
 /// Serves one line of a session, with the lines that belong to it. A command whose lines were all
 /// read whole is executed exactly once: at most one call of the desk, with the call of the shelf that
-/// belongs to it, LOAD's before and SAVE's behind that of the desk; and its reply is written. Of a session
-/// that may only ask, one that changes a deck or a file is `NO ReadOnly`, and nothing is called. Where
-/// the input ends or fails before that, or a line is too long, nothing is called and nothing is
-/// written. Want of memory is told as `NO OutOfMemory`.
+/// belongs to it, LOAD's before that of the desk, SAVE's and that of FILES behind it; and its reply is
+/// written. Of a session that may only ask, one that changes a deck or a file is `NO ReadOnly`, and
+/// nothing is called. Where the input ends or fails before that, or a line is too long, nothing is called
+/// and nothing is written. Want of memory is told as `NO OutOfMemory`.
 pub fn serve_one<R: Read, W: Write, C: Calls, S: Shelf>(
     alloc: Global,
     rights: Rights,
@@ -60,7 +60,7 @@ pub fn serve_one<R: Read, W: Write, C: Calls, S: Shelf>(
     desk: &mut C,
     shelf: &mut S,
 ) -> Outcome
-    ensures serves { Serves rights C.makes C.awaits C.greets S.loads S.refuses_to_load S.saves S.refuses_to_save
+    ensures serves { Serves rights C.makes C.awaits C.greets S.loads S.refuses_to_load S.saves S.refuses_to_save S.lists
         (sides (R.remaining input.old.0) (W.contents output.old.0) desk.old shelf.old)
         (sides (R.remaining input.new.0) (W.contents output.new.0) desk.new shelf.new) result }
     ensures read_faults { input.new.1 ≡ read_faults_after result input.old.1 }

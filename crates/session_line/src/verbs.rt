@@ -29,6 +29,7 @@ pub(crate) enum Verb {
     Map,
     Errors,
     Status,
+    Files,
     Wait,
     Batch,
     Put,
@@ -79,6 +80,8 @@ fn other_verb_of(word: &[u8]) -> Option<Verb>
         Some(Verb::Errors)
     } else if is_same_text(word, b"STATUS") {
         Some(Verb::Status)
+    } else if is_same_text(word, b"FILES") {
+        Some(Verb::Files)
     } else if is_same_text(word, b"WAIT") {
         Some(Verb::Wait)
     } else if is_same_text(word, b"BATCH") {

@@ -6,6 +6,7 @@ ghost use Rattle.text_ports.specs.Sending.{Sends, count_after_sending};
 
 use crate::change_writing::write_changes;
 use crate::error_writing::write_errors;
+use crate::file_writing::write_files;
 use crate::replies::Reply;
 use crate::reply_texts::{found_line, head_line, published_line, row_line};
 use crate::session_writing::write_sessions;
@@ -100,6 +101,7 @@ fn write_body<W: Write>(output: &mut Counted<W>, reply: &Reply<'_>) -> Result<()
             map,
             ..
         } => write_errors(output, view, decks, map),
+        Reply::Files { files, .. } => write_files(output, files),
         Reply::Sessions { sessions, .. } => write_sessions(output, sessions),
         Reply::Status {
             published,
@@ -110,8 +112,9 @@ fn write_body<W: Write>(output: &mut Counted<W>, reply: &Reply<'_>) -> Result<()
 }
 
 /// Writes a reply: its bytes, or exactly the first `sent` of them up to the first fault. Takes no
-/// memory. A reply has no more cards than a deck may have, no more edits
-/// than are kept of it, no more decks than a desk may have, and no more sessions than an office has seats.
+/// memory. A reply has no more cards than a deck may have, no more edits than are kept of it, no more
+/// decks than a desk may have, no more files than are listed, and no more sessions than an office has
+/// seats.
 pub fn write_reply<W: Write>(output: &mut Counted<W>, reply: &Reply<'_>) -> Result<(), Broken>
     requires limits { IsWithinLimits reply.now }
     ensures sends { Sends (W.contents output.old.0) (W.contents output.new.0) (text_of_reply reply.now) result }

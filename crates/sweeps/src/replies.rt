@@ -6,6 +6,7 @@ use crate::decks::{DECKS, cards_of, name_of};
 use crate::journal::Called;
 use crate::scene::Scene;
 use cards::{CardFault, MOST_CARDS};
+use deck_files::MOST_FILES;
 use desk_core::{Row, State};
 use session_line::{Connected, Refusal, Reply, Rights, reply_text, write_reply};
 use std::alloc::{AllocError, Global};
@@ -41,6 +42,7 @@ fn is_within(reply: &Reply<'_>) -> bool
         Reply::Changes { kept, .. } => kept.len() <= 2_000,
         Reply::Errors { decks, .. } => decks.len() <= 64,
         Reply::Status { decks, .. } => decks.len() <= 64,
+        Reply::Files { files, .. } => files.len() <= MOST_FILES,
         Reply::Sessions { sessions, .. } => sessions.len() <= 64,
         Reply::Done { .. } | Reply::Text { .. } | Reply::Listing(_) => true,
         Reply::Bye | Reply::Refused(_) => true,

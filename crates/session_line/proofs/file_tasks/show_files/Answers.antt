@@ -1,0 +1,14 @@
+use Rattle.std.proofs.Common.{sym, subst}
+use Rattle.session_line.specs.declared.answers.Told.{Told}
+use Rattle.session_line.specs.Answers.{told_of_wait}
+use Rattle.session_line.specs.FileTasks.{FilesTold}
+use Rattle.session_line.proofs.file_tasks.show_files.Goals as goal
+
+pub returns-in-Standing-clause-shows : goal.returns-in-Standing-clause-shows
+returns-in-Standing-clause-shows g c =
+    let Q : Told → Type 0 = λ (what : Told). FilesTold g.S.Shelf.lists what c.args.shelf.now c.tell_files.new.shelf c.tell_files.result in
+    record {
+      reply = c.call.result;
+      made = c.call.ensures;
+      kept = subst Q {y = told_of_wait c.call.result} c.told_of_wait.ensures.told (subst Q {y = c.told_of_wait.result} (sym c.in-Standing.is) c.tell_files.ensures.tells);
+    }

@@ -1,0 +1,36 @@
+-- FILES (ours): the desk is asked for its version, and then the shelf for its files.
+use Rattle.std.specs.Prelude.{ℕ, ◌≡◌, List, Result, Ok, Err}
+use Rattle.deck_files.specs.declared.deck_shelf.ShelfLoadFault.{ShelfLoadFault}
+use Rattle.deck_files.specs.declared.file_rows.FileRow.{FileRow}
+use Rattle.desk_core.specs.declared.calls.Call.{Call}
+use Rattle.desk_core.specs.declared.calls.Call.TheVariants.{Status}
+use Rattle.desk_core.specs.declared.replies.Reply.{Reply}
+use Rattle.session_line.specs.declared.answers.Told.{Told}
+use Rattle.session_line.specs.declared.answers.Told.TheVariants as told
+use Rattle.session_line.specs.declared.answers.Answer.{Answer}
+use Rattle.session_line.specs.Reasons.{load_reason}
+use Rattle.session_line.specs.Answers.{told_of_wait, called}
+
+-- what is told of the files of the shelf, or why there are none
+abbrev pub told_of_files : ℕ → Result (List FileRow) ShelfLoadFault → Told
+told_of_files version (Ok rows) = told.Files version rows
+told_of_files version (Err fault) = told.Refused (load_reason fault)
+
+module _ {S : Type 0} (lists : S → Result (List FileRow) ShelfLoadFault → S → Type 0) where
+  -- what the shelf lists is told with this version
+  pub record TellsFiles (version : ℕ) (shelf after : S) (answer : Answer) : Type 0 where
+    pub listed : Result (List FileRow) ShelfLoadFault
+    pub shelved : lists shelf listed after
+    pub answered : answer ≡ called (told_of_files version listed)
+
+  -- the files are told with the version that would be; what else would be told is, and the shelf is not called
+  abbrev pub FilesTold : Told → S → S → Answer → Type 0
+  FilesTold (told.Standing version published) shelf after answer = TellsFiles version shelf after answer
+  FilesTold what shelf after answer = (after ≡ shelf) × (answer ≡ called what)
+
+module _ {C S : Type 0} (makes : C → Call → Reply → C → Type 0) (lists : S → Result (List FileRow) ShelfLoadFault → S → Type 0) where
+  -- FILES: one call of the desk for the status, and then one of the shelf
+  pub record ShowsFiles (desk next : C) (shelf after : S) (answer : Answer) : Type 0 where
+    pub reply : Reply
+    pub made : makes desk Status reply next
+    pub kept : FilesTold lists (told_of_wait reply) shelf after answer
