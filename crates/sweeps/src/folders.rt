@@ -4,7 +4,9 @@ use crate::decks::{DECKS, DeckText, are_same, cards_of, name_of};
 use crate::journal::Called;
 use crate::scene::Scene;
 use cards::{Card, DeckName, MOST_CARDS};
-use deck_files::{FolderShelf, KnownFiles, SaveOver, Shelf, ShelfLoadFault, ShelfSaveFault};
+use deck_files::{
+    FileRow, FolderShelf, KnownFiles, SaveOver, Shelf, ShelfLoadFault, ShelfSaveFault,
+};
 use std::alloc::{AllocError, AllocGlobal, Global};
 use std::rt::Files;
 use std::sync::{Mutex, Wait};
@@ -107,17 +109,26 @@ fn save_all<S: Shelf>(scene: &mut Scene, shelf: &mut S) -> Result<(), AllocError
     Ok(())
 }
 
-/// Whether the shelf tells that a deck has so many cards; none where it tells nothing.
+/// Whether rows tell that a deck has so many cards; none where its file was not read.
+fn tells(rows: &[FileRow], deck: &[u8], cards: usize) -> Option<bool> {
+    for row in rows {
+        if row.name.as_slice() == deck {
+            return Some(row.cards? == cards);
+        }
+    }
+    Some(false)
+}
+
+/// Whether the shelf tells that a deck has so many cards; none where it tells nothing of it.
 fn tells_once<S: Shelf>(shelf: &mut S, deck: &[u8], cards: usize) -> Option<bool> {
     match shelf.list() {
-        Ok(rows) => Some(
-            rows.iter().any(|row| row.name.as_slice() == deck && row.cards == Some(cards)),
-        ),
+        Ok(rows) => tells(&rows, deck, cards),
         Err(_) => None,
     }
 }
 
-/// Lists the files of the shelf, once more where there is no memory, and finds the last version of the deck.
+/// Lists the files of the shelf, once more where there is no memory or a read fails, and finds the last version
+/// of the deck.
 fn list<S: Shelf>(scene: &mut Scene, shelf: &mut S) -> Result<(), AllocError> {
     let cards = match DECKS.last() {
         Some(deck) => cards_of(scene.alloc, deck.lines)?.len(),
