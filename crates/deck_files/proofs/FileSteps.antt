@@ -1,11 +1,12 @@
 -- Things under names: a map of names shows as the list of names and things.
-use Rattle.std.proofs.Common.{ℕ, ◌≡◌, List, [], ◌∷◌, Bool, true, false, cond, ◌&&◌, Option, Some, eqb, refl, ap, ◌∙◌, map}
+use Rattle.std.proofs.Common.{ℕ, ◌≡◌, List, [], ◌∷◌, Bool, true, false, cond, ◌&&◌, Option, Some, eqb, refl, sym, ap, ◌∙◌, map, is_some, true≢false}
 use Rattle.std.specs.Option.{option_map}
-use Rattle.std.specs.Map.{lookup}
+use Rattle.std.specs.Map.{lookup, set_value}
 use Rattle.indexmap.specs.IndexMap.{insert_entry}
 use lib.Pointwise.{pointwise}
 use Rattle.definitions.specs.Characters.{same_text}
-use Rattle.deck_files.specs.Files.{Named, named, with_named}
+use Rattle.deck_files.specs.Files.{KeptFile, Named, kept_file, named, with_named}
+use Rattle.deck_files.specs.declared.memory_shelf.MemoryFile.{MemoryFile}
 
 -- two texts are compared character by character
 pub same_text-pointwise : (a b : List ℕ) → pointwise eqb a b ≡ same_text a b
@@ -45,3 +46,25 @@ insert-shown {Y = Y} text shown (e ∷ es) key value =
     put_shown text shown (pointwise eqb (text key) (text e.0)) ((e.0, value) ∷ es) (e ∷ tail)
     ∙ ap (λ (t : Bool). cond t (files_shown text shown ((e.0, value) ∷ es)) (files_shown text shown (e ∷ tail))) (same_text-pointwise (text key) (text e.0))
     ∙ ap (λ (l : Named Y). cond (same_text (text key) (text e.0)) (files_shown text shown ((e.0, value) ∷ es)) ((text e.0, shown e.1) ∷ l)) (insert-shown text shown es key value)
+
+choose_later : {Y : Type 0} (t : Bool) (first second third : Named Y) → (t ≡ false → second ≡ third) → cond t first second ≡ cond t first third
+choose_later true first second third same = refl
+choose_later false first second third same = same refl
+
+-- another value for a key that is there
+pub set-shown : {K X Y : Type 0} (text : K → List ℕ) (shown : X → Y) (name : List ℕ) (entries : List (K × X)) (value : X) → is_some (lookup (λ k. pointwise eqb name (text k)) entries) ≡ true →
+    files_shown text shown (set_value (λ k. pointwise eqb name (text k)) entries value) ≡ with_named name (shown value) (files_shown text shown entries)
+set-shown text shown name [] value there = absurd (true≢false (sym there))
+set-shown {K = K} {Y = Y} text shown name (e ∷ es) value there =
+    let test : K → Bool = λ k. pointwise eqb name (text k) in
+    let tail = set_value test es value in
+    let front = files_shown text shown ((e.0, value) ∷ es) in
+    put_shown text shown (test e.0) ((e.0, value) ∷ es) (e ∷ tail)
+    ∙ ap (λ (t : Bool). cond t front (files_shown text shown (e ∷ tail))) (same_text-pointwise name (text e.0))
+    ∙ choose_later (same_text name (text e.0)) front (files_shown text shown (e ∷ tail)) ((text e.0, shown e.1) ∷ with_named name (shown value) (files_shown text shown es))
+    (λ other. ap (λ (l : Named Y). (text e.0, shown e.1) ∷ l)
+    (set-shown text shown name es value (sym (ap (λ (t : Bool). is_some (cond t (Some e.1) (lookup test es))) (same_text-pointwise name (text e.0) ∙ other)) ∙ there)))
+
+-- a file in memory as contracts see it
+abbrev pub file_shown : MemoryFile → KeptFile
+file_shown file = kept_file file.bytes.items file.version

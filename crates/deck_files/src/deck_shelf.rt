@@ -38,7 +38,7 @@ pub enum ShelfSaveFault {
 /// Where decks are kept, each as a file under its name. The members say what one call makes of the
 /// shelf: which shelf it finds and leaves, and what it answers.
 pub trait Shelf {
-    ghost use Rattle.std.specs.Prelude.{ℕ, List, Result, Ok, Err};
+    ghost use Rattle.std.specs.Prelude.{ℕ, Bool, List, Result, Ok, Err};
     ghost use Rattle.deck_files.specs.declared.file_rows.FileRow.{FileRow as Row};
     ghost use Rattle.deck_files.specs.FileRows.{most_files};
     ghost use Rattle.deck_files.specs.declared.deck_shelf.ShelfLoadFault.{ShelfLoadFault};
@@ -60,6 +60,12 @@ pub trait Shelf {
 
     // The shelf before, the rows of its files or why there are none, and the shelf after.
     ghost lists: { Self → Result (List Row) ShelfLoadFault → Self → Type 0 };
+
+    // The shelf before, the name, the version, and the shelf after.
+    ghost notes: { Self → List ℕ → ℕ → Self → Type 0 };
+
+    // The shelf before, the name, the version, whether its cards are those of the file, and the shelf after.
+    ghost tells_saved: { Self → List ℕ → ℕ → Bool → Self → Type 0 };
 
     /// Loads the deck with this name.
     fn load(&mut self, name: &DeckName) -> Result<Vec<Card>, ShelfLoadFault>
@@ -85,4 +91,12 @@ pub trait Shelf {
         ensures rows { IfOk result (λ rows. lists self.old (Ok rows.items) self.new) }
         ensures few { IfOk result (λ rows. length rows.items ≤ most_files) }
         ensures fault { IfErr result (λ fault. lists self.old (Err fault) self.new) };
+
+    /// The deck of this name, the last that was loaded here, has this version on the desk.
+    fn note(&mut self, name: &DeckName, version: u64)
+        ensures { notes self.old name.now version self.new };
+
+    /// Whether the deck's file has the cards of this version, by what was loaded and saved here.
+    fn is_saved(&mut self, name: &DeckName, version: u64) -> bool
+        ensures { tells_saved self.old name.now version result self.new };
 }

@@ -47,6 +47,8 @@ pub struct FolderShelf<'a, R, F = SystemFolder<'a, R>> {
     folder: &'a str,
     number: usize,
     known: &'a Mutex<KnownFiles>,
+    /// The newest version that was known of the deck loaded last, before its file was read.
+    seen: u64,
 }
 
 impl<'a, R, F> Model for FolderShelf<'a, R, F> {
@@ -96,6 +98,7 @@ impl<'a, R, F> FolderShelf<'a, R, F> {
             folder,
             number,
             known,
+            seen: 0,
         }
     }
 }
@@ -181,6 +184,7 @@ fn save_in_order<F: Folder>(
 
 impl<'a, R: Wait, F: Folder> Shelf for FolderShelf<'a, R, F> {
     ghost use Rattle.deck_files.specs.FolderShelves.{ListsDecks, LoadsDeck, LoadsNoDeck, SavesDeck, SavesNoDeck};
+    ghost use Rattle.std.specs.Prelude.{◌≡◌};
 
     ghost loads = { LoadsDeck F.has_done };
 
@@ -192,10 +196,15 @@ impl<'a, R: Wait, F: Folder> Shelf for FolderShelf<'a, R, F> {
 
     ghost lists = { ListsDecks F.has_done };
 
+    ghost notes = { λ old name version new. new ≡ old };
+
+    ghost tells_saved = { λ old name version saved new. new ≡ old };
+
     fn load(&mut self, name: &DeckName) -> Result<Vec<Card>, ShelfLoadFault> {
         let Some(place) = DeckPlace::new(self.alloc, self.folder, self.number, name) else {
             return Err(ShelfLoadFault::CannotOpen);
         };
+        self.seen = self.known.lock(self.rt).version_known(name);
         load_noted(&mut self.files, self.rt, self.known, &place, name)
     }
 
@@ -221,5 +230,14 @@ impl<'a, R: Wait, F: Folder> Shelf for FolderShelf<'a, R, F> {
             number: self.number,
         };
         list_files(&mut self.files, &within)
+    }
+
+    fn note(&mut self, name: &DeckName, version: u64) {
+        let mut known = self.known.lock(self.rt);
+        known.note_at(name, self.seen, version);
+    }
+
+    fn is_saved(&mut self, name: &DeckName, version: u64) -> bool {
+        self.known.lock(self.rt).is_saved(name, version)
     }
 }

@@ -2,9 +2,11 @@
 //!
 //! `save_over CALL SHELF FOLDER NAME OVER VERSION LINES`, with `OVER` as a program writes it: a shelf of this
 //! number saves, whose call of the first number is refused, and none where it is 0; `load_from SHELF FOLDER
-//! NAME`; `list_in CALL FOLDER`: which decks have files. The empty text is the folder in which the program runs. `write PATH LINES`; `read PATH`; `make
-//! PATH`, a folder; `remove PATH`, a file or an empty folder: which it was; `clear_folder PATH JOURNAL`: what
-//! saves have left there.
+//! NAME`; `list_in CALL FOLDER`: which decks have files. `note_in VERSION BETWEEN FOLDER NAME`: a shelf loads,
+//! another saves an empty deck of the version between, where it is not 0, and then the first notes a version;
+//! `saved_in VERSION FOLDER NAME`: whether the file has the cards of this version. The empty text is the folder in
+//! which the program runs. `write PATH LINES`; `read PATH`; `make PATH`, a folder; `remove PATH`, a file or an empty
+//! folder: which it was; `clear_folder PATH JOURNAL`: what saves have left there.
 
 use crate::files::push_lines;
 use crate::inputs::{cards_of, cut, cut_line, cut_number, name_of, number};
@@ -30,6 +32,8 @@ pub fn make<R: AllocGlobal + Files + Wait + Clone + Drop>(
         "save_over" => save_refused(rt, known, rest, answer),
         "load_from" => load_from(rt, known, rest, answer),
         "list_in" => list_refused(rt, known, rest, answer),
+        "note_in" => note_in(rt, known, rest, answer),
+        "saved_in" => saved_in(rt, known, rest, answer),
         _ => return change(rt, word, rest, answer),
     }
     true
@@ -125,6 +129,59 @@ fn load<S: Shelf>(shelf: &mut S, of: &str, answer: &mut Answer) {
             answer.line("");
         }
     }
+}
+
+/// Saves an empty deck by a shelf of its own.
+fn save_empty<R: AllocGlobal + Files + Wait + Clone + Drop>(
+    rt: &R,
+    known: &Mutex<KnownFiles>,
+    folder: &str,
+    name: &DeckName,
+    version: u64,
+    answer: &mut Answer,
+) {
+    let mut shelf = FolderShelf::new(rt, rt.alloc(), folder, 1, known);
+    let done = shelf.save(name, SaveOver::Known, version, &[]);
+    answer.debug(&done);
+    answer.line("");
+}
+
+/// Loads by a shelf, which notes a version then; another may have saved in between.
+fn note_in<R: AllocGlobal + Files + Wait + Clone + Drop>(
+    rt: &R,
+    known: &Mutex<KnownFiles>,
+    text: &str,
+    answer: &mut Answer,
+) {
+    let (version, rest) = cut_number(text);
+    let (between, rest) = cut_number(rest);
+    let (folder, of) = cut(rest);
+    let Ok(name) = name_of(of) else {
+        return;
+    };
+    let mut shelf = FolderShelf::new(rt, rt.alloc(), folder, 0, known);
+    load(&mut shelf, of, answer);
+    if between > 0 {
+        save_empty(rt, known, folder, &name, between, answer);
+    }
+    shelf.note(&name, version);
+}
+
+/// Whether the file of a deck has the cards of a version.
+fn saved_in<R: AllocGlobal + Files + Wait + Clone + Drop>(
+    rt: &R,
+    known: &Mutex<KnownFiles>,
+    text: &str,
+    answer: &mut Answer,
+) {
+    let (version, rest) = cut_number(text);
+    let (folder, of) = cut(rest);
+    let Ok(name) = name_of(of) else {
+        return;
+    };
+    let mut shelf = FolderShelf::new(rt, rt.alloc(), folder, 0, known);
+    let is_saved = shelf.is_saved(&name, version);
+    answer.line(if is_saved { "saved" } else { "unsaved" });
 }
 
 /// Lists the files of decks by a shelf of a folder, whose call of the first number is refused, and none

@@ -1,0 +1,21 @@
+use Rattle.std.proofs.Common.{ℕ, List, Option, ◌∙◌, ap}
+use Rattle.std.specs.Prelude.{vec_items}
+use Rattle.std.specs.Option.{option_map}
+use Rattle.deck_files.specs.Files.{Files, version_of, named}
+use Rattle.deck_files.specs.declared.memory_shelf.MemoryFile.{MemoryFile}
+use Rattle.deck_files.proofs.FileSteps.{file_shown, files_shown, lookup-shown}
+use Rattle.deck_files.proofs.memory_shelf.MemoryShelf.version.Goals as goal
+
+pub returns-in-Some : goal.returns-in-Some
+returns-in-Some c =
+    ap (λ (o : Option MemoryFile). version_of (option_map file_shown o)) c.in-Some.ensures.value
+    ∙ ap version_of (lookup-shown vec_items file_shown c.as_slice.result.now c.self.inside.files.entries)
+    ∙ ap (λ (n : List ℕ). version_of (named n (files_shown vec_items file_shown c.self.inside.files.entries))) c.as_slice.ensures.name
+    ∙ ap (λ (f : Files). version_of (named c.args.name.now f)) c.self.view_is
+
+pub returns-in-None : goal.returns-in-None
+returns-in-None c =
+    ap (λ (o : Option MemoryFile). version_of (option_map file_shown o)) c.in-None.ensures.value
+    ∙ ap version_of (lookup-shown vec_items file_shown c.as_slice.result.now c.self.inside.files.entries)
+    ∙ ap (λ (n : List ℕ). version_of (named n (files_shown vec_items file_shown c.self.inside.files.entries))) c.as_slice.ensures.name
+    ∙ ap (λ (f : Files). version_of (named c.args.name.now f)) c.self.view_is
