@@ -1,13 +1,14 @@
 //! Replies as bytes: to a writer, or in memory.
 ghost use Rattle.std.specs.Prelude.{◌≡◌, ◌≤◌, ◌<◌, ◌+◌, ◌*◌, ◌^◌, ◌++◌, length, IfOk, IfErr};
-ghost use Rattle.session_line.specs.Replies.{line_of, published_text, row_text, rows_text, numbers_text, body_text, text_of_reply, IsWithinLimits};
+ghost use Rattle.session_line.specs.Replies.{line_of, published_text, rows_text, numbers_text, body_text, text_of_reply, IsWithinLimits};
 ghost use Rattle.session_line.specs.Views.{numbers_of};
 ghost use Rattle.text_ports.specs.Sending.{Sends, count_after_sending};
 
 use crate::change_writing::write_changes;
 use crate::error_writing::write_errors;
-use crate::file_writing::write_files;
+use crate::line_writing::{ReplyRow, write_behind, write_rows};
 use crate::replies::Reply;
+use crate::reply_line::ReplyLine;
 use crate::reply_texts::{found_line, head_line, published_line, row_line};
 use crate::session_writing::write_sessions;
 use cards::Card;
@@ -17,25 +18,14 @@ use std::alloc::{AllocError, Global};
 use std::io::Write;
 use text_ports::{Broken, Counted, put_all};
 
-/// The lines of some decks in a status.
-fn write_rows<W: Write>(output: &mut Counted<W>, decks: &[Row]) -> Result<(), Broken>
-    requires { length decks.now ≤ 64 }
-    ensures sends { Sends (W.contents output.old.0) (W.contents output.new.0) (rows_text decks.now) result }
-    ensures count { output.new.1 ≡ count_after_sending result output.old.1 }
-    ensures few { IfErr result (λ broken. broken.sent ≤ 128 * 65) }
-{
-    let mut sent = 0;
-    for deck in decks {
-        let line = row_line(deck);
-        let bytes = line.as_slice();
-        if let Err(broken) = put_all(output, bytes) {
-            return Err(Broken {
-                sent: sent + broken.sent,
-            });
-        }
-        sent += bytes.len();
+impl ReplyRow for Row {
+    ghost use Rattle.session_line.specs.Replies.{line_of, row_text};
+
+    ghost line_text = { λ row. line_of (row_text row) };
+
+    fn line(&self) -> ReplyLine {
+        row_line(self)
     }
-    Ok(())
 }
 
 /// The lines behind the first of a status.
@@ -47,17 +37,10 @@ fn write_status<W: Write>(
     requires { length decks.now ≤ 64 }
     ensures sends { Sends (W.contents output.old.0) (W.contents output.new.0) (line_of (published_text published) ++ rows_text decks.now) result }
     ensures count { output.new.1 ≡ count_after_sending result output.old.1 }
-    ensures few { IfErr result (λ broken. broken.sent ≤ 128 * 66) }
+    ensures few { IfErr result (λ broken. broken.sent ≤ 128 * 1002) }
 {
     let line = published_line(published);
-    let bytes = line.as_slice();
-    put_all(output, bytes)?;
-    match write_rows(output, decks) {
-        Ok(()) => Ok(()),
-        Err(broken) => Err(Broken {
-            sent: bytes.len() + broken.sent,
-        }),
-    }
+    write_behind(output, line.as_slice(), decks)
 }
 
 /// The numbers of the cards that have a text, a line each.
@@ -101,7 +84,7 @@ fn write_body<W: Write>(output: &mut Counted<W>, reply: &Reply<'_>) -> Result<()
             map,
             ..
         } => write_errors(output, view, decks, map),
-        Reply::Files { files, .. } => write_files(output, files),
+        Reply::Files { files, .. } => write_rows(output, files),
         Reply::Sessions { sessions, .. } => write_sessions(output, sessions),
         Reply::Status {
             published,

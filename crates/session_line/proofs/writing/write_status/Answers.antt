@@ -1,9 +1,9 @@
-use Rattle.std.proofs.Common.{◌∙◌}
+use Rattle.std.proofs.Common.{ℕ, List, ◌++◌, subst, ◌∙◌}
 use Rattle.session_line.specs.Replies.{rows_text}
-use Rattle.text_ports.proofs.SendSteps.{part-second}
+use Rattle.text_ports.specs.Sending.{Sends}
 use Rattle.session_line.proofs.writing.write_status.Goals as goal
 
-pub returns-in-Err-clause-sends : goal.returns-in-Err-clause-sends
-returns-in-Err-clause-sends g c =
-    part-second _ _ _ _ c.as_slice-bytes.result.now (rows_text c.args.decks.now) c.in-Err.broken.sent (c.as_slice-bytes.ensures.value ∙ c.published_line-line.ensures)
-    c.in_ok-put_all.ensures.all c.in-Err.ensures.sends
+pub returns-clause-sends : goal.returns-clause-sends
+returns-clause-sends g c =
+    let P : List ℕ → Type 0 = λ (first : List ℕ). Sends (g.W.Write.contents c.args.output.now.0) (g.W.Write.contents c.write_behind.new.output.0) (first ++ rows_text c.args.decks.now) c.write_behind.result in
+    subst P (c.as_slice.ensures.value ∙ c.published_line-line.ensures) c.write_behind.ensures.sends

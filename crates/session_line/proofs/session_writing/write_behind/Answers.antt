@@ -1,8 +1,0 @@
-use Rattle.std.proofs.Common.{refl}
-use Rattle.session_line.specs.Replies.{sessions_text}
-use Rattle.text_ports.proofs.SendSteps.{part-second}
-use Rattle.session_line.proofs.session_writing.write_behind.Goals as goal
-
-pub returns-in-Err-clause-sends : goal.returns-in-Err-clause-sends
-returns-in-Err-clause-sends g c =
-    part-second _ _ _ _ c.args.first.now (sessions_text c.args.sessions.now) c.in-Err.broken.sent refl c.in_ok-put_all.ensures.all c.in-Err.ensures.sends
