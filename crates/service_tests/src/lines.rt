@@ -157,6 +157,7 @@ fn push_question(answer: &mut Answer, command: &Command) {
         Command::Errors(ErrorsView::Every) => answer.push("errors"),
         Command::Errors(ErrorsView::Of(name)) => push_named(answer, "errors of ", name.as_slice()),
         Command::Status => answer.push("status"),
+        Command::FileStatus => answer.push("status of files"),
         Command::Files => answer.push("files"),
         Command::Wait { version } => answer.number("wait ", *version),
         Command::Hello { name } => push_named(answer, "hello ", name.as_slice()),

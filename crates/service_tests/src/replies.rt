@@ -1,8 +1,8 @@
 //! Replies of sessions as texts, faults as texts, and moments.
 //!
 //! `replies`, `refusals`, `faults`: those of tables; `cards LINES`, `found TEXT|LINES`: replies that show
-//! cards; `status`: replies that show two decks; `broken`: a reply whose writer fails at each byte in turn;
-//! `moment SECONDS`.
+//! cards; `status`, `saved`: replies that show two decks; `broken`: a reply whose writer fails at each byte in
+//! turn; `moment SECONDS`.
 ghost use Rattle.std.specs.Prelude.{◌≡◌, true};
 ghost use Rattle.session_line.specs.Replies.{IsWithinLimits};
 
@@ -13,7 +13,7 @@ use deck_files::{LoadFault, MOST_FILES};
 use desk_core::{Row, State};
 use desk_service::ServeFault;
 use journal::Moment;
-use session_line::{Refusal, Reply, reply_text, write_reply};
+use session_line::{MarkedRow, Refusal, Reply, reply_text, write_reply};
 use std::alloc::{AllocError, Global};
 use text_ports::{Counted, FaultyWriter};
 
@@ -25,6 +25,7 @@ pub fn make(word: &str, rest: &str, answer: &mut Answer) -> bool {
         "cards" => show_cards(answer, rest),
         "found" => show_found(answer, rest),
         "status" => show_status(answer),
+        "saved" => show_saved(answer),
         "broken" => push_broken(answer),
         "faults" => push_faults(answer),
         "moment" => push_moment(answer, number(rest)),
@@ -43,6 +44,7 @@ fn is_within(reply: &Reply<'_>) -> bool
         Reply::Found { cards, .. } => cards.len() <= MOST_CARDS,
         Reply::Errors { decks, .. } => decks.len() <= 64,
         Reply::Status { decks, .. } => decks.len() <= 64,
+        Reply::FileStatus { decks, .. } => decks.len() <= 64,
         Reply::Files { files, .. } => files.len() <= MOST_FILES,
         Reply::Sessions { sessions, .. } => sessions.len() <= 64,
         Reply::Done { .. } | Reply::Text { .. } | Reply::Listing(_) => true,
@@ -144,22 +146,29 @@ fn show_found(answer: &mut Answer, text: &str) {
     push_reply(answer, &reply);
 }
 
+/// A deck that is behind.
+fn behind() -> Result<Row, AllocError> {
+    Ok(Row {
+        name: name_of("M")?,
+        version: 1,
+        cards: 0,
+        state: State::Behind,
+    })
+}
+
+/// A deck that is full and ready.
+fn full() -> Result<Row, AllocError> {
+    Ok(Row {
+        name: name_of("N")?,
+        version: 12,
+        cards: 20_000,
+        state: State::Ready,
+    })
+}
+
 /// A deck that is behind, and one that is full and ready.
 fn rows() -> Result<[Row; 2], AllocError> {
-    Ok([
-        Row {
-            name: name_of("M")?,
-            version: 1,
-            cards: 0,
-            state: State::Behind,
-        },
-        Row {
-            name: name_of("N")?,
-            version: 12,
-            cards: 20_000,
-            state: State::Ready,
-        },
-    ])
+    Ok([behind()?, full()?])
 }
 
 fn push_status(answer: &mut Answer, version: u64, published: Option<u64>, decks: &[Row]) {
@@ -179,6 +188,32 @@ fn show_status(answer: &mut Answer) {
         }
         Err(error) => answer.keep(Err(error)),
     }
+}
+
+/// Pushes a status of a deck whose file has not its cards, and of one whose file has.
+fn push_marked(answer: &mut Answer) -> Result<(), AllocError> {
+    let decks = [
+        MarkedRow {
+            row: behind()?,
+            saved: false,
+        },
+        MarkedRow {
+            row: full()?,
+            saved: true,
+        },
+    ];
+    let reply = Reply::FileStatus {
+        version: 12,
+        published: Some(11),
+        decks: &decks,
+    };
+    push_reply(answer, &reply);
+    Ok(())
+}
+
+fn show_saved(answer: &mut Answer) {
+    let pushed = push_marked(answer);
+    answer.keep(pushed);
 }
 
 /// Writes a reply by a writer that takes a byte a call, and fails at the call of this number: how many bytes went

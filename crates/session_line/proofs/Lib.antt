@@ -10,3 +10,4 @@ pub mod ChangeSteps
 pub mod SentSoFar
 pub mod FlagSteps
 pub mod LinkSteps
+pub mod RowSteps

@@ -241,6 +241,7 @@ line-back (command.ListOf name) is = part-back command.List command.ListOf name 
 line-back (command.Errors Every) _ = refl
 line-back (command.Errors (Of name)) is = part-back (command.Errors Every) (λ n. command.Errors (Of n)) name is
 line-back command.Status _ = refl
+line-back command.FileStatus _ = refl
 line-back command.Files _ = refl
 line-back (command.Wait version) within = number-made (λ v l. only_if (is_end l) (Ok (command.Wait v))) version [] within refl
 line-back (command.Batch head) lawful = batch-back head.name head.seen head.count lawful.0 lawful.1 lawful.2

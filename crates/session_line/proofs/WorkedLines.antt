@@ -226,6 +226,18 @@ files-blank = refl
 pub status : command_of (codes "STATUS") ≡ Ok command.Status
 status = refl
 
+pub status-blank : command_of (codes "STATUS ") ≡ Err BadCommand
+status-blank = refl
+
+pub file_status : command_of (codes "STATUS FILES") ≡ Ok command.FileStatus
+file_status = refl
+
+pub file_status-named : command_of (codes "STATUS FILES M") ≡ Err BadCommand
+file_status-named = refl
+
+pub file_status-blanks : command_of (codes "STATUS  FILES") ≡ Err BadCommand
+file_status-blanks = refl
+
 pub wait : command_of (codes "WAIT 12") ≡ Ok (command.Wait 12)
 wait = refl
 

@@ -1,5 +1,5 @@
 -- Worked commands with the lines that belong to them, and worked texts, computed.
-use Rattle.std.proofs.Common.{ℕ, ◌≡◌, List, [], ◌∷◌, None, Some, codes, refl}
+use Rattle.std.proofs.Common.{ℕ, ◌≡◌, true, false, List, [], ◌∷◌, None, Some, codes, refl}
 use Rattle.std.specs.Fmt.{digits}
 use Rattle.cards.specs.declared.card.CardFault.TheVariants as card
 use Rattle.cards.specs.declared.edits.Edit.TheVariants.{Insert, Replace, Remove}
@@ -15,10 +15,12 @@ use Rattle.session_line.specs.Commands.{command_of}
 use Rattle.session_line.specs.declared.errors.ErrorsView.TheVariants.{Every, Of}
 use Rattle.session_line.specs.declared.views.CardsView.TheVariants.{All, From, With}
 use Rattle.session_line.specs.declared.tasks.PublishedText.TheVariants.{Image, Listing, Map}
-use Rattle.session_line.specs.declared.tasks.Task.TheVariants.{Ask, AwaitVersion, ShowCards, ShowCardsAt, ShowText, ShowPart, ShowErrors, LoadDeck, SaveDeck, ShowFiles, Greet, Leave, Refuse}
+use Rattle.session_line.specs.declared.tasks.Task.TheVariants.{Ask, AwaitVersion, ShowCards, ShowCardsAt, ShowText, ShowPart, ShowErrors, LoadDeck, SaveDeck, ShowFiles, ShowFileStatus, Greet, Leave, Refuse}
 use Rattle.session_line.specs.Tasks.{lines_due, nobody, task_of}
 use Rattle.session_line.specs.Answers.{told_of_call, told_of_wait, told_of_greeting, told_of_cards, told_of_cards_at, told_of_publication, told_of_part, told_of_errors, told_text}
 use Rattle.session_line.specs.Parts.{part_of}
+use Rattle.session_line.specs.FileStatus.{marked}
+use Rattle.session_line.specs.declared.answers.Told.TheVariants as told
 use Rattle.session_line.specs.Greetings.{met}
 use Rattle.session_line.specs.Rights.{allowed}
 use Rattle.session_line.specs.declared.rights.Rights.TheVariants.{Edits, Reads}
@@ -74,6 +76,9 @@ errors_of = refl
 
 pub files : task_of (codes "FILES") [] ≡ ShowFiles
 files = refl
+
+pub file_status : task_of (codes "STATUS FILES") [] ≡ ShowFileStatus
+file_status = refl
 
 pub wait : task_of (codes "WAIT 7") [] ≡ AwaitVersion 7
 wait = refl
@@ -235,6 +240,10 @@ pub status : told_text (told_of_call (reply.StatusIs 1 None (record { name = cod
 status = unfold digits in refl
 
 -- who waited is told the status without its decks: here once version 7 is published, and where nothing is
+pub status_of_files : told_text (told.FileStatus 2 None (marked (record { name = codes "M"; version = 1; cards = 0; state = Behind }) true ∷ marked (record { name = codes "N"; version = 2; cards = 0; state = Behind }) false ∷ []))
+    ≡ codes "OK 2 3\nPUBLISHED NONE\nM 1 0 BEHIND SAVED\nN 2 0 BEHIND UNSAVED\n"
+status_of_files = unfold digits in refl
+
 pub awaited : told_text (told_of_wait (reply.StatusIs 9 (Some 7) (record { name = codes "M"; version = 9; cards = 0; state = Behind } ∷ []))) ≡ codes "OK 9 1\nPUBLISHED 7\n"
 awaited = unfold digits in refl
 
@@ -250,6 +259,9 @@ reads_changes = refl
 
 pub reads_status : allowed Reads (task_of (codes "STATUS") []) ≡ Ask call.Status
 reads_status = refl
+
+pub reads_file_status : allowed Reads (task_of (codes "STATUS FILES") []) ≡ ShowFileStatus
+reads_file_status = refl
 
 pub reads_files : allowed Reads (task_of (codes "FILES") []) ≡ ShowFiles
 reads_files = refl

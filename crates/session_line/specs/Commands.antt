@@ -99,6 +99,10 @@ list_in rest = if is_end rest then Ok command.List else made_of command.ListOf (
 abbrev pub errors_in : List ℕ → Result Command Refusal
 errors_in rest = if is_end rest then Ok (command.Errors Every) else made_of (λ name. command.Errors (Of name)) (only_name rest)
 
+-- nothing, or FILES, behind STATUS
+abbrev pub status_in : List ℕ → Result Command Refusal
+status_in rest = if is_end rest then Ok command.Status else if same_text rest (codes " FILES") then Ok command.FileStatus else Err BadCommand
+
 -- version
 abbrev pub wait_in : List ℕ → Result Command Refusal
 wait_in rest = needs (first_number rest) (λ version. only_if (is_end (behind_word rest)) (Ok (command.Wait version)))
@@ -182,7 +186,7 @@ command_by verb.Image rest = image_in rest
 command_by verb.List rest = list_in rest
 command_by verb.Map rest = alone command.Map rest
 command_by verb.Errors rest = errors_in rest
-command_by verb.Status rest = alone command.Status rest
+command_by verb.Status rest = status_in rest
 command_by verb.Files rest = alone command.Files rest
 command_by verb.Wait rest = wait_in rest
 command_by verb.Batch rest = batch_by (head_in rest)

@@ -1,5 +1,5 @@
 -- What one command makes of the desk and the shelf, and its answer (ours). The relations are those that the desk and the shelf name for one call.
-use Rattle.std.specs.Prelude.{ℕ, ◌≡◌, List, Result, Ok, Err}
+use Rattle.std.specs.Prelude.{ℕ, ◌≡◌, Bool, List, Result, Ok, Err}
 use Rattle.definitions.specs.Cards.{Card}
 use Rattle.deck_files.specs.declared.deck_shelf.ShelfLoadFault.{ShelfLoadFault}
 use Rattle.deck_files.specs.declared.deck_shelf.ShelfSaveFault.{ShelfSaveFault}
@@ -11,13 +11,14 @@ use Rattle.desk_core.specs.declared.replies.Reply.{Reply}
 use Rattle.desk_core.specs.declared.calls.Call.TheVariants.{AddDeck, Cards, CardsAt, Show}
 use Rattle.session_line.specs.declared.views.CardsView.TheVariants.{All}
 use Rattle.session_line.specs.declared.tasks.Task.{Task}
-use Rattle.session_line.specs.declared.tasks.Task.TheVariants.{Ask, AwaitVersion, ShowCards, ShowCardsAt, ShowText, ShowPart, ShowErrors, LoadDeck, SaveDeck, ShowFiles, Greet, Leave, Refuse}
+use Rattle.session_line.specs.declared.tasks.Task.TheVariants.{Ask, AwaitVersion, ShowCards, ShowCardsAt, ShowText, ShowPart, ShowErrors, LoadDeck, SaveDeck, ShowFiles, ShowFileStatus, Greet, Leave, Refuse}
 use Rattle.session_line.specs.declared.answers.Told.{Told}
 use Rattle.session_line.specs.declared.answers.Told.TheVariants as told
 use Rattle.session_line.specs.declared.answers.Answer.{Answer}
 use Rattle.session_line.specs.Reasons.{load_reason, save_reason}
 use Rattle.session_line.specs.declared.greetings.Greeting.{Greeting}
 use Rattle.session_line.specs.FileTasks.{ShowsFiles}
+use Rattle.session_line.specs.FileStatus.{ShowsFileStatus}
 use Rattle.session_line.specs.Answers.{told_of_call, told_of_wait, told_of_greeting, told_of_cards, told_of_publication, told_of_part, told_of_errors, IsToldAt, called, uncalled}
 
 module _ {C : Type 0} (makes : C → Call → Reply → C → Type 0) where
@@ -57,12 +58,21 @@ module _ {S : Type 0} (saves : S → Saving → S → Type 0) (refuses_to_save :
   SavesTold name over (told.Cards version cards view) shelf after answer = SavesCards name over version cards shelf after answer
   SavesTold name over what shelf after answer = (after ≡ shelf) × (answer ≡ called what)
 
-module _ {C S : Type 0} (makes : C → Call → Reply → C → Type 0) (loads : S → List ℕ → List Card → S → Type 0) (refuses_to_load : S → List ℕ → ShelfLoadFault → S → Type 0) where
-  -- LOAD: one load of the shelf, and then one addition to the desk
+module _ {S : Type 0} (notes : S → List ℕ → ℕ → S → Type 0) where
+  -- the shelf notes the version that is told, if one is
+  abbrev pub NotesTold : List ℕ → Told → S → S → Type 0
+  NotesTold name (told.Done version) shelf after = notes shelf name version after
+  NotesTold name what shelf after = after ≡ shelf
+
+module _ {C S : Type 0} (makes : C → Call → Reply → C → Type 0) (loads : S → List ℕ → List Card → S → Type 0) (refuses_to_load : S → List ℕ → ShelfLoadFault → S → Type 0)
+    (notes : S → List ℕ → ℕ → S → Type 0) where
+  -- LOAD: one load of the shelf, and then one addition to the desk, whose version the shelf notes
   pub record LoadsDeck (name : List ℕ) (desk next : C) (shelf after : S) (answer : Answer) : Type 0 where
     pub loaded : Result (List Card) ShelfLoadFault
-    pub shelved : ShelfLoads loads refuses_to_load name shelf loaded after
+    pub between : S
+    pub shelved : ShelfLoads loads refuses_to_load name shelf loaded between
     pub added : AddsLoaded makes name loaded desk next answer
+    pub noted : NotesTold notes name answer.told between after
 
 module _ {C S : Type 0} (makes : C → Call → Reply → C → Type 0) (saves : S → Saving → S → Type 0) (refuses_to_save : S → Saving → ShelfSaveFault → S → Type 0) where
   -- SAVE: the desk is asked for the cards, and then the shelf saves them
@@ -88,7 +98,8 @@ module _ {C : Type 0} (greets : C → List ℕ → Greeting → C → Type 0) wh
 module _ {C S : Type 0} (makes : C → Call → Reply → C → Type 0) (awaits : C → ℕ → Reply → C → Type 0) (greets : C → List ℕ → Greeting → C → Type 0) (loads : S → List ℕ → List Card → S → Type 0)
     (refuses_to_load : S → List ℕ → ShelfLoadFault → S → Type 0)
     (saves : S → Saving → S → Type 0) (refuses_to_save : S → Saving → ShelfSaveFault → S → Type 0)
-    (lists : S → Result (List FileRow) ShelfLoadFault → S → Type 0) where
+    (lists : S → Result (List FileRow) ShelfLoadFault → S → Type 0)
+    (notes : S → List ℕ → ℕ → S → Type 0) (tells_saved : S → List ℕ → ℕ → Bool → S → Type 0) where
   -- nothing is called, and this is told
   abbrev pub OnlyTells : Answer → C → C → S → S → Answer → Type 0
   OnlyTells what desk next shelf after answer = (next ≡ desk) × (after ≡ shelf) × (answer ≡ what)
@@ -102,9 +113,10 @@ module _ {C S : Type 0} (makes : C → Call → Reply → C → Type 0) (awaits 
   Executes (ShowText text) desk next shelf after answer = Asks makes Show (told_of_publication text) desk next answer × (after ≡ shelf)
   Executes (ShowPart text name) desk next shelf after answer = Asks makes Show (told_of_part text name) desk next answer × (after ≡ shelf)
   Executes (ShowErrors view) desk next shelf after answer = Asks makes Show (told_of_errors view) desk next answer × (after ≡ shelf)
-  Executes (LoadDeck name) desk next shelf after answer = LoadsDeck makes loads refuses_to_load name desk next shelf after answer
+  Executes (LoadDeck name) desk next shelf after answer = LoadsDeck makes loads refuses_to_load notes name desk next shelf after answer
   Executes (SaveDeck name over) desk next shelf after answer = SavesDeck makes saves refuses_to_save name over desk next shelf after answer
   Executes ShowFiles desk next shelf after answer = ShowsFiles makes lists desk next shelf after answer
+  Executes ShowFileStatus desk next shelf after answer = ShowsFileStatus makes tells_saved desk next shelf after answer
   Executes (Greet name) desk next shelf after answer = Greets greets name desk next answer × (after ≡ shelf)
   Executes Leave desk next shelf after answer = OnlyTells (uncalled told.Bye) desk next shelf after answer
   Executes (Refuse reason) desk next shelf after answer = OnlyTells (uncalled (told.Refused reason)) desk next shelf after answer

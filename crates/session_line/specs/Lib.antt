@@ -20,6 +20,7 @@ pub mod LineItems
 pub mod Reasons
 pub mod Answers
 pub mod FileTasks
+pub mod FileStatus
 pub mod Executing
 pub mod Serving
 pub mod Kinds

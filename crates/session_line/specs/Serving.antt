@@ -1,5 +1,5 @@
 -- One line of a session is served (ours): what its bytes in, its call of the desk with that of the shelf, and its bytes out have to do with each other.
-use Rattle.std.specs.Prelude.{ℕ, ◌≡◌, ◌<◌, ◌⊎◌, true, false, List, Option, Result, length, take}
+use Rattle.std.specs.Prelude.{ℕ, ◌≡◌, ◌<◌, ◌⊎◌, Bool, true, false, List, Option, Result, length, take}
 use Rattle.std.specs.Io.KnownBytes.{Appends}
 use Rattle.definitions.specs.Cards.{Card}
 use Rattle.text_ports.specs.Faults.{count_up}
@@ -61,13 +61,14 @@ module _ {C S : Type 0} where
 module _ {C S : Type 0} (rights : Rights) (makes : C → Call → Reply → C → Type 0) (awaits : C → ℕ → Reply → C → Type 0) (greets : C → List ℕ → Greeting → C → Type 0) (loads : S → List ℕ → List Card → S → Type 0)
     (refuses_to_load : S → List ℕ → ShelfLoadFault → S → Type 0)
     (saves : S → Saving → S → Type 0) (refuses_to_save : S → Saving → ShelfSaveFault → S → Type 0)
-    (lists : S → Result (List FileRow) ShelfLoadFault → S → Type 0) where
+    (lists : S → Result (List FileRow) ShelfLoadFault → S → Type 0)
+    (notes : S → List ℕ → ℕ → S → Type 0) (tells_saved : S → List ℕ → ℕ → Bool → S → Type 0) where
   -- one command is taken whole, and what the session may do of it is executed once and answered
   pub record ServesCommand (old new : Sides C S) (outcome : Outcome) : Type 0 where
     pub task : Task
     pub answer : Answer
     pub taken : TakesTask old.input new.input task
-    pub executed : Executes makes awaits greets loads refuses_to_load saves refuses_to_save lists (allowed rights task) old.desk new.desk old.shelf new.shelf answer
+    pub executed : Executes makes awaits greets loads refuses_to_load saves refuses_to_save lists notes tells_saved (allowed rights task) old.desk new.desk old.shelf new.shelf answer
     pub sent : GoesOut old.output new.output answer outcome
 
   -- one line of a session is served

@@ -13,7 +13,7 @@ use Rattle.session_line.specs.Edits.{edit_in_batch, card_in_put}
 use Rattle.session_line.specs.Commands.{command_of}
 use Rattle.session_line.specs.declared.tasks.PublishedText.TheVariants.{Image, Listing, Map}
 use Rattle.session_line.specs.declared.tasks.Task.{Task}
-use Rattle.session_line.specs.declared.tasks.Task.TheVariants.{Ask, AwaitVersion, ShowCards, ShowCardsAt, ShowText, ShowPart, ShowErrors, LoadDeck, SaveDeck, ShowFiles, Greet, Leave, Refuse}
+use Rattle.session_line.specs.declared.tasks.Task.TheVariants.{Ask, AwaitVersion, ShowCards, ShowCardsAt, ShowText, ShowPart, ShowErrors, LoadDeck, SaveDeck, ShowFiles, ShowFileStatus, Greet, Leave, Refuse}
 
 -- how many lines belong to a command behind its first
 abbrev pub lines_behind : Command → ℕ
@@ -101,6 +101,7 @@ task_of_command (command.ImageOf name) lines = ShowPart Image name
 task_of_command (command.ListOf name) lines = ShowPart Listing name
 task_of_command (command.Errors view) lines = ShowErrors view
 task_of_command command.Status lines = Ask Status
+task_of_command command.FileStatus lines = ShowFileStatus
 task_of_command command.Files lines = ShowFiles
 task_of_command (command.Wait version) lines = AwaitVersion version
 task_of_command (command.Batch head) lines = batch_named head.name head.seen (edits_of lines)

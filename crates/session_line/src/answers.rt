@@ -2,11 +2,12 @@
 ghost use Rattle.std.specs.Prelude.{◌≡◌, ◌≤◌, ◌⊎◌, length, option_map};
 ghost use Rattle.session_line.specs.Replies.{text_of_reply, IsWithinLimits};
 ghost use Rattle.deck_linker.specs.Publishing.{map_of};
-ghost use Rattle.session_line.specs.Answers.{foreign, told_of_call, told_of_wait, told_of_greeting, told_of_cards, told_of_backs, told_of_part, told_of_errors, told_of_publication, lines_text, part_text, errors_text, shown_part, shown_text, view_text, told_text, is_bye, IsTellable, IsToldAt};
+ghost use Rattle.session_line.specs.Answers.{foreign, told_of_call, told_of_wait, told_of_greeting, told_of_cards, told_of_backs, told_of_part, told_of_errors, told_of_publication, lines_text, part_text, errors_text, status_text, shown_part, shown_text, view_text, told_text, is_bye, IsTellable, IsToldAt};
 
 use crate::Refusal;
 use crate::errors::{ErrorsView, shows_any};
 use crate::greetings::{Connected, Greeting};
+use crate::marked_rows::MarkedRow;
 use crate::parts::part_of;
 use crate::reasons::desk_reason;
 use crate::tasks::PublishedText;
@@ -43,6 +44,8 @@ pub(crate) enum Told {
     Errors(SharedPublication, ErrorsView),
     /// The desk's version, the published one, and a row for each deck.
     Status(u64, Option<u64>, Listed<Row>),
+    /// The desk's version, the published one, and a row for each deck, with whether its file has its cards.
+    FileStatus(u64, Option<u64>, Listed<MarkedRow>),
     /// The desk's version and the published one.
     Standing(u64, Option<u64>),
     /// The desk's version, and the rows of the files of decks.
@@ -292,6 +295,19 @@ fn errors_reply<'a>(publication: &'a ListedPublication, view: &'a ErrorsView) ->
     }
 }
 
+/// The reply with the status of these decks.
+fn status_reply<'a>(version: u64, published: Option<u64>, decks: &'a [Row]) -> crate::Reply<'a>
+    requires { length decks.now ≤ 64 }
+    ensures text { text_of_reply result ≡ status_text version published decks.now }
+    ensures limits { IsWithinLimits result }
+{
+    crate::Reply::Status {
+        version,
+        published,
+        decks,
+    }
+}
+
 /// The reply with what is shown of a deck's cards.
 fn view_reply<'a>(version: u64, view: &'a CardsView, cards: &'a [Card]) -> crate::Reply<'a>
     requires { length cards.now ≤ 20000 }
@@ -329,16 +345,15 @@ impl Told {
             Told::Published(shared, text) => published_reply(shared.publication(), *text),
             Told::Part(shared, text, name) => part_reply(shared.publication(), *text, name),
             Told::Errors(shared, view) => errors_reply(shared.publication(), view),
-            Told::Status(version, published, rows) => crate::Reply::Status {
+            Told::Status(version, published, rows) => {
+                status_reply(*version, *published, rows.as_slice())
+            }
+            Told::FileStatus(version, published, decks) => crate::Reply::FileStatus {
                 version: *version,
                 published: *published,
-                decks: rows.as_slice(),
+                decks: decks.as_slice(),
             },
-            Told::Standing(version, published) => crate::Reply::Status {
-                version: *version,
-                published: *published,
-                decks: &[],
-            },
+            Told::Standing(version, published) => status_reply(*version, *published, &[]),
             Told::Files(version, files) => crate::Reply::Files {
                 version: *version,
                 files: files.as_slice(),

@@ -1,7 +1,7 @@
 //! The commands of a session.
 ghost use Rattle.std.specs.Prelude.{◌≡◌};
 ghost use Rattle.session_line.specs.declared.commands.Command.TheVariants as command;
-ghost use Rattle.session_line.specs.Commands.{name_in, alone, only_name, save_over_in, save_in, view_in, at_in, cards_by, cards_in, sought_in, find_in, image_in, list_in, errors_in, wait_in, named_version, of_version, edit_in, head_in, batch_by, put_of, put_by, command_by, command_of, is_batch_size, is_put_size};
+ghost use Rattle.session_line.specs.Commands.{name_in, alone, only_name, save_over_in, save_in, view_in, at_in, cards_by, cards_in, sought_in, find_in, image_in, list_in, errors_in, status_in, wait_in, named_version, of_version, edit_in, head_in, batch_by, put_of, put_by, command_by, command_of, is_batch_size, is_put_size};
 
 use crate::edits::{edit_at, fits_edit};
 use crate::errors::ErrorsView;
@@ -81,6 +81,8 @@ pub enum Command {
     Errors(ErrorsView),
     /// The versions and states of all decks.
     Status,
+    /// The same, with whether the file of each deck has its cards.
+    FileStatus,
     /// The deck files of the shelf.
     Files,
     /// The desk's version and the published one, once this version or a later one is published.
@@ -306,6 +308,19 @@ fn errors_in(rest: &[u8]) -> Result<Command, Refusal>
     Ok(Command::Errors(ErrorsView::Of(name)))
 }
 
+/// Nothing, or `FILES`, behind `STATUS`.
+fn status_in(rest: &[u8]) -> Result<Command, Refusal>
+    ensures { result ≡ status_in rest.now }
+{
+    if rest.is_empty() {
+        Ok(Command::Status)
+    } else if is_same_text(rest, b" FILES") {
+        Ok(Command::FileStatus)
+    } else {
+        Err(Refusal::BadCommand)
+    }
+}
+
 /// `version`
 fn wait_in(rest: &[u8]) -> Result<Command, Refusal>
     ensures { result ≡ wait_in rest.now }
@@ -488,7 +503,7 @@ fn command_by(verb: Verb, rest: &[u8]) -> Result<Command, Refusal>
         Verb::List => list_in(rest),
         Verb::Map => alone(Command::Map, rest),
         Verb::Errors => errors_in(rest),
-        Verb::Status => alone(Command::Status, rest),
+        Verb::Status => status_in(rest),
         Verb::Files => alone(Command::Files, rest),
         Verb::Wait => wait_in(rest),
         Verb::Batch => batch_in(rest),

@@ -1,7 +1,7 @@
 //! Executes a task once.
 ghost use Rattle.std.specs.Prelude.{◌≡◌, ◌≤◌, length};
 ghost use Rattle.session_line.specs.Answers.{IsTellable, called, most_cards, told_of_call, told_of_cards, told_of_errors, told_of_greeting, told_of_part, told_of_publication, told_of_wait, uncalled};
-ghost use Rattle.session_line.specs.Executing.{Asks, AsksAt, AwaitsVersion, Executes, Greets, LoadsDeck, SavesCards, SavesDeck};
+ghost use Rattle.session_line.specs.Executing.{Asks, AsksAt, AwaitsVersion, Executes, Greets, LoadsDeck, NotesTold, SavesCards, SavesDeck};
 ghost use Rattle.desk_core.specs.declared.calls.Call.TheVariants.{Cards, Show};
 
 use crate::answers::{
@@ -10,6 +10,7 @@ use crate::answers::{
 };
 use crate::calls::Calls;
 use crate::errors::ErrorsView;
+use crate::file_status::show_file_status;
 use crate::file_tasks::show_files;
 use crate::reasons::{load_reason, save_reason};
 use crate::tasks::{PublishedText, Task};
@@ -104,13 +105,27 @@ fn show_errors<C: Calls>(desk: &mut C, view: ErrorsView) -> Answer
     called(told_of_errors(view, desk.call(Call::Show)))
 }
 
-/// One load of the shelf, and then the addition of its cards to the desk.
+/// The shelf notes the version that is told of the deck, if one is.
+fn note_told<S: Shelf>(shelf: &mut S, name: &DeckName, told: &Told)
+    ensures { NotesTold S.notes name.now told.now shelf.old shelf.new }
+{
+    match told {
+        Told::Done(version) => shelf.note(name, *version),
+        _ => {}
+    }
+}
+
+/// One load of the shelf, then the addition of its cards to the desk, and the version of that goes to the shelf.
 fn load_deck<C: Calls, S: Shelf>(desk: &mut C, shelf: &mut S, name: DeckName) -> Answer
-    ensures loads { LoadsDeck C.makes S.loads S.refuses_to_load name desk.old desk.new shelf.old shelf.new result }
+    ensures loads { LoadsDeck C.makes S.loads S.refuses_to_load S.notes name desk.old desk.new shelf.old shelf.new result }
     ensures fits { IsTellable result.told }
 {
     match shelf.load(&name) {
-        Ok(cards) => ask(desk, Call::AddDeck(NewDeck::new(name, cards))),
+        Ok(cards) => {
+            let answer = ask(desk, Call::AddDeck(NewDeck::new(name.copied(), cards)));
+            note_told(shelf, &name, &answer.told);
+            answer
+        }
         Err(fault) => uncalled(Told::Refused(load_reason(fault))),
     }
 }
@@ -158,7 +173,7 @@ pub(crate) fn execute<C: Calls, S: Shelf>(
     shelf: &mut S,
     task: Task,
 ) -> Answer
-    ensures executes { Executes C.makes C.awaits C.greets S.loads S.refuses_to_load S.saves S.refuses_to_save S.lists task desk.old desk.new shelf.old shelf.new result }
+    ensures executes { Executes C.makes C.awaits C.greets S.loads S.refuses_to_load S.saves S.refuses_to_save S.lists S.notes S.tells_saved task desk.old desk.new shelf.old shelf.new result }
     ensures fits { IsTellable result.told }
 {
     match task {
@@ -172,6 +187,7 @@ pub(crate) fn execute<C: Calls, S: Shelf>(
         Task::LoadDeck(name) => load_deck(desk, shelf, name),
         Task::SaveDeck(name, over) => save_deck(desk, shelf, &name, over),
         Task::ShowFiles => show_files(desk, shelf),
+        Task::ShowFileStatus => show_file_status(alloc, desk, shelf),
         Task::Greet(name) => greet(alloc, desk, &name),
         Task::Leave => uncalled(Told::Bye),
         Task::Refuse(refusal) => uncalled(Told::Refused(refusal)),

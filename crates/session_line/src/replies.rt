@@ -2,6 +2,7 @@
 
 use crate::errors::ErrorsView;
 use crate::greetings::Connected;
+use crate::marked_rows::MarkedRow;
 use crate::refusals::Refusal;
 use cards::Card;
 use deck_files::FileRow;
@@ -52,6 +53,13 @@ pub enum Reply<'a> {
         version: u64,
         published: Option<u64>,
         decks: &'a [Row],
+    },
+    /// `OK version n`, then `PUBLISHED version` or `PUBLISHED NONE`, and a line for each deck, with whether its
+    /// file has its cards.
+    FileStatus {
+        version: u64,
+        published: Option<u64>,
+        decks: &'a [MarkedRow],
     },
     /// `OK version n`, then a line for each file of a deck.
     Files {

@@ -100,6 +100,7 @@ pub(crate) fn head_line(reply: &Reply<'_>) -> ReplyLine
             map,
         } => counted_line(*version, error_count(view, decks, map)),
         Reply::Status { version, decks, .. } => counted_line(*version, decks.len() + 1),
+        Reply::FileStatus { version, decks, .. } => counted_line(*version, decks.len() + 1),
         Reply::Files { version, files } => counted_line(*version, files.len()),
         Reply::Sessions { version, sessions } => counted_line(*version, sessions.len() + 1),
         Reply::Bye => bye_line(),
@@ -179,9 +180,10 @@ fn state_text(state: State) -> &'static [u8]
     }
 }
 
-/// The line of a deck in a status.
-pub(crate) fn row_line(row: &Row) -> ReplyLine
-    ensures { result ≡ line_of (row_text row.now) }
+/// The line of a deck in a status, up to its end.
+pub(crate) fn row_start(row: &Row) -> ReplyLine
+    ensures text { result ≡ row_text row.now }
+    ensures short { length result ≤ 56 }
 {
     let mut line = ReplyLine::new();
     line.put(row.name.as_slice());
@@ -191,6 +193,14 @@ pub(crate) fn row_line(row: &Row) -> ReplyLine
     line.put_number(row.cards as u64);
     line.put(b" ");
     line.put(state_text(row.state));
+    line
+}
+
+/// The line of a deck in a status.
+pub(crate) fn row_line(row: &Row) -> ReplyLine
+    ensures { result ≡ line_of (row_text row.now) }
+{
+    let mut line = row_start(row);
     line.end();
     line
 }

@@ -47,6 +47,8 @@ pub(crate) enum Task {
     SaveDeck(DeckName, SaveOver),
     /// The files of decks on the shelf are shown.
     ShowFiles,
+    /// The status is shown, with whether the file of each deck has its cards.
+    ShowFileStatus,
     /// This is the session's name, and who is connected is shown.
     Greet(DeckName),
     /// The end of the session.
@@ -67,7 +69,8 @@ fn lines_behind(command: &Command) -> u64
         Command::CardsAt { .. } | Command::Changes { .. } | Command::Undo { .. } => 0,
         Command::Image | Command::List | Command::Map => 0,
         Command::ImageOf { .. } | Command::ListOf { .. } | Command::Errors(_) => 0,
-        Command::Status | Command::Files | Command::Wait { .. } => 0,
+        Command::Status | Command::FileStatus | Command::Files => 0,
+        Command::Wait { .. } => 0,
         Command::Hello { .. } | Command::Bye => 0,
     }
 }
@@ -218,6 +221,7 @@ fn task_of_command(alloc: Global, command: Command, edits: ItemsRead<Edit>) -> T
         Command::ListOf { name } => Task::ShowPart(PublishedText::Listing, name),
         Command::Errors(view) => Task::ShowErrors(view),
         Command::Status => Task::Ask(Call::Status),
+        Command::FileStatus => Task::ShowFileStatus,
         Command::Files => Task::ShowFiles,
         Command::Wait { version } => Task::AwaitVersion(version),
         Command::Batch(head) => batch_named(head, edits),

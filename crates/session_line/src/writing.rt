@@ -1,6 +1,6 @@
 //! Replies as bytes: to a writer, or in memory.
-ghost use Rattle.std.specs.Prelude.{◌≡◌, ◌≤◌, ◌<◌, ◌+◌, ◌*◌, ◌^◌, ◌++◌, length, IfOk, IfErr};
-ghost use Rattle.session_line.specs.Replies.{line_of, published_text, rows_text, numbers_text, body_text, text_of_reply, IsWithinLimits};
+ghost use Rattle.std.specs.Prelude.{◌≡◌, ◌≤◌, ◌<◌, ◌+◌, ◌*◌, ◌^◌, ◌++◌, length, flat_map, IfOk, IfErr};
+ghost use Rattle.session_line.specs.Replies.{line_of, published_text, numbers_text, body_text, text_of_reply, IsWithinLimits};
 ghost use Rattle.session_line.specs.Views.{numbers_of};
 ghost use Rattle.text_ports.specs.Sending.{Sends, count_after_sending};
 
@@ -29,13 +29,13 @@ impl ReplyRow for Row {
 }
 
 /// The lines behind the first of a status.
-fn write_status<W: Write>(
+fn write_status<W: Write, T: ReplyRow>(
     output: &mut Counted<W>,
     published: Option<u64>,
-    decks: &[Row],
+    decks: &[T],
 ) -> Result<(), Broken>
     requires { length decks.now ≤ 64 }
-    ensures sends { Sends (W.contents output.old.0) (W.contents output.new.0) (line_of (published_text published) ++ rows_text decks.now) result }
+    ensures sends { Sends (W.contents output.old.0) (W.contents output.new.0) (line_of (published_text published) ++ flat_map T.line_text decks.now) result }
     ensures count { output.new.1 ≡ count_after_sending result output.old.1 }
     ensures few { IfErr result (λ broken. broken.sent ≤ 128 * 1002) }
 {
@@ -87,6 +87,11 @@ fn write_body<W: Write>(output: &mut Counted<W>, reply: &Reply<'_>) -> Result<()
         Reply::Files { files, .. } => write_rows(output, files),
         Reply::Sessions { sessions, .. } => write_sessions(output, sessions),
         Reply::Status {
+            published,
+            decks,
+            ..
+        } => write_status(output, *published, decks),
+        Reply::FileStatus {
             published,
             decks,
             ..

@@ -22,7 +22,7 @@ const TURNS: u32 = 8;
 const LACKING: &str = "NO OutOfMemory\n";
 
 /// Commands with their lines, and their replies.
-const COMMANDS: [Command; 23] = [
+const COMMANDS: [Command; 24] = [
     (Called::AddDeck, "ADD M\n", "OK 1\n"),
     (Called::EditDeck, "INS M 1 1           IDENT  M\n", "OK 2\n"),
     (
@@ -58,6 +58,11 @@ const COMMANDS: [Command; 23] = [
     (Called::Find, "FIND M  M\n", "OK 3 1\n1\n"),
     (Called::SaveDeck, "SAVE M\n", "OK 3\n"),
     (Called::LoadDeck, "LOAD N\n", "OK 4\n"),
+    (
+        Called::Status,
+        "STATUS FILES\n",
+        "OK 4 3\nPUBLISHED NONE\nM 3 3 BEHIND SAVED\nN 4 4 BEHIND SAVED\n",
+    ),
     (
         Called::PutDeck,
         "PUT N 4 2\n*\n*a\n",

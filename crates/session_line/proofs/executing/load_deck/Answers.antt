@@ -1,19 +1,31 @@
-use Rattle.std.proofs.Common.{Ok, Err, refl, ap, subst, ◌∙◌}
+use Rattle.std.proofs.Common.{ℕ, List, Ok, Err, refl, sym, ap, subst, ◌∙◌}
 use Rattle.definitions.specs.DeckInput.{Deck}
 use Rattle.desk_core.specs.declared.calls.Call.TheVariants.{AddDeck}
 use Rattle.session_line.specs.declared.answers.Told.TheVariants as told
+use Rattle.session_line.specs.declared.answers.Answer.{Answer}
 use Rattle.session_line.specs.Answers.{told_of_call, uncalled}
-use Rattle.session_line.specs.Executing.{Asks}
+use Rattle.session_line.specs.Executing.{Asks, NotesTold}
 use Rattle.session_line.proofs.executing.load_deck.Goals as goal
 
 pub returns-in-Ok-clause-loads : goal.returns-in-Ok-clause-loads
 returns-in-Ok-clause-loads g c =
-    let P : Deck → Type 0 = λ (deck : Deck). Asks g.C.Calls.makes (AddDeck deck) told_of_call c.args.desk.now c.ask.new.desk c.ask.result in
-    record { loaded = Ok c.in-Ok.cards.items; shelved = c.in-Ok.ensures.cards; added = subst P c.new.ensures c.ask.ensures.asks }
+    let P : Deck → Type 0 = λ (deck : Deck). Asks g.C.Calls.makes (AddDeck deck) told_of_call c.args.desk.now c.ask-answer.new.desk c.ask-answer.result in
+    let Q : List ℕ → Type 0 = λ (name : List ℕ). P (record { name = name; cards = c.in-Ok.cards.items }) in
+    record {
+      loaded = Ok c.in-Ok.cards.items;
+      between = c.load.new.self;
+      shelved = c.in-Ok.ensures.cards;
+      added = subst Q c.copied.ensures (subst P c.new.ensures c.ask-answer.ensures.asks);
+      noted = c.note_told.ensures;
+    }
 
 pub returns-in-Err-clause-loads : goal.returns-in-Err-clause-loads
-returns-in-Err-clause-loads g c = record {
-  loaded = Err c.in-Err.fault;
-  shelved = c.in-Err.ensures.fault;
-  added = (refl, c.uncalled.ensures ∙ ap (λ r. uncalled (told.Refused r)) c.load_reason.ensures);
-}
+returns-in-Err-clause-loads g c =
+    let told = c.uncalled.ensures ∙ ap (λ r. uncalled (told.Refused r)) c.load_reason.ensures in
+    record {
+      loaded = Err c.in-Err.fault;
+      between = c.load.new.self;
+      shelved = c.in-Err.ensures.fault;
+      added = (refl, told);
+      noted = subst (λ (answer : Answer). NotesTold g.S.Shelf.notes c.args.name answer.told c.load.new.self c.load.new.self) (sym told) refl;
+    }

@@ -1,9 +1,8 @@
-use Rattle.std.proofs.Common.{ℕ, List, ◌++◌, subst, ◌∙◌}
-use Rattle.session_line.specs.Replies.{rows_text}
+use Rattle.std.proofs.Common.{ℕ, List, ◌++◌, flat_map, subst, ◌∙◌}
 use Rattle.text_ports.specs.Sending.{Sends}
 use Rattle.session_line.proofs.writing.write_status.Goals as goal
 
 pub returns-clause-sends : goal.returns-clause-sends
 returns-clause-sends g c =
-    let P : List ℕ → Type 0 = λ (first : List ℕ). Sends (g.W.Write.contents c.args.output.now.0) (g.W.Write.contents c.write_behind.new.output.0) (first ++ rows_text c.args.decks.now) c.write_behind.result in
+    let P : List ℕ → Type 0 = λ (first : List ℕ). Sends (g.W.Write.contents c.args.output.now.0) (g.W.Write.contents c.write_behind.new.output.0) (first ++ flat_map g.T.ReplyRow.line_text c.args.decks.now) c.write_behind.result in
     subst P (c.as_slice.ensures.value ∙ c.published_line-line.ensures) c.write_behind.ensures.sends

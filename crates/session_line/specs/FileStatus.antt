@@ -1,0 +1,40 @@
+-- STATUS FILES (ours): the desk is asked for its status, and then the shelf, deck by deck, whether its file has its cards.
+use Rattle.std.specs.Prelude.{ℕ, ◌≡◌, Bool, List, [], ◌∷◌, ◌++◌, Option}
+use Rattle.desk_core.specs.declared.calls.Call.{Call}
+use Rattle.desk_core.specs.declared.calls.Call.TheVariants.{Status}
+use Rattle.desk_core.specs.declared.replies.Reply.{Reply}
+use Rattle.desk_core.specs.declared.replies.Row.{Row}
+use Rattle.session_line.specs.declared.marked_rows.MarkedRow.{MarkedRow}
+use Rattle.session_line.specs.declared.refusals.Refusal.TheVariants.{OutOfMemory}
+use Rattle.session_line.specs.declared.answers.Told.{Told}
+use Rattle.session_line.specs.declared.answers.Told.TheVariants as told
+use Rattle.session_line.specs.declared.answers.Answer.{Answer}
+use Rattle.session_line.specs.Answers.{told_of_call, called}
+
+-- the row of a deck, marked so
+abbrev pub marked : Row → Bool → MarkedRow
+marked row saved = record { row = row; saved = saved }
+
+module _ {S : Type 0} (tells_saved : S → List ℕ → ℕ → Bool → S → Type 0) where
+  -- the shelf told of these decks, one after the other, whether the file of each has the cards of its version
+  pub data MarksRows (first : S) : List Row → List MarkedRow → S → Type 0 where
+    no_row : MarksRows first [] [] first
+    next_row : (rows : List Row) (marks : List MarkedRow) (middle last : S) (row : Row) (saved : Bool) → MarksRows first rows marks middle → tells_saved middle row.name row.version saved last →
+        MarksRows first (rows ++ row ∷ []) (marks ++ marked row saved ∷ []) last
+
+  -- the status is told with its decks marked; or there was no memory for the marks, and the shelf was not called
+  pub data TellsMarks (version : ℕ) (published : Option ℕ) (rows : List Row) (shelf after : S) (answer : Answer) : Type 0 where
+    told_all : (marks : List MarkedRow) → MarksRows shelf rows marks after → answer ≡ called (told.FileStatus version published marks) → TellsMarks version published rows shelf after answer
+    lacking : after ≡ shelf → answer ≡ called (told.Refused OutOfMemory) → TellsMarks version published rows shelf after answer
+
+  -- the decks of the status that would be told are marked; what else would be told is, and the shelf is not called
+  abbrev pub MarksTold : Told → S → S → Answer → Type 0
+  MarksTold (told.Status version published rows) shelf after answer = TellsMarks version published rows shelf after answer
+  MarksTold what shelf after answer = (after ≡ shelf) × (answer ≡ called what)
+
+module _ {C S : Type 0} (makes : C → Call → Reply → C → Type 0) (tells_saved : S → List ℕ → ℕ → Bool → S → Type 0) where
+  -- STATUS FILES: one call of the desk for the status, and then one of the shelf for each deck
+  pub record ShowsFileStatus (desk next : C) (shelf after : S) (answer : Answer) : Type 0 where
+    pub reply : Reply
+    pub made : makes desk Status reply next
+    pub kept : MarksTold tells_saved (told_of_call reply) shelf after answer
