@@ -45,17 +45,18 @@ write_faults-ending outcome flushed told faults h e = write_faults-line outcome 
 module _ {C S : Type 0} (rights : Rights) (makes : C → Call → Reply → C → Type 0) (awaits : C → ℕ → Reply → C → Type 0) (greets : C → List ℕ → Greeting → C → Type 0) (loads : S → List ℕ → List Card → S → Type 0)
     (refuses_to_load : S → List ℕ → ShelfLoadFault → S → Type 0)
     (saves : S → Saving → S → Type 0) (refuses_to_save : S → Saving → ShelfSaveFault → S → Type 0)
-    (lists : S → Result (List FileRow) ShelfLoadFault → S → Type 0) where
+    (lists : S → Result (List FileRow) ShelfLoadFault → S → Type 0)
+    (notes : S → List ℕ → ℕ → S → Type 0) (tells_saved : S → List ℕ → ℕ → Bool → S → Type 0) where
   -- a line after which the next may come
-  pub lines_more : (first middle last : Standing C S) (count : ℕ) (told : Option Ending) → ServesLines rights makes awaits greets loads refuses_to_load saves refuses_to_save lists first middle count →
-      ServesLine rights makes awaits greets loads refuses_to_load saves refuses_to_save lists middle last told → told ≡ None → ServesLines rights makes awaits greets loads refuses_to_load saves refuses_to_save lists first last (count + 1)
+  pub lines_more : (first middle last : Standing C S) (count : ℕ) (told : Option Ending) → ServesLines rights makes awaits greets loads refuses_to_load saves refuses_to_save lists notes tells_saved first middle count →
+      ServesLine rights makes awaits greets loads refuses_to_load saves refuses_to_save lists notes tells_saved middle last told → told ≡ None → ServesLines rights makes awaits greets loads refuses_to_load saves refuses_to_save lists notes tells_saved first last (count + 1)
   lines_more first middle last count told lines line is_none =
-      let P : Option Ending → Type 0 = λ (t : Option Ending). ServesLine rights makes awaits greets loads refuses_to_load saves refuses_to_save lists middle last t in
+      let P : Option Ending → Type 0 = λ (t : Option Ending). ServesLine rights makes awaits greets loads refuses_to_load saves refuses_to_save lists notes tells_saved middle last t in
       next_line middle last count lines (subst P is_none line)
 
   -- a line that ends the session
-  pub session_ended : (first middle last : Standing C S) (count : ℕ) (told : Option Ending) (ending : Ending) → ServesLines rights makes awaits greets loads refuses_to_load saves refuses_to_save lists first middle count →
-      count < most_commands → ServesLine rights makes awaits greets loads refuses_to_load saves refuses_to_save lists middle last told → told ≡ Some ending → ServesToEnd rights makes awaits greets loads refuses_to_load saves refuses_to_save lists first last ending
+  pub session_ended : (first middle last : Standing C S) (count : ℕ) (told : Option Ending) (ending : Ending) → ServesLines rights makes awaits greets loads refuses_to_load saves refuses_to_save lists notes tells_saved first middle count →
+      count < most_commands → ServesLine rights makes awaits greets loads refuses_to_load saves refuses_to_save lists notes tells_saved middle last told → told ≡ Some ending → ServesToEnd rights makes awaits greets loads refuses_to_load saves refuses_to_save lists notes tells_saved first last ending
   session_ended first middle last count told ending lines fewer line is_ending =
-      let P : Option Ending → Type 0 = λ (t : Option Ending). ServesLine rights makes awaits greets loads refuses_to_load saves refuses_to_save lists middle last t in
+      let P : Option Ending → Type 0 = λ (t : Option Ending). ServesLine rights makes awaits greets loads refuses_to_load saves refuses_to_save lists notes tells_saved middle last t in
       ended middle count ending lines fewer (subst P is_ending line)

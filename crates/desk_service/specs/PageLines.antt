@@ -23,13 +23,14 @@ is_whole ending.WriteFault = false
 
 module _ {C S : Type 0} (makes : C → Call → Reply → C → Type 0) (awaits : C → ℕ → Reply → C → Type 0) (greets : C → List ℕ → Greeting → C → Type 0) (begins : C → C → Type 0) (loads : S → List ℕ → List Card → S → Type 0)
     (refuses_to_load : S → List ℕ → ShelfLoadFault → S → Type 0) (saves : S → Saving → S → Type 0) (refuses_to_save : S → Saving → ShelfSaveFault → S → Type 0)
-    (lists : S → Result (List FileRow) ShelfLoadFault → S → Type 0) where
+    (lists : S → Result (List FileRow) ShelfLoadFault → S → Type 0)
+    (notes : S → List ℕ → ℕ → S → Type 0) (tells_saved : S → List ℕ → ℕ → Bool → S → Type 0) where
   -- desk and shelf before, the lines, their replies, whether none is missing, and desk and shelf after
   pub record ServesBody (old : C × S) (lines replies : List ℕ) (whole : Bool) (new : C × S) : Type 0 where
     pub left : List ℕ
     pub read_faults : ℕ
     pub write_faults : ℕ
     pub ending : Ending
-    pub session : ServesSession Edits makes awaits greets begins loads refuses_to_load saves refuses_to_save lists
+    pub session : ServesSession Edits makes awaits greets begins loads refuses_to_load saves refuses_to_save lists notes tells_saved
         (standing (sides (Some lines) (Some []) old.0 old.1) 0 0) (standing (sides (Some left) (Some replies) new.0 new.1) read_faults write_faults) ending
     pub told : whole ≡ is_whole ending

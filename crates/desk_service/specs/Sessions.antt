@@ -69,13 +69,14 @@ module _ {C S : Type 0} where
 module _ {C S : Type 0} (rights : Rights) (makes : C → Call → Reply → C → Type 0) (awaits : C → ℕ → Reply → C → Type 0) (greets : C → List ℕ → Greeting → C → Type 0) (loads : S → List ℕ → List Card → S → Type 0)
     (refuses_to_load : S → List ℕ → ShelfLoadFault → S → Type 0)
     (saves : S → Saving → S → Type 0) (refuses_to_save : S → Saving → ShelfSaveFault → S → Type 0)
-    (lists : S → Result (List FileRow) ShelfLoadFault → S → Type 0) where
+    (lists : S → Result (List FileRow) ShelfLoadFault → S → Type 0)
+    (notes : S → List ℕ → ℕ → S → Type 0) (tells_saved : S → List ℕ → ℕ → Bool → S → Type 0) where
   -- one line is served, its reply is sent on, and this is how the session ends there, if it ends
   pub record ServesLine (old new : Standing C S) (told : Option Ending) : Type 0 where
     pub middle : Standing C S
     pub outcome : Outcome
     pub flushed : Bool
-    pub served : Serves rights makes awaits greets loads refuses_to_load saves refuses_to_save lists old.sides middle.sides outcome
+    pub served : Serves rights makes awaits greets loads refuses_to_load saves refuses_to_save lists notes tells_saved old.sides middle.sides outcome
     pub reads : middle.read_faults ≡ read_faults_after outcome old.read_faults
     pub writes : middle.write_faults ≡ write_faults_after outcome old.write_faults
     pub sent : SendsOn flushed middle new
@@ -98,9 +99,10 @@ with_desk standing desk = record standing { sides = record standing.sides { desk
 module _ {C S : Type 0} (rights : Rights) (makes : C → Call → Reply → C → Type 0) (awaits : C → ℕ → Reply → C → Type 0) (greets : C → List ℕ → Greeting → C → Type 0) (begins : C → C → Type 0) (loads : S → List ℕ → List Card → S → Type 0)
     (refuses_to_load : S → List ℕ → ShelfLoadFault → S → Type 0)
     (saves : S → Saving → S → Type 0) (refuses_to_save : S → Saving → ShelfSaveFault → S → Type 0)
-    (lists : S → Result (List FileRow) ShelfLoadFault → S → Type 0) where
+    (lists : S → Result (List FileRow) ShelfLoadFault → S → Type 0)
+    (notes : S → List ℕ → ℕ → S → Type 0) (tells_saved : S → List ℕ → ℕ → Bool → S → Type 0) where
   -- a session: it begins, and its lines are served to its end
   pub record ServesSession (first last : Standing C S) (ending : Ending) : Type 0 where
     pub begun : C
     pub begins_so : begins first.sides.desk begun
-    pub served : ServesToEnd rights makes awaits greets loads refuses_to_load saves refuses_to_save lists (with_desk first begun) last ending
+    pub served : ServesToEnd rights makes awaits greets loads refuses_to_load saves refuses_to_save lists notes tells_saved (with_desk first begun) last ending
