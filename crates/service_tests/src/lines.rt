@@ -121,6 +121,7 @@ fn push_change(answer: &mut Answer, command: &Command) {
             answer.push(" ");
             answer.debug(over);
         }
+        Command::SaveAll => answer.push("save all"),
         Command::Batch(head) => push_head(answer, "batch ", &head.name, head.seen, head.count),
         Command::Put(head) => {
             let seen = Seen::Exactly(head.version);

@@ -1,8 +1,8 @@
 //! Replies of sessions as texts, faults as texts, and moments.
 //!
 //! `replies`, `refusals`, `faults`: those of tables; `cards LINES`, `found TEXT|LINES`: replies that show
-//! cards; `status`, `saved`: replies that show two decks; `broken`: a reply whose writer fails at each byte in
-//! turn; `moment SECONDS`.
+//! cards; `status`, `saved`: replies that show two decks, and what became of them; `broken`: a reply whose
+//! writer fails at each byte in turn; `moment SECONDS`.
 ghost use Rattle.std.specs.Prelude.{◌≡◌, true};
 ghost use Rattle.session_line.specs.Replies.{IsWithinLimits};
 
@@ -13,7 +13,7 @@ use deck_files::{LoadFault, MOST_FILES};
 use desk_core::{Row, State};
 use desk_service::ServeFault;
 use journal::Moment;
-use session_line::{MarkedRow, Refusal, Reply, reply_text, write_reply};
+use session_line::{MarkedRow, Refusal, Reply, SavedDeck, reply_text, write_reply};
 use std::alloc::{AllocError, Global};
 use text_ports::{Counted, FaultyWriter};
 
@@ -45,6 +45,7 @@ fn is_within(reply: &Reply<'_>) -> bool
         Reply::Errors { decks, .. } => decks.len() <= 64,
         Reply::Status { decks, .. } => decks.len() <= 64,
         Reply::FileStatus { decks, .. } => decks.len() <= 64,
+        Reply::Saved { decks, .. } => decks.len() <= 64,
         Reply::Files { files, .. } => files.len() <= MOST_FILES,
         Reply::Sessions { sessions, .. } => sessions.len() <= 64,
         Reply::Done { .. } | Reply::Text { .. } | Reply::Listing(_) => true,
@@ -211,8 +212,30 @@ fn push_marked(answer: &mut Answer) -> Result<(), AllocError> {
     Ok(())
 }
 
+/// Pushes what became of a deck that was saved, and of one that was not.
+fn push_saved(answer: &mut Answer) -> Result<(), AllocError> {
+    let decks = [
+        SavedDeck {
+            name: name_of("M")?,
+            outcome: Ok(7),
+        },
+        SavedDeck {
+            name: name_of("N")?,
+            outcome: Err(Refusal::WriteFault { sent: 3 }),
+        },
+    ];
+    let reply = Reply::Saved {
+        version: 12,
+        decks: &decks,
+    };
+    push_reply(answer, &reply);
+    Ok(())
+}
+
 fn show_saved(answer: &mut Answer) {
     let pushed = push_marked(answer);
+    answer.keep(pushed);
+    let pushed = push_saved(answer);
     answer.keep(pushed);
 }
 

@@ -233,6 +233,7 @@ line-back (command.CardsAt name version) lawful = at-back name version lawful.0 
 line-back (command.Changes name version) lawful = version-back command.Changes name version lawful.0 lawful.1
 line-back (command.Save name Known) is = save-back name [] Known is refl refl
 line-back (command.Save name Any) is = save-back name (codes " FORCE") Any is refl refl
+line-back command.SaveAll _ = refl
 line-back command.Image _ = refl
 line-back command.List _ = refl
 line-back command.Map _ = refl

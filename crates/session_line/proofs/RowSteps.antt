@@ -1,9 +1,15 @@
--- The decks of a status one by one: whether the file of each has its cards.
-use Rattle.std.proofs.Common.{ℕ, ◌≡◌, ◌+◌, ◌<◌, Bool, List, [], ◌∷◌, ◌++◌, length, take, get_or, sym, ap, subst, ◌∙◌}
+-- The decks of a status one by one: whether the file of each has its cards, and what becomes of it.
+use Rattle.std.proofs.Common.{ℕ, ◌≡◌, ◌+◌, ◌<◌, ◌≤◌, Bool, List, [], ◌∷◌, ◌++◌, Option, Some, None, option_to_list, length, length-append, arith, take, get_or, sym, ap, subst, ◌∙◌}
 use Rattle.std.proofs.lemmas.List.{take_more}
 use Rattle.desk_core.specs.declared.replies.Row.{Row}
 use Rattle.session_line.specs.declared.marked_rows.MarkedRow.{MarkedRow}
 use Rattle.session_line.specs.FileStatus.{MarksRows, marked, no_row, next_row}
+use Rattle.deck_files.specs.declared.deck_shelf.ShelfSaveFault.{ShelfSaveFault}
+use Rattle.deck_files.specs.Savings.{Saving}
+use Rattle.desk_core.specs.declared.calls.Call.{Call}
+use Rattle.desk_core.specs.declared.replies.Reply.{Reply}
+use Rattle.session_line.specs.declared.saved_decks.SavedDeck.{SavedDeck}
+use Rattle.session_line.specs.SavingAll.{SavesRow, SavesRows, no_row as nothing_saved, next_row as row_saved}
 
 -- the first decks, with one more
 pub rows-more : (rows : List Row) (index : ℕ) (row : Row) → index < length rows → row ≡ get_or rows index row → take (index + 1) rows ≡ take index rows ++ row ∷ []
@@ -22,3 +28,23 @@ module _ {S : Type 0} (tells_saved : S → List ℕ → ℕ → Bool → S → T
       subst (λ (l : List Row). MarksRows tells_saved first l after last) (sym (rows-more rows index row within is))
       (subst (λ (m : List MarkedRow). MarksRows tells_saved first (take index rows ++ row ∷ []) m last) (sym put)
       (next_row (take index rows) marks middle last row saved sofar told))
+
+-- at most one line more
+pub line-few : {X : Type 0} (lines : List X) (line : Option X) → length (lines ++ option_to_list line) ≤ length lines + 1
+line-few lines None = let all = length-append lines [] in omega (arith, all)
+line-few lines (Some x) = let all = length-append lines (x ∷ []) in omega (arith, all)
+
+module _ {C S : Type 0} (makes : C → Call → Reply → C → Type 0) (saves : S → Saving → S → Type 0) (refuses_to_save : S → Saving → ShelfSaveFault → S → Type 0)
+    (tells_saved : S → List ℕ → ℕ → Bool → S → Type 0) where
+  -- no deck was saved
+  pub saves-none : (first : C) (start : S) (saved : List SavedDeck) → saved ≡ [] → SavesRows makes saves refuses_to_save tells_saved first start [] saved first start
+  saves-none first start saved none = subst (λ (d : List SavedDeck). SavesRows makes saves refuses_to_save tells_saved first start [] d first start) (sym none) nothing_saved
+
+  -- one deck more, where it was to be saved
+  pub saves-more : (first desk next : C) (start shelf last : S) (rows : List Row) (saved after : List SavedDeck) (index : ℕ) (row : Row) (line : Option SavedDeck) → index < length rows → row ≡ get_or rows index row →
+      SavesRows makes saves refuses_to_save tells_saved first start (take index rows) saved desk shelf → SavesRow makes saves refuses_to_save tells_saved row desk next shelf last line → after ≡ saved ++ option_to_list line →
+      SavesRows makes saves refuses_to_save tells_saved first start (take (index + 1) rows) after next last
+  saves-more first desk next start shelf last rows saved after index row line within is sofar one put =
+      subst (λ (l : List Row). SavesRows makes saves refuses_to_save tells_saved first start l after next last) (sym (rows-more rows index row within is))
+      (subst (λ (d : List SavedDeck). SavesRows makes saves refuses_to_save tells_saved first start (take index rows ++ row ∷ []) d next last) (sym put)
+      (row_saved (take index rows) saved desk next shelf last row line sofar one))

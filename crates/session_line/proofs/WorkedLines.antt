@@ -223,6 +223,12 @@ files-named = refl
 pub files-blank : command_of (codes "FILES ") ≡ Err BadCommand
 files-blank = refl
 
+pub save_all : command_of (codes "SAVEALL") ≡ Ok command.SaveAll
+save_all = refl
+
+pub save_all-named : command_of (codes "SAVEALL M") ≡ Err BadCommand
+save_all-named = refl
+
 pub status : command_of (codes "STATUS") ≡ Ok command.Status
 status = refl
 

@@ -9,17 +9,18 @@ use Rattle.desk_core.specs.declared.replies.Reply.TheVariants as reply
 use Rattle.desk_core.specs.declared.replies.State.TheVariants.{Behind}
 use Rattle.desk_core.specs.declared.replies.Refusal.TheVariants as desk
 use Rattle.deck_files.specs.declared.deck_shelf.SaveOver.TheVariants.{Known}
-use Rattle.session_line.specs.declared.refusals.Refusal.TheVariants.{BadCommand, BadName, BadCard, BadLine, ReadOnly}
+use Rattle.session_line.specs.declared.refusals.Refusal.TheVariants.{BadCommand, BadName, BadCard, BadLine, FileExists, ReadOnly}
 use Rattle.definitions.specs.DeckInput.{Deck}
 use Rattle.session_line.specs.Commands.{command_of}
 use Rattle.session_line.specs.declared.errors.ErrorsView.TheVariants.{Every, Of}
 use Rattle.session_line.specs.declared.views.CardsView.TheVariants.{All, From, With}
 use Rattle.session_line.specs.declared.tasks.PublishedText.TheVariants.{Image, Listing, Map}
-use Rattle.session_line.specs.declared.tasks.Task.TheVariants.{Ask, AwaitVersion, ShowCards, ShowCardsAt, ShowText, ShowPart, ShowErrors, LoadDeck, SaveDeck, ShowFiles, ShowFileStatus, Greet, Leave, Refuse}
+use Rattle.session_line.specs.declared.tasks.Task.TheVariants.{Ask, AwaitVersion, ShowCards, ShowCardsAt, ShowText, ShowPart, ShowErrors, LoadDeck, SaveDeck, SaveAll, ShowFiles, ShowFileStatus, Greet, Leave, Refuse}
 use Rattle.session_line.specs.Tasks.{lines_due, nobody, task_of}
 use Rattle.session_line.specs.Answers.{told_of_call, told_of_wait, told_of_greeting, told_of_cards, told_of_cards_at, told_of_publication, told_of_part, told_of_errors, told_text}
 use Rattle.session_line.specs.Parts.{part_of}
 use Rattle.session_line.specs.FileStatus.{marked}
+use Rattle.session_line.specs.SavingAll.{saved_deck}
 use Rattle.session_line.specs.declared.answers.Told.TheVariants as told
 use Rattle.session_line.specs.Greetings.{met}
 use Rattle.session_line.specs.Rights.{allowed}
@@ -73,6 +74,9 @@ errors = refl
 
 pub errors_of : task_of (codes "ERRORS M") [] ≡ ShowErrors (Of (codes "M"))
 errors_of = refl
+
+pub save_all : task_of (codes "SAVEALL") [] ≡ SaveAll
+save_all = refl
 
 pub files : task_of (codes "FILES") [] ≡ ShowFiles
 files = refl
@@ -244,6 +248,9 @@ pub status_of_files : told_text (told.FileStatus 2 None (marked (record { name =
     ≡ codes "OK 2 3\nPUBLISHED NONE\nM 1 0 BEHIND SAVED\nN 2 0 BEHIND UNSAVED\n"
 status_of_files = unfold digits in refl
 
+pub saves_of_decks : told_text (told.Saved 9 (saved_deck (codes "M") (told.Done 7) ∷ saved_deck (codes "N") (told.Refused FileExists) ∷ [])) ≡ codes "OK 9 2\nM 7\nN NO FileExists\n"
+saves_of_decks = unfold digits in refl
+
 pub awaited : told_text (told_of_wait (reply.StatusIs 9 (Some 7) (record { name = codes "M"; version = 9; cards = 0; state = Behind } ∷ []))) ≡ codes "OK 9 1\nPUBLISHED 7\n"
 awaited = unfold digits in refl
 
@@ -259,6 +266,9 @@ reads_changes = refl
 
 pub reads_status : allowed Reads (task_of (codes "STATUS") []) ≡ Ask call.Status
 reads_status = refl
+
+pub reads_save_all : allowed Reads (task_of (codes "SAVEALL") []) ≡ Refuse ReadOnly
+reads_save_all = refl
 
 pub reads_file_status : allowed Reads (task_of (codes "STATUS FILES") []) ≡ ShowFileStatus
 reads_file_status = refl

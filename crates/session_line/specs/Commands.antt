@@ -182,6 +182,7 @@ command_by verb.Cards rest = cards_in rest
 command_by verb.Changes rest = of_version command.Changes (named_version rest)
 command_by verb.Find rest = find_in rest
 command_by verb.Save rest = save_in rest
+command_by verb.SaveAll rest = alone command.SaveAll rest
 command_by verb.Image rest = image_in rest
 command_by verb.List rest = list_in rest
 command_by verb.Map rest = alone command.Map rest

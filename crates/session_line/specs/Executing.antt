@@ -3,22 +3,22 @@ use Rattle.std.specs.Prelude.{ℕ, ◌≡◌, Bool, List, Result, Ok, Err}
 use Rattle.definitions.specs.Cards.{Card}
 use Rattle.deck_files.specs.declared.deck_shelf.ShelfLoadFault.{ShelfLoadFault}
 use Rattle.deck_files.specs.declared.deck_shelf.ShelfSaveFault.{ShelfSaveFault}
-use Rattle.deck_files.specs.declared.deck_shelf.SaveOver.{SaveOver}
-use Rattle.deck_files.specs.Savings.{Saving, saving}
+use Rattle.deck_files.specs.Savings.{Saving}
 use Rattle.deck_files.specs.declared.file_rows.FileRow.{FileRow}
 use Rattle.desk_core.specs.declared.calls.Call.{Call}
 use Rattle.desk_core.specs.declared.replies.Reply.{Reply}
 use Rattle.desk_core.specs.declared.calls.Call.TheVariants.{AddDeck, Cards, CardsAt, Show}
-use Rattle.session_line.specs.declared.views.CardsView.TheVariants.{All}
 use Rattle.session_line.specs.declared.tasks.Task.{Task}
-use Rattle.session_line.specs.declared.tasks.Task.TheVariants.{Ask, AwaitVersion, ShowCards, ShowCardsAt, ShowText, ShowPart, ShowErrors, LoadDeck, SaveDeck, ShowFiles, ShowFileStatus, Greet, Leave, Refuse}
+use Rattle.session_line.specs.declared.tasks.Task.TheVariants.{Ask, AwaitVersion, ShowCards, ShowCardsAt, ShowText, ShowPart, ShowErrors, LoadDeck, SaveDeck, SaveAll, ShowFiles, ShowFileStatus, Greet, Leave, Refuse}
 use Rattle.session_line.specs.declared.answers.Told.{Told}
 use Rattle.session_line.specs.declared.answers.Told.TheVariants as told
 use Rattle.session_line.specs.declared.answers.Answer.{Answer}
-use Rattle.session_line.specs.Reasons.{load_reason, save_reason}
+use Rattle.session_line.specs.Reasons.{load_reason}
 use Rattle.session_line.specs.declared.greetings.Greeting.{Greeting}
 use Rattle.session_line.specs.FileTasks.{ShowsFiles}
 use Rattle.session_line.specs.FileStatus.{ShowsFileStatus}
+use Rattle.session_line.specs.SavingDecks.{SavesDeck}
+use Rattle.session_line.specs.SavingAll.{SavesAll}
 use Rattle.session_line.specs.Answers.{told_of_call, told_of_wait, told_of_greeting, told_of_cards, told_of_publication, told_of_part, told_of_errors, IsToldAt, called, uncalled}
 
 module _ {C : Type 0} (makes : C → Call → Reply → C → Type 0) where
@@ -47,17 +47,6 @@ module _ {S : Type 0} (loads : S → List ℕ → List Card → S → Type 0) (r
   ShelfLoads name shelf (Ok cards) after = loads shelf name cards after
   ShelfLoads name shelf (Err fault) after = refuses_to_load shelf name fault after
 
-module _ {S : Type 0} (saves : S → Saving → S → Type 0) (refuses_to_save : S → Saving → ShelfSaveFault → S → Type 0) where
-  -- one save on the shelf of the version that the desk replied with: it is told, or the fault
-  pub data SavesCards (name : List ℕ) (over : SaveOver) (version : ℕ) (cards : List Card) (shelf after : S) (answer : Answer) : Type 0 where
-    saved : saves shelf (saving name over version cards) after → answer ≡ called (told.Done version) → SavesCards name over version cards shelf after answer
-    refused : (fault : ShelfSaveFault) → refuses_to_save shelf (saving name over version cards) fault after → answer ≡ called (told.Refused (save_reason fault)) → SavesCards name over version cards shelf after answer
-
-  -- the cards that would be told are saved; what else would be told is, and the shelf is not called
-  abbrev pub SavesTold : List ℕ → SaveOver → Told → S → S → Answer → Type 0
-  SavesTold name over (told.Cards version cards view) shelf after answer = SavesCards name over version cards shelf after answer
-  SavesTold name over what shelf after answer = (after ≡ shelf) × (answer ≡ called what)
-
 module _ {S : Type 0} (notes : S → List ℕ → ℕ → S → Type 0) where
   -- the shelf notes the version that is told, if one is
   abbrev pub NotesTold : List ℕ → Told → S → S → Type 0
@@ -73,13 +62,6 @@ module _ {C S : Type 0} (makes : C → Call → Reply → C → Type 0) (loads :
     pub shelved : ShelfLoads loads refuses_to_load name shelf loaded between
     pub added : AddsLoaded makes name loaded desk next answer
     pub noted : NotesTold notes name answer.told between after
-
-module _ {C S : Type 0} (makes : C → Call → Reply → C → Type 0) (saves : S → Saving → S → Type 0) (refuses_to_save : S → Saving → ShelfSaveFault → S → Type 0) where
-  -- SAVE: the desk is asked for the cards, and then the shelf saves them
-  pub record SavesDeck (name : List ℕ) (over : SaveOver) (desk next : C) (shelf after : S) (answer : Answer) : Type 0 where
-    pub reply : Reply
-    pub made : makes desk (Cards name) reply next
-    pub kept : SavesTold saves refuses_to_save name over (told_of_cards All reply) shelf after answer
 
 module _ {C : Type 0} (awaits : C → ℕ → Reply → C → Type 0) where
   -- WAIT: the desk answers who waits for a version, and what is told of that
@@ -115,6 +97,7 @@ module _ {C S : Type 0} (makes : C → Call → Reply → C → Type 0) (awaits 
   Executes (ShowErrors view) desk next shelf after answer = Asks makes Show (told_of_errors view) desk next answer × (after ≡ shelf)
   Executes (LoadDeck name) desk next shelf after answer = LoadsDeck makes loads refuses_to_load notes name desk next shelf after answer
   Executes (SaveDeck name over) desk next shelf after answer = SavesDeck makes saves refuses_to_save name over desk next shelf after answer
+  Executes SaveAll desk next shelf after answer = SavesAll makes saves refuses_to_save tells_saved desk next shelf after answer
   Executes ShowFiles desk next shelf after answer = ShowsFiles makes lists desk next shelf after answer
   Executes ShowFileStatus desk next shelf after answer = ShowsFileStatus makes tells_saved desk next shelf after answer
   Executes (Greet name) desk next shelf after answer = Greets greets name desk next answer × (after ≡ shelf)

@@ -21,6 +21,8 @@ pub mod Reasons
 pub mod Answers
 pub mod FileTasks
 pub mod FileStatus
+pub mod SavingDecks
+pub mod SavingAll
 pub mod Executing
 pub mod Serving
 pub mod Kinds

@@ -13,7 +13,7 @@ use Rattle.session_line.specs.Edits.{edit_in_batch, card_in_put}
 use Rattle.session_line.specs.Commands.{command_of}
 use Rattle.session_line.specs.declared.tasks.PublishedText.TheVariants.{Image, Listing, Map}
 use Rattle.session_line.specs.declared.tasks.Task.{Task}
-use Rattle.session_line.specs.declared.tasks.Task.TheVariants.{Ask, AwaitVersion, ShowCards, ShowCardsAt, ShowText, ShowPart, ShowErrors, LoadDeck, SaveDeck, ShowFiles, ShowFileStatus, Greet, Leave, Refuse}
+use Rattle.session_line.specs.declared.tasks.Task.TheVariants.{Ask, AwaitVersion, ShowCards, ShowCardsAt, ShowText, ShowPart, ShowErrors, LoadDeck, SaveDeck, SaveAll, ShowFiles, ShowFileStatus, Greet, Leave, Refuse}
 
 -- how many lines belong to a command behind its first
 abbrev pub lines_behind : Command → ℕ
@@ -94,6 +94,7 @@ task_of_command (command.Cards name view) lines = ShowCards name view
 task_of_command (command.CardsAt name version) lines = ShowCardsAt name version
 task_of_command (command.Changes name version) lines = Ask (Changes name version)
 task_of_command (command.Save name over) lines = SaveDeck name over
+task_of_command command.SaveAll lines = SaveAll
 task_of_command command.Image lines = ShowText Image
 task_of_command command.List lines = ShowText Listing
 task_of_command command.Map lines = ShowText Map

@@ -10,6 +10,7 @@ use crate::greetings::{Connected, Greeting};
 use crate::marked_rows::MarkedRow;
 use crate::parts::part_of;
 use crate::reasons::desk_reason;
+use crate::saved_decks::SavedDeck;
 use crate::tasks::PublishedText;
 use crate::views::{CardsView, cards_from};
 use cards::{Card, DeckName, Edit, MOST_CARDS, edited_copy, first_fault};
@@ -48,6 +49,8 @@ pub(crate) enum Told {
     FileStatus(u64, Option<u64>, Listed<MarkedRow>),
     /// The desk's version and the published one.
     Standing(u64, Option<u64>),
+    /// The desk's version, and what became of each deck that was to be saved.
+    Saved(u64, Listed<SavedDeck>),
     /// The desk's version, and the rows of the files of decks.
     Files(u64, Listed<FileRow>),
     /// The desk's version, and the sessions that are connected.
@@ -354,6 +357,10 @@ impl Told {
                 decks: decks.as_slice(),
             },
             Told::Standing(version, published) => status_reply(*version, *published, &[]),
+            Told::Saved(version, decks) => crate::Reply::Saved {
+                version: *version,
+                decks: decks.as_slice(),
+            },
             Told::Files(version, files) => crate::Reply::Files {
                 version: *version,
                 files: files.as_slice(),

@@ -63,6 +63,8 @@ pub enum Command {
         name: DeckName,
         over: SaveOver,
     },
+    /// Each deck whose file has not its cards is saved.
+    SaveAll,
     /// The published image.
     Image,
     /// The published listing, with the map behind it.
@@ -499,6 +501,7 @@ fn command_by(verb: Verb, rest: &[u8]) -> Result<Command, Refusal>
         Verb::Changes => changes_in(rest),
         Verb::Find => find_in(rest),
         Verb::Save => save_in(rest),
+        Verb::SaveAll => alone(Command::SaveAll, rest),
         Verb::Image => image_in(rest),
         Verb::List => list_in(rest),
         Verb::Map => alone(Command::Map, rest),

@@ -1,7 +1,8 @@
 //! Executes a task once.
 ghost use Rattle.std.specs.Prelude.{◌≡◌, ◌≤◌, length};
 ghost use Rattle.session_line.specs.Answers.{IsTellable, called, most_cards, told_of_call, told_of_cards, told_of_errors, told_of_greeting, told_of_part, told_of_publication, told_of_wait, uncalled};
-ghost use Rattle.session_line.specs.Executing.{Asks, AsksAt, AwaitsVersion, Executes, Greets, LoadsDeck, NotesTold, SavesCards, SavesDeck};
+ghost use Rattle.session_line.specs.Executing.{Asks, AsksAt, AwaitsVersion, Executes, Greets, LoadsDeck, NotesTold};
+ghost use Rattle.session_line.specs.SavingDecks.{SavesCards, SavesDeck};
 ghost use Rattle.desk_core.specs.declared.calls.Call.TheVariants.{Cards, Show};
 
 use crate::answers::{
@@ -13,6 +14,7 @@ use crate::errors::ErrorsView;
 use crate::file_status::show_file_status;
 use crate::file_tasks::show_files;
 use crate::reasons::{load_reason, save_reason};
+use crate::saving_all::save_all;
 use crate::tasks::{PublishedText, Task};
 use crate::views::CardsView;
 use cards::{Card, DeckName};
@@ -149,7 +151,7 @@ fn save_cards<S: Shelf>(
 }
 
 /// The desk is asked for the cards of the deck, and then the shelf saves them.
-fn save_deck<C: Calls, S: Shelf>(
+pub(crate) fn save_deck<C: Calls, S: Shelf>(
     desk: &mut C,
     shelf: &mut S,
     name: &DeckName,
@@ -166,7 +168,8 @@ fn save_deck<C: Calls, S: Shelf>(
     }
 }
 
-/// Executes a task: at most one call of the desk, with the call of the shelf that belongs to it.
+/// Executes a task: at most one call of the desk, with the calls of the shelf that belong to it; and for each
+/// deck that SAVEALL saves one more.
 pub(crate) fn execute<C: Calls, S: Shelf>(
     alloc: Global,
     desk: &mut C,
@@ -186,6 +189,7 @@ pub(crate) fn execute<C: Calls, S: Shelf>(
         Task::ShowErrors(view) => show_errors(desk, view),
         Task::LoadDeck(name) => load_deck(desk, shelf, name),
         Task::SaveDeck(name, over) => save_deck(desk, shelf, &name, over),
+        Task::SaveAll => save_all(alloc, desk, shelf),
         Task::ShowFiles => show_files(desk, shelf),
         Task::ShowFileStatus => show_file_status(alloc, desk, shelf),
         Task::Greet(name) => greet(alloc, desk, &name),

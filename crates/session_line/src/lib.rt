@@ -1,11 +1,11 @@
 //! One line of a session, read, executed and answered: which line is which command, or why it is
-//! refused; at most one call of the desk and one of the shelf; and the text of the reply. Nothing here
+//! refused; which calls of the desk and of the shelf it makes; and the text of the reply. Nothing here
 //! knows what a desk does with a call, where a shelf keeps its files, or what a port is.
 //!
 //! All lines of a batch or a put are read before the first is looked at, so a fault or an end among them
 //! makes no call. A `Task` is what a command asks for: one call of the desk, a load, a save, the
-//! end, or nothing, for a reason. LOAD reads the shelf first, so that a file that is no deck adds
-//! none; SAVE asks the desk first. A reply borrows its cards and texts, and takes no memory. What
+//! end, or nothing, for a reason; only SAVEALL calls the desk more than once. LOAD reads the shelf
+//! first, so that a file that is no deck adds none; SAVE asks the desk first. A reply borrows its cards and texts, and takes no memory. What
 //! one call makes of a desk is named by the trait `Calls`: a `Desk` meets it with its own clause,
 //! `SeatCalls` with that of `Seat::call`. The lines are meant to stay: one is added only where it
 //! was `BadCommand` before.
@@ -34,6 +34,7 @@ mod refusal_texts;
 mod replies;
 mod reply_line;
 mod reply_texts;
+mod saved_decks;
 mod session_writing;
 mod writing;
 
@@ -54,6 +55,7 @@ mod executing;
 mod file_status;
 mod file_tasks;
 mod reasons;
+mod saving_all;
 mod serving;
 
 // What clients may rest on.
@@ -74,6 +76,7 @@ pub use marked_rows::MarkedRow;
 pub use refusals::Refusal;
 pub use replies::Reply;
 pub use rights::Rights;
+pub use saved_decks::SavedDeck;
 pub use seat_calls::SeatCalls;
 pub use serving::{Outcome, serve_one};
 pub use views::CardsView;

@@ -43,7 +43,7 @@ fn put_edit_fault(line: &mut ReplyLine, fault: EditFault)
 
 /// The text of a refusal.
 pub(crate) fn put_refusal(line: &mut ReplyLine, refusal: &Refusal)
-    requires { length line.old ≤ 3 }
+    requires { length line.old ≤ 11 }
     ensures text { line.new ≡ line.old ++ refusal_text refusal.now }
     ensures short { length line.new ≤ 79 }
 {
@@ -86,7 +86,7 @@ pub(crate) fn put_refusal(line: &mut ReplyLine, refusal: &Refusal)
 }
 
 fn put_bad_line(line: &mut ReplyLine, number: u64, fault: CardFault)
-    requires { length line.old ≤ 3 }
+    requires { length line.old ≤ 11 }
     ensures text { line.new ≡ line.old ++ refusal_text (Refusal.BadLine number fault) }
     ensures short { length line.new ≤ 79 }
 {
@@ -96,7 +96,7 @@ fn put_bad_line(line: &mut ReplyLine, number: u64, fault: CardFault)
 }
 
 fn put_touched(line: &mut ReplyLine, card: u64, version: u64)
-    requires { length line.old ≤ 3 }
+    requires { length line.old ≤ 11 }
     ensures text { line.new ≡ line.old ++ refusal_text (Refusal.Touched card version) }
     ensures short { length line.new ≤ 79 }
 {
@@ -105,7 +105,7 @@ fn put_touched(line: &mut ReplyLine, card: u64, version: u64)
 }
 
 fn put_bad_edit(line: &mut ReplyLine, number: u64, fault: EditFault)
-    requires { length line.old ≤ 3 }
+    requires { length line.old ≤ 11 }
     ensures text { line.new ≡ line.old ++ refusal_text (Refusal.BadEdit number fault) }
     ensures short { length line.new ≤ 79 }
 {

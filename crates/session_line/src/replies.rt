@@ -4,6 +4,7 @@ use crate::errors::ErrorsView;
 use crate::greetings::Connected;
 use crate::marked_rows::MarkedRow;
 use crate::refusals::Refusal;
+use crate::saved_decks::SavedDeck;
 use cards::Card;
 use deck_files::FileRow;
 use deck_linker::ListedPublication;
@@ -60,6 +61,11 @@ pub enum Reply<'a> {
         version: u64,
         published: Option<u64>,
         decks: &'a [MarkedRow],
+    },
+    /// `OK version n`, then a line for each deck that was to be saved.
+    Saved {
+        version: u64,
+        decks: &'a [SavedDeck],
     },
     /// `OK version n`, then a line for each file of a deck.
     Files {

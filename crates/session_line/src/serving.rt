@@ -47,9 +47,9 @@ fn send<W: Write>(output: &mut Counted<W>, answer: &Answer) -> Outcome
 }
 
 /// Serves one line of a session, with the lines that belong to it. A command whose lines were all
-/// read whole is executed exactly once: at most one call of the desk, with the call of the shelf that
-/// belongs to it, LOAD's before that of the desk, SAVE's and that of FILES behind it; and its reply is
-/// written. Of a session that may only ask, one that changes a deck or a file is `NO ReadOnly`, and
+/// read whole is executed exactly once: at most one call of the desk, with the calls of the shelf that
+/// belong to it, LOAD's before that of the desk, all others behind it; SAVEALL makes one call more for each
+/// deck that it saves; and its reply is written. Of a session that may only ask, one that changes a deck or a file is `NO ReadOnly`, and
 /// nothing is called. Where the input ends or fails before that, or a line is too long, nothing is called
 /// and nothing is written. Want of memory is told as `NO OutOfMemory`.
 pub fn serve_one<R: Read, W: Write, C: Calls, S: Shelf>(

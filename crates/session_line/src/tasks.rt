@@ -45,6 +45,8 @@ pub(crate) enum Task {
     LoadDeck(DeckName),
     /// The cards of the deck of this name go to the shelf, over what may be written over.
     SaveDeck(DeckName, SaveOver),
+    /// The cards of each deck whose file has them not go to the shelf.
+    SaveAll,
     /// The files of decks on the shelf are shown.
     ShowFiles,
     /// The status is shown, with whether the file of each deck has its cards.
@@ -67,7 +69,7 @@ fn lines_behind(command: &Command) -> u64
         Command::Add { .. } | Command::Load { .. } | Command::Drop { .. } => 0,
         Command::Edit { .. } | Command::Cards { .. } | Command::Save { .. } => 0,
         Command::CardsAt { .. } | Command::Changes { .. } | Command::Undo { .. } => 0,
-        Command::Image | Command::List | Command::Map => 0,
+        Command::SaveAll | Command::Image | Command::List | Command::Map => 0,
         Command::ImageOf { .. } | Command::ListOf { .. } | Command::Errors(_) => 0,
         Command::Status | Command::FileStatus | Command::Files => 0,
         Command::Wait { .. } => 0,
@@ -214,6 +216,7 @@ fn task_of_command(alloc: Global, command: Command, edits: ItemsRead<Edit>) -> T
             since: version,
         }),
         Command::Save { name, over } => Task::SaveDeck(name, over),
+        Command::SaveAll => Task::SaveAll,
         Command::Image => Task::ShowText(PublishedText::Image),
         Command::List => Task::ShowText(PublishedText::Listing),
         Command::Map => Task::ShowText(PublishedText::Map),

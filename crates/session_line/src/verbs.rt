@@ -1,7 +1,7 @@
 //! The words that begin a line.
 ghost use Rattle.std.specs.Prelude.{◌≡◌};
 ghost use Rattle.definitions.specs.Characters.{same_text};
-ghost use Rattle.session_line.specs.Verbs.{edit_kind_of, other_verb_of, verb_of};
+ghost use Rattle.session_line.specs.Verbs.{edit_kind_of, file_verb_of, other_verb_of, verb_of};
 
 use definitions::is_same_text;
 
@@ -24,6 +24,7 @@ pub(crate) enum Verb {
     Changes,
     Find,
     Save,
+    SaveAll,
     Image,
     List,
     Map,
@@ -53,13 +54,29 @@ pub(crate) fn edit_kind_of(word: &[u8]) -> Option<EditKind>
     }
 }
 
+/// What a word asks for that is about files.
+fn file_verb_of(word: &[u8]) -> Option<Verb>
+    ensures { result ≡ file_verb_of word.now }
+{
+    if is_same_text(word, b"LOAD") {
+        Some(Verb::Load)
+    } else if is_same_text(word, b"SAVE") {
+        Some(Verb::Save)
+    } else if is_same_text(word, b"SAVEALL") {
+        Some(Verb::SaveAll)
+    } else if is_same_text(word, b"FILES") {
+        Some(Verb::Files)
+    } else {
+        None
+    }
+}
+
+/// What another word asks for that asks for no edit.
 fn other_verb_of(word: &[u8]) -> Option<Verb>
     ensures { result ≡ other_verb_of word.now }
 {
     if is_same_text(word, b"ADD") {
         Some(Verb::Add)
-    } else if is_same_text(word, b"LOAD") {
-        Some(Verb::Load)
     } else if is_same_text(word, b"DROP") {
         Some(Verb::Drop)
     } else if is_same_text(word, b"CARDS") {
@@ -68,8 +85,6 @@ fn other_verb_of(word: &[u8]) -> Option<Verb>
         Some(Verb::Changes)
     } else if is_same_text(word, b"FIND") {
         Some(Verb::Find)
-    } else if is_same_text(word, b"SAVE") {
-        Some(Verb::Save)
     } else if is_same_text(word, b"IMAGE") {
         Some(Verb::Image)
     } else if is_same_text(word, b"LIST") {
@@ -80,8 +95,6 @@ fn other_verb_of(word: &[u8]) -> Option<Verb>
         Some(Verb::Errors)
     } else if is_same_text(word, b"STATUS") {
         Some(Verb::Status)
-    } else if is_same_text(word, b"FILES") {
-        Some(Verb::Files)
     } else if is_same_text(word, b"WAIT") {
         Some(Verb::Wait)
     } else if is_same_text(word, b"BATCH") {
@@ -105,6 +118,9 @@ pub(crate) fn verb_of(word: &[u8]) -> Option<Verb>
 {
     match edit_kind_of(word) {
         Some(kind) => Some(Verb::Edit(kind)),
-        None => other_verb_of(word),
+        None => match file_verb_of(word) {
+            Some(verb) => Some(verb),
+            None => other_verb_of(word),
+        },
     }
 }

@@ -4,7 +4,7 @@ use Rattle.desk_core.specs.declared.calls.Call.TheVariants.{Cards}
 use Rattle.session_line.specs.declared.answers.Told.{Told}
 use Rattle.session_line.specs.declared.views.CardsView.TheVariants.{All}
 use Rattle.session_line.specs.Answers.{told_of_cards}
-use Rattle.session_line.specs.Executing.{SavesCards, SavesTold}
+use Rattle.session_line.specs.SavingDecks.{SavesCards, SavesTold}
 use Rattle.session_line.proofs.executing.save_deck.Goals as goal
 
 pub returns-in-Cards-clause-saves : goal.returns-in-Cards-clause-saves

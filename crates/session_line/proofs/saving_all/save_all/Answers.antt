@@ -1,0 +1,20 @@
+use Rattle.std.proofs.Common.{List, sym, subst}
+use Rattle.desk_core.specs.declared.replies.Row.{Row}
+use Rattle.session_line.specs.declared.answers.Told.{Told}
+use Rattle.session_line.specs.Answers.{told_of_call}
+use Rattle.session_line.specs.SavingAll.{SavesAllTold, TellsSaves}
+use Rattle.session_line.proofs.saving_all.save_all.Goals as goal
+
+pub returns-in-Status-clause-saves : goal.returns-in-Status-clause-saves
+returns-in-Status-clause-saves g c =
+    let P : List Row → Type 0 =
+    λ (rows : List Row). TellsSaves g.C.Calls.makes g.S.Shelf.saves g.S.Shelf.refuses_to_save g.S.Shelf.tells_saved c.in-Status.version rows c.call.new.self c.tell_saves.new.desk c.args.shelf.now c.tell_saves.new.shelf
+    c.tell_saves.result in
+    let Q : Told → Type 0 =
+    λ (what : Told). SavesAllTold g.C.Calls.makes g.S.Shelf.saves g.S.Shelf.refuses_to_save g.S.Shelf.tells_saved what c.call.new.self c.tell_saves.new.desk c.args.shelf.now c.tell_saves.new.shelf c.tell_saves.result in
+    record {
+      reply = c.call.result;
+      between = c.call.new.self;
+      made = c.call.ensures;
+      kept = subst Q {y = told_of_call c.call.result} c.told_of_call.ensures.told (subst Q {y = c.told_of_call.result} (sym c.in-Status.is) (subst P c.as_slice.ensures c.tell_saves.ensures.tells));
+    }

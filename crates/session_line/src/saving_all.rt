@@ -1,0 +1,100 @@
+//! Saves each deck whose file has not its cards.
+ghost use Rattle.std.specs.Prelude.{◌≡◌, ◌≤◌, ◌<◌, ◌+◌, ◌++◌, length, vec_len, vec_capacity, option_to_list, IfOk, OnErr};
+ghost use Rattle.session_line.specs.Answers.{IsTellable, most_decks};
+ghost use Rattle.session_line.specs.SavingAll.{SavesAll, SavesRow, SavesRows, TellsSaves, outcome_of};
+
+use crate::Refusal;
+use crate::answers::{Answer, Told, told_of_call};
+use crate::calls::Calls;
+use crate::executing::{called, save_deck};
+use crate::saved_decks::SavedDeck;
+use deck_files::{SaveOver, Shelf};
+use desk_core::{Call, Listed, Row};
+use std::alloc::{AllocError, Global};
+
+/// The version that was saved, or why none was.
+fn outcome_of(told: &Told) -> Result<u64, Refusal>
+    ensures { result ≡ outcome_of told.now }
+{
+    match told {
+        Told::Done(version) => Ok(*version),
+        Told::Refused(refusal) => Err(*refusal),
+        _ => Err(Refusal::Foreign),
+    }
+}
+
+/// Saves a deck, where its file has not its cards: what became of it.
+fn save_row<C: Calls, S: Shelf>(desk: &mut C, shelf: &mut S, row: &Row) -> Option<SavedDeck>
+    ensures { SavesRow C.makes S.saves S.refuses_to_save S.tells_saved row.now desk.old desk.new shelf.old shelf.new result }
+{
+    if shelf.is_saved(&row.name, row.version) {
+        return None;
+    }
+    let answer = save_deck(desk, shelf, &row.name, SaveOver::Known);
+    Some(SavedDeck {
+        name: row.name.copied(),
+        outcome: outcome_of(&answer.told),
+    })
+}
+
+/// Puts what became of a deck, if it was to be saved, where there is room.
+fn put_saved(saved: &mut Vec<SavedDeck>, told: Option<SavedDeck>)
+    requires { vec_len saved.old < vec_capacity saved.old }
+    ensures items { saved.new.items ≡ saved.old.items ++ option_to_list told }
+    ensures room { vec_capacity saved.new ≡ vec_capacity saved.old }
+{
+    match told {
+        Some(deck) => saved.push_reserved(deck),
+        None => {}
+    }
+}
+
+/// Saves decks one after the other, each whose file has not its cards: what became of these. The memory for
+/// that is there before anything is saved.
+fn save_rows<C: Calls, S: Shelf>(
+    alloc: Global,
+    desk: &mut C,
+    shelf: &mut S,
+    rows: &[Row],
+) -> Result<Vec<SavedDeck>, AllocError>
+    ensures saved { IfOk result (λ saved. SavesRows C.makes S.saves S.refuses_to_save S.tells_saved desk.old shelf.old rows.now saved.items desk.new shelf.new) }
+    ensures few { IfOk result (λ saved. length saved.items ≤ length rows.now) }
+    ensures desk { OnErr result (desk.new ≡ desk.old) }
+    ensures shelf { OnErr result (shelf.new ≡ shelf.old) }
+{
+    let mut saved = Vec::with_capacity(alloc, rows.len())?;
+    for row in rows {
+        let told = save_row(desk, shelf, row);
+        put_saved(&mut saved, told);
+    }
+    Ok(saved)
+}
+
+/// Saves these decks, and tells what became of them with this version.
+fn tell_saves<C: Calls, S: Shelf>(
+    alloc: Global,
+    desk: &mut C,
+    shelf: &mut S,
+    version: u64,
+    rows: &[Row],
+) -> Answer
+    requires { length rows.now ≤ most_decks }
+    ensures tells { TellsSaves C.makes S.saves S.refuses_to_save S.tells_saved version rows.now desk.old desk.new shelf.old shelf.new result }
+    ensures fits { IsTellable result.told }
+{
+    match save_rows(alloc, desk, shelf, rows) {
+        Ok(saved) => called(Told::Saved(version, Listed::new(saved))),
+        Err(_) => called(Told::Refused(Refusal::OutOfMemory)),
+    }
+}
+
+/// The desk is asked for its status, and then each deck is saved whose file has not its cards.
+pub(crate) fn save_all<C: Calls, S: Shelf>(alloc: Global, desk: &mut C, shelf: &mut S) -> Answer
+    ensures saves { SavesAll C.makes S.saves S.refuses_to_save S.tells_saved desk.old desk.new shelf.old shelf.new result }
+    ensures fits { IsTellable result.told }
+{
+    match told_of_call(desk.call(Call::Status)) {
+        Told::Status(version, _, rows) => tell_saves(alloc, desk, shelf, version, rows.as_slice()),
+        told => called(told),
+    }
+}
