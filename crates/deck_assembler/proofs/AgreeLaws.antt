@@ -2,6 +2,7 @@
 use Rattle.std.proofs.Common.{◌≡◌, ℕ, ◌+◌, ◌≤◌, List, [], ◌∷◌, ◌++◌, Option, Some, None, Bool, take, drop, map, length, refl, sym, ap, ap₂, ◌∙◌, subst, if◌then◌else◌}
 use Rattle.cards.specs.Spans.{statement_at}
 use Rattle.definitions.specs.Cards.{Card}
+use Rattle.definitions.specs.Literals.{operand_literals}
 use Rattle.definitions.specs.Operands.{Operand, NamesOperand}
 use Rattle.definitions.specs.Operations.{Operation}
 use Rattle.definitions.specs.Letters.{in_order}
@@ -100,6 +101,7 @@ sized-alike kind front earlier stood there ahead cards sized statement other is 
       operation = sym (ap (λ (s : Settled). s.read.operation) same) ∙ is.operation;
       label = subst (λ (l : List ℕ). IfSome sized.label (λ label. label ≡ l)) (ap (λ (s : Settled). s.read.fields.location) same) is.label;
       kept = subst (IsKeptReading sized.kept) (ap (λ (s : Settled). s.read.operand) same) is.kept;
+      bare = λ b. ap (λ (s : Settled). operand_literals s.read.operand) (sym same) ∙ is.bare b;
     }
 
 -- what is told of views, where the lists that they are of are split

@@ -7,6 +7,7 @@ use Rattle.std.proofs.lemmas.List.{drop-take, length-drop, length-reverse, rever
 use Rattle.definitions.specs.Cards.{Card}
 use Rattle.definitions.specs.DeckKinds.{kind_of_statements}
 use Rattle.definitions.specs.Fields.{fields_of}
+use Rattle.definitions.specs.Literals.{operand_literals}
 use Rattle.definitions.specs.Operands.{Operand}
 use Rattle.definitions.specs.Operations.{is_neutral}
 use Rattle.definitions.specs.Settled.{defined}
@@ -73,6 +74,7 @@ recounted-sized first second earlier stood ahead other sized made statement are 
       operation = ap (λ settled. settled.read.operation) same ∙ is.operation ∙ ap operation_as (sym re.operation);
       label = subst (λ label. IfSome label (λ l. l ≡ (fields_of statement.cards).location)) (sym re.label) is.label;
       kept = subst (λ (operand : Operand). IsKeptReading made.kept operand) (sym (ap (λ settled. settled.read.operand) same)) (subst (λ kept. IsKeptReading kept before.read.operand) (sym re.kept) is.kept);
+      bare = λ b. ap (λ settled. operand_literals settled.read.operand) same ∙ is.bare (sym re.bare ∙ b);
     }
 
 -- no neutral statement that ends within so many cards stands behind these

@@ -54,6 +54,7 @@ same-sized kind earlier stood old cards sized statement is e =
       operation = is.operation;
       label = is.label;
       kept = is.kept;
+      bare = is.bare;
     }
 
 -- the next statement in front stays, and what is left goes on behind it

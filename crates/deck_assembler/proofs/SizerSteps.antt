@@ -1,5 +1,5 @@
 -- One statement more, sized behind those before it.
-use Rattle.std.proofs.Common.{◌≡◌, ℕ, Bool, true, false, List, ◌∷◌, refl, sym, ap, ap₂, ◌∙◌, subst, if◌then◌else◌}
+use Rattle.std.proofs.Common.{◌≡◌, ℕ, Bool, true, false, List, [], ◌∷◌, refl, sym, ap, ap₂, ◌∙◌, subst, if◌then◌else◌}
 use Rattle.std.specs.Prelude.{IfSome, reverse}
 use Rattle.definitions.specs.Blocks.{block_in_use, is_accepted, change_of}
 use Rattle.definitions.specs.Cards.{Card}
@@ -61,6 +61,7 @@ pub record IsStep (kind : DeckKind) (earlier : List Statement) (given : Statemen
   pub operation : (settle kind (settled_all kind earlier) given).read.operation ≡ operation_as sized.operation
   pub label : IfSome sized.label (λ label. label ≡ (settle kind (settled_all kind earlier) given).read.fields.location)
   pub kept : IsKeptReading sized.kept (settle kind (settled_all kind earlier) given).read.operand
+  pub bare : sized.is_bare ≡ true → operand_literals (settle kind (settled_all kind earlier) given).read.operand ≡ []
   pub made : effect ≡ effect_of kind (settle kind (settled_all kind earlier) given)
   pub noted : IsNoted (settle kind (settled_all kind earlier) given).read.fields.location (settle kind (settled_all kind earlier) given).read.operand sized.sizing.defines effect old new
   pub pieces : reverse new.pieces.items ≡ with_statement old.state sized (reverse old.pieces.items)
@@ -84,6 +85,7 @@ sizer-step kind cards earlier given effect sized old new next is step =
       operation = step.operation;
       label = step.label;
       kept = step.kept;
+      bare = step.bare;
     } in
     record {
       state = step.state ∙ ap₂ advanced step.made is.state ∙ sym (state_after-step kind settled all in_use);

@@ -33,6 +33,7 @@ pub record IsRecounted (counter : Form) (sized made : SizedStatement) : Type 0 w
   pub operation : made.operation ≡ sized.operation
   pub label : made.label ≡ sized.label
   pub kept : made.kept ≡ sized.kept
+  pub bare : made.is_bare ≡ sized.is_bare
   pub block : made.sizing.block ≡ sized.sizing.block
   pub change : made.sizing.change ≡ sized.sizing.change
   pub is_placed : made.sizing.is_placed ≡ sized.sizing.is_placed

@@ -1,9 +1,9 @@
 -- When what is kept of a deck is what its cards make.
-use Rattle.std.specs.Prelude.{ℕ, ◌≡◌, ⊤, ◌+◌, ◌<◌, ◌≤◌, List, [], ◌∷◌, ◌++◌, IfSome, take, drop, length, reverse}
+use Rattle.std.specs.Prelude.{ℕ, ◌≡◌, ⊤, ◌+◌, ◌<◌, ◌≤◌, List, [], ◌∷◌, ◌++◌, IfSome, true, take, drop, length, reverse}
 use Rattle.definitions.specs.Cards.{Card}
 use Rattle.definitions.specs.DeckKinds.{up_to_end, behind_end, kind_of_statements}
 use Rattle.definitions.specs.Lengths.{lengths_of}
-use Rattle.definitions.specs.Literals.{literal_words}
+use Rattle.definitions.specs.Literals.{literal_words, operand_literals}
 use Rattle.definitions.specs.Settled.{defined}
 use Rattle.definitions.specs.Settling.{settle, settled_all, number_base_of}
 use Rattle.definitions.specs.Statements.{Statement, statements_of}
@@ -28,6 +28,7 @@ pub record IsSizedStatement (deck_kind : DeckKind) (earlier : List Statement) (s
   pub operation : (settle deck_kind (settled_all deck_kind earlier) statement).read.operation ≡ operation_as sized.operation
   pub label : IfSome sized.label (λ label. label ≡ (settle deck_kind (settled_all deck_kind earlier) statement).read.fields.location)
   pub kept : IsKeptReading sized.kept (settle deck_kind (settled_all deck_kind earlier) statement).read.operand
+  pub bare : sized.is_bare ≡ true → operand_literals (settle deck_kind (settled_all deck_kind earlier) statement).read.operand ≡ []
 
 -- a statement is the next so many cards of those ahead, and so many stood before them
 pub record IsListedStatement (stood : ℕ) (ahead : List Card) (count : ℕ) (statement : Statement) : Type 0 where

@@ -54,14 +54,14 @@ pub(crate) fn later_cards(cards: &[Card], count: u32) -> &[Card]
 }
 
 impl DeckLines {
-    /// Those of no statement, with memory for so many lines.
-    pub(crate) fn new(alloc: Global, room: usize) -> Result<DeckLines, AllocError>
+    /// Those of no statement, with memory for so many lines and for so many fields.
+    pub(crate) fn new(alloc: Global, room: usize, items: usize) -> Result<DeckLines, AllocError>
         ensures lined { IfOk result (λ lines. (whole : Whole) → AreLined whole [] lines) }
         ensures stood { IfOk result (λ lines. lines.stood ≡ 0) }
     {
         Ok(DeckLines {
             lines: Vec::with_capacity(alloc, room)?,
-            items: Vec::new(alloc),
+            items: Vec::with_capacity(alloc, items)?,
             stood: 0,
             block: 0,
         })

@@ -38,6 +38,7 @@ fn recounted(
         cards: sized.cards,
         operation: sized.operation,
         label: sized.label,
+        is_bare: sized.is_bare,
         kept: sized.kept,
         sizing: sized.sizing.recounted(alloc, kind, counter)?,
     })

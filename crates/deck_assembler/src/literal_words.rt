@@ -1,5 +1,5 @@
 //! The literals of a statement, taken into the literals block (COMPASS 60492600, literals).
-ghost use Rattle.std.specs.Prelude.{◌≡◌, ◌<◌, ◌^◌, OnOk, flat_map};
+ghost use Rattle.std.specs.Prelude.{◌≡◌, ◌<◌, ◌^◌, [], IfOk, OnOk, flat_map, true};
 ghost use Rattle.definitions.specs.Literals as literals;
 ghost use Rattle.definitions.specs.Literals.{literals_in, value_literals, datum_literals, operand_literals, with_literals, signed_number};
 ghost use Rattle.definitions.specs.Operands as operands;
@@ -7,12 +7,13 @@ ghost use Rattle.expr_forms.specs.Elements.{literal_as, sign_as};
 ghost use Rattle.expr_forms.specs.Readings.{datum_as, bit_field_as};
 ghost use Rattle.operations.specs.OperationsAs.{operation_as};
 ghost use Rattle.statement_coder.specs.Readings.{IsReading, IsLawful};
-ghost use Rattle.deck_assembler.specs.LiteralsRead.{shape_literals, bit_literals, is_told, kept_literals};
+ghost use Rattle.deck_assembler.specs.LiteralsRead.{shape_literals, bit_literals, is_told, kept_literals, IsTold};
 ghost use Rattle.expr_forms.specs.Kept.{field_of};
 
+use crate::sized_statement::SizedStatement;
 use expr_forms::{
-    BitField, BitFields, ConWords, CountedItem, Datum, Expr, Field, KeptField, Literal, Number,
-    Shape, Sign, item_literal, number_literal,
+    BitField, BitFields, ConWords, CountedItem, Datum, Expr, Field, KeptField, Literal,
+    Literals as LiteralsLeft, Number, Shape, Sign, item_literal, number_literal,
 };
 use operations::Operation;
 use statement_coder::{KeptReading, Reading};
@@ -44,11 +45,12 @@ pub fn literal_word(literal: &Literal<'_>) -> u64
     }
 }
 
-/// Takes in the literals of an expression. Some of them are taken in where memory runs out.
-fn add_expression(words: &mut Literals, expression: &Expr<'_>) -> Result<(), AllocError>
-    ensures { OnOk result (words.new ≡ with_literals (literals_in expression.now) words.old) }
+/// Takes in the literals that are left of an expression. Some of them are taken in where memory runs
+/// out.
+fn add_left(words: &mut Literals, left: LiteralsLeft<'_>) -> Result<(), AllocError>
+    ensures { OnOk result (words.new ≡ with_literals left.entry words.old) }
 {
-    let mut rest = expression.literals();
+    let mut rest = left;
     'literals: loop {
         match rest.next() {
             None => return Ok(()),
@@ -57,20 +59,39 @@ fn add_expression(words: &mut Literals, expression: &Expr<'_>) -> Result<(), All
     }
 }
 
-/// Takes in the literals in K or n of an instruction.
-fn add_shape(words: &mut Literals, shape: &Shape<'_>) -> Result<(), AllocError>
-    ensures { OnOk result (words.new ≡ with_literals (shape_literals shape.now.field) words.old) }
+/// Takes in the literals of an expression, and tells whether it has none. Some of them are taken in
+/// where memory runs out.
+fn add_expression(words: &mut Literals, expression: &Expr<'_>) -> Result<bool, AllocError>
+    ensures words { OnOk result (words.new ≡ with_literals (literals_in expression.now) words.old) }
+    ensures bare { IfOk result (λ bare. bare ≡ true → literals_in expression.now ≡ []) }
+{
+    let mut rest = expression.literals();
+    match rest.next() {
+        None => Ok(true),
+        Some(literal) => {
+            words.add(literal_word(&literal))?;
+            add_left(words, rest)?;
+            Ok(false)
+        }
+    }
+}
+
+/// Takes in the literals in K or n of an instruction, and tells whether an expression stands there
+/// without one.
+fn add_shape(words: &mut Literals, shape: &Shape<'_>) -> Result<bool, AllocError>
+    ensures words { OnOk result (words.new ≡ with_literals (shape_literals shape.now.field) words.old) }
+    ensures bare { IfOk result (λ bare. bare ≡ true → shape_literals shape.now.field ≡ []) }
 {
     match &shape.field {
         Field::Address(expression) => add_expression(words, expression),
         Field::Count(expression) => add_expression(words, expression),
-        Field::Absent => Ok(()),
-        Field::Zero => Ok(()),
-        Field::Short(_) => Ok(()),
-        Field::Displacement(_) => Ok(()),
-        Field::Shift(_) => Ok(()),
-        Field::Wide(_) => Ok(()),
-        Field::Long(_, _) => Ok(()),
+        Field::Absent => Ok(false),
+        Field::Zero => Ok(false),
+        Field::Short(_) => Ok(false),
+        Field::Displacement(_) => Ok(false),
+        Field::Shift(_) => Ok(false),
+        Field::Wide(_) => Ok(false),
+        Field::Long(_, _) => Ok(false),
     }
 }
 
@@ -79,7 +100,10 @@ fn add_datum(words: &mut Literals, datum: &Datum<'_>) -> Result<(), AllocError>
     ensures { OnOk result (words.new ≡ with_literals (datum_literals (datum_as datum.now)) words.old) }
 {
     match datum {
-        Datum::Expression(expression) => add_expression(words, expression),
+        Datum::Expression(expression) => {
+            add_expression(words, expression)?;
+            Ok(())
+        }
         Datum::Zero => Ok(()),
         Datum::Number(_, _) => Ok(()),
         Datum::Item(_) => Ok(()),
@@ -104,7 +128,10 @@ fn add_field(words: &mut Literals, field: &BitField<'_>) -> Result<(), AllocErro
     ensures { OnOk result (words.new ≡ with_literals (bit_literals (bit_field_as field.now)) words.old) }
 {
     match &field.value {
-        Some(expression) => add_expression(words, expression),
+        Some(expression) => {
+            add_expression(words, expression)?;
+            Ok(())
+        }
         None => Ok(()),
     }
 }
@@ -122,23 +149,30 @@ fn add_fields(words: &mut Literals, fields: BitFields<'_>) -> Result<(), AllocEr
     }
 }
 
-/// Takes in the literals of an operand, from left to right. Some of them are taken in where memory
-/// runs out.
-pub(crate) fn add_literals(words: &mut Literals, reading: &Reading<'_>) -> Result<(), AllocError>
+/// Takes in the literals of an operand, from left to right, and tells whether it is an instruction's
+/// with an expression and without a literal. Some of them are taken in where memory runs out.
+pub(crate) fn add_literals(words: &mut Literals, reading: &Reading<'_>) -> Result<bool, AllocError>
     requires { IsLawful reading.now }
-    ensures { OnOk result ((operand : operands.Operand) → IsReading reading.now operand → words.new ≡ with_literals (operand_literals operand) words.old) }
+    ensures words { OnOk result ((operand : operands.Operand) → IsReading reading.now operand → words.new ≡ with_literals (operand_literals operand) words.old) }
+    ensures bare { IfOk result (λ bare. bare ≡ true → (operand : operands.Operand) → IsReading reading.now operand → operand_literals operand ≡ []) }
 {
     match reading {
         Reading::Instruction(shape) => add_shape(words, shape),
-        Reading::Con(data) => add_con(words, data.copied()),
-        Reading::Vfd(fields) => add_fields(words, fields.copied()),
-        Reading::Unread => Ok(()),
-        Reading::Bad => Ok(()),
-        Reading::Data(_) => Ok(()),
-        Reading::Text(_) => Ok(()),
-        Reading::Value(_) => Ok(()),
-        Reading::Names(_) => Ok(()),
-        Reading::Use(_) => Ok(()),
+        Reading::Con(data) => {
+            add_con(words, data.copied())?;
+            Ok(false)
+        }
+        Reading::Vfd(fields) => {
+            add_fields(words, fields.copied())?;
+            Ok(false)
+        }
+        Reading::Unread => Ok(false),
+        Reading::Bad => Ok(false),
+        Reading::Data(_) => Ok(false),
+        Reading::Text(_) => Ok(false),
+        Reading::Value(_) => Ok(false),
+        Reading::Names(_) => Ok(false),
+        Reading::Use(_) => Ok(false),
     }
 }
 
@@ -147,8 +181,8 @@ fn add_field_kept(words: &mut Literals, field: &KeptField) -> Result<(), AllocEr
     ensures { OnOk result (words.new ≡ with_literals (shape_literals (field_of field.now)) words.old) }
 {
     match field {
-        KeptField::Address(expression) => add_expression(words, &expression.expression()),
-        KeptField::Count(expression) => add_expression(words, &expression.expression()),
+        KeptField::Address(expression) => add_left(words, expression.expression().literals()),
+        KeptField::Count(expression) => add_left(words, expression.expression().literals()),
         KeptField::Absent => Ok(()),
         KeptField::Zero => Ok(()),
         KeptField::Short(_) => Ok(()),
@@ -177,7 +211,7 @@ pub(crate) fn is_told(operation: Operation, kept: &KeptReading) -> bool
 
 /// Takes in the literals of an operand that was kept, without making the reading of it; DATA has none,
 /// and of one that is read again none are kept. Some of them are taken in where memory runs out.
-pub(crate) fn add_kept_literals(words: &mut Literals, kept: &KeptReading) -> Result<(), AllocError>
+fn add_kept_literals(words: &mut Literals, kept: &KeptReading) -> Result<(), AllocError>
     ensures { OnOk result (words.new ≡ with_literals (kept_literals kept.now) words.old) }
 {
     match kept {
@@ -189,5 +223,20 @@ pub(crate) fn add_kept_literals(words: &mut Literals, kept: &KeptReading) -> Res
         KeptReading::Data(_) => Ok(()),
         KeptReading::Value(_) => Ok(()),
         KeptReading::Use(_) => Ok(()),
+    }
+}
+
+/// Takes in the literals of a statement that was sized, whose operand tells them: it is not looked at
+/// where it is known to have none. Some of them are taken in where memory runs out.
+pub(crate) fn add_told_literals(
+    words: &mut Literals,
+    sized: &SizedStatement,
+) -> Result<(), AllocError>
+    ensures { OnOk result ((operand : operands.Operand) → IsTold sized.now.kept operand → (sized.now.is_bare ≡ true → operand_literals operand ≡ []) → words.new ≡ with_literals (operand_literals operand) words.old) }
+{
+    if sized.is_bare {
+        Ok(())
+    } else {
+        add_kept_literals(words, &sized.kept)
     }
 }

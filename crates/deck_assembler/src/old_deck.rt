@@ -299,6 +299,7 @@ impl<'a> OldDeck<'a> {
     }
 
     /// The next of its statements, where all that is left stays, for a span of as many cards.
+    #[inline(always)]
     fn kept_in_tail(&mut self, span: Span) -> Option<SizedStatement>
         requires { self.old.stage ≡ stages.Tail }
         ensures kept { (cards : List deck_cards.Card) (sizer : sizers.Sizer) → KeepsOn cards span sizer self.old self.new }

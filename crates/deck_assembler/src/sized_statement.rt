@@ -6,12 +6,13 @@ use operations::Operation;
 use statement_coder::{KeptReading, KeptSizing};
 
 /// A statement up to END: how many cards it has, its operation with what is kept of its location field
-/// and its operand, and what it is behind those before it.
+/// and its operand, whether that is known to have no literal, and what it is behind those before it.
 #[derive(Drop)]
 pub struct SizedStatement {
     pub cards: u32,
     pub operation: Operation,
     pub label: Option<Name>,
+    pub is_bare: bool,
     pub kept: KeptReading,
     pub sizing: KeptSizing,
 }

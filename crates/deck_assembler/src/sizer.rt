@@ -1,6 +1,7 @@
 //! The statements of a deck, sized one behind the other.
-ghost use Rattle.std.specs.Prelude.{◌≡◌, ◌≤◌, ◌+◌, ◌-◌, ◌^◌, ◌∷◌, [], List, min, reverse, IfOk, OnOk};
+ghost use Rattle.std.specs.Prelude.{◌≡◌, ◌≤◌, ◌+◌, ◌-◌, ◌^◌, ◌∷◌, [], List, min, reverse, IfOk, OnOk, true};
 ghost use Rattle.definitions.specs.Cards as cards;
+ghost use Rattle.definitions.specs.Literals.{operand_literals};
 ghost use Rattle.definitions.specs.Operands as operands;
 ghost use Rattle.definitions.specs.Operands.{operand_of};
 ghost use Rattle.definitions.specs.Statements as statements;
@@ -19,13 +20,11 @@ ghost use Rattle.deck_assembler.specs.SizedDecks.{IsSizedStatement};
 ghost use Rattle.deck_assembler.specs.Sizers.{stood, ahead, IsNext, IsNoted, IsSizer};
 
 use crate::definitions_kept::{define, define_own};
-use crate::literal_words::{add_kept_literals, add_literals, is_told};
+use crate::literal_words::{add_literals, add_told_literals, is_told};
 use crate::pieces::{Piece, add_statement};
 use crate::sized_statement::{SizedStatement, label_of};
 use crate::symbol_table::SymbolTable;
-use statement_coder::{
-    Defines, KeptReading, KeptSizing, Meter, Reading, Statement, read_operand, size_reading,
-};
+use statement_coder::{Defines, KeptSizing, Meter, Reading, Statement, read_operand, size_reading};
 use std::alloc::{AllocError, Global};
 use use_blocks::{BlockState, Effect, Lengths, Literals};
 
@@ -79,13 +78,14 @@ impl Sizer {
         );
         let sizing = size_reading(statement, &reading, &self.state, &self.symbols, meter);
         let effect = sizing.effect(statement);
-        self.note(&reading, statement.location, sizing.defines, &effect)?;
+        let is_bare = self.note(&reading, statement.location, sizing.defines, &effect)?;
         let is_counted = self.state.block().counting().is_some();
         let kept_sizing = KeptSizing::new(alloc, statement.kind, is_counted, sizing)?;
         let sized = SizedStatement {
             cards: count,
             operation: statement.operation,
             label: label_of(statement.location),
+            is_bare,
             kept: reading.kept(),
             sizing: kept_sizing,
         };
@@ -144,60 +144,82 @@ impl Sizer {
     ) -> Result<(), AllocError>
         requires blocks { block_names self.old.lengths ≡ names_of_blocks self.old.state.blocks }
         requires accepted { IsAccepted (change_as effect.now.change) self.old.state }
-        ensures noted { OnOk result ((operand : operands.Operand) → IsKeptReading sized.now.kept operand →
+        ensures noted { OnOk result ((operand : operands.Operand) → IsKeptReading sized.now.kept operand → (sized.now.is_bare ≡ true → operand_literals operand ≡ []) →
             operand ≡ operand_of statement.now.kind sized.now.sizing.number_base (operation_as statement.now.operation) statement.now.name.now statement.now.variable.now →
             IsNoted statement.now.location.now operand sized.now.sizing.defines (effect_as effect.now) self.old self.new) }
         ensures state { self.new.state ≡ self.old.state }
         ensures pieces { self.new.pieces ≡ self.old.pieces }
     {
         if is_told(statement.operation, &sized.kept) {
-            return self.note_told(&sized.kept, statement.location, &sized.sizing, effect);
+            return self.note_told(sized, statement.location, effect);
         }
+        self.note_again(statement, sized, effect)
+    }
+
+    /// Takes in the same of a statement whose operand is read again for it.
+    #[inline(never)]
+    fn note_again(
+        &mut self,
+        statement: &Statement<'_>,
+        sized: &SizedStatement,
+        effect: &Effect,
+    ) -> Result<(), AllocError>
+        requires blocks { block_names self.old.lengths ≡ names_of_blocks self.old.state.blocks }
+        requires accepted { IsAccepted (change_as effect.now.change) self.old.state }
+        ensures noted { OnOk result ((operand : operands.Operand) →
+            operand ≡ operand_of statement.now.kind sized.now.sizing.number_base (operation_as statement.now.operation) statement.now.name.now statement.now.variable.now →
+            IsNoted statement.now.location.now operand sized.now.sizing.defines (effect_as effect.now) self.old self.new) }
+        ensures state { self.new.state ≡ self.old.state }
+        ensures pieces { self.new.pieces ≡ self.old.pieces }
+    {
         let defines = sized.sizing.defines();
         let read = statement.read_operand(sized.sizing.number_base());
-        self.note(&read.reading, statement.location, defines, effect)
+        self.note(&read.reading, statement.location, defines, effect)?;
+        Ok(())
     }
 
     /// Takes in the same of a statement whose operand was kept, which is not read for it: such an
     /// operand gives no names. Some of it is taken in where memory runs out.
     fn note_told(
         &mut self,
-        kept: &KeptReading,
+        sized: &SizedStatement,
         location: &[u8],
-        sizing: &KeptSizing,
         effect: &Effect,
     ) -> Result<(), AllocError>
         requires blocks { block_names self.old.lengths ≡ names_of_blocks self.old.state.blocks }
         requires accepted { IsAccepted (change_as effect.now.change) self.old.state }
-        ensures noted { OnOk result ((operand : operands.Operand) → IsTold kept.now operand → IsNoted location.now operand sizing.now.defines (effect_as effect.now) self.old self.new) }
+        ensures noted { OnOk result ((operand : operands.Operand) → IsTold sized.now.kept operand → (sized.now.is_bare ≡ true → operand_literals operand ≡ []) →
+            IsNoted location.now operand sized.now.sizing.defines (effect_as effect.now) self.old self.new) }
         ensures state { self.new.state ≡ self.old.state }
         ensures pieces { self.new.pieces ≡ self.old.pieces }
     {
-        add_kept_literals(&mut self.literals, kept)?;
-        define_own(&mut self.symbols, location, sizing)?;
+        add_told_literals(&mut self.literals, sized)?;
+        define_own(&mut self.symbols, location, &sized.sizing)?;
         self.lengths.follow(&self.state, effect)?;
         Ok(())
     }
 
     /// Takes in what a statement gives to its deck: its literals, what it defines, and the words that
-    /// it reaches. Some of it is taken in where memory runs out.
+    /// it reaches; and tells whether its operand is known to have no literal. Some of it is taken in
+    /// where memory runs out.
     fn note(
         &mut self,
         reading: &Reading<'_>,
         location: &[u8],
         defines: Defines,
         effect: &Effect,
-    ) -> Result<(), AllocError>
+    ) -> Result<bool, AllocError>
         requires blocks { block_names self.old.lengths ≡ names_of_blocks self.old.state.blocks }
         requires accepted { IsAccepted (change_as effect.now.change) self.old.state }
         requires lawful { IsLawful reading.now }
         ensures noted { OnOk result ((operand : operands.Operand) → IsReading reading.now operand → IsNoted location.now operand defines (effect_as effect.now) self.old self.new) }
+        ensures bare { IfOk result (λ bare. bare ≡ true → (operand : operands.Operand) → IsReading reading.now operand → operand_literals operand ≡ []) }
         ensures state { self.new.state ≡ self.old.state }
         ensures pieces { self.new.pieces ≡ self.old.pieces }
     {
-        add_literals(&mut self.literals, reading)?;
+        let is_bare = add_literals(&mut self.literals, reading)?;
         define(&mut self.symbols, location, reading, defines)?;
         self.lengths.follow(&self.state, effect)?;
-        Ok(())
+        Ok(is_bare)
     }
 }

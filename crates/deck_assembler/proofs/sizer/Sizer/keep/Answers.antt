@@ -24,13 +24,14 @@ returns c = λ kind cards earlier given read next is sized_is.
     let effect = effect_as c.effect-effect.result in
     let same : operand ≡ operand_of code.kind sized.sizing.number_base (operation_as code.operation) code.name.now code.variable.now =
     λ i. operand_of (sym read.kind i) (sym sized_is.number_base i) (sym read.operation i) (sym read.name i) (sym read.variable i) in
-    let noted = subst (λ (l : List ℕ). IsNoted l operand sized.sizing.defines effect old c.note_kept.new.self) read.location (c.in_ok-note_kept.ensures.noted operand sized_is.kept same) in
+    let noted = subst (λ (l : List ℕ). IsNoted l operand sized.sizing.defines effect old c.note_kept.new.self) read.location (c.in_ok-note_kept.ensures.noted operand sized_is.kept sized_is.bare same) in
     sizer-step kind cards earlier given effect sized old c.put.new.self next is (record {
       sizing = sized_is.sizing;
       number_base = sized_is.number_base;
       operation = sized_is.operation;
       label = sized_is.label;
       kept = sized_is.kept;
+      bare = sized_is.bare;
       made = c.effect-effect.ensures.effect kind given (number_base_of all) _ settled read refl sized_is.sizing;
       noted = record {
         lawful = noted.lawful;

@@ -23,7 +23,7 @@ returns-clause-taken c = λ kind cards earlier given read next is.
     let r = c.read_operand-reading.result in
     let base = c.number_base.result in
     let sizing = c.size_reading-sizing.result in
-    let sized : SizedStatement = record { cards = c.args.count; operation = code.operation; label = c.label_of.result; kept = c.kept.result; sizing = sizing } in
+    let sized : SizedStatement = record { cards = c.args.count; operation = code.operation; label = c.label_of.result; is_bare = c.in_ok-is_bare.is_bare; kept = c.kept.result; sizing = sizing } in
     let based = c.number_base.ensures ∙ ap (λ (state : BlockState). state.number_base) is.state in
     let read_here = subst (λ b. operand_in code b r) c.number_base.ensures c.read_operand-reading.ensures.reading in
     let operand = settled-operand kind earlier given code base r read based c.read_operand-reading.ensures.reading in
@@ -31,13 +31,14 @@ returns-clause-taken c = λ kind cards earlier given read next is.
     (c.size_reading-sizing.ensures.sizing given (operand_of code.kind old.state.number_base (operation_as code.operation) code.name.now code.variable.now) (sym read.stray) read_here) in
     let number_base = c.size_reading-sizing.ensures.number_base ∙ ap (λ (state : BlockState). state.number_base) is.state in
     let effect = effect_as c.effect-effect.result in
-    let noted = subst (λ (l : List ℕ). IsNoted l settled.read.operand sizing.defines effect old c.note.new.self) read.location (c.in_ok-note.ensures.noted settled.read.operand operand) in
+    let noted = subst (λ (l : List ℕ). IsNoted l settled.read.operand sizing.defines effect old c.note.new.self) read.location (c.in_ok-is_bare.ensures.noted settled.read.operand operand) in
     sizer-step kind cards earlier given effect sized old c.put.new.self next is (record {
       sizing = is_sizing;
       number_base = number_base;
       operation = sym read.operation;
       label = subst (λ (l : List ℕ). IfSome c.label_of.result (λ label. label ≡ l)) read.location c.label_of.ensures;
       kept = c.kept.ensures.kept settled.read.operand operand;
+      bare = λ b. c.in_ok-is_bare.ensures.bare b settled.read.operand operand;
       made = c.effect-effect.ensures.effect kind given (number_base_of all) _ settled read refl is_sizing;
       noted = record {
         lawful = noted.lawful;
@@ -47,7 +48,7 @@ returns-clause-taken c = λ kind cards earlier given read next is.
         same_blocks = ap (λ lengths. block_names lengths) c.put.ensures.lengths ∙ noted.same_blocks;
       };
       pieces = c.in_ok-put.ensures.pieces ∙ (λ i. with_statement (c.note.ensures.state i)
-          (record { cards = c.args.count; operation = code.operation; label = c.label_of.result; kept = c.kept.result; sizing = c.in_ok-kept_sizing.ensures.kept i })
+          (record { cards = c.args.count; operation = code.operation; label = c.label_of.result; is_bare = c.in_ok-is_bare.is_bare; kept = c.kept.result; sizing = c.in_ok-kept_sizing.ensures.kept i })
           (reverse (c.note.ensures.pieces i).items));
       state = c.in_ok-put.ensures.state ∙ ap (advanced effect) c.note.ensures.state;
     })
