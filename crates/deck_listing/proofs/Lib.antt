@@ -30,3 +30,4 @@ mod ImageLineSteps
 mod AloneSteps
 mod SectionSteps
 pub mod SheetSteps
+pub mod KeptLaws

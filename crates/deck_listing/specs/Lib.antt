@@ -15,3 +15,5 @@ pub mod Sheets
 pub mod ImageWordLines
 pub mod BlockWords
 pub mod Alone
+-- Sections that are kept.
+pub mod KeptSections

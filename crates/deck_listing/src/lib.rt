@@ -34,8 +34,12 @@ mod image_lines;
 mod section_words;
 mod sections;
 
+// What sections that are kept rest on.
+mod kept_laws;
+
 pub use blocks::words_of_blocks;
 pub use image_lines::push_image_line;
+pub use kept_laws::sections_follow_values;
 pub use listed_object::ListedObject;
 pub use sections::{image, push_section};
 pub use sheet::Sheet;

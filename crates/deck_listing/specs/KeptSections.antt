@@ -1,0 +1,46 @@
+-- Sections that are kept: a deck has the same section in each link where it stands at the same base and
+-- takes the same values of externals and common blocks from the link (ours).
+use Rattle.std.specs.Prelude.{ℕ, ◌≡◌, ⊤, List, Option, Some, None, ℤ, pos}
+use Rattle.std.specs.List.{All}
+use Rattle.definitions.specs.Forms.{Relocation, Block, External, Part, Added, Subtracted}
+use Rattle.definitions.specs.Image.{section}
+use Rattle.definitions.specs.Link.{Based, Layout, block_base, external_value}
+use Rattle.definitions.specs.Objects.{Object}
+use Rattle.definitions.specs.StatementItems.{Content, Known, Linked}
+use Rattle.statement_coder.specs.Items.{content_as}
+use Rattle.statement_coder.specs.declared.items.Item as code
+
+-- what a block or an external of a deck is worth in a link
+abbrev pub worth_in : Layout → Based → Relocation → ℤ
+worth_in layout based (Block name) = pos (block_base layout.commons based name)
+worth_in layout based (External name) = external_value layout name
+
+-- in a link the deck of an object stands at a base, and each of these is worth what stands with it
+pub record IsPlaced (object : Object) (base : ℕ) (values : List (Relocation × ℤ)) (layout : Layout) (based : Based) : Type 0 where
+  pub object_is : based.object ≡ object
+  pub base_is : based.base ≡ base
+  pub worth : All (λ (value : Relocation × ℤ). worth_in layout based value.0 ≡ value.1) values
+
+-- a block or an external of an object is worth the same wherever it stands at a base with these values
+abbrev pub DoesFollow : Object → ℕ → List (Relocation × ℤ) → Relocation → Type 0
+DoesFollow object base values relocation = (layout other : Layout) (based there : Based) →
+    IsPlaced object base values layout based → IsPlaced object base values other there → worth_in layout based relocation ≡ worth_in other there relocation
+
+-- so is what a form has of it, if it has one
+abbrev pub DoesPartFollow : Object → ℕ → List (Relocation × ℤ) → Option Part → Type 0
+DoesPartFollow object base values None = ⊤
+DoesPartFollow object base values (Some (Added relocation)) = DoesFollow object base values relocation
+DoesPartFollow object base values (Some (Subtracted relocation)) = DoesFollow object base values relocation
+
+-- so is what stands in a field
+abbrev pub DoesContentFollow : Object → ℕ → List (Relocation × ℤ) → Content → Type 0
+DoesContentFollow object base values (Known bits) = ⊤
+DoesContentFollow object base values (Linked form) = DoesPartFollow object base values form.part
+
+-- so is what stands in each of these fields
+abbrev pub DoFieldsFollow : Object → ℕ → List (Relocation × ℤ) → List code.Item → Type 0
+DoFieldsFollow object base values fields = All (λ (field : code.Item). DoesContentFollow object base values (content_as field.content)) fields
+
+-- a text is the section of an object wherever it stands at a base with these values
+abbrev pub IsSection : Object → ℕ → List (Relocation × ℤ) → List ℕ → Type 0
+IsSection object base values text = (layout : Layout) (based : Based) → IsPlaced object base values layout based → text ≡ section layout based

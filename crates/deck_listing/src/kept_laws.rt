@@ -1,0 +1,18 @@
+//! What sections that are kept rest on, as the contract of a function that does nothing.
+ghost use Rattle.std.specs.Prelude.{◌≡◌, ℕ, List, ℤ};
+ghost use Rattle.definitions.specs.Cards.{Card};
+ghost use Rattle.definitions.specs.Forms.{Relocation};
+ghost use Rattle.definitions.specs.Image.{section};
+ghost use Rattle.definitions.specs.Link.{Based, Layout};
+ghost use Rattle.definitions.specs.Objects.{Object};
+ghost use Rattle.deck_assembler.specs.PartsOf.{ArePartsOf};
+ghost use Rattle.deck_assembler.specs.declared.object.ObjectParts.{ObjectParts};
+ghost use Rattle.deck_listing.specs.KeptSections.{DoFieldsFollow, IsPlaced};
+
+/// Two links in which a deck stands at the same base, and which give all that its fields take from a link
+/// the same values, give it the same section.
+pub fn sections_follow_values()
+    ensures { (cards : List Card) (parts : ObjectParts) (object : Object) (base : ℕ) (values : List (Relocation × ℤ)) (layout other : Layout) (based there : Based) →
+        ArePartsOf cards parts object → DoFieldsFollow object base values parts.items.items →
+        IsPlaced object base values layout based → IsPlaced object base values other there → section layout based ≡ section other there }
+{}
