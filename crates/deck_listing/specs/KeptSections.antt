@@ -1,11 +1,13 @@
 -- Sections that are kept: a deck has the same section in each link where it stands at the same base and
 -- takes the same values of externals and common blocks from the link (ours).
-use Rattle.std.specs.Prelude.{ℕ, ◌≡◌, ⊤, List, Option, Some, None, ℤ, pos}
+use Rattle.std.specs.Prelude.{ℕ, ◌≡◌, ⊤, List, Option, Some, None, IfSome, ℤ, pos}
 use Rattle.std.specs.List.{All}
+use Rattle.definitions.specs.DeckInput.{Deck}
 use Rattle.definitions.specs.Forms.{Relocation, Block, External, Part, Added, Subtracted}
 use Rattle.definitions.specs.Image.{section}
 use Rattle.definitions.specs.Link.{Based, Layout, block_base, external_value}
-use Rattle.definitions.specs.Objects.{Object}
+use Rattle.definitions.specs.Listing.{deck_listing}
+use Rattle.definitions.specs.Objects.{Object, object_of}
 use Rattle.definitions.specs.StatementItems.{Content, Known, Linked}
 use Rattle.statement_coder.specs.Items.{content_as}
 use Rattle.statement_coder.specs.declared.items.Item as code
@@ -44,3 +46,18 @@ DoFieldsFollow object base values fields = All (λ (field : code.Item). DoesCont
 -- a text is the section of an object wherever it stands at a base with these values
 abbrev pub IsSection : Object → ℕ → List (Relocation × ℤ) → List ℕ → Type 0
 IsSection object base values text = (layout : Layout) (based : Based) → IsPlaced object base values layout based → text ≡ section layout based
+
+-- a section as it is kept: where its deck stood, what its fields took from the link, and its text
+pub record KeptSection : Type 0 where
+  pub base : ℕ
+  pub values : List (Relocation × ℤ)
+  pub text : List ℕ
+
+-- a kept section is the section of a deck wherever it stands there with these values
+abbrev pub IsSectionOf : Deck → KeptSection → Type 0
+IsSectionOf deck kept = IsSection (object_of deck) kept.base kept.values kept.text
+
+-- a text is the listing of a deck, and what is kept as its section is a section of it
+pub record IsListed (deck : Deck) (text : List ℕ) (kept : Option KeptSection) : Type 0 where
+  pub text_is : text ≡ deck_listing (object_of deck)
+  pub section_is : IfSome kept (IsSectionOf deck)

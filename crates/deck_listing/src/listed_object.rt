@@ -1,8 +1,10 @@
-//! An object that several hold, with its listing.
-ghost use Rattle.std.specs.Prelude.{◌≡◌, IfOk};
+//! An object that several hold, with its listing, and with its section in an image where it has one.
+ghost use Rattle.std.specs.Prelude.{◌≡◌, option_map, IfOk, IfSome};
 ghost use Rattle.definitions.specs.Listing.{deck_listing};
 ghost use Rattle.definitions.specs.Objects.{object_of};
+ghost use Rattle.deck_listing.specs.KeptSections.{IsSectionOf};
 
+use crate::placed_section::PlacedSection;
 use crate::whole::listing;
 use deck_assembler::{Object, SharedObject};
 use std::alloc::{AllocError, Global};
@@ -10,29 +12,30 @@ use std::marker::Model;
 use std::sync::Arc;
 use text_ports::Text;
 
-/// An object with its listing, which several hold, each as its own. Contracts see the deck: that the
-/// listing is that of this deck is the invariant of the type.
+/// An object with its listing, which several hold, each as its own; and the section that it has had in an
+/// image, where one is kept. Contracts see the deck: that the listing is that of this deck, and the section
+/// too wherever it stands at the same base with the same values, is the invariant of the type.
 #[derive(Drop)]
 pub struct ListedObject {
     object: SharedObject,
     text: Arc<Text>,
+    section: Option<Arc<PlacedSection>>,
 }
 
 impl Model for ListedObject {
-    ghost use Rattle.std.specs.Prelude.{◌≡◌};
+    ghost use Rattle.std.specs.Prelude.{option_map};
     ghost use Rattle.definitions.specs.DeckInput.{Deck};
-    ghost use Rattle.definitions.specs.Listing.{deck_listing};
-    ghost use Rattle.definitions.specs.Objects.{object_of};
+    ghost use Rattle.deck_listing.specs.KeptSections.{IsListed, KeptSection};
 
     ghost Value = { Deck };
 
     ghost view = { λ l. l.object };
 
-    ghost invariant = { λ l. l.text.value ≡ deck_listing (object_of l.object) };
+    ghost invariant = { λ l. IsListed l.object l.text.value (option_map (λ s. s.value) l.section) };
 }
 
 impl ListedObject {
-    /// The object with its listing, which is made here.
+    /// The object with its listing, which is made here; no section is kept.
     pub fn new(alloc: Global, object: SharedObject) -> Result<ListedObject, AllocError>
         ensures { IfOk result (λ listed. listed ≡ object) }
     {
@@ -40,16 +43,18 @@ impl ListedObject {
         Ok(ListedObject {
             object,
             text: Arc::new(alloc, text)?,
+            section: None,
         })
     }
 
-    /// The same object with the same listing once more.
+    /// The same object with the same listing and the same section once more.
     pub fn share(&self) -> Result<ListedObject, AllocError>
         ensures { IfOk result (λ shared. shared ≡ self.now) }
     {
         Ok(ListedObject {
             object: self.object.share()?,
             text: Arc::clone(&self.text)?,
+            section: shared_section(&self.section)?,
         })
     }
 
@@ -72,5 +77,39 @@ impl ListedObject {
     {
         let text: &Text = &self.text;
         text.as_slice()
+    }
+
+    /// The section that is kept, if one is.
+    pub fn section(&self) -> Option<&PlacedSection>
+        ensures { IfSome result (λ section. IsSectionOf self.now section.now) }
+    {
+        match &self.section {
+            Some(section) => {
+                let section: &PlacedSection = section;
+                Some(section)
+            }
+            None => None,
+        }
+    }
+
+    /// Keeps a section of the deck in the place of the one before. Without memory that one stays.
+    pub fn keep_section(&mut self, alloc: Global, section: PlacedSection) -> Result<(), AllocError>
+        requires { IsSectionOf self.old section }
+        ensures { self.new ≡ self.old }
+    {
+        self.section = Some(Arc::new(alloc, section)?);
+        Ok(())
+    }
+}
+
+/// A section once more, where there is one.
+fn shared_section(
+    section: &Option<Arc<PlacedSection>>,
+) -> Result<Option<Arc<PlacedSection>>, AllocError>
+    ensures { IfOk result (λ shared. option_map (λ s. s.value) shared ≡ option_map (λ s. s.value) section.now) }
+{
+    match section {
+        Some(section) => Ok(Some(Arc::clone(section)?)),
+        None => Ok(None),
     }
 }

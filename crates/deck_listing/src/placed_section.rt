@@ -1,0 +1,92 @@
+//! The section of a deck in the image of a link, as it is kept for later links.
+ghost use Rattle.std.specs.Prelude.{◌≡◌};
+ghost use Rattle.expr_forms.specs.FormsAs.{relocation_as};
+
+use expr_forms::Relocation;
+use std::marker::Model;
+use text_ports::Text;
+
+/// A block or an external of a deck, with what it is worth in a link. Contracts see the two as the
+/// definitions have them.
+#[derive(Drop)]
+pub struct LinkValue {
+    relocation: Relocation,
+    value: i128,
+}
+
+impl Model for LinkValue {
+    ghost use Rattle.std.specs.Prelude.{ℤ};
+    ghost use Rattle.definitions.specs.Forms as definitions;
+    ghost use Rattle.expr_forms.specs.FormsAs.{relocation_as};
+
+    ghost Value = { definitions.Relocation × ℤ };
+
+    ghost view = { λ v. (relocation_as v.relocation, v.value) };
+}
+
+impl LinkValue {
+    pub fn new(relocation: Relocation, value: i128) -> LinkValue
+        ensures { result ≡ (relocation_as relocation, value) }
+    {
+        LinkValue { relocation, value }
+    }
+
+    /// The block or external.
+    pub fn relocation(&self) -> Relocation
+        ensures { relocation_as result ≡ self.now.0 }
+    {
+        self.relocation
+    }
+
+    /// What it is worth.
+    pub fn value(&self) -> i128
+        ensures { result ≡ self.now.1 }
+    {
+        self.value
+    }
+}
+
+/// A section with the base where its deck stood, and what the fields of the deck took from the link.
+/// Contracts see the three.
+#[derive(Drop)]
+pub struct PlacedSection {
+    base: u32,
+    values: Vec<LinkValue>,
+    text: Text,
+}
+
+impl Model for PlacedSection {
+    ghost use Rattle.deck_listing.specs.KeptSections.{KeptSection};
+
+    ghost Value = { KeptSection };
+
+    ghost view = { λ s. record { base = s.base; values = s.values.items; text = s.text } };
+}
+
+impl PlacedSection {
+    pub fn new(base: u32, values: Vec<LinkValue>, text: Text) -> PlacedSection
+        ensures { result ≡ record { base = base; values = values.items; text = text } }
+    {
+        PlacedSection { base, values, text }
+    }
+
+    /// Where its deck stood.
+    pub fn base(&self) -> u32
+        ensures { result ≡ self.now.base }
+    {
+        self.base
+    }
+
+    /// What the fields of the deck took from the link.
+    pub fn values(&self) -> &[LinkValue]
+        ensures { result.now ≡ self.now.values }
+    {
+        self.values.as_slice()
+    }
+
+    pub fn text(&self) -> &[u8]
+        ensures { result.now ≡ self.now.text }
+    {
+        self.text.as_slice()
+    }
+}
