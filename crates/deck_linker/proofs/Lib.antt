@@ -20,3 +20,4 @@ pub mod ListedLaws
 pub mod ElsewhereLaws
 pub mod CommonSteps
 mod InPieceLaws
+mod TakenLaws

@@ -41,7 +41,7 @@ or_grouped true b c = refl
 or_grouped false b c = refl
 
 -- a name more among names in order
-added : (name other : List ℕ) (names : List (List ℕ)) → is_named other (with_name name names) ≡ (is_named other names || same_text other name)
+pub added : (name other : List ℕ) (names : List (List ℕ)) → is_named other (with_name name names) ≡ (is_named other names || same_text other name)
 added name other [] = last_alone (same_text other name)
 added name other (x ∷ names) = by_order (name_order name x) (same_in_order name x) (added name other names)
   where

@@ -19,3 +19,5 @@ pub mod Sections
 -- Publications.
 pub mod Publishing
 pub mod InPieces
+-- What the fields of a deck take from a link.
+pub mod TakenValues

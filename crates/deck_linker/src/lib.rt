@@ -38,6 +38,8 @@ mod unfit_fields;
 mod common_image;
 mod common_words;
 mod image;
+mod kept_sections;
+mod taken_values;
 
 // All of them: made whole, shared, or part by part.
 mod linked_decks;

@@ -6,7 +6,7 @@ ghost use Rattle.text_ports.specs.Sending.{Sends, count_after_sending};
 ghost use Rattle.deck_linker.specs.Publishing.{lines_in, listing_named, listings, map_of};
 
 use crate::Layout;
-use crate::image::image;
+use crate::kept_sections::kept_image;
 use crate::map::with_map;
 use crate::publication::sum;
 use deck_assembler::SharedObject;
@@ -211,7 +211,9 @@ fn check_len(objects: &[ListedObject], map: &Text) -> Result<(), AllocError>
     Ok(())
 }
 
-/// Links decks in this order, and publishes them under a version with the listings that they have.
+/// Links decks in this order, and publishes them under a version with the listings that they have. A deck that
+/// stands where it stood when its section was made has that section; else a new one is made, which the object in
+/// the publication keeps.
 pub fn publish(
     alloc: Global,
     objects: Vec<ListedObject>,
@@ -221,7 +223,8 @@ pub fn publish(
 {
     let layout = Layout::new(alloc, shared(alloc, objects.as_slice())?)?;
     let mapped = with_map(alloc, Text::new(alloc), &layout)?;
-    let image = image(alloc, &layout)?;
+    let mut objects = objects;
+    let image = kept_image(alloc, &layout, &mut objects)?;
     check_len(objects.as_slice(), &mapped.text)?;
     Ok(ListedPublication {
         version,

@@ -42,7 +42,7 @@ impl NameSet {
     }
 
     /// Adds a name, where it is not among them.
-    fn add(&mut self, name: &Name) -> Result<(), AllocError>
+    pub(crate) fn add(&mut self, name: &Name) -> Result<(), AllocError>
         ensures { OnOk result (self.new ≡ with_name name.now self.old) }
     {
         self.names.insert(NameKey::new(name))?;
