@@ -14,3 +14,6 @@ pub mod ReboundJoins
 pub mod NeutralJoins
 pub mod JoinedEdits
 pub mod SumLaws
+-- Edits of which some are made at once, and others behind them.
+pub mod NearLaws
+pub mod OrderLaws

@@ -1,11 +1,11 @@
 -- None of the neutral statements that decks of two kinds begin with is bound otherwise.
-use Rattle.std.proofs.Common.{◌≡◌, ◌+◌, ◌⊎◌, inl, inr, ℕ, Bool, true, false, not, List, [], ◌∷◌, ◌++◌, Some, refl, sym, ap, ap₂, arith, codes, if◌then◌else◌}
+use Rattle.std.proofs.Common.{◌≡◌, ◌⊎◌, inl, inr, ℕ, Bool, true, false, not, List, [], ◌∷◌, ◌++◌, Some, refl, sym, ap, arith, codes, if◌then◌else◌}
 use Rattle.std.specs.List.{list_any}
 use Rattle.std.proofs.lemmas.Bool.{true≢false}
 use Rattle.definitions.specs.Characters.{same_text}
 use Rattle.definitions.specs.Expressions.{Element}
 use Rattle.definitions.specs.Fields.{fields_of}
-use Rattle.definitions.specs.Operands.{Operand, Unread, BadOperand, operand_of}
+use Rattle.definitions.specs.Operands.{Unread, BadOperand, operand_of}
 use Rattle.definitions.specs.Operations as op
 use Rattle.definitions.specs.Operations.{Operation, is_neutral, operation_of}
 use Rattle.definitions.specs.Rebound.{bound_alike, coded_elements, is_rebound}

@@ -82,7 +82,7 @@ move-ends decks other front more of_old of_new old_more new_more (Agreeing split
     }
 
 -- one edit
-single : (edit : Edit) (cards : List Card) → fault_of edit cards ≡ None → (due : DueFor edit cards) →
+pub single : (edit : Edit) (cards : List Card) → fault_of edit cards ≡ None → (due : DueFor edit cards) →
     IsDueAtOnce (known_in cards) (known_in (edited cards edit)) (length cards) (length (edited cards edit)) (front_of edit) (count_behind edit (length cards)) (length due.front) (in_front due.decks due.ends) 0
     (rebound_front due.decks due.front + rebound_behind due.decks due.ends)
 single edit cards none due =
@@ -255,7 +255,7 @@ within-sum-code (edit ∷ edits) cards count now none rises due = λ each.
     omega (arith, bound, within, rebound, rises)
 
 -- where nothing is against them
-applies-all : (edits : List Edit) (is_spent : Bool) (cards : List Card) → against_all edits is_spent cards ≡ None → first_fault edits cards ≡ None
+pub applies-all : (edits : List Edit) (is_spent : Bool) (cards : List Card) → against_all edits is_spent cards ≡ None → first_fault edits cards ≡ None
 applies-all edits true cards none = cc
 applies-all edits false cards none = absent (first_fault edits cards) none
   where

@@ -2,3 +2,4 @@ pub mod Records
 pub mod Faults
 pub mod Edited
 pub mod Sums
+pub mod Groups

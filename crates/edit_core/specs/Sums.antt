@@ -1,5 +1,5 @@
 -- What is due for edits, one after the other (ours).
-use Rattle.std.specs.Prelude.{ℕ, ⊤, ◌≡◌, ◌+◌, ◌-◌, ◌≤◌, List, [], ◌∷◌, length, min}
+use Rattle.std.specs.Prelude.{ℕ, ⊤, ◌+◌, ◌-◌, ◌*◌, ◌≤◌, List, [], ◌∷◌, length, min}
 use Rattle.definitions.specs.Cards.{Card}
 use Rattle.definitions.specs.Edits.{Edited, IsUntouched, Split, DoAgree}
 use Rattle.definitions.specs.Rebound.{rebound_front, rebound_tail}
@@ -7,7 +7,8 @@ use Rattle.definitions.specs.Statements.{Statement}
 use Rattle.cards.specs.Counts.{count_after}
 use Rattle.cards.specs.Edits.{edited}
 use Rattle.cards.specs.declared.edits.Edit.{Edit}
-use Rattle.edit_core.specs.Edited.{front_of, count_behind, AreDecksOf, StandUnchanged}
+use Rattle.statement_coder.specs.declared.meter.Meter.{Meter}
+use Rattle.edit_core.specs.Edited.{front_of, count_behind, statement_count, AreDecksOf, StandUnchanged}
 
 -- where that ends what is due for an edit: with the deck, or where both decks agree
 pub data Ends (decks : Edited) : Type 0 where
@@ -78,3 +79,17 @@ RisesWithinSum more edits cards count now = (each : DueForEach edits cards) → 
 abbrev pub RisesWithinSumCode : ℕ → List Edit → List Card → ℕ → ℕ → Type 0
 RisesWithinSumCode more edits cards count now =
     (each : DueForEach edits cards) → fronts_sum edits cards each + now ≤ ends_sum edits cards each + rebound_sum edits cards each + more + count
+
+-- how many statements have all the decks that edits leave one after the other, each up to END
+abbrev pub statements_sum : List Edit → List Card → ℕ
+statements_sum [] cards = 0
+statements_sum (edit ∷ edits) cards = statement_count (edited cards edit) + statements_sum edits (edited cards edit)
+
+-- what edits count, made one after the other: no more than the sum of what is due for each, with the 128 of a piece for each, nor than the statements of each deck that they leave
+pub record CountsInOrder (edits : List Edit) (cards : List Card) (old new : Meter) : Type 0 where
+  pub sized : RisesWithinSum (128 * length edits) edits cards old.sized new.sized
+  pub coded : RisesWithinSumCode (128 * length edits) edits cards old.coded new.coded
+  pub sized_rises : old.sized ≤ new.sized
+  pub sized_few : new.sized ≤ old.sized + statements_sum edits cards
+  pub coded_rises : old.coded ≤ new.coded
+  pub coded_few : new.coded ≤ old.coded + statements_sum edits cards

@@ -9,7 +9,7 @@ ghost use Rattle.edit_core.specs.Edited.{count_behind, front_of, StandBehind};
 use cards::Edit;
 
 /// How many cards stand before the one that an edit is of.
-fn cards_before(edit: &Edit) -> usize
+pub(crate) fn cards_before(edit: &Edit) -> usize
     ensures { result ≡ front_of edit.now }
 {
     match edit {
@@ -32,7 +32,7 @@ pub(crate) fn cards_before_all(edits: &[Edit]) -> usize
 }
 
 /// How many of so many cards stand behind the one that an edit is of.
-fn cards_behind(edit: &Edit, count: usize) -> usize
+pub(crate) fn cards_behind(edit: &Edit, count: usize) -> usize
     ensures { result ≡ count_behind edit.now count }
 {
     let from = count.saturating_sub(cards_before(edit));
@@ -44,7 +44,7 @@ fn cards_behind(edit: &Edit, count: usize) -> usize
 }
 
 /// How many cards an edit leaves of so many.
-fn cards_after(edit: &Edit, count: usize) -> usize
+pub(crate) fn cards_after(edit: &Edit, count: usize) -> usize
     ensures { count ≤ 20000 → result ≡ count_after edit.now count }
 {
     match edit {

@@ -1,5 +1,5 @@
 //! What is kept of a deck from one edit to the next.
-ghost use Rattle.std.specs.Prelude.{◌≡◌, ◌≤◌, ◌<◌, ◌==◌, ◌∷◌, [], ◌+◌, true, false, All, length, reverse, None, Err, IfOk, IfErr, OnOk, ◌↔◌};
+ghost use Rattle.std.specs.Prelude.{◌≡◌, ◌≤◌, ◌<◌, ◌==◌, ◌∷◌, [], ◌+◌, ◌-◌, ◌*◌, true, false, All, length, reverse, take, None, Err, IfOk, IfErr, OnOk, ◌↔◌};
 ghost use Rattle.std.specs.List.{sum};
 ghost use Rattle.std.specs.Option.{ForSome};
 ghost use Rattle.definitions.specs.DeckKinds.{up_to_end};
@@ -10,11 +10,13 @@ ghost use Rattle.deck_assembler.specs.SizedDecks.{IsSizedDeck};
 ghost use Rattle.edit_core.specs.Edited.{edits_bound, statement_count, IsRecordOf, RisesBehindFront, RisesToDue, RisesToDueCode, RisesWithinDue, RisesWithinDueCode};
 ghost use Rattle.edit_core.specs.Faults.{against, against_all};
 ghost use Rattle.edit_core.specs.Records.{ArePieces};
-ghost use Rattle.edit_core.specs.Sums.{cards_between, RisesWithinSum, RisesWithinSumCode};
+ghost use Rattle.edit_core.specs.Sums.{cards_between, statements_sum, CountsInOrder, RisesWithinSum, RisesWithinSumCode};
+ghost use Rattle.edit_core.specs.Groups.{IsFirstMade};
 
 use crate::assembling::{edited_object, object_of};
 use crate::faults::{RecordFault, record_fault};
 use crate::fronts::{cards_before_all, cards_behind_all};
+use crate::near::near_edits;
 use crate::piece_counts::piece_counts;
 use cards::{Card, DeckName, Edit, edited_copy, first_fault};
 use deck_assembler::{OldCards, SharedObject, SizedDeck};
@@ -154,6 +156,82 @@ impl Kept {
         match self.fault_against(edits) {
             Some(fault) => Err(fault),
             None => self.edit_soundly(alloc, edits, meter),
+        }
+    }
+
+    /// Makes edits in order: those that lie near each other at once, as `edit_all` does, and others behind
+    /// them. Where the record is spent, or else at the first edit that doesn't apply to what the ones
+    /// before it leave, it says so and changes nothing; where memory runs out it is spent. The meter counts
+    /// no more than the sum of what is due for each of them, with the 128 of a piece for each, and at most
+    /// one statement sized, and one coded, for each up to END of the cards that each of them leaves.
+    pub fn edit_in_order(
+        &mut self,
+        alloc: Global,
+        edits: &[Edit],
+        meter: &mut Meter,
+    ) -> Result<(), RecordFault>
+        ensures refused { ForSome (against_all edits.now self.old.is_spent self.old.cards) (λ fault. (result ≡ Err fault) × (self.new ≡ self.old) × (meter.new ≡ meter.old)) }
+        ensures accepted { against_all edits.now self.old.is_spent self.old.cards ≡ None → IfErr result (λ fault. fault ≡ RecordFault.OutOfMemory) }
+        ensures made { IfOk result (λ _. IsRecordOf self.old.name (edited_by edits.now self.old.cards) self.new) }
+        ensures lost { result ≡ Err RecordFault.OutOfMemory → self.new.is_spent ≡ true }
+        ensures counts { against_all edits.now self.old.is_spent self.old.cards ≡ None → CountsInOrder edits.now self.old.cards meter.old meter.new }
+        ensures sized { meter.new.sized ≤ meter.old.sized + statements_sum edits.now self.old.cards }
+        ensures sized_rises { meter.old.sized ≤ meter.new.sized }
+        ensures coded { meter.new.coded ≤ meter.old.coded + statements_sum edits.now self.old.cards }
+        ensures coded_rises { meter.old.coded ≤ meter.new.coded }
+    {
+        match self.fault_against(edits) {
+            Some(fault) => Err(fault),
+            None => self.edit_groups(alloc, edits, meter),
+        }
+    }
+
+    /// Makes edits in order, each of which applies, of a record that is not spent: first those that lie
+    /// near the first one, then those that lie near the next one, and so on.
+    fn edit_groups(
+        &mut self,
+        alloc: Global,
+        edits: &[Edit],
+        meter: &mut Meter,
+    ) -> Result<(), RecordFault>
+        requires { against_all edits.now self.old.is_spent self.old.cards ≡ None }
+        ensures fault { IfErr result (λ fault. fault ≡ RecordFault.OutOfMemory) }
+        ensures made { IfOk result (λ _. IsRecordOf self.old.name (edited_by edits.now self.old.cards) self.new) }
+        ensures lost { IfErr result (λ _. self.new.is_spent ≡ true) }
+        ensures counts { CountsInOrder edits.now self.old.cards meter.old meter.new }
+    {
+        self.is_whole();
+        let mut left = edits;
+        'groups: loop {
+            let Some((first, others)) = left.split_first() else {
+                return Ok(());
+            };
+            let near = near_edits(first, others, self.cards().len());
+            left = self.edit_first(alloc, left, near + 1, meter)?;
+        }
+    }
+
+    /// Makes so many of some edits at once, which lie near each other, and gives the others.
+    fn edit_first<'a>(
+        &mut self,
+        alloc: Global,
+        edits: &'a [Edit],
+        count: usize,
+        meter: &mut Meter,
+    ) -> Result<&'a [Edit], RecordFault>
+        requires apply { against_all edits.now self.old.is_spent self.old.cards ≡ None }
+        requires some { 0 < count }
+        requires within { count ≤ length edits.now }
+        requires near { cards_between (take count edits.now) (length self.old.cards) ≤ 128 * (count - 1) }
+        ensures fault { IfErr result (λ fault. fault ≡ RecordFault.OutOfMemory) }
+        ensures made { IfOk result (λ others. IsFirstMade count edits.now others.now self.old self.new meter.old meter.new) }
+        ensures lost { IfErr result (λ _. self.new.is_spent ≡ true) }
+        ensures counts { CountsInOrder edits.now self.old.cards meter.old meter.new }
+    {
+        let (first, others) = edits.split_at(count);
+        match self.edit_all(alloc, first, meter) {
+            Ok(()) => Ok(others),
+            Err(_) => Err(RecordFault::OutOfMemory),
         }
     }
 

@@ -6,13 +6,16 @@
 //! that does not apply, or makes the record of the edited cards, and is spent where memory runs out on
 //! the way: what was sized in front of the edited cards stays, and behind them from where both decks
 //! agree again, and so do the lines of these statements unless a name is bound otherwise; the counted
-//! work is within what is due. `edit` is the same with one edit.
+//! work is within what is due. `edit` is the same with one edit. `edit_in_order` makes edits that lie
+//! near each other at once, and others one after the other (`near_edits`), so that the counted work is
+//! within the sum of what is due for each.
 #![tactic(auto)]
 
 mod assembling;
 mod faults;
 mod fronts;
 mod kept;
+mod near;
 mod piece_counts;
 
 pub use assembling::assemble;
