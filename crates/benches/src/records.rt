@@ -1,5 +1,5 @@
-//! What an edit of a record costs beside a new record: a card replaced in the middle of a deck, and a
-//! hundred cards within a thousand.
+//! What an edit of a record costs beside a new record: a card replaced in the middle of a deck, a hundred
+//! cards within a thousand, and twenty all over the deck.
 
 use cards::{Card, DeckName, Edit, MOST_CARDS, edited_copy};
 use edit_core::Kept;
@@ -12,11 +12,16 @@ use std::{fs, io};
 /// How often each is measured; the least time counts.
 const ROUNDS: u32 = 20;
 
-/// How many cards lie between two that are replaced.
-const APART: u64 = 10;
-
 /// The card that comes in.
 const CARD: &[u8] = b"          SX7    X7+B7";
+
+/// Which cards are replaced: so many, from a place on, each so far behind the one before it.
+#[derive(Clone, Copy)]
+struct Spread {
+    first: u64,
+    apart: u64,
+    count: u64,
+}
 
 /// Processor time, and how much was sized and coded in it.
 #[derive(Clone, Copy)]
@@ -38,12 +43,13 @@ fn cards_of(alloc: Global, text: &str) -> Result<Vec<Card>, AllocError> {
     Ok(cards)
 }
 
-/// Edits that replace so many cards from a place on.
-fn replacements(alloc: Global, first: u64, count: u64) -> Result<Vec<Edit>, AllocError> {
+/// The edits that replace these cards.
+fn replacements(alloc: Global, spread: Spread) -> Result<Vec<Edit>, AllocError> {
     let mut edits = Vec::new(alloc);
-    for number in 0..count {
+    for number in 0..spread.count {
         if let Ok(card) = Card::read(CARD) {
-            let at = first.saturating_add(number.saturating_mul(APART));
+            let behind = number.saturating_mul(spread.apart);
+            let at = spread.first.saturating_add(behind);
             edits.push(Edit::Replace { at, card })?;
         }
     }
@@ -70,14 +76,18 @@ fn new_cost<R: AllocGlobal + CpuClock>(rt: &R, cards: &[Card]) -> io::Result<Cos
     Ok(Cost { time, sized, coded })
 }
 
-/// What so many edits cost, made all at once.
-fn edit_cost<R: AllocGlobal + CpuClock>(rt: &R, cards: &[Card], count: u64) -> io::Result<Cost> {
+/// What edits cost, made as a job makes them.
+fn edit_cost<R: AllocGlobal + CpuClock>(
+    rt: &R,
+    cards: &[Card],
+    spread: Spread,
+) -> io::Result<Cost> {
     let mut meter = Meter { sized: 0, coded: 0 };
     let mut kept = record_of(rt.alloc(), cards, &mut meter)?;
-    let edits = replacements(rt.alloc(), cards.len() as u64 / 2, count)?;
+    let edits = replacements(rt.alloc(), spread)?;
     let mut meter = Meter { sized: 0, coded: 0 };
     let before = rt.process_cpu_time()?;
-    if kept.edit_all(rt.alloc(), &edits, &mut meter).is_err() {
+    if kept.edit_in_order(rt.alloc(), &edits, &mut meter).is_err() {
         return Err(io::Error::other("no such edits"));
     }
     let time = rt.process_cpu_time()?.saturating_sub(before);
@@ -85,41 +95,70 @@ fn edit_cost<R: AllocGlobal + CpuClock>(rt: &R, cards: &[Card], count: u64) -> i
     Ok(Cost { time, sized, coded })
 }
 
-/// What a new record costs where no edits are told, and else what so many edits cost.
-fn measured<R: AllocGlobal + CpuClock>(rt: &R, cards: &[Card], edits: u64) -> io::Result<Cost> {
-    if edits == 0 {
+/// What a new record costs where no card is replaced, and else what the edits cost.
+fn measured<R: AllocGlobal + CpuClock>(rt: &R, cards: &[Card], spread: Spread) -> io::Result<Cost> {
+    if spread.count == 0 {
         new_cost(rt, cards)
     } else {
-        edit_cost(rt, cards, edits)
+        edit_cost(rt, cards, spread)
     }
 }
 
-/// The least that a new record or so many edits cost, printed.
+/// The least that a new record or edits cost, printed.
 fn print_least<R: AllocGlobal + CpuClock + Print>(
     rt: &R,
     cards: &[Card],
-    edits: u64,
+    spread: Spread,
 ) -> io::Result<()> {
-    let mut least = measured(rt, cards, edits)?;
+    let mut least = measured(rt, cards, spread)?;
     for _ in 1..ROUNDS {
-        let next = measured(rt, cards, edits)?;
+        let next = measured(rt, cards, spread)?;
         if next.time < least.time {
             least = next;
         }
     }
     let micros = least.time.as_micros();
     println!(rt;
-        "{edits} edits: {micros} microseconds, {} sized, {} coded",
-        least.sized, least.coded
+        "{} edits: {micros} microseconds, {} sized, {} coded",
+        spread.count, least.sized, least.coded
     )
 }
 
-/// Measures the record of the deck in a file: new, with one edit, and with a hundred.
+/// What is measured of so many cards: a new record, one edit in the middle, a hundred from there on, and
+/// twenty from one end to the other.
+fn spreads(cards: u64) -> [Spread; 4] {
+    let first = cards / 2;
+    let apart = 10;
+    [
+        Spread {
+            first,
+            apart,
+            count: 0,
+        },
+        Spread {
+            first,
+            apart,
+            count: 1,
+        },
+        Spread {
+            first,
+            apart,
+            count: 100,
+        },
+        Spread {
+            first: cards / 20,
+            apart: cards / 22,
+            count: 20,
+        },
+    ]
+}
+
+/// Measures the record of the deck in a file: new, and with edits.
 pub fn measure<R: AllocGlobal + Files + CpuClock + Print>(rt: &R, path: &str) -> io::Result<()> {
     let text = fs::read_to_string(rt, path)?;
     let cards = cards_of(rt.alloc(), text.as_str())?;
-    for edits in [0, 1, 100] {
-        print_least(rt, &cards, edits)?;
+    for spread in spreads(cards.len() as u64) {
+        print_least(rt, &cards, spread)?;
     }
     Ok(())
 }

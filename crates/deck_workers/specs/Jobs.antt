@@ -2,7 +2,7 @@
 use Rattle.std.specs.Prelude.{◌≡◌, ◌⊎◌, ℕ, ◌+◌, ◌^◌, ◌<◌, ◌≤◌, Bool, true, false, List, Option, Some, None, length}
 use Rattle.statement_coder.specs.Meters.{CountsAtMost}
 use Rattle.statement_coder.specs.declared.meter.Meter.{Meter}
-use Rattle.deck_workers.specs.Language.{Card, Edit, edits_bound, statement_count, RisesWithinDue, RisesWithinDueCode, cards_between, RisesWithinSum, RisesWithinSumCode, edits_fault, RecordFault, OutOfMemory, DeckWork, LinkWork, Start, FromRecord, FromCards}
+use Rattle.deck_workers.specs.Language.{Card, Edit, statement_count, statements_sum, CountsInOrder, edits_fault, RecordFault, OutOfMemory, DeckWork, LinkWork, Start, FromRecord, FromCards}
 pub use Rattle.desk_core.specs.Making.{start_deck, start_cards, begun_deck, done_of}
 use Rattle.deck_workers.specs.declared.jobs.Job.{Job}
 use Rattle.deck_workers.specs.declared.jobs.Job.TheVariants as job
@@ -38,9 +38,9 @@ abbrev pub start_bound : Start → ℕ
 start_bound (FromRecord kept) = 0
 start_bound (FromCards cards) = statement_count cards
 
--- how many in a deck job: its edits are made at once
+-- how many in a deck job: those of each deck that one of its edits leaves, besides
 abbrev pub deck_bound : DeckWork → ℕ
-deck_bound work = start_bound work.start + edits_bound work.edits (begun_deck work).cards
+deck_bound work = start_bound work.start + statements_sum work.edits (begun_deck work).cards
 
 -- how many in a job: a link sizes and codes nothing
 abbrev pub job_bound : Job → ℕ
@@ -64,18 +64,11 @@ pub record CountsWithin (least most : ℕ) (old new : Meter) : Type 0 where
   pub sized_all : old.sized + most < 2 ^ 64 → old.sized + least ≤ new.sized
   pub coded_all : old.coded + most < 2 ^ 64 → old.coded + least ≤ new.coded
 
--- what the edits of a job count: what is due for them, taken as one, and no more than the sum of what is due for each, with the 128 of a piece and one for each card that stands between them
-pub record CountsEdits (edits : List Edit) (cards : List Card) (old new : Meter) : Type 0 where
-  pub sized : RisesWithinDue edits cards old.sized new.sized
-  pub coded : RisesWithinDueCode edits cards old.coded new.coded
-  pub sized_sum : RisesWithinSum (128 + cards_between edits (length cards)) edits cards old.sized new.sized
-  pub coded_sum : RisesWithinSumCode (128 + cards_between edits (length cards)) edits cards old.coded new.coded
-
--- the counts of a job rise by those of its beginning alone, where that or an edit fails; else, behind these, by what its edits count
+-- the counts of a job rise by those of its beginning alone, where that or an edit fails; else, behind these, by no more than the sum of what is due for its edits in order
 abbrev pub CountsDue : Start → List Edit → List Card → Meter → Meter → Type 0
 CountsDue start edits cards old new =
     CountsAtMost (start_bound start) old new
-    ⊎ ((begun : Meter) × CountsAtMost (start_bound start) old begun × CountsEdits edits cards begun new)
+    ⊎ ((begun : Meter) × CountsAtMost (start_bound start) old begun × CountsInOrder edits cards begun new)
 
 -- what a deck job counts
 abbrev pub DeckCounts : DeckWork → Meter → Meter → Type 0

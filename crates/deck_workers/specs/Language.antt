@@ -3,8 +3,8 @@ pub use Rattle.definitions.specs.Cards.{Card}
 pub use Rattle.definitions.specs.DeckInput.{Deck}
 pub use Rattle.cards.specs.declared.edits.Edit.{Edit}
 pub use Rattle.cards.specs.Edits.{edited_by}
-pub use Rattle.edit_core.specs.Edited.{edits_bound, statement_count, RisesWithinDue, RisesWithinDueCode}
-pub use Rattle.edit_core.specs.Sums.{cards_between, RisesWithinSum, RisesWithinSumCode}
+pub use Rattle.edit_core.specs.Edited.{statement_count}
+pub use Rattle.edit_core.specs.Sums.{statements_sum, CountsInOrder}
 pub use Rattle.edit_core.specs.Faults.{edits_fault}
 pub use Rattle.edit_core.specs.declared.faults.RecordFault.{RecordFault}
 pub use Rattle.edit_core.specs.declared.faults.RecordFault.TheVariants.{OutOfMemory}

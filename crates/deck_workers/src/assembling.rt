@@ -1,7 +1,7 @@
 //! A deck assembled from what a job begins with, and objects published.
 ghost use Rattle.std.specs.Prelude.{◌≡◌, ◌+◌, ◌⊎◌, false, None, Some, length, IfOk, IfErr, OnOk};
 ghost use Rattle.statement_coder.specs.Meters.{CountsAtMost, RisesBy};
-ghost use Rattle.deck_workers.specs.Language.{edited_by, edits_bound, edits_fault};
+ghost use Rattle.deck_workers.specs.Language.{edited_by, edits_fault, statements_sum};
 ghost use Rattle.deck_workers.specs.Jobs.{start_deck, start_cards, start_bound, CountsDue, CountsWithin};
 
 use cards::{DeckName, Edit, first_fault};
@@ -32,7 +32,8 @@ fn edits_fault(start: &Start, edits: &[Edit]) -> Option<RecordFault>
     }
 }
 
-/// Record and object of the deck of a job, its edits made at once; the object with its listing, which
+/// Record and object of the deck of a job, its edits made in order, those that lie near each other at
+/// once; the object with its listing, which
 /// is made here and nowhere else. An edit that does not apply is told before anything takes memory.
 pub(crate) fn assembled(
     alloc: Global,
@@ -45,15 +46,15 @@ pub(crate) fn assembled(
     ensures object { IfOk result (λ made. made.1 ≡ record { name = (start_deck name start).name; cards = edited_by edits.now (start_deck name start).cards }) }
     ensures applied { IfOk result (λ made. edits_fault edits.now (start_cards start) ≡ None) }
     ensures fault { IfErr result (λ fault. ((fault ≡ RecordFault.OutOfMemory) × (edits_fault edits.now (start_cards start) ≡ None)) ⊎ (edits_fault edits.now (start_cards start) ≡ Some fault)) }
-    ensures meter { CountsAtMost (start_bound start + edits_bound edits.now (start_deck name start).cards) meter.old meter.new }
-    ensures all { OnOk result (CountsWithin (start_bound start) (start_bound start + edits_bound edits.now (start_deck name start).cards) meter.old meter.new) }
+    ensures meter { CountsAtMost (start_bound start + statements_sum edits.now (start_deck name start).cards) meter.old meter.new }
+    ensures all { OnOk result (CountsWithin (start_bound start) (start_bound start + statements_sum edits.now (start_deck name start).cards) meter.old meter.new) }
     ensures due { CountsDue start edits.now (start_deck name start).cards meter.old meter.new }
 {
     if let Some(fault) = edits_fault(&start, edits) {
         return Err(fault);
     }
     let mut kept = begun(alloc, name, start, meter)?;
-    kept.edit_all(alloc, edits, meter)?;
+    kept.edit_in_order(alloc, edits, meter)?;
     finished(alloc, kept)
 }
 

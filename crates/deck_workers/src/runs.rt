@@ -38,7 +38,7 @@ pub trait Runs {
 /// A deck job makes record and object of the job's name (of its record's name where it begins with a
 /// record) and of its cards with its edits in order. It is lost with the first edit that does not
 /// apply, or, where all apply, for want of memory, and then with its record. With a record it sizes and
-/// codes no more than is due for its edits, taken as one.
+/// codes no more than the sum of what is due for its edits in order, with the 128 of a piece for each.
 impl Runs for DeckWork {
     ghost use Rattle.deck_workers.specs.Language.{DeckWork};
     ghost use Rattle.deck_workers.specs.Jobs.{MayMakeDeck, DeckCounts, deck_bound, start_bound};

@@ -1,6 +1,6 @@
 -- What beginning counts, and what the edits count.
 use Rattle.std.proofs.Common.{◌≡◌, inr, None, Result, Ok, Err, OnOk, ap, arith, rules}
-use Rattle.deck_workers.specs.Language.{edits_bound, edits_fault}
+use Rattle.deck_workers.specs.Language.{edits_fault, statements_sum}
 use Rattle.deck_workers.specs.Jobs.{start_cards, start_deck}
 use Rattle.deck_workers.proofs.Counts.{counts-edits}
 use Rattle.deck_workers.proofs.assembling.assembled.Goals as goal
@@ -13,12 +13,12 @@ always (Err error) holds = tt
 pub returns-clause-all : goal.returns-clause-all
 returns-clause-all c =
     let begins = c.begun.ensures.meter in
-    let sized = c.edit_all.ensures.sized in
-    let sized_rises = c.edit_all.ensures.sized_rises in
-    let coded = c.edit_all.ensures.coded in
-    let coded_rises = c.edit_all.ensures.coded_rises in
+    let sized = c.edit_in_order.ensures.sized in
+    let sized_rises = c.edit_in_order.ensures.sized_rises in
+    let coded = c.edit_in_order.ensures.coded in
+    let coded_rises = c.edit_in_order.ensures.coded_rises in
     let all = c.in_ok-kept.ensures.all in
-    let same = ap (edits_bound c.args.edits.now) c.in_ok-kept.ensures.deck.1 in
+    let same = ap (statements_sum c.args.edits.now) c.in_ok-kept.ensures.deck.1 in
     always c.finished.result (record {
       few = record {
         sized_rises = omega (arith, begins.sized_rises, sized_rises);
@@ -30,26 +30,26 @@ returns-clause-all c =
       coded_all = λ room. let first = all.1 (omega (arith, room)) in omega (arith, first, coded_rises);
     })
 
-pub returns-in_err-edit_all-clause-due : goal.returns-in_err-edit_all-clause-due
-returns-in_err-edit_all-clause-due c =
+pub returns-in_err-edit_in_order-clause-due : goal.returns-in_err-edit_in_order-clause-due
+returns-in_err-edit_in_order-clause-due c =
     let none : edits_fault c.args.edits.now (start_cards c.args.start) ≡ None = first_of (search rules, cc) in
     let kept = c.in_ok-kept.kept in
-    let counted = c.edit_all.ensures in
+    let counted = c.edit_in_order.ensures in
     inr (
       c.begun.new.meter,
       c.begun.ensures.meter,
-      counts-edits c.args.edits.now kept.cards (start_cards c.args.start) (start_deck c.args.name c.args.start).cards kept.is_spent c.begun.new.meter c.edit_all.new.meter c.in_ok-kept.ensures.cards c.in_ok-kept.ensures.deck.1
-          c.in_ok-kept.ensures.unspent none counted.sized_due counted.coded_due counted.sized_sum counted.coded_sum,
+      counts-edits c.args.edits.now kept.cards (start_cards c.args.start) (start_deck c.args.name c.args.start).cards kept.is_spent c.begun.new.meter c.edit_in_order.new.meter c.in_ok-kept.ensures.cards c.in_ok-kept.ensures.deck.1
+          c.in_ok-kept.ensures.unspent none counted.counts,
     )
 
 pub returns-clause-due : goal.returns-clause-due
 returns-clause-due c =
     let none : edits_fault c.args.edits.now (start_cards c.args.start) ≡ None = first_of (search rules, cc) in
     let kept = c.in_ok-kept.kept in
-    let counted = c.edit_all.ensures in
+    let counted = c.edit_in_order.ensures in
     inr (
       c.begun.new.meter,
       c.begun.ensures.meter,
-      counts-edits c.args.edits.now kept.cards (start_cards c.args.start) (start_deck c.args.name c.args.start).cards kept.is_spent c.begun.new.meter c.edit_all.new.meter c.in_ok-kept.ensures.cards c.in_ok-kept.ensures.deck.1
-          c.in_ok-kept.ensures.unspent none counted.sized_due counted.coded_due counted.sized_sum counted.coded_sum,
+      counts-edits c.args.edits.now kept.cards (start_cards c.args.start) (start_deck c.args.name c.args.start).cards kept.is_spent c.begun.new.meter c.edit_in_order.new.meter c.in_ok-kept.ensures.cards c.in_ok-kept.ensures.deck.1
+          c.in_ok-kept.ensures.unspent none counted.counts,
     )
