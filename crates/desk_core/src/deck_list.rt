@@ -1,5 +1,5 @@
 //! The decks of a desk.
-ghost use Rattle.std.specs.Prelude.{◌≡◌, ◌<◌, ◌≤◌, [], ◌∷◌, ◌++◌, length, position, find, slice_get, remove, is_ok, Some, None, IfOk, if◌then◌else◌};
+ghost use Rattle.std.specs.Prelude.{◌≡◌, ◌<◌, ◌≤◌, [], ◌∷◌, ◌++◌, length, map, position, find, slice_get, remove, is_ok, Some, None, IfOk, if◌then◌else◌};
 ghost use Rattle.std.specs.List.{list_any};
 ghost use Rattle.std.specs.Option.{ForSome};
 ghost use Rattle.desk_core.specs.Desks.{is_named, deck_of};
@@ -188,6 +188,25 @@ impl DeckList {
     {
         let deck = &mut self.decks[place];
         deck.store(kept, object);
+    }
+
+    /// The decks take their objects once more, with what a link has added to them.
+    pub(crate) fn refresh(&mut self, objects: &[ListedObject])
+        requires { objects.now ≡ map deck_of self.old }
+        ensures { self.new ≡ self.old }
+    {
+        refresh_all(self.decks.as_mut_slice(), objects);
+    }
+}
+
+/// Each deck takes the object at its place once more, with what a link has added to it.
+fn refresh_all(decks: &mut [StoredDeck], objects: &[ListedObject])
+    requires { objects.now ≡ map deck_of decks.old }
+    ensures { decks.new ≡ decks.old }
+{
+    for (place, object) in objects.iter().enumerate() {
+        let deck = &mut decks[place];
+        deck.refresh(object);
     }
 }
 

@@ -284,7 +284,18 @@ impl StoredDeck {
         ensures { result ≡ same_deck object.now (deck_of self.now) }
     {
         let object = object.object();
-        same_name(object.name(), &self.name) && same_cards(object.cards(), &self.cards)
+        same_name(object.name(), &self.name) && same_cards(object.cards(), self.compared_cards())
+    }
+
+    /// Its cards, as they lie in its object where it has one: who compares that object with itself reads them
+    /// once.
+    fn compared_cards(&self) -> &[Card]
+        ensures { result.now ≡ self.now.cards }
+    {
+        match &self.object {
+            Some(object) => object.object().cards(),
+            None => &self.cards,
+        }
     }
 
     /// Whether a record is of it, by name and cards.
@@ -319,6 +330,18 @@ impl StoredDeck {
         match &self.object {
             Some(object) => object.share(),
             None => unreachable!(),
+        }
+    }
+
+    /// The same object with what a link has added to it takes the place of its own, where it has one.
+    pub(crate) fn refresh(&mut self, object: &ListedObject)
+        requires { object.now ≡ deck_of self.old }
+        ensures { self.new ≡ self.old }
+    {
+        if self.object.is_some() {
+            if let Ok(shared) = object.share() {
+                self.object = Some(shared);
+            }
         }
     }
 
