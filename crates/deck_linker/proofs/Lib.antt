@@ -21,3 +21,4 @@ pub mod ElsewhereLaws
 pub mod CommonSteps
 mod InPieceLaws
 mod TakenLaws
+mod KnownFitLaws

@@ -1,5 +1,5 @@
 -- The LINK A lines of an object, from its fields as they are kept.
-use Rattle.std.specs.Prelude.{ℕ, ◌*◌, ⊤, List, [], ◌∷◌, ◌++◌, Option, Some, None, slice_get}
+use Rattle.std.specs.Prelude.{ℕ, ◌≡◌, ◌*◌, ⊤, Bool, true, List, [], ◌∷◌, ◌++◌, Option, Some, None, slice_get}
 use Rattle.definitions.specs.Kinds.{unit_bits}
 use Rattle.definitions.specs.Lengths.{BlockRow}
 use Rattle.definitions.specs.Link.{Layout, Based, address_lines, block_base, unfit_words}
@@ -8,6 +8,7 @@ use Rattle.statement_coder.specs.declared.items.Item as code
 use Rattle.deck_assembler.specs.LineItems.{kept_items, AreKept}
 use Rattle.deck_assembler.specs.declared.lines.CodedLine as lines
 use Rattle.deck_assembler.specs.declared.lines.Line.{Line}
+use Rattle.deck_listing.specs.KeptSections.{DoAllFit}
 
 -- the lines of a statement in this block
 abbrev pub unfit_in : Layout → Based → List code.Item → lines.CodedLine → Option BlockRow → List (List ℕ)
@@ -35,3 +36,7 @@ IsKept kind items (Some line) = AreKept kind items line line.fields
 abbrev pub AllAreKept : DeckKind → List code.Item → List Line → Type 0
 AllAreKept kind items [] = ⊤
 AllAreKept kind items (line ∷ lines) = IsKept kind items line.coded × AllAreKept kind items lines
+
+-- of some of these decks it is known that all their fields fit: of those at whose places `true` stands
+abbrev pub AreKnownToFit : Layout → List Based → List Bool → Type 0
+AreKnownToFit layout decks fits = (i : ℕ) (based : Based) → slice_get decks i ≡ Some based → slice_get fits i ≡ Some true → DoAllFit layout based

@@ -59,7 +59,7 @@ impl LinkedDecks {
         ensures { IfOk result (λ linked. linked ≡ objects.items) }
     {
         let layout = Layout::new(alloc, shared(alloc, objects.as_slice())?)?;
-        let mapped = with_map(alloc, Text::new(alloc), &layout)?;
+        let mapped = with_map(alloc, Text::new(alloc), &layout, &[])?;
         let words = words_of_decks(alloc, &layout, layout.decks())?;
         let commons = words_of_commons(alloc, &layout)?;
         let front = measure_listings(alloc, objects.as_slice(), Measure { all: 0, most: 0 })?;

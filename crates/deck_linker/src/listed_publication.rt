@@ -212,8 +212,8 @@ fn check_len(objects: &[ListedObject], map: &Text) -> Result<(), AllocError>
 }
 
 /// Links decks in this order, and publishes them under a version with the listings that they have. A deck that
-/// stands where it stood when its section was made has that section; else a new one is made, which the object in
-/// the publication keeps.
+/// stands where it stood when its section was made has that section, and what is known of its fields; else a new
+/// one is made, which the object in the publication keeps.
 pub fn publish(
     alloc: Global,
     objects: Vec<ListedObject>,
@@ -222,14 +222,14 @@ pub fn publish(
     ensures { IfOk result (λ publication. publication ≡ record { version = version; decks = objects.items }) }
 {
     let layout = Layout::new(alloc, shared(alloc, objects.as_slice())?)?;
-    let mapped = with_map(alloc, Text::new(alloc), &layout)?;
     let mut objects = objects;
     let image = kept_image(alloc, &layout, &mut objects)?;
+    let mapped = with_map(alloc, Text::new(alloc), &layout, image.fits.as_slice())?;
     check_len(objects.as_slice(), &mapped.text)?;
     Ok(ListedPublication {
         version,
         objects,
         map: mapped.text,
-        image,
+        image: image.text,
     })
 }

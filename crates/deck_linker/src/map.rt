@@ -5,6 +5,7 @@ ghost use Rattle.definitions.specs.Coding.{coded_in};
 ghost use Rattle.definitions.specs.Link.{entry_value, link_lines};
 ghost use Rattle.definitions.specs.Listing.{line};
 ghost use Rattle.definitions.specs.Map.{common_line, deck_line, entry_line, entry_lines, map_text};
+ghost use Rattle.deck_linker.specs.UnfitLines.{AreKnownToFit};
 ghost use Rattle.deck_linker.specs.MapLines.{entries_of_decks, map_front, new_entry, shown_place, shown_value};
 
 use crate::link_lines::push_link_lines;
@@ -165,15 +166,21 @@ fn push_front(alloc: Global, text: &mut Text, layout: &Layout) -> Result<(), All
     push_entries_of(text, layout, &mut earlier, layout.decks())
 }
 
-/// A text with the map of a link behind it.
-pub(crate) fn with_map(alloc: Global, front: Text, layout: &Layout) -> Result<Mapped, AllocError>
+/// A text with the map of a link behind it; of some decks it is known that all their fields fit.
+pub(crate) fn with_map(
+    alloc: Global,
+    front: Text,
+    layout: &Layout,
+    fits: &[bool],
+) -> Result<Mapped, AllocError>
+    requires { AreKnownToFit layout.now layout.now.decks fits.now }
     ensures text { IfOk result (λ mapped. mapped.text ≡ front ++ map_text layout.now) }
     ensures links { IfOk result (λ mapped. mapped.links ≡ length (link_lines layout.now)) }
 {
     let mut text = front;
     push_front(alloc, &mut text, layout)?;
     let mut lines = LinkText::new(text);
-    push_link_lines(alloc, &mut lines, layout)?;
+    push_link_lines(alloc, &mut lines, layout, fits)?;
     let links = lines.lines();
     let mut text = lines.into_text();
     text.push_bytes(b"END\n")?;

@@ -153,7 +153,7 @@ pub fn link(
     let layout = Layout::new(alloc, shared(alloc, objects.as_slice())?)?;
     let front = listings(alloc, objects.as_slice())?;
     let map_at = front.as_slice().len();
-    let mapped = with_map(alloc, front, &layout)?;
+    let mapped = with_map(alloc, front, &layout, &[])?;
     let image = image(alloc, &layout)?;
     let errors = errors_in(objects.as_slice())?;
     Ok(Publication {

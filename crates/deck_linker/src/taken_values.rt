@@ -3,7 +3,7 @@
 ghost use Rattle.std.specs.Prelude.{◌≡◌, option_map, IfOk, OnOk};
 ghost use Rattle.definitions.specs.Image.{section};
 ghost use Rattle.definitions.specs.Link as definitions;
-ghost use Rattle.deck_listing.specs.KeptSections.{IsPlaced, worth_in};
+ghost use Rattle.deck_listing.specs.KeptSections.{DoAllFit, IsPlaced, worth_in};
 ghost use Rattle.deck_linker.specs.TakenValues.{AreFieldsTaken, AreTaken, DoesAdd, IsContentTaken, IsPartTaken, IsTaken};
 ghost use Rattle.expr_forms.specs.FormsAs.{part_as, relocation_as};
 ghost use Rattle.statement_coder.specs.Items.{content_as};
@@ -135,14 +135,16 @@ fn take_fields(
 }
 
 /// What the fields of a deck take from a link: wherever the deck stands at the same base with these values,
-/// it has the same section.
+/// it has the same section, and all its fields fit if they do here.
 pub(crate) fn taken_values(
     alloc: Global,
     layout: &Layout,
     based: &Based,
 ) -> Result<Vec<LinkValue>, AllocError>
-    ensures { IfOk result (λ values. (other : definitions.Layout) (there : definitions.Based) → IsPlaced based.now.object based.now.base values.items other there →
+    ensures section { IfOk result (λ values. (other : definitions.Layout) (there : definitions.Based) → IsPlaced based.now.object based.now.base values.items other there →
         section layout.now based.now ≡ section other there) }
+    ensures fit { IfOk result (λ values. (other : definitions.Layout) (there : definitions.Based) → IsPlaced based.now.object based.now.base values.items other there →
+        DoAllFit layout.now based.now → DoAllFit other there) }
 {
     let mut taken = Taken {
         externals: NameSet::new(alloc),

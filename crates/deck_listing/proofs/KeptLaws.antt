@@ -33,7 +33,7 @@ use Rattle.deck_listing.specs.ImageWordLines.{section_head}
 use Rattle.deck_listing.specs.KeptSections.{DoFieldsFollow, DoesContentFollow, DoesPartFollow, IsPlaced}
 
 -- what the part of a form is worth
-worth-same : (object : Object) (base : ℕ) (values : List (Relocation × ℤ)) (l k : Layout) (b c : Based) → IsPlaced object base values l b → IsPlaced object base values k c →
+pub worth-same : (object : Object) (base : ℕ) (values : List (Relocation × ℤ)) (l k : Layout) (b c : Based) → IsPlaced object base values l b → IsPlaced object base values k c →
     (part : Option Part) → DoesPartFollow object base values part →
     part_value (λ name. pos (block_base l.commons b name)) (external_value l) part ≡ part_value (λ name. pos (block_base k.commons c name)) (external_value k) part
 worth-same object base values l k b c p q None h = refl
@@ -50,10 +50,10 @@ content-same object base values l k b c p q width (Linked form) h =
     ap (λ (n : ℤ). unwrap_or (coded_in width (form.number +ℤ n)) 0) (worth-same object base values l k b c p q form.part h)
 
 -- the bits of fields as the definitions have them
-abbrev DoesItemFollow : Object → ℕ → List (Relocation × ℤ) → Item → Type 0
+abbrev pub DoesItemFollow : Object → ℕ → List (Relocation × ℤ) → Item → Type 0
 DoesItemFollow object base values item = DoesContentFollow object base values item.content
 
-abbrev DoItemsFollow : Object → ℕ → List (Relocation × ℤ) → List Item → Type 0
+abbrev pub DoItemsFollow : Object → ℕ → List (Relocation × ℤ) → List Item → Type 0
 DoItemsFollow object base values items = All (DoesItemFollow object base values) items
 
 joined-same : (object : Object) (base : ℕ) (values : List (Relocation × ℤ)) (l k : Layout) (b c : Based) → IsPlaced object base values l b → IsPlaced object base values k c →
@@ -68,7 +68,7 @@ known-follows : (object : Object) (base : ℕ) (values : List (Relocation × ℤ
 known-follows object base values item h = All-cons (DoesItemFollow object base values) item [] h (All-nil (DoesItemFollow object base values))
 
 -- the fields that a line keeps
-kept-follow : (object : Object) (base : ℕ) (values : List (Relocation × ℤ)) (kind : DeckKind) (items : List code.Item) (place end : ℕ) (stands : kept.LineFields) →
+pub kept-follow : (object : Object) (base : ℕ) (values : List (Relocation × ℤ)) (kind : DeckKind) (items : List code.Item) (place end : ℕ) (stands : kept.LineFields) →
     DoFieldsFollow object base values items → DoItemsFollow object base values (kept_from kind items place end stands)
 kept-follow object base values kind items place end fields.Absent h = All-nil (DoesItemFollow object base values)
 kept-follow object base values kind items place end (fields.Known bits) h = known-follows object base values _ tt
@@ -85,25 +85,30 @@ abbrev DoAgree : Linking → Linking → List Coded → Type 0
 DoAgree l k all = All (DoesAgree l k) all
 
 -- what a statement of the listing is, and those behind it
-abbrev IsGoingOn : DeckKind → List BlockRow → List code.Item → List Line → Option lines.CodedLine → List Coded → Type 0
+abbrev pub IsGoingOn : DeckKind → List BlockRow → List code.Item → List Line → Option lines.CodedLine → List Coded → Type 0
 IsGoingOn kind rows items behind stored all = elim stored [
   | None ↦ AreCoded kind rows items behind all
   | Some coded_line ↦ elim all [ [] ↦ ⊥ | coded ∷ others ↦ IsCoded kind rows items coded_line coded × AreCoded kind rows items behind others ]
 ]
 
+-- what holds of each statement that a line keeps holds of all statements
+pub all-coded : (P : Coded → Type 0) (kind : DeckKind) (rows : List BlockRow) (items : List code.Item) → ((line : lines.CodedLine) (coded : Coded) → IsCoded kind rows items line coded → P coded) →
+    (statements : List Line) (all : List Coded) → AreCoded kind rows items statements all → All P all
+all-coded P kind rows items each [] [] h = All-nil P
+all-coded P kind rows items each [] (coded ∷ others) h = absurd h
+all-coded P kind rows items each (line ∷ behind) all h = step line.coded all (λ others g. all-coded P kind rows items each behind others g) h
+  where
+    step : (stored : Option lines.CodedLine) (all : List Coded) → ((others : List Coded) → AreCoded kind rows items behind others → All P others) →
+        IsGoingOn kind rows items behind stored all → All P all
+    step None all again h = again all h
+    step (Some line') [] again h = absurd h
+    step (Some line') (coded ∷ others) again h = All-cons P coded others (each line' coded h.0) (again others h.1)
+
 -- two links that agree on the fields that lines keep agree on those of the statements
 agree-lines : (l k : Linking) (kind : DeckKind) (rows : List BlockRow) (items : List code.Item) →
     ((line : lines.CodedLine) → joined l (kept_items kind items line) ≡ joined k (kept_items kind items line)) →
     (statements : List Line) (all : List Coded) → AreCoded kind rows items statements all → DoAgree l k all
-agree-lines l k kind rows items same [] [] h = All-nil (DoesAgree l k)
-agree-lines l k kind rows items same [] (coded ∷ others) h = absurd h
-agree-lines l k kind rows items same (line ∷ behind) all h = step line.coded all (λ others g. agree-lines l k kind rows items same behind others g) h
-  where
-    step : (stored : Option lines.CodedLine) (all : List Coded) → ((others : List Coded) → AreCoded kind rows items behind others → DoAgree l k others) →
-        IsGoingOn kind rows items behind stored all → DoAgree l k all
-    step None all again h = again all h
-    step (Some line') [] again h = absurd h
-    step (Some line') (coded ∷ others) again h = All-cons (DoesAgree l k) coded others (sym (h.0.fields.bits l) ∙ same line' ∙ h.0.fields.bits k) (again others h.1)
+agree-lines l k kind rows items same = all-coded (DoesAgree l k) kind rows items (λ line coded h. sym (h.fields.bits l) ∙ same line ∙ h.fields.bits k)
 
 -- in whatever order
 agree-reverse : (l k : Linking) (all : List Coded) → DoAgree l k all → DoAgree l k (reverse all)

@@ -31,3 +31,4 @@ mod AloneSteps
 mod SectionSteps
 pub mod SheetSteps
 pub mod KeptLaws
+pub mod FitLaws

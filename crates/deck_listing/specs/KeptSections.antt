@@ -1,11 +1,11 @@
 -- Sections that are kept: a deck has the same section in each link where it stands at the same base and
 -- takes the same values of externals and common blocks from the link (ours).
-use Rattle.std.specs.Prelude.{ℕ, ◌≡◌, ⊤, List, Option, Some, None, IfSome, ℤ, pos}
+use Rattle.std.specs.Prelude.{ℕ, ◌≡◌, ⊤, Bool, true, List, [], Option, Some, None, IfSome, ℤ, flat_map, pos, reverse}
 use Rattle.std.specs.List.{All}
 use Rattle.definitions.specs.DeckInput.{Deck}
 use Rattle.definitions.specs.Forms.{Relocation, Block, External, Part, Added, Subtracted}
 use Rattle.definitions.specs.Image.{section}
-use Rattle.definitions.specs.Link.{Based, Layout, block_base, external_value}
+use Rattle.definitions.specs.Link.{Based, Layout, block_base, external_value, unfit_addresses}
 use Rattle.definitions.specs.Listing.{deck_listing}
 use Rattle.definitions.specs.Objects.{Object, object_of}
 use Rattle.definitions.specs.StatementItems.{Content, Known, Linked}
@@ -47,15 +47,25 @@ DoFieldsFollow object base values fields = All (λ (field : code.Item). DoesCont
 abbrev pub IsSection : Object → ℕ → List (Relocation × ℤ) → List ℕ → Type 0
 IsSection object base values text = (layout : Layout) (based : Based) → IsPlaced object base values layout based → text ≡ section layout based
 
--- a section as it is kept: where its deck stood, what its fields took from the link, and its text
+-- all fields of a deck fit the values that a link gives them: it has no LINK A line
+abbrev pub DoAllFit : Layout → Based → Type 0
+DoAllFit layout based = flat_map (unfit_addresses layout based) (reverse based.object.coded) ≡ []
+
+-- all fields of an object fit wherever it stands at a base with these values
+abbrev pub DoAllFitAt : Object → ℕ → List (Relocation × ℤ) → Type 0
+DoAllFitAt object base values = (layout : Layout) (based : Based) → IsPlaced object base values layout based → DoAllFit layout based
+
+-- a section as it is kept: where its deck stood, what its fields took from the link, its text, which a deck has not that passes the end of memory, and whether it is known that all its fields fit
 pub record KeptSection : Type 0 where
   pub base : ℕ
   pub values : List (Relocation × ℤ)
-  pub text : List ℕ
+  pub text : Option (List ℕ)
+  pub fits : Bool
 
--- a kept section is the section of a deck wherever it stands there with these values
-abbrev pub IsSectionOf : Deck → KeptSection → Type 0
-IsSectionOf deck kept = IsSection (object_of deck) kept.base kept.values kept.text
+-- a kept section is the section of a deck wherever it stands there with these values, and so it is with what is known of its fields
+pub record IsSectionOf (deck : Deck) (kept : KeptSection) : Type 0 where
+  pub text_is : IfSome kept.text (IsSection (object_of deck) kept.base kept.values)
+  pub all_fit : kept.fits ≡ true → DoAllFitAt (object_of deck) kept.base kept.values
 
 -- a text is the listing of a deck, and what is kept as its section is a section of it
 pub record IsListed (deck : Deck) (text : List ℕ) (kept : Option KeptSection) : Type 0 where

@@ -40,7 +40,7 @@ mod placed_section;
 
 pub use blocks::words_of_blocks;
 pub use image_lines::push_image_line;
-pub use kept_laws::sections_follow_values;
+pub use kept_laws::{fields_fit_by_values, sections_follow_values};
 pub use listed_object::ListedObject;
 pub use placed_section::{LinkValue, PlacedSection};
 pub use sections::{image, push_section};

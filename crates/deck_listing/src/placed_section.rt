@@ -1,5 +1,5 @@
 //! The section of a deck in the image of a link, as it is kept for later links.
-ghost use Rattle.std.specs.Prelude.{◌≡◌};
+ghost use Rattle.std.specs.Prelude.{◌≡◌, option_map};
 ghost use Rattle.expr_forms.specs.FormsAs.{relocation_as};
 
 use expr_forms::Relocation;
@@ -46,13 +46,14 @@ impl LinkValue {
     }
 }
 
-/// A section with the base where its deck stood, and what the fields of the deck took from the link.
-/// Contracts see the three.
+/// The section of a deck, or none of one that passes the end of memory, with the base where the deck stood, what
+/// its fields took from the link, and whether it is known that all of them fit there. Contracts see the four.
 #[derive(Drop)]
 pub struct PlacedSection {
     base: u32,
     values: Vec<LinkValue>,
-    text: Text,
+    text: Option<Text>,
+    fits: bool,
 }
 
 impl Model for PlacedSection {
@@ -60,14 +61,19 @@ impl Model for PlacedSection {
 
     ghost Value = { KeptSection };
 
-    ghost view = { λ s. record { base = s.base; values = s.values.items; text = s.text } };
+    ghost view = { λ s. record { base = s.base; values = s.values.items; text = s.text; fits = s.fits } };
 }
 
 impl PlacedSection {
-    pub fn new(base: u32, values: Vec<LinkValue>, text: Text) -> PlacedSection
-        ensures { result ≡ record { base = base; values = values.items; text = text } }
+    pub fn new(base: u32, values: Vec<LinkValue>, text: Option<Text>, fits: bool) -> PlacedSection
+        ensures { result ≡ record { base = base; values = values.items; text = text; fits = fits } }
     {
-        PlacedSection { base, values, text }
+        PlacedSection {
+            base,
+            values,
+            text,
+            fits,
+        }
     }
 
     /// Where its deck stood.
@@ -84,9 +90,20 @@ impl PlacedSection {
         self.values.as_slice()
     }
 
-    pub fn text(&self) -> &[u8]
-        ensures { result.now ≡ self.now.text }
+    /// The section, if the deck had one.
+    pub fn text(&self) -> Option<&[u8]>
+        ensures { option_map (λ text. text.now) result ≡ self.now.text }
     {
-        self.text.as_slice()
+        match &self.text {
+            Some(text) => Some(text.as_slice()),
+            None => None,
+        }
+    }
+
+    /// Whether it is known that all fields of the deck fit what they took.
+    pub fn fits(&self) -> bool
+        ensures { result ≡ self.now.fits }
+    {
+        self.fits
     }
 }
