@@ -202,7 +202,7 @@ impl Desk {
         ensures version { IfOk result (λ version. version ≡ self.old.version + 1) }
     {
         let version = self.version + 1;
-        self.decks.edit_at(place, version, by, edit)?;
+        self.decks.edit_at(self.alloc, place, version, by, edit)?;
         self.version = version;
         Ok(version)
     }

@@ -117,6 +117,7 @@ impl DeckList {
     /// Makes an edit that applies to the deck at a place.
     pub(crate) fn edit_at(
         &mut self,
+        alloc: Global,
         place: usize,
         version: u64,
         by: &DeckName,
@@ -127,7 +128,7 @@ impl DeckList {
         ensures { self.new ≡ (if is_ok result then with_at place (edited_deck version by.now (edit.now ∷ [])) self.old else self.old) }
     {
         let deck = &mut self.decks[place];
-        deck.edit(version, by, edit)
+        deck.edit(alloc, version, by, edit)
     }
 
     /// Makes edits of which each applies to the deck at a place, as one change.
@@ -181,13 +182,13 @@ impl DeckList {
     }
 
     /// The deck at a place gets its record and its object.
-    pub(crate) fn store_at(&mut self, place: usize, kept: Held, object: ListedObject)
+    pub(crate) fn store_at(&mut self, alloc: Global, place: usize, kept: Held, object: ListedObject)
         requires within { place < length self.old }
         requires object { ForSome (slice_get self.old place) (λ deck. object ≡ deck_of deck) }
         ensures { self.new ≡ with_at place (stored (Some kept)) self.old }
     {
         let deck = &mut self.decks[place];
-        deck.store(kept, object);
+        deck.store(alloc, kept, object);
     }
 
     /// The decks take their objects once more, with what a link has added to them.

@@ -66,7 +66,7 @@ impl Desk {
         if !self.is_sound(place, &kept, &object) {
             return self.lose_foreign(place);
         }
-        self.decks.store_at(place, kept, object);
+        self.decks.store_at(self.alloc, place, kept, object);
         Reply::Stored
     }
 

@@ -1,5 +1,5 @@
 //! A deck as the desk keeps it.
-ghost use Rattle.std.specs.Prelude.{◌≡◌, ◌≤◌, ◌||◌, length, None, Some, [], ◌∷◌, is_ok, is_some, option_map, Ok, true, IfOk, if◌then◌else◌};
+ghost use Rattle.std.specs.Prelude.{◌≡◌, ◌≤◌, ◌||◌, length, None, Some, [], ◌∷◌, is_ok, is_some, option_map, Ok, true, IfOk, OnOk, if◌then◌else◌};
 ghost use Rattle.desk_core.specs.Desks.{is_named, is_leased, deck_of};
 ghost use Rattle.desk_core.specs.Edits.{fault_of, first_fault};
 ghost use Rattle.desk_core.specs.Changing.{added_deck, replaced_deck, edited_deck};
@@ -10,7 +10,7 @@ ghost use Rattle.desk_core.specs.Causes.{first_cause};
 ghost use Rattle.desk_core.specs.Earlier.{edits_behind};
 ghost use Rattle.desk_core.specs.Carrying.{cards_of, carried_since, bad_edit, against_carried};
 ghost use Rattle.desk_core.specs.Undoing.{backs_at};
-ghost use Rattle.desk_core.specs.Stored.{backs_from};
+ghost use Rattle.desk_core.specs.Stored.{backs_from, cards_held};
 ghost use Rattle.desk_core.specs.Reading.{row_of, state_of};
 
 use crate::calls::Done;
@@ -32,13 +32,14 @@ use std::mem::replace;
 
 /// A deck on the desk: its name and cards; its identity, which is the version that its addition made, or
 /// that of the last deck put in its place;
-/// the version of the last change of it; its object, if it has one of that version; its record, if it
-/// is here, and the edits that the record lacks; the lease, if one is out; and what is kept of its changes.
+/// the version of the last change of it; its object, if it has one of that version, in which its cards lie then;
+/// its record, if it is here, and the edits that the record lacks; the lease, if one is out; and what is kept of its changes.
 /// It has at most 20,000 cards, and its past led to them.
 #[derive(Drop)]
 pub struct StoredDeck {
     name: DeckName,
-    cards: Vec<Card>,
+    /// Its cards where it has no object; those of an object lie there, and these are not read.
+    own_cards: Vec<Card>,
     identity: u64,
     version: u64,
     object: Option<ListedObject>,
@@ -50,13 +51,13 @@ pub struct StoredDeck {
 
 impl Model for StoredDeck {
     ghost use Rattle.desk_core.specs.Desks.{DeskDeck};
-    ghost use Rattle.desk_core.specs.Stored.{stored_deck, IsStored};
+    ghost use Rattle.desk_core.specs.Stored.{cards_held, stored_deck, IsStored};
 
     ghost Value = { DeskDeck };
 
-    ghost view = { λ d. stored_deck d.name d.cards.items d.identity d.version d.object d.kept d.waiting.items d.lease d.past };
+    ghost view = { λ d. stored_deck d.name (cards_held d.own_cards.items d.object) d.identity d.version d.object d.kept d.waiting.items d.lease d.past };
 
-    ghost invariant = { λ d. IsStored d.name d.cards.items d.object d.past };
+    ghost invariant = { λ d. IsStored d.name (cards_held d.own_cards.items d.object) d.object d.past };
 }
 
 impl StoredDeck {
@@ -67,7 +68,7 @@ impl StoredDeck {
     {
         StoredDeck {
             name: deck.name,
-            cards: deck.cards,
+            own_cards: deck.cards,
             identity: version,
             version,
             object: None,
@@ -101,7 +102,10 @@ impl StoredDeck {
     pub(crate) fn cards(&self) -> &[Card]
         ensures { result.now ≡ self.now.cards }
     {
-        self.cards.as_slice()
+        match &self.object {
+            Some(object) => object.object().cards(),
+            None => self.own_cards.as_slice(),
+        }
     }
 
     pub(crate) fn version(&self) -> u64
@@ -121,6 +125,7 @@ impl StoredDeck {
     /// nothing changes.
     pub(crate) fn edit(
         &mut self,
+        alloc: Global,
         version: u64,
         by: &DeckName,
         edit: &Edit,
@@ -130,12 +135,13 @@ impl StoredDeck {
     {
         let keeps = self.keeps_edits();
         let count = self.past.len();
+        hold_cards(alloc, &mut self.own_cards, &self.object)?;
         let back = Back {
-            edit: undo_of(edit, &self.cards),
+            edit: undo_of(edit, &self.own_cards),
             by: by.copied(),
         };
         self.past.push(version, edit.copied(), back)?;
-        if let Err(fault) = edit_waiting(&mut self.cards, &mut self.waiting, keeps, edit) {
+        if let Err(fault) = edit_waiting(&mut self.own_cards, &mut self.waiting, keeps, edit) {
             self.past.truncate(count);
             return Err(fault);
         }
@@ -160,14 +166,14 @@ impl StoredDeck {
         let keeps = self.keeps_edits();
         let count = self.past.len();
         let made = made_edits(alloc, version, edits)?;
-        let (cards, backs) = edited_copy(alloc, &self.cards, edits, by)?;
+        let (cards, backs) = edited_copy(alloc, self.cards(), edits, by)?;
         self.past.append(made, backs)?;
         if let Err(fault) = wait_all(alloc, &mut self.waiting, keeps, edits) {
             self.past.truncate(count);
             return Err(fault);
         }
         self.past.trim();
-        self.cards = cards;
+        self.own_cards = cards;
         self.version = version;
         self.object = None;
         Ok(())
@@ -178,7 +184,7 @@ impl StoredDeck {
         requires { length cards.items ≤ 20000 }
         ensures { self.new ≡ replaced_deck version cards.items self.old }
     {
-        self.cards = cards;
+        self.own_cards = cards;
         self.identity = version;
         self.version = version;
         self.object = None;
@@ -228,14 +234,14 @@ impl StoredDeck {
         ensures refusal { result ≡ first_cause (option_map bad_edit (first_fault edits.old (cards_of seen self.now)) ∷ against_carried (carried_since seen edits.old self.now) self.now.cards ∷ []) }
         ensures carried { result ≡ None → carried_since seen edits.old self.now ≡ Ok edits.new }
     {
-        let (count, made) = self.past.seen_at(seen, &self.cards);
+        let (count, made) = self.past.seen_at(seen, self.cards());
         if let Some((number, fault)) = first_fault(edits, count) {
             return Some(Refusal::BadEdit(number, fault));
         }
         if let Err(touched) = carry(edits, made) {
             return Some(Refusal::TouchedCard(touched.card, touched.version));
         }
-        match first_fault(edits, self.cards.len()) {
+        match first_fault(edits, self.cards().len()) {
             Some((number, fault)) => Some(Refusal::BadEdit(number, fault)),
             None => None,
         }
@@ -248,7 +254,7 @@ impl StoredDeck {
         Row {
             name: self.name.copied(),
             version: self.version,
-            cards: self.cards.len(),
+            cards: self.cards().len(),
             state: self.state(),
         }
     }
@@ -284,18 +290,7 @@ impl StoredDeck {
         ensures { result ≡ same_deck object.now (deck_of self.now) }
     {
         let object = object.object();
-        same_name(object.name(), &self.name) && same_cards(object.cards(), self.compared_cards())
-    }
-
-    /// Its cards, as they lie in its object where it has one: who compares that object with itself reads them
-    /// once.
-    fn compared_cards(&self) -> &[Card]
-        ensures { result.now ≡ self.now.cards }
-    {
-        match &self.object {
-            Some(object) => object.object().cards(),
-            None => &self.cards,
-        }
+        same_name(object.name(), &self.name) && same_cards(object.cards(), self.cards())
     }
 
     /// Whether a record is of it, by name and cards.
@@ -303,7 +298,7 @@ impl StoredDeck {
         ensures { result ≡ same_deck held.now.deck (deck_of self.now) }
     {
         let kept = held.kept();
-        same_name(kept.name(), &self.name) && same_cards(kept.cards(), &self.cards)
+        same_name(kept.name(), &self.name) && same_cards(kept.cards(), self.cards())
     }
 
     /// Whether a result names it and the version of its lease.
@@ -318,7 +313,7 @@ impl StoredDeck {
         ensures deck { IfOk result (λ deck. deck ≡ deck_of self.now) }
         ensures few { IfOk result (λ deck. length deck.cards ≤ 20000) }
     {
-        let cards = copied_cards(alloc, &self.cards)?;
+        let cards = copied_cards(alloc, self.cards())?;
         Ok(NewDeck::new(self.name.copied(), cards))
     }
 
@@ -378,7 +373,7 @@ impl StoredDeck {
         if self.kept.is_some() {
             return Ok(DeckCards::new(Vec::new(alloc)));
         }
-        Ok(DeckCards::new(copied_cards(alloc, &self.cards)?))
+        Ok(DeckCards::new(copied_cards(alloc, self.cards())?))
     }
 
     /// The record is lost, and with it what waited for it; the lease ends.
@@ -398,13 +393,30 @@ impl StoredDeck {
         self.lease = None;
     }
 
-    /// Record and object come in; the lease ends.
-    pub(crate) fn store(&mut self, kept: Held, object: ListedObject)
+    /// Record and object come in, and its cards lie in the object from then on; the lease ends.
+    pub(crate) fn store(&mut self, alloc: Global, kept: Held, object: ListedObject)
         requires { object ≡ deck_of self.old }
         ensures { self.new ≡ stored (Some kept) self.old }
     {
         self.kept = Some(kept);
         self.object = Some(object);
+        self.own_cards = Vec::new(alloc);
         self.lease = None;
     }
+}
+
+/// The cards of a deck to be edited: where they lie in its object they are copied. Without memory nothing
+/// changes.
+fn hold_cards(
+    alloc: Global,
+    own: &mut Vec<Card>,
+    object: &Option<ListedObject>,
+) -> Result<(), AllocError>
+    ensures cards { OnOk result (own.new.items ≡ cards_held own.old.items object.now) }
+    ensures same { cards_held own.new.items object.now ≡ cards_held own.old.items object.now }
+{
+    if let Some(object) = object {
+        *own = copied_cards(alloc, object.object().cards())?;
+    }
+    Ok(())
 }

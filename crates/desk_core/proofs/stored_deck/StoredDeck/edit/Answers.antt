@@ -1,8 +1,9 @@
-use Rattle.std.proofs.Common.{rules, subst, sym, ap, ◌≡◌, ◌≤◌, [], ◌∷◌, List, length, None}
+use Rattle.std.proofs.Common.{rules, subst, sym, ap, ◌∙◌, ◌≡◌, ◌≤◌, [], ◌∷◌, List, length, None}
 use Rattle.cards.proofs.FaultLaws.{edited-few}
 use Rattle.desk_core.specs.Language.{Card}
 use Rattle.desk_core.specs.Desks.{DeskDeck}
-use Rattle.desk_core.specs.Edits.{fault_of}
+use Rattle.desk_core.specs.Edits.{edited, fault_of}
+use Rattle.desk_core.specs.Stored.{cards_held}
 use Rattle.desk_core.specs.Past.{Past, past_after}
 use Rattle.desk_core.specs.Led.{IsPastOf}
 use Rattle.desk_core.proofs.PastLaws.{past-more, one-applies}
@@ -12,15 +13,16 @@ use Rattle.desk_core.proofs.stored_deck.StoredDeck.edit.Goals as goal
 pub invariant_of-self-2 : goal.invariant_of-self-2
 invariant_of-self-2 c =
     let inside = c.self.inside in
-    let cards = inside.cards.items in
+    let cards = cards_held inside.own_cards.items inside.object in
     let edit = c.args.edit.now in
     let same : c.args.self.now.cards ≡ cards = sym (ap (λ (deck : DeskDeck). deck.cards) c.self.view_is) in
     let applies = subst (λ (cards : List Card). fault_of edit cards ≡ None) same c.requires in
+    let after = c.in_default.ensures.cards ∙ ap (λ (cards : List Card). edited cards edit) c.in_ok-hold_cards.ensures.cards in
     let past : c.trim.new.self ≡ past_after c.args.version c.args.by.now (edit ∷ []) cards inside.past = search rules in
     record {
-      few = subst (λ (after : List Card). length after ≤ 20000) (sym c.in_default.ensures.cards) (edited-few edit cards applies c.self.invariant.few);
+      few = subst (λ (after : List Card). length after ≤ 20000) (sym after) (edited-few edit cards applies c.self.invariant.few);
       its_object = search rules;
       led = subst (λ (p : Past). IsPastOf p.edits c.edit_waiting.new.cards.items) (sym past)
-          (subst (λ (after : List Card). IsPastOf (past_after c.args.version c.args.by.now (edit ∷ []) cards inside.past).edits after) (sym c.in_default.ensures.cards)
+          (subst (λ (after : List Card). IsPastOf (past_after c.args.version c.args.by.now (edit ∷ []) cards inside.past).edits after) (sym after)
           (past-more c.args.version c.args.by.now (edit ∷ []) cards inside.past c.self.invariant.led (one-applies edit cards applies)));
     }
