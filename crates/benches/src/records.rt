@@ -76,7 +76,19 @@ fn new_cost<R: AllocGlobal + CpuClock>(rt: &R, cards: &[Card]) -> io::Result<Cos
     Ok(Cost { time, sized, coded })
 }
 
-/// What edits cost, made as a job makes them.
+/// What these edits of a record cost, made as a job makes them.
+fn cost_of<R: AllocGlobal + CpuClock>(rt: &R, kept: &mut Kept, edits: &[Edit]) -> io::Result<Cost> {
+    let mut meter = Meter { sized: 0, coded: 0 };
+    let before = rt.process_cpu_time()?;
+    if kept.edit_in_order(rt.alloc(), edits, &mut meter).is_err() {
+        return Err(io::Error::other("no such edits"));
+    }
+    let time = rt.process_cpu_time()?.saturating_sub(before);
+    let Meter { sized, coded } = meter;
+    Ok(Cost { time, sized, coded })
+}
+
+/// What edits cost.
 fn edit_cost<R: AllocGlobal + CpuClock>(
     rt: &R,
     cards: &[Card],
@@ -85,14 +97,7 @@ fn edit_cost<R: AllocGlobal + CpuClock>(
     let mut meter = Meter { sized: 0, coded: 0 };
     let mut kept = record_of(rt.alloc(), cards, &mut meter)?;
     let edits = replacements(rt.alloc(), spread)?;
-    let mut meter = Meter { sized: 0, coded: 0 };
-    let before = rt.process_cpu_time()?;
-    if kept.edit_in_order(rt.alloc(), &edits, &mut meter).is_err() {
-        return Err(io::Error::other("no such edits"));
-    }
-    let time = rt.process_cpu_time()?.saturating_sub(before);
-    let Meter { sized, coded } = meter;
-    Ok(Cost { time, sized, coded })
+    cost_of(rt, &mut kept, &edits)
 }
 
 /// What a new record costs where no card is replaced, and else what the edits cost.
