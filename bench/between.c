@@ -88,3 +88,11 @@ __attribute__((destructor)) static void tell(void) {
     int port = name ? open(name, O_WRONLY | O_CREAT | O_TRUNC, 0600) : -1;
     if (port >= 0) dprintf(port, "%ld %ld %ld\n", counts[0], counts[1], counts[2]);
 }
+
+// A program that may start threads ends by this call, which passes over what stands at the end otherwise.
+void _exit(int status) {
+    void (*real)(int) = dlsym(RTLD_NEXT, "_exit");
+    tell();
+    real(status);
+    __builtin_unreachable();
+}

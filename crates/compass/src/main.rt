@@ -2,24 +2,15 @@
 //! process, the line of a fault and the exit status.
 #![tactic(auto)]
 
-mod assembling;
-mod flagged;
-mod input_files;
-mod journal_files;
-mod run_faults;
 mod serving;
 mod stopping;
-mod symbols;
-mod words;
 
 ghost use Rattle.std.specs.Prelude.{◌≡◌, ◌≢◌, ℕ, ◌<◌, pos};
 
 use asm_main::AsmFault;
-use assembling::{asm_words, assemble};
 use clap::{ArgMatches, Command, Error};
+use command_line::{asm_words, assemble, log, log_words, tell};
 use desk_service::VERSION;
-use journal_files::{log, log_words};
-use run_faults::tell;
 use serving::{run_service, serve_words, settings_of};
 use std::alloc::Global;
 use std::env;

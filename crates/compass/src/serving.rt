@@ -2,13 +2,13 @@
 ghost use Rattle.std.specs.Prelude.{◌≡◌, ℕ, IfSome};
 ghost use Rattle.desk_service.specs.Services.{AreInRange};
 
-use crate::journal_files::JOURNAL_STATUS;
-use crate::words::{plain_word, valued_word};
 use clap::{Arg, ArgMatches, Command};
+use command_line::{JOURNAL_STATUS, plain_word, valued_word};
 use desk_service::{Journaling, ServeFault, Settings, serve};
 use std::alloc::{AllocError, Global};
 use std::fs::File;
 use std::net::{Net, TcpListener, TcpStream};
+use std::ops::Range;
 use std::process::ExitCode;
 use std::random::RandomSource;
 use std::rt::Files;
@@ -56,6 +56,15 @@ fn with_places<'a>(alloc: Global, command: Command<'a>) -> Result<Command<'a>, A
         .arg(page_word(alloc)?)
 }
 
+/// The command with a word whose value is one of these numbers.
+fn with_number<'a>(
+    command: Command<'a>,
+    word: Arg<'a>,
+    numbers: Range<i64>,
+) -> Result<Command<'a>, AllocError> {
+    command.arg(word.value_parser(clap::value_parser!(u64).range(numbers)))
+}
+
 /// The command with the words of how many threads it has, and of how long it waits for a client.
 fn with_threads<'a>(alloc: Global, command: Command<'a>) -> Result<Command<'a>, AllocError> {
     let workers = "How many threads assemble and link, 1 to 16; one for each processor unless said";
@@ -63,14 +72,15 @@ fn with_threads<'a>(alloc: Global, command: Command<'a>) -> Result<Command<'a>, 
     let readers =
         "How many further connections may ask and change nothing, 0 to 16; none unless said";
     let idle = "How long a client may be silent before its session ends; 900 unless said";
-    let threads = clap::value_parser!(u64).range(1..17);
-    let threads_or_none = clap::value_parser!(u64).range(0..17);
-    let seconds = clap::value_parser!(u64).range(1..1_000_000_000);
-    command
-        .arg(valued_word(alloc, "workers", "W", workers).value_parser(threads))?
-        .arg(valued_word(alloc, "sessions", "S", sessions).value_parser(threads))?
-        .arg(valued_word(alloc, "readers", "N", readers).value_parser(threads_or_none))?
-        .arg(valued_word(alloc, "idle", "SECONDS", idle).value_parser(seconds))
+    let command = with_number(command, valued_word(alloc, "workers", "W", workers), 1..17)?;
+    let command = with_number(
+        command,
+        valued_word(alloc, "sessions", "S", sessions),
+        1..17,
+    )?;
+    let command = with_number(command, valued_word(alloc, "readers", "N", readers), 0..17)?;
+    let idle = valued_word(alloc, "idle", "SECONDS", idle);
+    with_number(command, idle, 1..1_000_000_000)
 }
 
 /// The command with the words of its journal, and of when it ends.

@@ -1,8 +1,8 @@
 //! `compass stop`: ends the service of a folder.
 
 use crate::serving::FOLDER_STATUS;
-use crate::words::valued_word;
 use clap::{ArgMatches, Command};
+use command_line::valued_word;
 use desk_service::stop;
 use std::alloc::{AllocError, Global};
 use std::net::Net;

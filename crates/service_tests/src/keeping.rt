@@ -4,11 +4,10 @@
 //! behind it where that is 0; `queue`: records that are put in another order than that of their versions; `unkept`:
 //! a file whose calls all fail.
 
-use crate::inputs::{card_of, name_of, number};
-use crate::outputs::Answer;
 use cards::Edit;
 use desk_core::{Call, Desk, NewDeck, Refusal, Reply};
 use desk_service::{Journal, SessionKeeper, SystemFile};
+use desk_tests::{Answer, card_of, name_of, number};
 use journal::{
     Batch, Change, Ending, JournalFile, Keeping, Moment, Queue, RecordsFile, draft_change, replay,
 };

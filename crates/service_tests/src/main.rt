@@ -1,41 +1,29 @@
 //! Goes through transcripts of the service: histories of desks and sessions as people write them down,
 //! with each reply, and threads, sockets and files as they run. A line tells how many steps a transcript
 //! has and that what comes of them is what stands there, or where the first line stands that differs;
-//! the status is 1 where one differs, and 2 where one can't be read.
+//! the status is 1 where one differs, and 2 where one can't be read. Then, or alone where the one argument
+//! names one, it goes through the scenarios of `desk_tests`, whose status it then has.
 //!
 //! A transcript is a file of `data/`. A line that begins with `> ` is a step, and the lines below it are
 //! what comes of it. A line that begins with `# ` says something of the steps below, which have a new desk
-//! and a new shelf. In a step `|` ends a line. Its first word says what it is: the modules tell theirs, and a
-//! step that begins with none of them is a command of a session.
+//! and a new shelf. In a step `|` ends a line. Its first word says what it is: the modules here and those
+//! of `desk_tests` tell theirs, and a step that begins with none of them is a command of a session.
 #![tactic(auto)]
 
-mod faults;
-mod files;
-mod inputs;
-mod jobs;
 mod keeping;
-mod lines;
-mod offices;
-mod outputs;
-mod place;
-mod refusing;
 mod replies;
-mod shelves;
 mod sockets;
-mod workers;
 
 use deck_files::KnownFiles;
-use inputs::{cut, plain_text};
-use outputs::Answer;
-use place::Place;
+use desk_tests::{Answer, Place, cut, plain_text, run_chosen};
 use std::alloc::AllocGlobal;
 use std::net::{Net, TcpListener, TcpStream};
 use std::process::ExitCode;
-use std::rt::Files;
+use std::rt::{Env, Files};
 use std::sync::{Mutex, Wait};
 use std::thread::Threads;
 use std::time::Clock;
-use std::{fs, io};
+use std::{env, fs, io};
 
 /// The transcripts, lowest first.
 const TRANSCRIPTS: [&str; 12] = [
@@ -48,23 +36,6 @@ const DIFFERS_STATUS: u8 = 1;
 
 /// The status where a transcript can't be read.
 const NOTHING_STATUS: u8 = 2;
-
-/// Makes a step that stands in no place, and answers whether there is one of this word.
-fn make_alone<R: AllocGlobal + Threads + Wait + Sync + Files + Clock + Clone + Drop>(
-    rt: &R,
-    known: &Mutex<KnownFiles>,
-    word: &str,
-    rest: &str,
-    answer: &mut Answer,
-) -> bool {
-    lines::make(word, rest, answer)
-        || replies::make(word, rest, answer)
-        || faults::make(rt.alloc(), word, answer)
-        || shelves::make(rt, known, word, rest, answer)
-        || offices::make(rt, word, rest, answer)
-        || workers::make(rt, word, answer)
-        || keeping::make(rt, word, rest, answer)
-}
 
 /// Makes a step.
 fn make<R>(rt: &R, place: &mut Place, known: &Mutex<KnownFiles>, step: &str, answer: &mut Answer)
@@ -83,9 +54,9 @@ where
     R::Dir: Send,
 {
     let (word, rest) = cut(step);
-    let is_made = place.make(word, rest, answer)
-        || files::make(&mut place.file, word, rest, answer)
-        || make_alone(rt, known, word, rest, answer)
+    let is_made = desk_tests::make(rt, place, known, word, rest, answer)
+        || replies::make(word, rest, answer)
+        || keeping::make(rt, word, rest, answer)
         || sockets::make(rt, rt.alloc(), word, rest, answer);
     if !is_made {
         place.say(step, answer);
@@ -183,7 +154,7 @@ where
 }
 
 /// Goes through all transcripts, and answers whether all are as they stand there.
-fn run<R>(rt: &R) -> io::Result<bool>
+fn run_transcripts<R>(rt: &R) -> io::Result<bool>
 where
     R: AllocGlobal
         + Threads
@@ -206,10 +177,60 @@ where
     Ok(are_same)
 }
 
+/// Goes through all transcripts, and all scenarios but the large ones: the status.
+fn run_all<R>(rt: &R) -> io::Result<u8>
+where
+    R: AllocGlobal
+        + Threads
+        + Wait
+        + Sync
+        + Files
+        + Drop
+        + Clone
+        + Clock
+        + Print
+        + Eprint
+        + Net<Stream = TcpStream, Listener = TcpListener>,
+    R::File: Send,
+    R::Dir: Send,
+{
+    let are_same = run_transcripts(rt)?;
+    let ended = run_chosen(rt, "")?;
+    Ok(if are_same {
+        ended.status()
+    } else {
+        DIFFERS_STATUS
+    })
+}
+
+/// Goes through what the arguments name: the status.
+fn run<R>(rt: &R) -> io::Result<u8>
+where
+    R: AllocGlobal
+        + Env
+        + Threads
+        + Wait
+        + Sync
+        + Files
+        + Drop
+        + Clone
+        + Clock
+        + Print
+        + Eprint
+        + Net<Stream = TcpStream, Listener = TcpListener>,
+    R::File: Send,
+    R::Dir: Send,
+{
+    let words: Vec<String> = env::args(rt)?.collect(rt.alloc())?;
+    match words.get(1) {
+        Some(word) => Ok(run_chosen(rt, word.as_str())?.status()),
+        None => run_all(rt),
+    }
+}
+
 fn main(rt: HostRuntime) -> ExitCode {
     match run(&rt) {
-        Ok(true) => ExitCode::from(0),
-        Ok(false) => ExitCode::from(DIFFERS_STATUS),
+        Ok(status) => ExitCode::from(status),
         Err(error) => {
             let _ = eprintln!(&rt; "service_tests: {error}");
             ExitCode::from(NOTHING_STATUS)

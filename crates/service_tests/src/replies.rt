@@ -6,12 +6,11 @@
 ghost use Rattle.std.specs.Prelude.{◌≡◌, true};
 ghost use Rattle.session_line.specs.Replies.{IsWithinLimits};
 
-use crate::inputs::{cards_of, cut_line, name_of, number};
-use crate::outputs::Answer;
 use cards::{Card, CardFault, EditFault, MOST_CARDS};
 use deck_files::{LoadFault, MOST_FILES};
 use desk_core::{Row, State};
 use desk_service::ServeFault;
+use desk_tests::{Answer, cards_of, cut_line, name_of, number};
 use journal::Moment;
 use session_line::{MarkedRow, Refusal, Reply, SavedDeck, reply_text, write_reply};
 use std::alloc::{AllocError, Global};

@@ -9,9 +9,8 @@
 ghost use Rattle.std.specs.Prelude.{◌≡◌, ◌≤◌, true};
 ghost use Rattle.desk_service.specs.Services.{AreInRange};
 
-use crate::inputs::{cut, cut_line, cut_number, number};
-use crate::outputs::Answer;
 use desk_service::{Journaling, Settings, serve_on};
+use desk_tests::{Answer, cut, cut_line, cut_number, number};
 use std::alloc::{AllocGlobal, Global};
 use std::io::{self, BufRead, BufReader, Write};
 use std::net::{Net, SocketAddr, TcpListener, TcpStream};

@@ -1,0 +1,449 @@
+//! `compass asm`: its words, its run and its faults.
+
+use crate::flagged::tell_flagged;
+use crate::input_files::{InputFault, input_of, standard_input};
+use crate::journal_files::{DecksFault, decks_at};
+use crate::run_faults::{RunFault, placed, tell_run};
+use crate::symbols::symbol_tables;
+use crate::words::{plain_word, valued_word};
+use asm_main::{
+    AsmFault, Built, Chained, Chosen, Deck, Filter, Remembering, Tally, asm_build, asm_build_with,
+    asm_run, write_chosen,
+};
+use clap::{Arg, ArgAction, ArgMatches, Command};
+use deck_files::{begin_whole, end_whole};
+use std::alloc::{AllocError, Global};
+use std::io::{self, BufRead, BufReader, ErrorKind, Read, Write};
+use std::process::ExitCode;
+use std::rt::Files;
+use text_ports::{Broken, Counted, LineBuf, Text, put_all};
+
+/// How many decks are linked at most.
+const MOST_DECKS: usize = 64;
+
+/// What goes to a file of the listings.
+const LISTING: Chosen = Chosen {
+    listing: true,
+    map: false,
+    image: false,
+};
+
+/// What goes to a file of the map.
+const MAP: Chosen = Chosen {
+    listing: false,
+    map: true,
+    image: false,
+};
+
+/// What goes to a file of the image.
+const IMAGE: Chosen = Chosen {
+    listing: false,
+    map: false,
+    image: true,
+};
+
+/// What stands below the help.
+const EXAMPLE: &str = "What has no file of its own goes to standard output.
+
+Example:
+  compass asm --listing job.lst -o job.img job.deck
+  compass asm --journal decks/beskloun.journal --version 4711";
+
+/// The files that the words name: those that are read, and those that parts of the output go to.
+#[derive(Drop)]
+struct Named<'w, 'a> {
+    inputs: &'w [&'a str],
+    filter: Option<Filter>,
+    journal: Option<&'a str>,
+    version: Option<u64>,
+    listing: Option<&'a str>,
+    map: Option<&'a str>,
+    image: Option<&'a str>,
+    symbols: bool,
+    quiet: bool,
+}
+
+/// The command with the words of the files that are read, and of the filter in front of them.
+fn with_files<'a>(alloc: Global, command: Command<'a>) -> Result<Command<'a>, AllocError> {
+    let files = Arg::new(alloc, "FILE")
+        .value_name("FILE")
+        .help("Files of cards, one after the other as one input; - or none is standard input")
+        .num_args(0..)
+        .action(ArgAction::Append);
+    let letters = "Takes small letters of files as capitals";
+    let tabs = "Takes a tab as blanks up to column 11, 18, 30, and then the next eighth";
+    let last_line = "Takes a last line that no line feed ends";
+    let command = command.arg(files)?;
+    let command = with_filter(alloc, command, "fold-case", letters)?;
+    let command = with_filter(alloc, command, "tabs", tabs)?;
+    with_filter(alloc, command, "last-line", last_line)
+}
+
+/// The word of a journal in place of files.
+fn journal_word<'a>(alloc: Global) -> Result<Arg<'a>, AllocError> {
+    let help = "The journal of a service, whose decks are taken in place of files";
+    valued_word(alloc, "journal", "FILE", help).conflicts_with("FILE")
+}
+
+/// The word of a version of its decks.
+fn version_word<'a>(alloc: Global) -> Result<Arg<'a>, AllocError> {
+    let help = "The version of the decks; the last one unless said";
+    valued_word(alloc, "version", "V", help)
+        .value_parser(clap::value_parser!(u64))
+        .requires_arg("journal")
+}
+
+/// The command with the words of a journal in place of files.
+fn with_journal<'a>(alloc: Global, command: Command<'a>) -> Result<Command<'a>, AllocError> {
+    command.arg(journal_word(alloc)?)?.arg(version_word(alloc)?)
+}
+
+/// The command with the words of where the output goes.
+fn with_outputs<'a>(alloc: Global, command: Command<'a>) -> Result<Command<'a>, AllocError> {
+    let symbols = "Puts a table of the symbols of each deck behind the listings";
+    let quiet = "Tells no flagged statements and no LINK lines of files on standard error";
+    command
+        .arg(valued_word(alloc, "listing", "FILE", "Where the listings go"))?
+        .arg(valued_word(alloc, "map", "FILE", "Where the link map goes"))?
+        .arg(valued_word(alloc, "image", "FILE", "Where the octal image goes").short('o'))?
+        .arg(plain_word(alloc, "symbols", symbols))?
+        .arg(plain_word(alloc, "quiet", quiet))
+}
+
+/// The words of `compass asm`.
+pub fn asm_words<'a>(alloc: Global) -> Result<Command<'a>, AllocError> {
+    let command = Command::new(alloc, "asm")
+        .about("Assembles decks of cards: listing, link map and octal image")
+        .after_help(EXAMPLE);
+    let command = with_files(alloc, command)?;
+    let command = with_journal(alloc, command)?;
+    with_outputs(alloc, command)
+}
+
+/// The command with the word of a part of the filter in front of files; a journal has none.
+fn with_filter<'a>(
+    alloc: Global,
+    command: Command<'a>,
+    name: &'a str,
+    help: &'a str,
+) -> Result<Command<'a>, AllocError> {
+    let word = plain_word(alloc, name, help).conflicts_with("journal")?;
+    command.arg(word)
+}
+
+/// The filter that the words ask for, if they do.
+fn filter_of(words: &ArgMatches<'_>) -> Option<Filter> {
+    let filter = Filter {
+        fold_case: words.get_flag("fold-case"),
+        tabs: words.get_flag("tabs"),
+        last_line: words.get_flag("last-line"),
+    };
+    (filter.fold_case || filter.tabs || filter.last_line).then_some(filter)
+}
+
+impl<'w, 'a> Named<'w, 'a> {
+    /// Whether a part of the output has a file of its own.
+    fn has_outputs(&self) -> bool {
+        self.listing.is_some() || self.map.is_some() || self.image.is_some()
+    }
+
+    /// What has no file of its own.
+    fn others(&self) -> Chosen {
+        Chosen {
+            listing: self.listing.is_none(),
+            map: self.map.is_none(),
+            image: self.image.is_none(),
+        }
+    }
+}
+
+/// `compass asm`: what the words name, or standard input to standard output.
+pub fn assemble<R>(rt: &R, words: &ArgMatches<'_>) -> ExitCode
+where
+    R: AllocGlobal + Input + Print + Eprint + Files,
+{
+    let named = Named {
+        inputs: words.get_strs("FILE").unwrap_or(&[]),
+        filter: filter_of(words),
+        journal: words.get_str("journal"),
+        version: words.get_one("version"),
+        listing: words.get_str("listing"),
+        map: words.get_str("map"),
+        image: words.get_str("image"),
+        symbols: words.get_flag("symbols"),
+        quiet: words.get_flag("quiet"),
+    };
+    let outcome = match named.journal {
+        Some(journal) => from_journal(rt, &named, journal),
+        None if named.inputs.is_empty() => from_input(rt, &named),
+        None => from_files(rt, &named),
+    };
+    tell_run(rt, &outcome)
+}
+
+/// A run from the standard input of the process.
+fn from_input<'a, R>(rt: &R, named: &Named<'_, 'a>) -> Result<Tally, RunFault<'a>>
+where
+    R: AllocGlobal + Input + Print + Files,
+{
+    let Ok(input) = standard_input(rt, rt.alloc(), named.filter) else {
+        return Err(RunFault::Asm(AsmFault::OutOfMemory));
+    };
+    let Ok(reader) = BufReader::new(rt.alloc(), input) else {
+        return Err(RunFault::Asm(AsmFault::OutOfMemory));
+    };
+    from_reader(rt, &mut Counted::new(reader), named)
+}
+
+/// A run from a reader, to standard output where all goes there as it stands.
+fn from_reader<'a, R, I>(
+    rt: &R,
+    input: &mut Counted<I>,
+    named: &Named<'_, 'a>,
+) -> Result<Tally, RunFault<'a>>
+where
+    R: AllocGlobal + Print + Files,
+    I: BufRead,
+{
+    if !named.has_outputs() && !named.symbols {
+        let mut output = Counted::new(io::writer(rt));
+        return Ok(asm_run(rt.alloc(), input, &mut output)?);
+    }
+    let mut built = asm_build(rt.alloc(), input)?;
+    write_parts(rt, named, &mut built)
+}
+
+/// A run from the decks of a journal.
+fn from_journal<'a, R>(rt: &R, named: &Named<'_, 'a>, name: &'a str) -> Result<Tally, RunFault<'a>>
+where
+    R: AllocGlobal + Print + Files,
+{
+    match decks_at(rt, rt.alloc(), name, named.version) {
+        Ok(decks) => from_decks(rt, named, decks),
+        Err(DecksFault::Input(error)) => Err(RunFault::Input(InputFault { name, error })),
+        Err(DecksFault::Asm(fault)) => Err(RunFault::Asm(fault)),
+        Err(DecksFault::Journal(error)) => Err(RunFault::Journal { name, error }),
+    }
+}
+
+/// A run from decks.
+fn from_decks<'a, R>(rt: &R, named: &Named<'_, 'a>, decks: Vec<Deck>) -> Result<Tally, RunFault<'a>>
+where
+    R: AllocGlobal + Print + Files,
+{
+    if decks.len() > MOST_DECKS {
+        return Err(RunFault::Asm(AsmFault::TooManyDecks));
+    }
+    match Built::new(rt.alloc(), decks) {
+        Ok(built) => {
+            let mut built = built;
+            write_parts(rt, named, &mut built)
+        }
+        Err(_) => Err(RunFault::Asm(AsmFault::OutOfMemory)),
+    }
+}
+
+/// A run from files.
+fn from_files<'a, R>(rt: &R, named: &Named<'_, 'a>) -> Result<Tally, RunFault<'a>>
+where
+    R: AllocGlobal + Input + Print + Eprint + Files,
+{
+    match input_of(rt, rt.alloc(), named.inputs, named.filter) {
+        Ok(chain) => from_chain(rt, chain, named),
+        Err(fault) => Err(RunFault::Input(fault)),
+    }
+}
+
+/// A run from open files. A fault of the input has the file and the line that it is about.
+fn from_chain<'a, R, I>(
+    rt: &R,
+    chain: Chained<I>,
+    named: &Named<'_, 'a>,
+) -> Result<Tally, RunFault<'a>>
+where
+    R: AllocGlobal + Print + Eprint + Files,
+    I: Read + Drop,
+{
+    let Ok(reader) = BufReader::new(rt.alloc(), chain) else {
+        return Err(RunFault::Asm(AsmFault::OutOfMemory));
+    };
+    let mut input = Counted::new(reader);
+    let mut line = LineBuf::new();
+    let outcome = asm_build_with(rt.alloc(), &mut input, &mut line);
+    let reader = input.into_inner();
+    match outcome {
+        Ok(built) => {
+            let mut built = built;
+            write_and_tell(rt, named, &mut built, reader.get_ref())
+        }
+        Err(fault) => Err(placed(
+            fault,
+            reader.get_ref(),
+            reader.buffer(),
+            &line,
+            named.inputs,
+        )),
+    }
+}
+
+/// Writes the parts of what was built of open files, and tells what is flagged in these.
+fn write_and_tell<'a, R, I>(
+    rt: &R,
+    named: &Named<'_, 'a>,
+    built: &mut Built,
+    chain: &Chained<I>,
+) -> Result<Tally, RunFault<'a>>
+where
+    R: AllocGlobal + Print + Eprint + Files,
+{
+    let tally = write_parts(rt, named, built)?;
+    if !named.quiet {
+        tell_flagged(rt, built, chain, named.inputs);
+    }
+    Ok(tally)
+}
+
+/// The tables of symbols, where they are asked for, and else no text.
+fn tables_of(alloc: Global, named: &Named<'_, '_>, built: &Built) -> Result<Text, AllocError> {
+    if named.symbols {
+        symbol_tables(alloc, built.objects())
+    } else {
+        Ok(Text::new(alloc))
+    }
+}
+
+/// Writes the parts of a build to the files that are named, and the others to standard output.
+fn write_parts<'a, R>(
+    rt: &R,
+    named: &Named<'_, 'a>,
+    built: &mut Built,
+) -> Result<Tally, RunFault<'a>>
+where
+    R: AllocGlobal + Print + Files,
+{
+    let Ok(tables) = tables_of(rt.alloc(), named, built) else {
+        return Err(RunFault::Asm(AsmFault::OutOfMemory));
+    };
+    write_files(rt, named, built, tables.as_slice())?;
+    write_others(rt, named, built, tables.as_slice())
+}
+
+/// Writes the parts of a build to the files that are named.
+fn write_files<'a, R>(
+    rt: &R,
+    named: &Named<'_, 'a>,
+    built: &mut Built,
+    tables: &[u8],
+) -> Result<(), RunFault<'a>>
+where
+    R: AllocGlobal + Files,
+{
+    write_file(rt, named.listing, built, LISTING, tables)?;
+    write_file(rt, named.map, built, MAP, tables)?;
+    write_file(rt, named.image, built, IMAGE, tables)
+}
+
+/// Writes the parts of a build that have no file to standard output.
+fn write_others<'a, R>(
+    rt: &R,
+    named: &Named<'_, 'a>,
+    built: &mut Built,
+    tables: &[u8],
+) -> Result<Tally, RunFault<'a>>
+where
+    R: Print,
+{
+    let mut output = Counted::new(Remembering::new(io::writer(rt)));
+    match write_texts(&mut output, built, named.others(), tables) {
+        Ok(()) => Ok(built.tally()),
+        Err(broken) => {
+            let fault = AsmFault::WriteFault { sent: broken.sent };
+            Err(match output.into_inner().fault() {
+                Some(error) if !named.inputs.is_empty() => RunFault::Standard { fault, error },
+                _ => RunFault::Asm(fault),
+            })
+        }
+    }
+}
+
+/// Writes the chosen texts: the listings with the tables of symbols behind them, the map, the image.
+fn write_texts<W: Write>(
+    output: &mut Counted<W>,
+    built: &mut Built,
+    chosen: Chosen,
+    tables: &[u8],
+) -> Result<(), Broken> {
+    if tables.is_empty() || !chosen.listing {
+        return write_chosen(output, built, chosen);
+    }
+    let listed = built.write_listings(output)?;
+    put_behind(output, listed, tables)?;
+    let front = listed.saturating_add(tables.len());
+    let behind = Chosen {
+        listing: false,
+        ..chosen
+    };
+    write_chosen(output, built, behind).map_err(|broken| sent_behind(front, broken))
+}
+
+/// A fault behind so many bytes that went out.
+fn sent_behind(front: usize, broken: Broken) -> Broken {
+    Broken {
+        sent: broken.sent.saturating_add(front),
+    }
+}
+
+/// Writes a text behind so many bytes.
+fn put_behind<W: Write>(output: &mut Counted<W>, front: usize, text: &[u8]) -> Result<(), Broken> {
+    put_all(output, text).map_err(|broken| sent_behind(front, broken))
+}
+
+/// Makes the file of a part of the output anew, if it has one.
+fn write_file<'a, R>(
+    rt: &R,
+    name: Option<&'a str>,
+    built: &mut Built,
+    chosen: Chosen,
+    tables: &[u8],
+) -> Result<(), RunFault<'a>>
+where
+    R: AllocGlobal + Files,
+{
+    let Some(name) = name else {
+        return Ok(());
+    };
+    make_file(rt, name, built, chosen, tables).map_err(|error| RunFault::Output { name, error })
+}
+
+/// Makes a file of the chosen texts.
+fn make_file<R>(
+    rt: &R,
+    name: &str,
+    built: &mut Built,
+    chosen: Chosen,
+    tables: &[u8],
+) -> io::Result<()>
+where
+    R: AllocGlobal + Files,
+{
+    let mut begun = begin_whole(rt, rt.alloc(), name)?;
+    let filled = fill(begun.file(), built, chosen, tables);
+    end_whole(rt, begun, name, filled)
+}
+
+/// Writes the chosen texts into a file. A fault is what the system says.
+fn fill<F: Write>(
+    file: &mut F,
+    built: &mut Built,
+    chosen: Chosen,
+    tables: &[u8],
+) -> io::Result<()> {
+    let mut output = Counted::new(Remembering::new(file));
+    match write_texts(&mut output, built, chosen, tables) {
+        Ok(()) => Ok(()),
+        Err(_) => Err(match output.into_inner().fault() {
+            Some(error) => error,
+            None => io::Error::from(ErrorKind::WriteZero),
+        }),
+    }
+}

@@ -1,0 +1,25 @@
+//! What the command line of `compass` asks for without a service: `asm` and `log`, each with its words,
+//! the files that these name, its run, and the line and the status of its faults.
+//!
+//! What the process reads and writes no contract sees; so of a run its status alone is promised (`tell`),
+//! and what goes between the ports by `asm_main` and `journal`. Nothing here starts a thread or opens a
+//! socket, so it is proved beside the service and not behind it.
+#![tactic(auto)]
+
+// Words of the command line.
+mod words;
+
+// What they name: files, and journals in place of files.
+mod input_files;
+mod journal_files;
+
+// A run of `compass asm`, and what it tells.
+mod assembling;
+mod flagged;
+mod run_faults;
+mod symbols;
+
+pub use assembling::{asm_words, assemble};
+pub use journal_files::{JOURNAL_STATUS, log, log_words};
+pub use run_faults::tell;
+pub use words::{plain_word, valued_word};

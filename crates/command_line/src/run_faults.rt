@@ -1,0 +1,133 @@
+//! The faults of `compass asm`, and their lines on standard error.
+ghost use Rattle.std.specs.Prelude.{◌≡◌};
+ghost use Rattle.std.specs.Process.{exit_status};
+ghost use Rattle.asm_main.specs.Runs.{run_status};
+
+use crate::input_files::InputFault;
+use crate::journal_files::{JOURNAL_STATUS, JournalError, tell_journal};
+use asm_main::{AsmFault, Chained, Tally, asm_status, column_of, line_of, words_of};
+use std::io;
+use std::process::ExitCode;
+use text_ports::LineBuf;
+
+/// A line of a file of the input that is refused, and why.
+#[derive(Clone, Copy)]
+pub(crate) struct LineFault<'a> {
+    name: &'a str,
+    line: u64,
+    words: &'static str,
+    fault: AsmFault,
+}
+
+/// Why a run wrote no whole output.
+#[derive(Clone, Copy)]
+pub(crate) enum RunFault<'a> {
+    /// The input, the memory or standard output.
+    Asm(AsmFault),
+    /// A file of the input can't be read.
+    Input(InputFault<'a>),
+    /// A line of a file of the input is refused.
+    Line(LineFault<'a>),
+    /// The journal has not what is asked for.
+    Journal { name: &'a str, error: JournalError },
+    /// A file of the output can't be written.
+    Output { name: &'a str, error: io::Error },
+    /// Standard output can't be written, by what the system says.
+    Standard { fault: AsmFault, error: io::Error },
+}
+
+impl<'a> From<AsmFault> for RunFault<'a> {
+    fn from(fault: AsmFault) -> RunFault<'a> {
+        RunFault::Asm(fault)
+    }
+}
+
+/// A fault of the input with the file and the line that it is about: `held` are the bytes of the files
+/// that no line was made of so far, and `line` was read last.
+pub(crate) fn placed<'a, I>(
+    fault: AsmFault,
+    chain: &Chained<I>,
+    held: &[u8],
+    line: &LineBuf,
+    names: &[&'a str],
+) -> RunFault<'a> {
+    match words_of(fault, line.as_slice()) {
+        Some(words) => {
+            let place = chain.place_of(line_of(fault, chain.lines_taken(held)));
+            match names.get(place.part) {
+                Some(name) => RunFault::Line(LineFault {
+                    name: *name,
+                    line: place.line,
+                    words,
+                    fault,
+                }),
+                None => RunFault::Asm(fault),
+            }
+        }
+        None => named(fault, chain, names),
+    }
+}
+
+/// A read fault with the name of the file and what the system says.
+fn named<'a, I>(fault: AsmFault, chain: &Chained<I>, names: &[&'a str]) -> RunFault<'a> {
+    match (fault, chain.fault(), names.get(chain.asked())) {
+        (AsmFault::ReadFault, Some(error), Some(name)) => {
+            RunFault::Input(InputFault { name: *name, error })
+        }
+        _ => RunFault::Asm(fault),
+    }
+}
+
+/// The line of a fault on standard error, if there is one, and the status of a run.
+pub(crate) fn tell_run<R: Eprint>(rt: &R, outcome: &Result<Tally, RunFault<'_>>) -> ExitCode {
+    match outcome {
+        Ok(tally) => tell(rt, &Ok(*tally)),
+        Err(RunFault::Asm(fault)) => tell(rt, &Err(*fault)),
+        Err(RunFault::Input(InputFault { name, error })) => {
+            tell_system(rt, name, *error, AsmFault::ReadFault)
+        }
+        Err(RunFault::Line(fault)) => tell_line(rt, fault),
+        Err(RunFault::Journal { name, error }) => {
+            tell_journal(rt, name, *error);
+            ExitCode::from(JOURNAL_STATUS)
+        }
+        Err(RunFault::Output { name, error }) => {
+            let _ = eprintln!(rt; "compass: {name}: {error}");
+            ExitCode::from(asm_status(&Err(AsmFault::WriteFault { sent: 0 })))
+        }
+        Err(RunFault::Standard { fault, error }) => {
+            tell_system(rt, "standard output", *error, *fault)
+        }
+    }
+}
+
+/// The line of a fault that the system has a reason for.
+fn tell_system<R: Eprint>(rt: &R, name: &str, error: io::Error, fault: AsmFault) -> ExitCode {
+    let _ = eprintln!(rt; "compass: {name}: {error} [{fault}]");
+    ExitCode::from(asm_status(&Err(fault)))
+}
+
+/// The line of a refused line: `FILE:LINE:COLUMN: words [fault]`, the column where one is known.
+fn tell_line<R: Eprint>(rt: &R, fault: &LineFault<'_>) -> ExitCode {
+    let LineFault {
+        name,
+        line,
+        words,
+        fault,
+    } = *fault;
+    let _ = match column_of(fault) {
+        Some(column) => eprintln!(rt; "{name}:{line}:{column}: {words} [{fault}]"),
+        None => eprintln!(rt; "{name}:{line}: {words} [{fault}]"),
+    };
+    ExitCode::from(asm_status(&Err(fault)))
+}
+
+/// The line of a fault on standard error, if there is one, and the status of a run.
+pub fn tell<R: Eprint>(rt: &R, outcome: &Result<Tally, AsmFault>) -> ExitCode
+    ensures { exit_status result ≡ run_status outcome.now }
+{
+    if let Err(fault) = outcome {
+        let _ = eprintln!(rt; "compass: {fault}");
+    }
+    ExitCode::from(asm_status(outcome))
+}

@@ -1,0 +1,62 @@
+//! What `service_tests` does that asks for no socket and no journal on a disk: the steps of its
+//! transcripts at a desk, at its jobs, sessions and files, at folders, offices and workers, each of which
+//! writes down what comes of it. It is proved beside the service, and not behind it.
+#![tactic(auto)]
+
+// What steps are read from, and what they write.
+mod inputs;
+mod outputs;
+
+// Steps, lowest first.
+mod faults;
+mod files;
+mod jobs;
+mod lines;
+mod offices;
+mod place;
+mod refusing;
+mod shelves;
+mod workers;
+
+// Scenarios, in which any request for memory, read or write may fail.
+mod sweeps;
+
+use deck_files::KnownFiles;
+pub use inputs::{card_of, cards_of, cut, cut_line, cut_number, name_of, number, plain_text};
+pub use outputs::Answer;
+pub use place::Place;
+use std::alloc::AllocGlobal;
+use std::rt::Files;
+use std::sync::{Mutex, Wait};
+use std::thread::Threads;
+use std::time::Clock;
+pub use sweeps::{Ended, run_chosen};
+
+/// Makes a step that stands in no place, and answers whether there is one of this word.
+fn make_alone<R: AllocGlobal + Threads + Wait + Sync + Files + Clock + Clone + Drop>(
+    rt: &R,
+    known: &Mutex<KnownFiles>,
+    word: &str,
+    rest: &str,
+    answer: &mut Answer,
+) -> bool {
+    lines::make(word, rest, answer)
+        || faults::make(rt.alloc(), word, answer)
+        || shelves::make(rt, known, word, rest, answer)
+        || offices::make(rt, word, rest, answer)
+        || workers::make(rt, word, answer)
+}
+
+/// Makes a step, and answers whether there is one of this word.
+pub fn make<R: AllocGlobal + Threads + Wait + Sync + Files + Clock + Clone + Drop>(
+    rt: &R,
+    place: &mut Place,
+    known: &Mutex<KnownFiles>,
+    word: &str,
+    rest: &str,
+    answer: &mut Answer,
+) -> bool {
+    place.make(word, rest, answer)
+        || files::make(&mut place.file, word, rest, answer)
+        || make_alone(rt, known, word, rest, answer)
+}

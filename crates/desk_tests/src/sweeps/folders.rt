@@ -1,0 +1,157 @@
+//! A scenario of a folder: decks that are saved there and loaded, by reads and writes of the system.
+
+use crate::inputs::{cards_of, name_of};
+use crate::sweeps::decks::{DECKS, DeckText, are_same};
+use crate::sweeps::notes::Called;
+use crate::sweeps::scene::Scene;
+use cards::{Card, DeckName, MOST_CARDS};
+use deck_files::{
+    FileRow, FolderShelf, KnownFiles, SaveOver, Shelf, ShelfLoadFault, ShelfSaveFault,
+};
+use std::alloc::{AllocError, AllocGlobal, Global};
+use std::rt::Files;
+use std::sync::{Mutex, Wait};
+
+/// A deck with its cards, and the version that is saved.
+#[derive(Drop)]
+struct Saved {
+    name: DeckName,
+    cards: Vec<Card>,
+    version: u64,
+}
+
+/// Whether the shelf gives these cards, if it gives any.
+fn gives_once<S: Shelf>(shelf: &mut S, name: &DeckName, cards: &[Card]) -> Option<bool> {
+    match shelf.load(name) {
+        Ok(found) => Some(are_same(&found, cards)),
+        Err(_) => None,
+    }
+}
+
+/// Whether the shelf gives these cards; once more where it finds no memory or a read fails.
+fn gives<S: Shelf>(scene: &mut Scene, shelf: &mut S, name: &DeckName, cards: &[Card]) -> bool {
+    let mut given = gives_once(shelf, name, cards);
+    if given.is_none() {
+        scene.journal.refused(Called::LoadShelf, true);
+        given = gives_once(shelf, name, cards);
+    }
+    given == Some(true)
+}
+
+/// Whether the shelf gives what it gave before: these cards, or no file where there are none.
+fn gives_still<S: Shelf>(
+    scene: &mut Scene,
+    shelf: &mut S,
+    name: &DeckName,
+    before: &[Card],
+) -> bool {
+    if before.is_empty() {
+        return matches!(shelf.load(name), Err(ShelfLoadFault::CannotOpen));
+    }
+    gives(scene, shelf, name, before)
+}
+
+/// Whether the shelf gives what may be there after a save that failed: what it gave before, or, unless
+/// a write failed, what was saved, since the last thing that a save waits for is the folder.
+fn gives_either<S: Shelf>(
+    scene: &mut Scene,
+    shelf: &mut S,
+    saved: &Saved,
+    before: &[Card],
+    fault: ShelfSaveFault,
+) -> bool {
+    if gives_still(scene, shelf, &saved.name, before) {
+        return true;
+    }
+    let is_write_fault = matches!(fault, ShelfSaveFault::WriteFault { .. });
+    !is_write_fault && gives(scene, shelf, &saved.name, &saved.cards)
+}
+
+/// Saves a deck. Where that fails, the shelf gives the whole old file or the whole new one.
+fn save_once<S: Shelf>(scene: &mut Scene, shelf: &mut S, saved: &Saved, before: &[Card]) -> bool {
+    if saved.cards.len() > MOST_CARDS {
+        return false;
+    }
+    let over = SaveOver::Any;
+    match shelf.save(&saved.name, over, saved.version, &saved.cards) {
+        Ok(()) => true,
+        Err(fault) => {
+            let holds = gives_either(scene, shelf, saved, before, fault);
+            scene.journal.refused(Called::SaveShelf, holds);
+            false
+        }
+    }
+}
+
+/// Saves a deck, once more where that fails, and finds that the shelf gives it.
+fn save<S: Shelf>(scene: &mut Scene, shelf: &mut S, saved: &Saved, before: &[Card]) {
+    let is_saved = save_once(scene, shelf, saved, before) || save_once(scene, shelf, saved, before);
+    let is_given = is_saved && gives(scene, shelf, &saved.name, &saved.cards);
+    scene.journal.made(Called::SaveShelf, is_given);
+}
+
+/// A deck of this name with the cards of another.
+fn saved_of(alloc: Global, of: &DeckText, version: u64) -> Result<Saved, AllocError> {
+    Ok(Saved {
+        name: name_of("SWEPT")?,
+        cards: cards_of(alloc, of.lines)?,
+        version,
+    })
+}
+
+/// Saves three versions of a deck, one over the other.
+fn save_all<S: Shelf>(scene: &mut Scene, shelf: &mut S) -> Result<(), AllocError> {
+    let mut before = Vec::new(scene.alloc);
+    for (number, deck) in DECKS.iter().enumerate() {
+        let saved = saved_of(scene.alloc, deck, number as u64)?;
+        save(scene, shelf, &saved, &before);
+        before = saved.cards;
+    }
+    Ok(())
+}
+
+/// Whether rows tell that a deck has so many cards; none where its file was not read.
+fn tells(rows: &[FileRow], deck: &[u8], cards: usize) -> Option<bool> {
+    for row in rows {
+        if row.name.as_slice() == deck {
+            return Some(row.cards? == cards);
+        }
+    }
+    Some(false)
+}
+
+/// Whether the shelf tells that a deck has so many cards; none where it tells nothing of it.
+fn tells_once<S: Shelf>(shelf: &mut S, deck: &[u8], cards: usize) -> Option<bool> {
+    match shelf.list() {
+        Ok(rows) => tells(&rows, deck, cards),
+        Err(_) => None,
+    }
+}
+
+/// Lists the files of the shelf, once more where there is no memory or a read fails, and finds the last version
+/// of the deck.
+fn list<S: Shelf>(scene: &mut Scene, shelf: &mut S) -> Result<(), AllocError> {
+    let cards = match DECKS.last() {
+        Some(deck) => cards_of(scene.alloc, deck.lines)?.len(),
+        None => 0,
+    };
+    let mut told = tells_once(shelf, b"SWEPT", cards);
+    if told.is_none() {
+        scene.journal.refused(Called::ListShelf, true);
+        told = tells_once(shelf, b"SWEPT", cards);
+    }
+    scene.journal.made(Called::ListShelf, told == Some(true));
+    Ok(())
+}
+
+/// Three versions of a deck that are saved in the folder in which the program runs, one over the other; and
+/// the list of the files there.
+pub fn folder<R: AllocGlobal + Files + Clone + Drop + Wait>(
+    rt: &R,
+    scene: &mut Scene,
+) -> Result<(), AllocError> {
+    let known = Mutex::new(KnownFiles::new(scene.alloc));
+    let mut shelf = FolderShelf::new(rt, scene.alloc, "", 0, &known);
+    save_all(scene, &mut shelf)?;
+    list(scene, &mut shelf)
+}

@@ -1,0 +1,143 @@
+//! Jobs of a desk: claimed, run, delivered and given up, and made again where they find no memory.
+
+use crate::jobs::ask;
+use crate::sweeps::notes::Called;
+use crate::sweeps::scene::Scene;
+use deck_workers::{Job, Made, Runs, job_in};
+use desk_core::{Call, Refusal, Reply};
+use edit_core::RecordFault;
+use statement_coder::Meter;
+
+/// What a reply of the desk tells, but for what it gives.
+#[derive(Clone, Copy, PartialEq, Eq)]
+pub enum Told {
+    /// The desk has this version.
+    Version(u64),
+    /// All of the present version is published.
+    Idle,
+    Refused(Refusal),
+    Other,
+}
+
+/// What a reply tells.
+pub fn told_in(reply: &Reply) -> Told {
+    match reply {
+        Reply::StatusIs(version, _, _) => Told::Version(*version),
+        Reply::Changed(version) => Told::Version(*version),
+        Reply::Idle(_) => Told::Idle,
+        Reply::Refused(refusal) => Told::Refused(*refusal),
+        _ => Told::Other,
+    }
+}
+
+/// Claims what is due, once more where that finds no memory: then names, versions and cards are as
+/// before. There is no job where all of the present version is published.
+fn claim(scene: &mut Scene) -> Option<Job> {
+    let before = scene.state();
+    let mut reply = ask(&mut scene.desk, Call::Claim);
+    if told_in(&reply) == Told::Refused(Refusal::OutOfMemory) {
+        let is_kept = scene.state() == before;
+        scene.journal.refused(Called::Claim, is_kept);
+        reply = ask(&mut scene.desk, Call::Claim);
+    }
+    let is_idle = told_in(&reply) == Told::Idle;
+    let is_kept = scene.state() == before;
+    let job = job_in(reply);
+    let is_wanted = is_idle || job.is_some();
+    scene.journal.kept(Called::Claim, is_kept && is_wanted);
+    job
+}
+
+/// Whether a job was lost for want of memory.
+fn is_lost(made: &Made) -> bool {
+    matches!(
+        made,
+        Made::Lost {
+            fault: RecordFault::OutOfMemory,
+            ..
+        }
+    )
+}
+
+/// Hands in what was made of a job, or gives up its lease: names, versions and cards stay as they are
+/// whatever the reply is.
+fn hand_in(scene: &mut Scene, made: Made, is_foreign: bool) {
+    let before = scene.state();
+    let told = told_in(&ask(&mut scene.desk, made.into_call()));
+    let is_kept = scene.state() == before;
+    let is_wanted = match told {
+        Told::Refused(Refusal::Foreign) => is_foreign,
+        Told::Refused(_) => false,
+        _ => !is_foreign,
+    };
+    scene.journal.kept(Called::HandIn, is_wanted && is_kept);
+}
+
+/// A job whose result is not one of its lease: it has another version.
+fn foreign(job: Job) -> Job {
+    match job {
+        Job::Deck(mut work) => {
+            work.version = work.version.saturating_add(1);
+            Job::Deck(work)
+        }
+        Job::Link(mut work) => {
+            work.version = work.version.saturating_add(1);
+            Job::Link(work)
+        }
+    }
+}
+
+/// How the job of a claim is ended.
+#[derive(Clone, Copy)]
+pub enum End {
+    /// Its result is delivered.
+    Delivered,
+    /// A result is delivered that is not one of its lease.
+    Foreign,
+    /// Its lease is given up.
+    GivenUp,
+}
+
+/// What ends a job, and whether that is foreign.
+fn made_of(scene: &Scene, job: Job, end: End) -> (Made, bool) {
+    let mut meter = Meter { sized: 0, coded: 0 };
+    match end {
+        End::Delivered => (job.run(scene.alloc, &mut meter), false),
+        End::Foreign => (foreign(job).run(scene.alloc, &mut meter), true),
+        End::GivenUp => {
+            let lease = job.lease();
+            let fault = RecordFault::Spent;
+            (Made::Lost { lease, fault }, false)
+        }
+    }
+}
+
+/// Claims a job and ends it, once more where it is lost for want of memory; whether there was one.
+fn end_next(scene: &mut Scene, end: End) -> bool {
+    for _ in 0..2 {
+        let Some(job) = claim(scene) else {
+            return false;
+        };
+        let (made, is_foreign) = made_of(scene, job, end);
+        let is_lost = is_lost(&made);
+        hand_in(scene, made, is_foreign && !is_lost);
+        if !is_lost {
+            scene.journal.made(Called::RunJob, true);
+            return true;
+        }
+        scene.journal.refused(Called::RunJob, true);
+    }
+    scene.journal.made(Called::RunJob, false);
+    false
+}
+
+/// Does the jobs that are due, each ended in these ways one after the other, so many at most.
+pub fn do_jobs(scene: &mut Scene, ends: &[End], most: usize) {
+    for _ in 0..most {
+        for end in ends {
+            if !end_next(scene, *end) {
+                return;
+            }
+        }
+    }
+}

@@ -1,0 +1,215 @@
+//! Scenarios of decks whose texts are long, so that a run makes and sends them part by part: what goes
+//! out is held against the texts that are made whole.
+
+use crate::inputs::{cards_of, name_of};
+use crate::sweeps::decks::DeckText;
+use crate::sweeps::notes::Called;
+use crate::sweeps::pieces::{Came, Failing, Piece, Tries, fail_each, held};
+use crate::sweeps::ports::{AsmRun, try_whole, went_out};
+use crate::sweeps::scene::Scene;
+use asm_main::{AsmFault, Built, Chosen, asm_build, write_chosen};
+use deck_assembler::SharedObject;
+use deck_linker::{Publication, link};
+use edit_core::assemble;
+use statement_coder::Meter;
+use std::alloc::{AllocError, Global};
+use std::io::BufRead;
+use text_ports::Counted;
+
+/// How the decks begin: they enter names for each other, one that no deck enters is missing, and both
+/// store in a common block.
+const HEADS: [DeckText; 2] = [
+    DeckText {
+        name: "LONG1",
+        lines: "          IDENT  LONG1
+          ENTRY  FIRST
+          EXT    SECOND
+FIRST     SA1    SECOND
+          USE    /TAB/
+          DATA   1,2
+          USE    0
+",
+    },
+    DeckText {
+        name: "LONG2",
+        lines: "          IDENT  LONG2
+          ENTRY  SECOND
+          EXT    FIRST,NONE
+SECOND    SA1    FIRST
+          SA2    NONE
+          USE    /TAB/
+          DATA   3
+          USE    0
+",
+    },
+];
+
+/// A statement of a hundred words.
+const WORDS: &str = "          DIS    100,A
+";
+
+/// How many of them a deck has. Both have 140,000 words with as many fields, which is more than a run
+/// makes whole.
+const TIMES: usize = 700;
+
+/// How they end.
+const END: &str = "          END
+";
+
+/// Puts the lines of a deck behind others.
+fn push_deck(lines: &mut Vec<u8>, deck: &DeckText) -> Result<(), AllocError> {
+    lines.extend_from_slice(deck.lines.as_bytes())?;
+    for _ in 0..TIMES {
+        lines.extend_from_slice(WORDS.as_bytes())?;
+    }
+    lines.extend_from_slice(END.as_bytes())
+}
+
+/// The lines of both decks.
+fn input_of(alloc: Global) -> Result<Vec<u8>, AllocError> {
+    let mut lines = Vec::new(alloc);
+    for deck in &HEADS {
+        push_deck(&mut lines, deck)?;
+    }
+    Ok(lines)
+}
+
+/// The object of a deck.
+fn object_of(alloc: Global, deck: &DeckText) -> Result<SharedObject, AllocError> {
+    let mut lines = Vec::new(alloc);
+    push_deck(&mut lines, deck)?;
+    let cards = cards_of(alloc, str::from_utf8(&lines).unwrap_or(""))?;
+    let mut meter = Meter { sized: 0, coded: 0 };
+    assemble(alloc, name_of(deck.name)?, cards, &mut meter)
+}
+
+/// The publication of both decks, whose texts are made whole.
+fn published(alloc: Global) -> Result<Publication, AllocError> {
+    let mut objects = Vec::new(alloc);
+    for deck in &HEADS {
+        objects.push(object_of(alloc, deck)?)?;
+    }
+    link(alloc, objects, 0)
+}
+
+/// What is held against what goes out.
+fn whole_of(scene: &mut Scene) -> Result<Publication, AllocError> {
+    let published = published(scene.alloc);
+    scene.journal.got(Called::Link, published)
+}
+
+/// What a run of these lines is held against.
+fn run_of<'i>(scene: &mut Scene, input: &'i [u8]) -> Result<AsmRun<'i>, AllocError> {
+    let whole = whole_of(scene)?;
+    let mut output = Vec::from_slice(scene.alloc, whole.listing())?;
+    output.extend_from_slice(whole.image())?;
+    Ok(AsmRun { input, output })
+}
+
+/// A run in which no port fails.
+pub fn run(scene: &mut Scene) -> Result<(), AllocError> {
+    let input = input_of(scene.alloc)?;
+    let run = run_of(scene, &input)?;
+    try_whole(scene, Called::AsmRun, &run)
+}
+
+/// Each write of a run, in pieces of a megabyte.
+pub fn ports(scene: &mut Scene) -> Result<(), AllocError> {
+    let input = input_of(scene.alloc)?;
+    let run = run_of(scene, &input)?;
+    fail_each(scene, Called::AsmRun, &run, Piece::Megabyte, false)
+}
+
+/// The listings, which go to an output of their own, and so do the map and the image.
+const LISTING: Chosen = Chosen {
+    listing: true,
+    map: false,
+    image: false,
+};
+
+const MAP: Chosen = Chosen {
+    listing: false,
+    map: true,
+    image: false,
+};
+
+const IMAGE: Chosen = Chosen {
+    listing: false,
+    map: false,
+    image: true,
+};
+
+/// The texts of these lines, each to an output of its own.
+#[derive(Drop)]
+struct Outputs<'p> {
+    input: &'p [u8],
+    whole: &'p Publication,
+}
+
+/// Builds decks. What comes of it is looked at and no contract of it.
+fn build_of<R: BufRead>(alloc: Global, input: &mut Counted<R>) -> Result<Built, AsmFault> {
+    asm_build(alloc, input)
+}
+
+/// Writes one of the texts to an output of its own.
+fn write_part(
+    alloc: Global,
+    failing: Failing,
+    built: &mut Built,
+    chosen: Chosen,
+    text: &[u8],
+) -> Came {
+    let mut output = failing.writer(alloc);
+    let outcome = write_chosen(&mut output, built, chosen);
+    let faults = output.faults();
+    let writer = output.into_inner();
+    let taken = writer.taken();
+    match outcome {
+        Ok(()) => held(taken == text && faults == 0, Came::Whole),
+        Err(broken) => failing.written(went_out(taken, text, broken.sent) && faults == 1),
+    }
+}
+
+/// What came of two tries: what is told of the first that did not come to its end.
+fn both(first: Came, second: Came) -> Came {
+    match first {
+        Came::Whole => second,
+        Came::Failed | Came::Lacking | Came::Wrong => first,
+    }
+}
+
+impl<'p> Outputs<'p> {
+    /// Writes all texts, the first of them behind the others once more: a fault of one output leaves
+    /// the others what they are.
+    fn write(&self, alloc: Global, failing: Failing, built: &mut Built) -> Came {
+        let image = write_part(alloc, failing, built, IMAGE, self.whole.image());
+        let listing = write_part(alloc, failing, built, LISTING, self.whole.listings());
+        let map = write_part(alloc, failing, built, MAP, self.whole.map());
+        let again = write_part(alloc, failing, built, IMAGE, self.whole.image());
+        both(both(image, listing), both(map, again))
+    }
+}
+
+impl<'p> Tries for Outputs<'p> {
+    fn try_once(&self, alloc: Global, failing: Failing) -> Result<Came, AllocError> {
+        match build_of(alloc, &mut Counted::new(self.input)) {
+            Ok(built) => {
+                let mut built = built;
+                Ok(self.write(alloc, failing, &mut built))
+            }
+            Err(AsmFault::OutOfMemory) => Ok(Came::Lacking),
+            Err(_) => Ok(Came::Wrong),
+        }
+    }
+}
+
+/// Each write of the texts that go to outputs of their own, in pieces of a megabyte.
+pub fn parts(scene: &mut Scene) -> Result<(), AllocError> {
+    let input = input_of(scene.alloc)?;
+    let whole = whole_of(scene)?;
+    let outputs = Outputs {
+        input: &input,
+        whole: &whole,
+    };
+    fail_each(scene, Called::AsmRun, &outputs, Piece::Megabyte, false)
+}

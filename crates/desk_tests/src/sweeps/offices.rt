@@ -1,0 +1,181 @@
+//! A scenario of an office: it opens, two seats call its desk and meet, and it closes.
+ghost use Rattle.std.specs.Prelude.{◌≡◌, IfOk};
+ghost use Rattle.turn_office.specs.Seats.{new_seats};
+
+use crate::inputs::{cards_of, name_of};
+use crate::sweeps::decks::{DECKS, DeckText};
+use crate::sweeps::jobs::{Told, told_in};
+use crate::sweeps::notes::Called;
+use crate::sweeps::scene::Scene;
+use desk_core::{Call, Desk, NewDeck, Refusal};
+use std::alloc::{AllocError, Global};
+use std::mem;
+use std::sync::Wait;
+use turn_office::{Office, Seat, SeatList};
+
+/// In how many turns the desk is settled at most.
+const TURNS: u32 = 8;
+
+/// An office of two seats; or the desk comes back where there is no memory.
+fn open_once(scene: &mut Scene) -> Result<(Office<Desk>, SeatList<Desk>), AllocError>
+    ensures { IfOk result (λ opened. opened.1.items ≡ new_seats opened.0.id 2) }
+{
+    let desk = mem::replace(&mut scene.desk, Desk::new(scene.alloc));
+    match Office::open(scene.alloc, desk, 2) {
+        Ok(opened) => Ok(opened),
+        Err(failed) => {
+            scene.desk = failed.value;
+            Err(AllocError)
+        }
+    }
+}
+
+/// An office of two seats, opened once more where there is no memory: the desk comes back as it was.
+fn open(scene: &mut Scene) -> Result<(Office<Desk>, SeatList<Desk>), AllocError>
+    ensures { IfOk result (λ opened. opened.1.items ≡ new_seats opened.0.id 2) }
+{
+    let before = scene.state();
+    match open_once(scene) {
+        Ok(opened) => Ok(opened),
+        Err(_) => {
+            let is_kept = scene.state() == before;
+            scene.journal.refused(Called::OpenOffice, is_kept);
+            open_once(scene)
+        }
+    }
+}
+
+/// The call that adds a deck.
+fn addition(alloc: Global, deck: &DeckText) -> Result<Call, AllocError> {
+    let cards = cards_of(alloc, deck.lines)?;
+    Ok(Call::AddDeck(NewDeck::new(name_of(deck.name)?, cards)))
+}
+
+/// What one call from a seat tells. It is looked at and no contract of it.
+fn ask<R: Wait>(rt: &R, office: &Office<Desk>, seat: &mut Seat<Desk>, call: Call) -> Told
+    requires { seat.old.office ≡ office.now.id }
+    ensures { seat.new.office ≡ seat.old.office }
+{
+    told_in(&seat.call(rt, office, call))
+}
+
+/// The version of the desk, unless the scenario's own memory was refused.
+fn version_of<R: Wait>(
+    rt: &R,
+    scene: &mut Scene,
+    office: &Office<Desk>,
+    seat: &mut Seat<Desk>,
+) -> u64
+    requires { seat.old.office ≡ office.now.id }
+    ensures { seat.new.office ≡ seat.old.office }
+{
+    match ask(rt, office, seat, Call::Status) {
+        Told::Version(version) => version,
+        _ => {
+            scene.journal.is_lacking = true;
+            0
+        }
+    }
+}
+
+/// Makes a call that adds a deck, and answers whether it did. Without memory the version is as before.
+fn add_once<R: Wait>(
+    rt: &R,
+    scene: &mut Scene,
+    office: &Office<Desk>,
+    seat: &mut Seat<Desk>,
+    call: Call,
+) -> bool
+    requires { seat.old.office ≡ office.now.id }
+    ensures { seat.new.office ≡ seat.old.office }
+{
+    let before = version_of(rt, scene, office, seat);
+    let told = ask(rt, office, seat, call);
+    let after = version_of(rt, scene, office, seat);
+    if told == Told::Refused(Refusal::OutOfMemory) {
+        scene.journal.refused(Called::CallSeat, before == after);
+    }
+    before < after && told == Told::Version(after)
+}
+
+/// Adds a deck from a seat, and answers whether it did.
+fn try_to_add<R: Wait>(
+    rt: &R,
+    scene: &mut Scene,
+    office: &Office<Desk>,
+    seat: &mut Seat<Desk>,
+    deck: &DeckText,
+) -> Result<bool, AllocError>
+    requires { seat.old.office ≡ office.now.id }
+    ensures { seat.new.office ≡ seat.old.office }
+{
+    let call = addition(scene.alloc, deck)?;
+    Ok(add_once(rt, scene, office, seat, call))
+}
+
+/// Adds a deck from a seat, once more where there is no memory.
+fn add<R: Wait>(
+    rt: &R,
+    scene: &mut Scene,
+    office: &Office<Desk>,
+    seat: &mut Seat<Desk>,
+    deck: &DeckText,
+) -> Result<(), AllocError>
+    requires { seat.old.office ≡ office.now.id }
+    ensures { seat.new.office ≡ seat.old.office }
+{
+    let is_added = try_to_add(rt, scene, office, seat, deck)?
+        || try_to_add(rt, scene, office, seat, deck)?;
+    scene.journal.made(Called::CallSeat, is_added);
+    Ok(())
+}
+
+/// Both seats add a deck, and meet.
+fn call_and_meet<R: Wait>(
+    rt: &R,
+    scene: &mut Scene,
+    office: &Office<Desk>,
+    first: &mut Seat<Desk>,
+    second: &mut Seat<Desk>,
+) -> Result<(), AllocError>
+    requires first { first.old.office ≡ office.now.id }
+    requires second { second.old.office ≡ office.now.id }
+    ensures first { first.new.office ≡ first.old.office }
+    ensures second { second.new.office ≡ second.old.office }
+{
+    add(rt, scene, office, first, &DECKS[1])?;
+    add(rt, scene, office, second, &DECKS[2])?;
+    let have_met = first.meet(rt, office, second).is_ok();
+    scene.journal.made(Called::Meet, have_met);
+    Ok(())
+}
+
+/// Calls from both seats, and closes the office: the desk.
+fn use_office<R: Wait>(
+    rt: &R,
+    scene: &mut Scene,
+    office: Office<Desk>,
+    mut seats: SeatList<Desk>,
+) -> Result<Desk, AllocError>
+    requires { seats.items ≡ new_seats office.id 2 }
+{
+    let (Some(mut second), Some(mut first)) = (seats.pop(), seats.pop()) else {
+        return Err(AllocError);
+    };
+    call_and_meet(rt, scene, &office, &mut first, &mut second)?;
+    seats.push(first)?;
+    seats.push(second)?;
+    match office.close(seats) {
+        Ok(desk) => Ok(desk),
+        Err(_) => Err(AllocError),
+    }
+}
+
+/// An office from its opening to its end, and what its desk then has.
+pub fn office<R: Wait>(rt: &R, scene: &mut Scene) -> Result<(), AllocError> {
+    scene.load_first();
+    let (office, seats) = open(scene)?;
+    scene.desk = use_office(rt, scene, office, seats)?;
+    scene.journal.made(Called::Close, true);
+    scene.settle_as_asm(TURNS)
+}

@@ -1,0 +1,175 @@
+//! Scenarios of ports: each read and each write of a run, of a file that is loaded and of one that is
+//! saved fails in turn.
+
+use crate::files::assembled;
+use crate::inputs::cards_of;
+use crate::sweeps::decks::{DECKS, asm_answer};
+use crate::sweeps::notes::Called;
+use crate::sweeps::pieces::{Came, Failing, Tries, WHOLE, fail_all, held, try_twice};
+use crate::sweeps::scene::Scene;
+use asm_main::AsmFault;
+use cards::{Card, MOST_CARDS};
+use deck_files::{LoadFault, load, save};
+use std::alloc::{AllocError, Global};
+use std::io::BufReader;
+use text_ports::Counted;
+
+/// A deck with few bytes of output.
+const SMALL: &str = "          IDENT  T
+          SB1    1
+          BX6    X1
+          END
+";
+
+/// Whether so many bytes of a text went out, and no more.
+pub fn went_out(taken: &[u8], wanted: &[u8], sent: usize) -> bool {
+    taken.len() == sent && wanted.starts_with(taken)
+}
+
+/// A run of this input has this output.
+#[derive(Drop)]
+pub struct AsmRun<'i> {
+    pub input: &'i [u8],
+    pub output: Vec<u8>,
+}
+
+impl<'i> Tries for AsmRun<'i> {
+    /// Before all is read nothing is written; after a fault of the writer exactly the bytes that are
+    /// told went out.
+    fn try_once(&self, alloc: Global, failing: Failing) -> Result<Came, AllocError> {
+        let Ok(reader) = BufReader::new(alloc, failing.reader(self.input)) else {
+            return Err(AllocError);
+        };
+        let mut output = failing.writer(alloc);
+        let outcome = assembled(alloc, &mut Counted::new(reader), &mut output);
+        let faults = output.faults();
+        let writer = output.into_inner();
+        let taken = writer.taken();
+        let is_silent = taken.is_empty() && faults == 0;
+        Ok(match outcome {
+            Ok(_) => held(taken == self.output.as_slice() && faults == 0, Came::Whole),
+            Err(AsmFault::ReadFault) => held(is_silent, Came::Failed),
+            Err(AsmFault::OutOfMemory) => held(is_silent, Came::Lacking),
+            Err(AsmFault::WriteFault { sent }) => {
+                failing.written(went_out(taken, &self.output, sent) && faults == 1)
+            }
+            Err(_) => Came::Wrong,
+        })
+    }
+}
+
+/// A file of so many cards.
+#[derive(Drop)]
+struct Loaded {
+    file: &'static str,
+    count: usize,
+}
+
+impl Tries for Loaded {
+    fn try_once(&self, alloc: Global, failing: Failing) -> Result<Came, AllocError> {
+        let mut reader = Counted::new(failing.reader(self.file.as_bytes()));
+        let outcome = load(alloc, &mut reader);
+        let faults = reader.faults();
+        Ok(match outcome {
+            Ok(cards) => held(cards.len() == self.count && faults == 0, Came::Whole),
+            Err(LoadFault::ReadFault) => held(faults == 1, Came::Failed),
+            Err(LoadFault::OutOfMemory) => held(faults == 0, Came::Lacking),
+            Err(_) => Came::Wrong,
+        })
+    }
+}
+
+/// Cards and their file.
+#[derive(Drop)]
+struct Saved {
+    file: &'static str,
+    cards: Vec<Card>,
+}
+
+impl Tries for Saved {
+    fn try_once(&self, alloc: Global, failing: Failing) -> Result<Came, AllocError> {
+        if self.cards.len() > MOST_CARDS {
+            return Ok(Came::Wrong);
+        }
+        let file = self.file.as_bytes();
+        let mut output = failing.writer(alloc);
+        let outcome = save(&mut output, &self.cards);
+        let faults = output.faults();
+        let writer = output.into_inner();
+        let taken = writer.taken();
+        Ok(match outcome {
+            Ok(()) => held(taken == file && faults == 0, Came::Whole),
+            Err(broken) => failing.written(went_out(taken, file, broken.sent) && faults == 1),
+        })
+    }
+}
+
+/// What a run, a load and a save of these lines are held against.
+fn all_of(
+    scene: &mut Scene,
+    lines: &'static str,
+) -> Result<(AsmRun<'static>, Loaded, Saved), AllocError> {
+    let answer = asm_answer(scene.alloc, lines.as_bytes());
+    let output = scene.journal.got(Called::AsmRun, answer)?;
+    let cards = cards_of(scene.alloc, lines)?;
+    let count = cards.len();
+    Ok((
+        AsmRun {
+            input: lines.as_bytes(),
+            output,
+        },
+        Loaded { file: lines, count },
+        Saved { file: lines, cards },
+    ))
+}
+
+/// Each read and each write of these, in pieces.
+fn fail_ports(
+    scene: &mut Scene,
+    run: &AsmRun<'_>,
+    loaded: &Loaded,
+    saved: &Saved,
+) -> Result<(), AllocError> {
+    fail_all(scene, Called::AsmRun, run, &[true, false])?;
+    fail_all(scene, Called::Load, loaded, &[true])?;
+    fail_all(scene, Called::Save, saved, &[false])
+}
+
+/// Each read and each write of a run, and of its cards as a file, in pieces.
+pub fn ports(scene: &mut Scene) -> Result<(), AllocError> {
+    let (run, loaded, saved) = all_of(scene, SMALL)?;
+    fail_ports(scene, &run, &loaded, &saved)
+}
+
+/// Tries where no port fails.
+pub fn try_whole<T: Tries>(scene: &mut Scene, call: Called, tried: &T) -> Result<(), AllocError> {
+    let came = try_twice(scene, call, tried, WHOLE)?;
+    scene.journal.made(call, came == Came::Whole);
+    Ok(())
+}
+
+/// These, where no port fails.
+fn try_ports(
+    scene: &mut Scene,
+    run: &AsmRun<'_>,
+    loaded: &Loaded,
+    saved: &Saved,
+) -> Result<(), AllocError> {
+    try_whole(scene, Called::AsmRun, run)?;
+    try_whole(scene, Called::Load, loaded)?;
+    try_whole(scene, Called::Save, saved)
+}
+
+/// A run, a load and a save of a deck in which no port fails.
+fn run_deck(scene: &mut Scene, lines: &'static str) -> Result<(), AllocError> {
+    let (run, loaded, saved) = all_of(scene, lines)?;
+    try_ports(scene, &run, &loaded, &saved)
+}
+
+/// Runs, loads and saves of each deck in which no port fails.
+pub fn runs(scene: &mut Scene) -> Result<(), AllocError> {
+    for deck in &DECKS {
+        run_deck(scene, deck.lines)?;
+    }
+    Ok(())
+}

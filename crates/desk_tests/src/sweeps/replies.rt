@@ -1,0 +1,154 @@
+//! A scenario of replies: each as a text in memory, and as it is written.
+ghost use Rattle.std.specs.Prelude.{◌≡◌, true};
+ghost use Rattle.session_line.specs.Replies.{IsWithinLimits};
+
+use crate::inputs::{cards_of, name_of};
+use crate::sweeps::decks::DECKS;
+use crate::sweeps::notes::Called;
+use crate::sweeps::scene::Scene;
+use cards::{CardFault, MOST_CARDS};
+use deck_files::MOST_FILES;
+use desk_core::{Row, State};
+use session_line::{Connected, Refusal, Reply, Rights, reply_text, write_reply};
+use std::alloc::{AllocError, Global};
+use text_ports::Counted;
+
+/// How many bytes a reply has at most.
+const ROOM: usize = 2000;
+
+/// The replies whose texts have a length of their own.
+fn few() -> [Reply<'static>; 5] {
+    [
+        Reply::Done { version: 3 },
+        Reply::Bye,
+        Reply::Text {
+            version: 12,
+            text: b"MAP\nEND\n",
+        },
+        Reply::Refused(Refusal::OldVersion { current: 17 }),
+        Reply::Refused(Refusal::BadLine {
+            line: 4,
+            fault: CardFault::BadCharacter { column: 9 },
+        }),
+    ]
+}
+
+/// Whether a reply has no more cards and no more decks than it may have.
+fn is_within(reply: &Reply<'_>) -> bool
+    ensures { result ≡ true → IsWithinLimits reply.now }
+{
+    match reply {
+        Reply::Cards { cards, .. } => cards.len() <= MOST_CARDS,
+        Reply::Found { cards, .. } => cards.len() <= MOST_CARDS,
+        Reply::Changes { kept, .. } => kept.len() <= 2_000,
+        Reply::Errors { decks, .. } => decks.len() <= 64,
+        Reply::Status { decks, .. } => decks.len() <= 64,
+        Reply::FileStatus { decks, .. } => decks.len() <= 64,
+        Reply::Saved { decks, .. } => decks.len() <= 64,
+        Reply::Files { files, .. } => files.len() <= MOST_FILES,
+        Reply::Sessions { sessions, .. } => sessions.len() <= 64,
+        Reply::Done { .. } | Reply::Text { .. } | Reply::Listing(_) => true,
+        Reply::Bye | Reply::Refused(_) => true,
+    }
+}
+
+/// A reply as it is written.
+fn written(alloc: Global, reply: &Reply<'_>) -> Result<Vec<u8>, AllocError> {
+    if !is_within(reply) {
+        return Err(AllocError);
+    }
+    let mut output = Counted::new(Vec::with_capacity(alloc, ROOM)?);
+    match write_reply(&mut output, reply) {
+        Ok(()) => Ok(output.into_inner()),
+        Err(_) => Err(AllocError),
+    }
+}
+
+/// A reply as a text.
+fn text_of(alloc: Global, reply: &Reply<'_>) -> Result<Vec<u8>, AllocError> {
+    if !is_within(reply) {
+        return Err(AllocError);
+    }
+    reply_text(alloc, reply)
+}
+
+/// A reply as a text and as it is written, which are the same.
+fn compare(scene: &mut Scene, reply: &Reply<'_>) -> Result<(), AllocError> {
+    let text = text_of(scene.alloc, reply);
+    let text = scene.journal.got(Called::ReplyText, text)?;
+    let other = written(scene.alloc, reply);
+    let other = scene.journal.got(Called::WriteReply, other)?;
+    scene.journal.made(Called::ReplyText, text == other);
+    Ok(())
+}
+
+/// A row of a status.
+fn row_of(name: &str, cards: usize, state: State) -> Result<Row, AllocError> {
+    Ok(Row {
+        name: name_of(name)?,
+        version: 5,
+        cards,
+        state,
+    })
+}
+
+/// The replies that show cards.
+fn compare_cards(scene: &mut Scene) -> Result<(), AllocError> {
+    let cards = cards_of(scene.alloc, DECKS[0].lines)?;
+    let many = Reply::Cards {
+        version: 5,
+        cards: &cards,
+    };
+    let found = Reply::Found {
+        version: 5,
+        cards: &cards,
+        text: b"A",
+    };
+    compare(scene, &many)?;
+    compare(scene, &found)
+}
+
+/// The reply that shows how decks stand.
+fn compare_status(scene: &mut Scene) -> Result<(), AllocError> {
+    let rows = [
+        row_of("MAIN", 12, State::Behind)?,
+        row_of("N", 20_000, State::Out)?,
+    ];
+    let status = Reply::Status {
+        version: 12,
+        published: Some(11),
+        decks: &rows,
+    };
+    compare(scene, &status)
+}
+
+/// The reply that shows who is connected.
+fn compare_sessions(scene: &mut Scene) -> Result<(), AllocError> {
+    let sessions = [
+        Connected {
+            number: 0,
+            who: name_of("PAT")?,
+            rights: Rights::Edits,
+        },
+        Connected {
+            number: 15,
+            who: name_of("15")?,
+            rights: Rights::Reads,
+        },
+    ];
+    let greeted = Reply::Sessions {
+        version: 12,
+        sessions: &sessions,
+    };
+    compare(scene, &greeted)
+}
+
+/// Each sort of reply.
+pub fn replies(scene: &mut Scene) -> Result<(), AllocError> {
+    for reply in &few() {
+        compare(scene, reply)?;
+    }
+    compare_cards(scene)?;
+    compare_status(scene)?;
+    compare_sessions(scene)
+}
