@@ -195,24 +195,29 @@ fn record_of(
     }
 }
 
-/// The record of a deck: its name, its cards, how many statements its pieces have, what was done,
-/// and how many lines its object has.
+/// A record: its name, its cards, how many statements its pieces have, what was done, and how many
+/// lines its object has.
+fn record_shown(answer: &mut Answer, kept: &Kept, done: &Meter) {
+    answer.bare(kept.name().as_slice());
+    answer.decimal(kept.cards().len() as u64);
+    answer.debug(&kept.pieces());
+    answer.either(kept.is_spent(), "spent", "-");
+    meter(answer, done);
+    finished(answer, kept, false);
+}
+
+/// The record of the deck of these lines.
 fn record(answer: &mut Answer, text: &str) -> Result<(), AllocError> {
     let mut done = Meter { sized: 0, coded: 0 };
     let cards = repeated_cards(answer.alloc, text)?;
     if let Some(kept) = record_of(answer, cards, &mut done)? {
-        answer.bare(kept.name().as_slice());
-        answer.decimal(kept.cards().len() as u64);
-        answer.debug(&kept.pieces());
-        answer.either(kept.is_spent(), "spent", "-");
-        meter(answer, &done);
-        finished(answer, kept, false);
+        record_shown(answer, &kept, &done);
     }
     Ok(())
 }
 
 /// How many cards the object of a record has, or how many lines.
-fn finished(answer: &mut Answer, kept: Kept, is_of_cards: bool) {
+fn finished(answer: &mut Answer, kept: &Kept, is_of_cards: bool) {
     match kept.finish() {
         Ok(object) if is_of_cards => answer.decimal(object.object().cards().len() as u64),
         Ok(object) => answer.decimal(object.object().parts().lines.len() as u64),
@@ -235,24 +240,35 @@ fn edited(
     Ok(())
 }
 
+/// Makes the edits of these words, and tells what was done and how many cards and pieces there are then.
+fn make_edits(
+    answer: &mut Answer,
+    kept: &mut Kept,
+    words: &str,
+    card: &[u8],
+) -> Result<(), AllocError> {
+    let mut done = Meter { sized: 0, coded: 0 };
+    for edit in &edits_of(answer.alloc, words, card)? {
+        edited(answer, kept, edit, &mut done)?;
+    }
+    meter(answer, &done);
+    answer.decimal(kept.cards().len() as u64);
+    answer.decimal(kept.pieces().len() as u64);
+    answer.debug(&kept.pieces().first());
+    finished(answer, kept, true);
+    Ok(())
+}
+
 /// Edits of the record of a deck of comment cards: how many cards, and the edits, such as `R20`, the
 /// card at place 20 goes, and `I20`, this card comes in at place 20.
 fn record_edits(answer: &mut Answer, text: &str, card: &[u8]) -> Result<(), AllocError> {
     let (count, words) = cut(text);
     let mut done = Meter { sized: 0, coded: 0 };
     let cards = comment_cards(answer.alloc, count)?;
-    if let Some(mut kept) = record_of(answer, cards, &mut done)? {
-        let mut done = Meter { sized: 0, coded: 0 };
-        for edit in &edits_of(answer.alloc, words, card)? {
-            edited(answer, &mut kept, edit, &mut done)?;
-        }
-        meter(answer, &done);
-        answer.decimal(kept.cards().len() as u64);
-        answer.decimal(kept.pieces().len() as u64);
-        answer.debug(&kept.pieces().first());
-        finished(answer, kept, true);
+    match record_of(answer, cards, &mut done)? {
+        Some(mut kept) => make_edits(answer, &mut kept, words, card),
+        None => Ok(()),
     }
-    Ok(())
 }
 
 /// So many comment cards.

@@ -1,5 +1,6 @@
 //! Decks that are edited: behind each edit a record gives the listing and the image of a new deck of the
 //! same cards.
+ghost use Rattle.std.specs.Prelude.{◌≤◌, length};
 
 use crate::deck_topics::repeated_cards;
 use crate::inputs::{cut, decimal};
@@ -19,22 +20,32 @@ pub fn answer(answer: &mut Answer, topic: &str, text: &str) -> Result<bool, Allo
     let (deck, edits) = text.split_once("EDITS\n").unwrap_or((text, ""));
     let cards = repeated_cards(answer.alloc, deck)?;
     match DeckName::read(b"M") {
-        Ok(name) if cards.len() <= 20_000 => {
-            let mut done = Meter { sized: 0, coded: 0 };
-            let kept = Kept::new(answer.alloc, name, cards, &mut done)?;
-            edited(answer, kept, edits)?;
-        }
+        Ok(name) if cards.len() <= 20_000 => edited_deck(answer, name, cards, edits)?,
         _ => answer.word("no deck"),
     }
     Ok(true)
 }
 
+/// Makes the edits of these lines in the record of a deck.
+fn edited_deck(
+    answer: &mut Answer,
+    name: DeckName,
+    cards: Vec<Card>,
+    edits: &str,
+) -> Result<(), AllocError>
+    requires { length cards.items ≤ 20000 }
+{
+    let mut done = Meter { sized: 0, coded: 0 };
+    let mut kept = Kept::new(answer.alloc, name, cards, &mut done)?;
+    edited(answer, &mut kept, edits)
+}
+
 /// Makes the edits of these lines, one after the other, and looks after each.
-fn edited(answer: &mut Answer, mut kept: Kept, edits: &str) -> Result<(), AllocError> {
+fn edited(answer: &mut Answer, kept: &mut Kept, edits: &str) -> Result<(), AllocError> {
     let mut are_same = true;
     for line in edits.lines() {
         match edit_of(line) {
-            Some(edit) => are_same = is_edited(answer.alloc, &mut kept, &edit)?,
+            Some(edit) => are_same = is_edited(answer.alloc, kept, &edit)?,
             None => are_same = false,
         }
         if !are_same {
@@ -72,18 +83,23 @@ fn is_edited(alloc: Global, kept: &mut Kept, edit: &Edit) -> Result<bool, AllocE
     }
 }
 
-/// Whether listing and image of a record's object are those of a new object of its cards.
-fn is_as_new(alloc: Global, kept: &Kept) -> Result<bool, AllocError> {
+/// The link of a new object of a record's cards.
+fn published_anew(alloc: Global, kept: &Kept) -> Result<Publication, AllocError> {
     let mut done = Meter { sized: 0, coded: 0 };
     let cards = edited_copy(alloc, kept.cards(), &[])?;
-    let new = published(
+    published(
         alloc,
         assemble(alloc, kept.name().copied(), cards, &mut done)?,
-    )?;
+    )
+}
+
+/// Whether listing and image of a record's object are those of a new object of its cards.
+fn is_as_new(alloc: Global, kept: &Kept) -> Result<bool, AllocError> {
     let Ok(object) = kept.finish() else {
         return Ok(false);
     };
     let found = published(alloc, object)?;
+    let new = published_anew(alloc, kept)?;
     Ok(found.listing() == new.listing() && found.image() == new.image())
 }
 
