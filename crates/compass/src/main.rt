@@ -12,7 +12,7 @@ use clap::{ArgMatches, Command, Error};
 use command_line::{asm_words, assemble, log, log_words, tell};
 use desk_service::VERSION;
 use serving::{run_service, serve_words, settings_of};
-use std::alloc::Global;
+use std::alloc::{AllocError, Global};
 use std::env;
 use std::fs::File;
 use std::io::ErrorKind;
@@ -28,17 +28,29 @@ use stopping::{stop_service, stop_words};
 /// The status of a fault of the command line.
 const COMMAND_LINE_STATUS: u8 = 2;
 
-/// The command line: its commands are `asm`, `log`, `serve` and `stop`, and `clap` writes its texts.
-fn read_words<'a>(alloc: Global, words: &'a [String]) -> Result<ArgMatches<'a>, Error> {
-    Command::new(alloc, "compass")
+/// A command line with one more command.
+fn with_command<'a>(
+    line: Command<'a>,
+    command: Result<Command<'a>, AllocError>,
+) -> Result<Command<'a>, AllocError> {
+    line.subcommand(command?)
+}
+
+/// The command line: its commands are `asm`, `log`, `serve` and `stop`.
+fn line_of_commands<'a>(alloc: Global) -> Result<Command<'a>, AllocError> {
+    let line = Command::new(alloc, "compass")
         .version(VERSION)
         .about("COMPASS for the Control Data 6000 series, proved")
-        .subcommand_required(true)
-        .subcommand(asm_words(alloc)?)?
-        .subcommand(log_words(alloc)?)?
-        .subcommand(serve_words(alloc)?)?
-        .subcommand(stop_words(alloc)?)?
-        .try_get_matches_from(words)
+        .subcommand_required(true);
+    let line = with_command(line, asm_words(alloc))?;
+    let line = with_command(line, log_words(alloc))?;
+    let line = with_command(line, serve_words(alloc))?;
+    with_command(line, stop_words(alloc))
+}
+
+/// What words say on the command line; `clap` writes its texts.
+fn read_words<'a>(alloc: Global, words: &'a [String]) -> Result<ArgMatches<'a>, Error> {
+    line_of_commands(alloc)?.try_get_matches_from(words)
 }
 
 /// Does what the words ask for.
