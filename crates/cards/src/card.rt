@@ -9,9 +9,9 @@ ghost use Rattle.cards.specs.FieldParts.{AreWithin, fields_at};
 
 use crate::card_parts::{CardParts, parts_on};
 use crate::field_parts::Parts;
+use definitions::has_display_code;
 use std::fmt;
 use std::marker::Model;
-use text_ports::has_display_code;
 
 /// How many columns a card has.
 const COLUMNS: usize = 80;

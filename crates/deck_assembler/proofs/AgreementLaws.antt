@@ -12,7 +12,8 @@ use Rattle.definitions.specs.Operations.{Operation}
 use Rattle.definitions.specs.Settled.{Settled, defined}
 use Rattle.definitions.specs.Settling.{View, settle, settled_all}
 use Rattle.definitions.specs.Statements.{Statement, cards_in}
-use Rattle.definitions.specs.States.{Agree, early_symbols, own_symbols, operand_symbols, settled_tail, state_after, AgreeOnTail, HaveSameCards}
+use Rattle.definitions.specs.States.{state_after}
+use Rattle.definitions.specs.Agreement.{Agree, early_symbols, own_symbols, operand_symbols, settled_tail, AgreeOnTail, HaveSameCards}
 use Rattle.definitions.specs.declared.deck_kind.DeckKind.{DeckKind}
 use Rattle.definitions.proofs.EditLaws.{agreement-lasts, cards_in-append}
 use Rattle.definitions.proofs.NamesLaws.{all-behind}

@@ -13,7 +13,7 @@ use Rattle.definitions.specs.Settled.{Settled}
 use Rattle.definitions.specs.Settling.{settle, settled_all}
 use Rattle.definitions.specs.StatementItems.{Context}
 use Rattle.definitions.specs.Statements.{Statement}
-use Rattle.definitions.specs.States.{settled_tail}
+use Rattle.definitions.specs.Agreement.{settled_tail}
 use Rattle.definitions.specs.declared.deck_kind.DeckKind.{DeckKind}
 use Rattle.definitions.proofs.TailLaws.{settled_all-append}
 use Rattle.deck_assembler.specs.DueCodes.{one_where, has_line, one_due, code_due, code_due_in, code_due_of, CodePlan, IsPlanOf}

@@ -16,7 +16,7 @@ use Rattle.definitions.specs.Settled.{Settled, defined}
 use Rattle.definitions.specs.Settling.{View, settle, settled_all}
 use Rattle.definitions.specs.StatementItems.{Context, Item, final_names, items_of}
 use Rattle.definitions.specs.Statements.{Statement, cards_in, statements_of}
-use Rattle.definitions.specs.States.{unnumbered}
+use Rattle.definitions.specs.Agreement.{unnumbered}
 use Rattle.definitions.specs.Words.{Coded}
 use Rattle.definitions.specs.declared.deck_kind.DeckKind.{DeckKind}
 use Rattle.definitions.specs.declared.letter.Letter.{Letter}

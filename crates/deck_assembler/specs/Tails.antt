@@ -6,7 +6,7 @@ use Rattle.definitions.specs.DeckKinds.{kind_of_statements}
 use Rattle.definitions.specs.Edits.{Split}
 use Rattle.definitions.specs.Settling.{settle, settled_all}
 use Rattle.definitions.specs.Statements.{Statement}
-use Rattle.definitions.specs.States.{unnumbered}
+use Rattle.definitions.specs.Agreement.{unnumbered}
 use Rattle.definitions.specs.declared.deck_kind.DeckKind.{DeckKind}
 use Rattle.deck_assembler.specs.Formers.{known_in}
 use Rattle.deck_assembler.specs.Sizers.{stood}

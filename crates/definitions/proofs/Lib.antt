@@ -1,4 +1,5 @@
 -- The laws, in the order of the definitions that they speak of.
+pub mod CharacterLaws
 pub mod TestLaws
 pub mod TextLaws
 pub mod NumeralLaws

@@ -46,7 +46,8 @@ pub mod Entries
 pub mod Letters
 pub mod Words
 pub mod Objects
--- An edit of a deck: what it leaves, and what is sized and coded again.
+-- An edit of a deck: where two decks agree, what it leaves, and what is sized and coded again.
+pub mod Agreement
 pub mod Edits
 pub mod Rebound
 -- The texts: listing, link, map, image, and both together.

@@ -206,13 +206,13 @@ missing_lines names deck (name ∷ externals) = (if is_named name names then [] 
 
 -- whether the value that the link gives a field does not fit there
 abbrev pub is_unfit : Layout → Based → Item → Bool
-is_unfit layout based bits = elim bits.content [ Known n ↦ false | Linked form ↦ elim (coded_in bits.width (linked_value layout based form)) [ Some n ↦ false | None ↦ true ] ]
+is_unfit layout based item = elim item.content [ Known n ↦ false | Linked form ↦ elim (coded_in item.width (linked_value layout based form)) [ Some n ↦ false | None ↦ true ] ]
 
 -- the words in which fields begin that don't fit; `from` is the bit at which the first field begins
 abbrev pub unfit_words : Layout → Based → ℕ → List Item → List ℕ
 unfit_words layout based from [] = []
-unfit_words layout based from (bits ∷ fields) =
-    (if is_unfit layout based bits then from / word_bits based.object.kind ∷ [] else []) ++ unfit_words layout based (from + bits.width) fields
+unfit_words layout based from (item ∷ fields) =
+    (if is_unfit layout based item then from / word_bits based.object.kind ∷ [] else []) ++ unfit_words layout based (from + item.width) fields
 
 -- a LINK A line for each of these words of a block, with its address
 abbrev pub address_lines : List ℕ → ℕ → List ℕ → List (List ℕ)

@@ -22,12 +22,12 @@ content_bits linking width (Linked form) = linking width form
 -- how many bits the fields have together
 abbrev pub width_of : List Item → ℕ
 width_of [] = 0
-width_of (bits ∷ fields) = bits.width + width_of fields
+width_of (item ∷ fields) = item.width + width_of fields
 
 -- fields one behind the other, as one number
 abbrev pub joined : Linking → List Item → ℕ
 joined linking [] = 0
-joined linking (bits ∷ fields) = content_bits linking bits.width bits.content * 2 ^ width_of fields + joined linking fields
+joined linking (item ∷ fields) = content_bits linking item.width item.content * 2 ^ width_of fields + joined linking fields
 
 -- a number cut into so many pieces of so many bits, the first piece in front
 abbrev pub cut : ℕ → ℕ → ℕ → List ℕ

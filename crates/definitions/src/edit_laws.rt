@@ -2,7 +2,7 @@
 ghost use Rattle.std.specs.Prelude.{◌≡◌, ◌+◌, ◌++◌, ℕ, List, false, length};
 ghost use Rattle.definitions.specs.Statements.{Statement};
 ghost use Rattle.definitions.specs.Settled.{Settled};
-ghost use Rattle.definitions.specs.States.{unnumbered};
+ghost use Rattle.definitions.specs.Agreement.{unnumbered};
 ghost use Rattle.definitions.specs.StatementItems.{Context, items_of};
 ghost use Rattle.definitions.specs.Letters.{letters_of};
 ghost use Rattle.definitions.specs.Edits.{Edited, Split, DoAgree};

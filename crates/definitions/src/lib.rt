@@ -1,5 +1,5 @@
-//! The language, in `specs/`: what a program and its definitions name alike (letters, kinds of decks,
-//! number bases), and the laws of the definitions, each the contract of a function.
+//! The language, in `specs/`: what a program and its definitions name alike (characters, letters, kinds
+//! of decks, number bases), and the laws of the definitions, each the contract of a function.
 //!
 //! `specs/Lib.antt` is the table of contents. A reader of this project has to believe these files,
 //! and nothing else of the language. Statements are read newest first, so a definition searches all
@@ -10,6 +10,7 @@
 #![tactic(auto)]
 
 // What code and definitions name alike.
+mod characters;
 mod deck_kind;
 mod letter;
 mod number_base;
@@ -30,6 +31,7 @@ mod reach_laws;
 // Those of the edits of a deck.
 mod edit_laws;
 
+pub use characters::{char_of, display_of, has_display_code};
 pub use deck_kind::DeckKind;
 pub use edit_laws::{agreement_lasts, bindings_are_enough};
 pub use field_laws::{fields_fill, fields_fit, instructions_fill_parcels};

@@ -6,7 +6,7 @@ use Rattle.definitions.specs.DeckKinds.{kind_of_statements}
 use Rattle.definitions.specs.Edits.{Edited, IsUntouched, DoAgree}
 use Rattle.definitions.specs.Rebound.{rebound_front, rebound_tail, context_from}
 use Rattle.definitions.specs.Settling.{settled_all}
-use Rattle.definitions.specs.States.{settled_tail}
+use Rattle.definitions.specs.Agreement.{settled_tail}
 use Rattle.definitions.specs.declared.deck_kind.DeckKind.{DeckKind}
 use Rattle.definitions.proofs.EditLaws.{cards_in-append}
 use Rattle.definitions.proofs.StateSteps.{settled_all-in_use}

@@ -12,7 +12,7 @@ use Rattle.definitions.specs.Settled.{Settled}
 use Rattle.definitions.specs.Settling.{settled_all}
 use Rattle.definitions.specs.StatementItems.{Context, final_names}
 use Rattle.definitions.specs.Statements.{Statement}
-use Rattle.definitions.specs.States.{settled_tail, unnumbered}
+use Rattle.definitions.specs.Agreement.{settled_tail, unnumbered}
 use Rattle.definitions.specs.declared.deck_kind.DeckKind.{DeckKind}
 use Rattle.definitions.specs.declared.letter.Letter.{Letter}
 use Rattle.definitions.proofs.TailLaws.{settled_all-append}

@@ -12,8 +12,7 @@ ghost use Rattle.definitions.specs.Words.{cut};
 ghost use Rattle.expr_forms.specs.CodedItems.{in_places};
 
 use crate::counted_item::CountedItem;
-use definitions::{DeckKind, Letter};
-use text_ports::display_of;
+use definitions::{DeckKind, Letter, display_of};
 
 /// How many bits a character has.
 const CHARACTER_BITS: usize = 6;

@@ -2,10 +2,11 @@
 
 use crate::inputs::{bytes_of, cut, octal, size, small};
 use crate::outputs::Answer;
+use definitions::{char_of, display_of, has_display_code};
 use std::alloc::AllocError;
 use text_ports::{
-    Broken, Counted, FaultyReader, FaultyWriter, LineBuf, LineIs, ShortText, Text, char_of,
-    display_of, has_display_code, next_line, put_all,
+    Broken, Counted, FaultyReader, FaultyWriter, LineBuf, LineIs, ShortText, Text, next_line,
+    put_all,
 };
 
 /// Whether this is one of the topics here; what is found of the text is then in the answer.

@@ -12,10 +12,9 @@ ghost use Rattle.statement_coder.specs.CodedItems.{IsKept};
 ghost use Rattle.statement_coder.specs.WordItems.{known_words};
 
 use crate::{Content, Item};
-use definitions::DeckKind;
+use definitions::{DeckKind, display_of};
 use expr_forms::{CountedItem, DisText, counted_item_word};
 use std::alloc::AllocError;
-use text_ports::display_of;
 
 /// A word of known bits.
 pub(crate) fn known_word(kind: DeckKind, bits: u64) -> Item

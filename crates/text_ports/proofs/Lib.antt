@@ -2,7 +2,6 @@ pub mod LineSteps
 pub mod OctalSteps
 pub mod WritingSteps
 pub mod SendSteps
-pub mod CharacterLaws
 pub mod LineLaws
 pub mod HeldLines
 -- The steps of writing digits from the last one on.

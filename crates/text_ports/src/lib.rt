@@ -1,5 +1,5 @@
-//! Bytes in and out: texts in memory, octal and decimal digits, display code, lines, ports that count
-//! their faults, and ports over memory that fail on purpose. Nothing here knows what a card is, and only
+//! Bytes in and out: texts in memory, octal and decimal digits, lines, ports that count their faults,
+//! and ports over memory that fail on purpose. Nothing here knows what a card is, and only
 //! `Text`, `Piece` and `FaultyWriter` take memory.
 //!
 //! Contracts see a `Counted` port as the port with its count of faults. `next_held_line` answers as
@@ -10,8 +10,7 @@
 //! functions that have no want of memory to tell.
 #![tactic(auto)]
 
-// Characters and numbers.
-mod characters;
+// Numbers.
 mod digits;
 mod octal_text;
 
@@ -32,7 +31,6 @@ mod call_count;
 mod faulty_reader;
 mod faulty_writer;
 
-pub use characters::{char_of, display_of, has_display_code};
 pub use counted::Counted;
 pub use faulty_reader::FaultyReader;
 pub use faulty_writer::FaultyWriter;

@@ -1,8 +1,8 @@
 use Rattle.std.proofs.Common.{sym, ap, ◌∙◌, Bool, ◌&&◌}
 use Rattle.std.specs.Prelude.{nat_le}
 use Rattle.std.proofs.lemmas.Bool.{le-leb}
-use Rattle.text_ports.proofs.CharacterLaws.{is_some-display_code_of}
-use Rattle.text_ports.proofs.characters.has_display_code.Goals as goal
+use Rattle.definitions.proofs.CharacterLaws.{is_some-display_code_of}
+use Rattle.definitions.proofs.characters.has_display_code.Goals as goal
 
 pub returns-then-byte-ge-FIRST : goal.returns-then-byte-ge-FIRST
 returns-then-byte-ge-FIRST c =

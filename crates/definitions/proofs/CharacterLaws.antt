@@ -4,7 +4,7 @@ use Rattle.std.specs.Prelude.{unwrap_or, is_some, nat_le}
 use Rattle.std.proofs.lemmas.Bool.{eqb-true, leb-true, and_parts, agree_below_at}
 use Rattle.std.proofs.lemmas.List.Quantifiers.{position-Some}
 use Rattle.definitions.specs.Characters.{characters, character_of, display_code_of}
-use Rattle.text_ports.specs.declared.characters.TheConstants.{CODES}
+use Rattle.definitions.specs.declared.characters.TheConstants.{CODES}
 
 -- whether the code is 0 to 63 and this one
 abbrev is_code : Option ℕ → ℕ → Bool
