@@ -29,7 +29,6 @@ mod statement_room;
 // The three fields of a statement.
 mod card_fields;
 mod card_parts;
-mod counted_items;
 mod field_parts;
 mod statement_fields;
 mod variable_fields;

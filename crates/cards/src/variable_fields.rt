@@ -4,7 +4,7 @@ ghost use Rattle.definitions.specs.Pieces.{AtStart, field_at, mark_of, begun_by,
 ghost use Rattle.definitions.specs.CountedItems.{counted_item_at};
 ghost use Rattle.cards.specs.Readings.{spot_of, Leads, extent_at};
 
-use crate::counted_items::item_len;
+use definitions::item_at;
 
 /// Where in a field: at its start or behind a mark, behind an equals sign there, or elsewhere.
 #[derive(Clone, Copy)]
@@ -47,10 +47,10 @@ fn behind_item(text: &[u8]) -> Reading
     requires { 0 < length text.now }
     ensures { Leads (begun_by_counted_item (slice_index text.now 0) (counted_item_at (slice_index text.now 0 ∷ drop 1 text.now))) result }
 {
-    match item_len(text) {
-        Some(len) => Reading {
+    match item_at(text) {
+        Some(span) => Reading {
             spot: Spot::Inside,
-            left: len - 1,
+            left: span.taken - 1,
         },
         None => behind_other(text[0]),
     }

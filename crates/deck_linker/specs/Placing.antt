@@ -1,35 +1,10 @@
--- Decks and common blocks one behind the other, step by step.
-use Rattle.std.specs.Prelude.{ℕ, ◌+◌, List, [], ◌∷◌, Option, Some, None, true, false, map, ℤ, pos, nat_lt, slice_get, if◌then◌else◌}
+-- What common blocks, their names and the parts of a form are, step by step.
+use Rattle.std.specs.Prelude.{ℕ, List, Option, Some, None, map, ℤ, pos, slice_get, if◌then◌else◌}
 use Rattle.std.specs.Option.{option_map_or}
 use Rattle.definitions.specs.Characters.{same_text}
 use Rattle.definitions.specs.Forms.{Part, Added, Subtracted, Relocation, Block, External}
-use Rattle.definitions.specs.Kinds.{memory_end}
 use Rattle.definitions.specs.Lengths.{BlockLength}
-use Rattle.definitions.specs.Link.{Based, Common, rel_past, has_beyond, end_of_decks}
-use Rattle.definitions.specs.Objects.{Object}
-use Rattle.definitions.specs.declared.deck_kind.DeckKind.{DeckKind}
-use Rattle.definitions.specs.declared.deck_kind.DeckKind.TheVariants.{Rel}
-
--- an object of this kind where the decks before it end there
-abbrev pub placed_by : DeckKind → ℕ → Object → Based
-placed_by Rel base object = elim (rel_past object base) [
-  | true ↦ record { object = object; base = 0; is_past = true }
-  | false ↦ record { object = object; base = base; is_past = false }
-]
-placed_by kind base object = record { object = object; base = 0; is_past = has_beyond object }
-
--- an object where the decks before it end there
-abbrev pub placed : ℕ → Object → Based
-placed base object = placed_by object.kind base object
-
--- where the decks end with this object behind them
-abbrev pub end_with : ℕ → Object → ℕ
-end_with base object = end_of_decks base (placed base object ∷ [])
-
--- where the decks end with these objects behind them
-abbrev pub end_behind : ℕ → List Object → ℕ
-end_behind base [] = base
-end_behind base (object ∷ objects) = end_behind (end_with base object) objects
+use Rattle.definitions.specs.Link.{Common}
 
 -- the external of a part, if it has one
 abbrev pub external_of : Option Part → Option (List ℕ)
@@ -55,17 +30,6 @@ names_of_lengths blocks = map (λ (block : BlockLength). block.name) blocks
 -- the names of common blocks
 abbrev pub names_of_commons : List Common → List (List ℕ)
 names_of_commons commons = map (λ (common : Common). common.name) commons
-
--- a common block where those before it end there
-abbrev pub placed_common : ℕ → BlockLength → Common
-placed_common base block = elim (nat_lt (memory_end Rel) (base + block.words)) [
-  | true ↦ record { name = block.name; words = block.words; base = 0; is_past = true }
-  | false ↦ record { name = block.name; words = block.words; base = base; is_past = false }
-]
-
--- where the common blocks end with this one behind them
-abbrev pub end_with_common : ℕ → BlockLength → ℕ
-end_with_common base block = elim (nat_lt (memory_end Rel) (base + block.words)) [ true ↦ base | false ↦ base + block.words ]
 
 -- the base of the common block at an index, or 0 where there is none
 abbrev pub base_at : ℕ → List Common → ℕ

@@ -1,9 +1,8 @@
 //! Where a deck stands in a link (ours).
 ghost use Rattle.std.specs.Prelude.{ℕ, ◌≡◌, ◌≤◌, true, false};
 ghost use Rattle.definitions.specs.Kinds.{is_absolute_deck};
-ghost use Rattle.definitions.specs.Link.{deck_length};
+ghost use Rattle.definitions.specs.Link.{deck_length, placed, end_after};
 ghost use Rattle.definitions.specs.Objects.{object_of};
-ghost use Rattle.deck_linker.specs.Placing.{placed, end_with};
 
 use crate::beyond::has_beyond;
 use deck_assembler::{Object, SharedObject};
@@ -95,7 +94,7 @@ fn deck_length(object: &Object) -> u64
 pub(crate) fn place(base: u32, object: SharedObject) -> (Based, u32)
     requires { base ≤ 0o400000 }
     ensures based { result.0 ≡ placed base (object_of object) }
-    ensures end { result.1 ≡ end_with base (object_of object) }
+    ensures end { result.1 ≡ end_after base (object_of object) }
     ensures within { result.1 ≤ 0o400000 }
 {
     match object.object().parts().kind {
@@ -110,7 +109,7 @@ fn place_rel(base: u32, object: SharedObject) -> (Based, u32)
     requires within { base ≤ 0o400000 }
     requires rel { (object_of object).kind ≡ DeckKind.Rel }
     ensures based { result.0 ≡ placed base (object_of object) }
-    ensures end { result.1 ≡ end_with base (object_of object) }
+    ensures end { result.1 ≡ end_after base (object_of object) }
     ensures within { result.1 ≤ 0o400000 }
 {
     let words = deck_length(object.object());

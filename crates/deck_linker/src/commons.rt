@@ -1,8 +1,8 @@
 //! The common blocks of a link (COMPASS 60492600, labelled common; where they stand is ours).
 ghost use Rattle.std.specs.Prelude.{◌≡◌, ◌≤◌, [], map, IfOk};
-ghost use Rattle.definitions.specs.Link.{commons_from, common_base, common_lengths};
+ghost use Rattle.definitions.specs.Link.{commons_from, common_base, common_lengths, end_after_common, placed_common};
 ghost use Rattle.deck_linker.specs.CommonWords.{common_place};
-ghost use Rattle.deck_linker.specs.Placing.{base_at, end_with_common, placed_common};
+ghost use Rattle.deck_linker.specs.Placing.{base_at};
 
 use crate::based::{Based, MEMORY_END};
 use crate::common_table::CommonTable;
@@ -60,7 +60,7 @@ impl Common {
 pub(crate) fn place_common(base: u32, name: &Name, words: u32) -> (Common, u32)
     requires { base ≤ 0o400000 }
     ensures common { result.0 ≡ placed_common base (record { name = name.now; words = words }) }
-    ensures end { result.1 ≡ end_with_common base (record { name = name.now; words = words }) }
+    ensures end { result.1 ≡ end_after_common base (record { name = name.now; words = words }) }
     ensures within { result.1 ≤ 0o400000 }
 {
     let is_past = words > MEMORY_END - base;

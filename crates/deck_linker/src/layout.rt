@@ -1,9 +1,9 @@
 //! The places of the decks of a link, and behind them those of their common blocks (ours).
 ghost use Rattle.std.specs.Prelude.{◌≡◌, ◌≤◌, ◌<◌, ◌+◌, ◌^◌, map, IfOk, IfSome, unsigned_abs};
-ghost use Rattle.definitions.specs.Link.{based_from, block_base, common_base, entered, entry_value, external_value, first_base, layout_of, linked_value};
+ghost use Rattle.definitions.specs.Link.{based_from, block_base, common_base, end_of_decks, entered, entry_value, external_value, first_base, layout_of, linked_value};
 ghost use Rattle.definitions.specs.Objects.{object_of};
 ghost use Rattle.deck_linker.specs.CommonWords.{common_place};
-ghost use Rattle.deck_linker.specs.Placing.{end_behind, external_in};
+ghost use Rattle.deck_linker.specs.Placing.{external_in};
 
 use crate::based::{Based, place};
 use crate::commons::{Common, Commons};
@@ -43,7 +43,7 @@ impl Model for Layout {
 /// The objects in their places, and where the last REL deck ends that passes no end of memory.
 fn place_decks(alloc: Global, objects: Vec<SharedObject>) -> Result<(Vec<Based>, u32), AllocError>
     ensures decks { IfOk result (λ placed. placed.0.items ≡ based_from first_base (map object_of objects.items)) }
-    ensures end { IfOk result (λ placed. placed.1 ≡ end_behind first_base (map object_of objects.items)) }
+    ensures end { IfOk result (λ placed. placed.1 ≡ end_of_decks first_base (map object_of objects.items)) }
     ensures within { IfOk result (λ placed. placed.1 ≤ 0o400000) }
 {
     let mut decks = Vec::with_capacity(alloc, objects.len())?;

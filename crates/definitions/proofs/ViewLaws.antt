@@ -1,17 +1,17 @@
 -- A statement rests on the early values of its own symbols and of those that its operand reads early, and on no others.
 use Rattle.std.proofs.Common.{◌≡◌, ℕ, Bool, true, false, ◌||◌, List, [], ◌∷◌, ◌++◌, Option, Some, None, refl, ap, ap₂, ◌∙◌}
 use Rattle.std.specs.Prelude.{if◌then◌else◌, is_some, flat_map}
-use Rattle.definitions.specs.Statements.{Statement}
+use Rattle.definitions.specs.Statements.{Statement, is_stray}
 use Rattle.definitions.specs.Symbols.{is_symbol}
 use Rattle.definitions.specs.Expressions.{Element, ANumber, ACountedItem, ASymbol, ARegister, LocationCounter, OriginCounter, ALiteral, Expression, elements_of}
 use Rattle.definitions.specs.Forms.{Form, element_form, symbol_form, value_of}
 use Rattle.definitions.specs.Operations as op
 use Rattle.definitions.specs.Operations.{Operation, is_labelled}
 use Rattle.definitions.specs.Operands.{Operand, NamesOperand, ValueOperand}
-use Rattle.definitions.specs.Settled.{ReadStatement, read_of, Definition, defined_in}
+use Rattle.definitions.specs.Settled.{ReadStatement, read_of, Settled, Definition, defined_in}
 use Rattle.definitions.specs.Counters.{Counters, counters_at}
 use Rattle.definitions.specs.EarlyValues.{early_names, early_value, equated, outcome_of}
-use Rattle.definitions.specs.Settling.{View, is_known, external, externals, external_letters, letter_where, location_letters, first_definition, definitions_of, operand_letters, settled_letters, is_refused, settled_as, settled_with, settled_from, place_of}
+use Rattle.definitions.specs.Settling.{View, is_known, external, externals, external_letters, letter_where, location_letters, first_definition, definitions_of, operand_letters, settled_letters, is_refused, settled_with, settled_from, place_of}
 use Rattle.definitions.specs.States.{BlockState, seen_from}
 use Rattle.definitions.specs.Agreement.{symbols_of_element, symbols_in, own_symbols, operand_symbols, lawful_names, defines_location, early_symbols, Agree}
 use Rattle.definitions.specs.declared.deck_kind.DeckKind.{DeckKind}
@@ -169,12 +169,31 @@ early_value-agree v w counters operation (ValueOperand e) location h = ap Some (
 early_value-agree v w counters operation operand location h = refl
 
 -- the letters of a statement
-settled_letters-agree : (v w : View) (kind : DeckKind) (operation : Operation) (operand : Operand) (location : List ℕ) (neutral : Bool) (blocks : List (List ℕ)) (outcome : List Letter) →
-    own_front v w operation operand location →
-    settled_letters kind operation operand location neutral blocks v outcome ≡ settled_letters kind operation operand location neutral blocks w outcome
-settled_letters-agree v w kind operation operand location neutral blocks outcome h =
-    ap₂ (λ own rest. own ++ (if is_refused kind operation operand location neutral blocks then letter.O ∷ [] else rest ++ outcome))
-    (location_letters-agree v w kind operation operand location h) (operand_letters-agree v w kind operation operand location h)
+settled_letters-agree : (v w : View) (kind : DeckKind) (state : BlockState) (read : ReadStatement) (outcome : List Letter) → own_front v w read.operation read.operand read.fields.location →
+    settled_letters kind (seen_from state v) read outcome ≡ settled_letters kind (seen_from state w) read outcome
+settled_letters-agree v w kind state read outcome h =
+    let location = read.fields.location in
+    let refused = is_refused kind read.operation read.operand location state.neutral (seen_from state v).blocks in
+    ap₂ (λ own rest. own ++ (if refused then letter.O ∷ [] else rest ++ outcome))
+    (location_letters-agree v w kind read.operation read.operand location h) (operand_letters-agree v w kind read.operation read.operand location h)
+
+-- a settled statement with these definitions, and these letters behind one for a stray card
+abbrev with_definitions_and_letters : Settled → List Definition → List Letter → Settled
+with_definitions_and_letters settled definitions letters = record {
+  read = settled.read;
+  block = settled.block;
+  change = settled.change;
+  is_placed = settled.is_placed;
+  place = settled.place;
+  end = settled.end;
+  asks = settled.asks;
+  begins_run = settled.begins_run;
+  setting = settled.setting;
+  location = settled.location;
+  origin = settled.origin;
+  definitions = definitions;
+  letters = letter_where (is_stray settled.read.statement.cards) letter.C ++ letters;
+}
 
 -- a statement settled from what it sees with an early value
 settled_with-agree : (kind : DeckKind) (state : BlockState) (read : ReadStatement) (place : ℕ) (counters : Counters) (v w : View) → Agree v w (early_symbols read) →
@@ -183,13 +202,12 @@ settled_with-agree : (kind : DeckKind) (state : BlockState) (read : ReadStatemen
 settled_with-agree kind state read place counters v w h =
     let location = read.fields.location in
     let block = (seen_from state v).block in
-    let blocks = (seen_from state v).blocks in
     let second = early_value (early_names w counters) read.operand in
     let outcome = outcome_of kind read.operation read.operand block place second in
     ap (λ value. settled_with kind (seen_from state v) read place counters value) (early_value-agree v w counters read.operation read.operand location h)
-    ∙ ap₂ (λ definitions letters. settled_as kind block blocks read place counters outcome definitions letters)
+    ∙ ap₂ (λ definitions letters. with_definitions_and_letters (settled_with kind (seen_from state v) read place counters second) definitions letters)
     (definitions_of-agree v w kind read.operation read.operand location (equated second) counters.location h)
-    (settled_letters-agree v w kind read.operation read.operand location state.neutral blocks outcome.letters h)
+    (settled_letters-agree v w kind state read outcome.letters h)
 
 -- a statement, settled from a state and two views that agree on what matters early to it
 pub settled_from-agree : (kind : DeckKind) (state : BlockState) (v w : View) (statement : Statement) → Agree v w (early_symbols (read_of kind state.number_base statement)) →

@@ -129,16 +129,19 @@ abbrev pub combined : Operator → Form → Form → Result Form Letter
 combined Divide a b = if is_absolute a && is_absolute b then quotient a.number b.number else Err letter.R
 combined _ a b = if is_absolute a && is_absolute b then in_range (a.number *ℤ b.number) else Err letter.R
 
+-- what comes of a value, or the letter of the fault that is there in its place
+abbrev pub and_then : {A B : Type 0} → Result A Letter → (A → Result B Letter) → Result B Letter
+and_then (Err fault) next = Err fault
+and_then (Ok value) next = next value
+
 -- a product or a quotient whose second operand may be faulty; that fault goes before the operation's own
 abbrev pub combined_with : Operator → Form → Result Form Letter → Result Form Letter
-combined_with operator a (Err fault) = Err fault
-combined_with operator a (Ok b) = combined operator a b
+combined_with operator a second = and_then second (λ b. combined operator a b)
 
 -- an element's form, and then its factors from left to right
 abbrev pub product : Names → Result Form Letter → List OperatorElement → Result Form Letter
-product names form [] = form
-product names (Err fault) (pair ∷ pairs) = product names (Err fault) pairs
-product names (Ok form) (pair ∷ pairs) = product names (combined_with pair.operator form (element_form names pair.element)) pairs
+product names first [] = first
+product names first (pair ∷ pairs) = product names (and_then first (λ form. combined_with pair.operator form (element_form names pair.element))) pairs
 
 -- a number, with the other sign where it is subtracted
 abbrev pub signed : Operator → ℤ → ℤ
@@ -156,20 +159,18 @@ running_in_range running = if is_in_range running.number then Ok running else Er
 
 -- the sum so far and one term more
 abbrev pub plus_term : Operator → Running → Result Form Letter → Result Running Letter
-plus_term operator running (Err fault) = Err fault
-plus_term operator running (Ok form) =
-    running_in_range (record { number = running.number +ℤ signed operator form.number; relocations = plus_relocations operator (running_part form.part) running.relocations })
+plus_term operator running term = and_then term (λ form.
+    running_in_range (record { number = running.number +ℤ signed operator form.number; relocations = plus_relocations operator (running_part form.part) running.relocations }))
 
 -- the sum so far and all terms behind it, or the letter of the first fault
 abbrev pub sum_from : Names → Result Running Letter → List Term → Result Running Letter
-sum_from names running [] = running
-sum_from names (Err fault) (term ∷ terms) = sum_from names (Err fault) terms
-sum_from names (Ok running) (term ∷ terms) = sum_from names (plus_term term.operator running (product names (element_form names term.element) term.factors)) terms
+sum_from names so_far [] = so_far
+sum_from names so_far (term ∷ terms) =
+    sum_from names (and_then so_far (λ running. plus_term term.operator running (product names (element_form names term.element) term.factors))) terms
 
 -- the value of a finished sum, in which at most one relocation is left
 abbrev pub closed : Result Running Letter → Result Form Letter
-closed (Err fault) = Err fault
-closed (Ok running) = part_of running.number (remaining running.relocations)
+closed sum = and_then sum (λ running. part_of running.number (remaining running.relocations))
 
 -- the value of an expression, or the letter of its first fault from left to right
 abbrev pub value_of : Names → Expression → Result Form Letter

@@ -8,6 +8,7 @@ pub mod Cards
 -- From cards to statements, and the three fields of a statement.
 pub mod Statements
 pub mod CountedItems
+pub mod ItemTexts
 pub mod Pieces
 pub mod Fields
 pub mod Cuts

@@ -73,17 +73,36 @@ has_beyond object = list_any (is_beyond object.kind) (object_words (λ width for
 abbrev pub rel_past : Object → ℕ → Bool
 rel_past object base = nat_lt (memory_end Rel) (base + deck_length object)
 
--- REL decks stand one behind the other; one that would pass the end has base 0 and moves no other
+-- a deck of this kind where the decks before it end there: a REL deck that would pass the end of memory has base 0, as each ABS and PERIPH deck has
+abbrev pub placed_as : DeckKind → ℕ → Object → Based
+placed_as Rel base object = elim (rel_past object base) [
+  | true ↦ record { object = object; base = 0; is_past = true }
+  | false ↦ record { object = object; base = base; is_past = false }
+]
+placed_as kind base object = record { object = object; base = 0; is_past = has_beyond object }
+
+-- where the decks end with it behind them: a deck that has base 0 moves no other
+abbrev pub end_as : DeckKind → ℕ → Object → ℕ
+end_as Rel base object = elim (rel_past object base) [ true ↦ base | false ↦ base + deck_length object ]
+end_as kind base object = base
+
+-- a deck where the decks before it end there
+abbrev pub placed : ℕ → Object → Based
+placed base object = placed_as object.kind base object
+
+-- where the decks end with this one behind them
+abbrev pub end_after : ℕ → Object → ℕ
+end_after base object = end_as object.kind base object
+
+-- decks in their places, one behind the other
 abbrev pub based_from : ℕ → List Object → List Based
 based_from base [] = []
-based_from base (object ∷ objects) = elim object.kind [
-  | Rel ↦ elim (rel_past object base) [
-    | true ↦ record { object = object; base = 0; is_past = true } ∷ based_from base objects
-    | false ↦ record { object = object; base = base; is_past = false } ∷ based_from (base + deck_length object) objects
-  ]
-  | Abs ↦ record { object = object; base = 0; is_past = has_beyond object } ∷ based_from base objects
-  | Periph ↦ record { object = object; base = 0; is_past = has_beyond object } ∷ based_from base objects
-]
+based_from base (object ∷ objects) = placed base object ∷ based_from (end_after base object) objects
+
+-- where decks end
+abbrev pub end_of_decks : ℕ → List Object → ℕ
+end_of_decks base [] = base
+end_of_decks base (object ∷ objects) = end_of_decks (end_after base object) objects
 
 -- a common block of a link: its base, and whether it passes the end of memory
 pub record Common : Type 0 where
@@ -109,22 +128,25 @@ abbrev pub common_lengths : List Object → List BlockLength → List BlockLengt
 common_lengths [] blocks = blocks
 common_lengths (object ∷ objects) blocks = common_lengths objects (with_commons object.rows blocks)
 
--- common blocks stand one behind the other; one that would pass the end of memory has base 0 and moves no other
-abbrev pub commons_from : ℕ → List BlockLength → List Common
-commons_from base [] = []
-commons_from base (block ∷ blocks) = elim (nat_lt (memory_end Rel) (base + block.words)) [
-  | true ↦ record { name = block.name; words = block.words; base = 0; is_past = true } ∷ commons_from base blocks
-  | false ↦ record { name = block.name; words = block.words; base = base; is_past = false } ∷ commons_from (base + block.words) blocks
+-- whether a common block at this base would pass the end of memory
+abbrev pub common_past : BlockLength → ℕ → Bool
+common_past block base = nat_lt (memory_end Rel) (base + block.words)
+
+-- a common block where those before it end there; one that would pass the end of memory has base 0
+abbrev pub placed_common : ℕ → BlockLength → Common
+placed_common base block = elim (common_past block base) [
+  | true ↦ record { name = block.name; words = block.words; base = 0; is_past = true }
+  | false ↦ record { name = block.name; words = block.words; base = base; is_past = false }
 ]
 
--- the end of the last REL deck that passes no end of memory
-abbrev pub end_of_decks : ℕ → List Based → ℕ
-end_of_decks end [] = end
-end_of_decks end (based ∷ others) = end_of_decks (elim based.object.kind [
-  | Rel ↦ if based.is_past then end else based.base + deck_length based.object
-  | Abs ↦ end
-  | Periph ↦ end
-]) others
+-- where the common blocks end with this one behind them: one that has base 0 moves no other
+abbrev pub end_after_common : ℕ → BlockLength → ℕ
+end_after_common base block = elim (common_past block base) [ true ↦ base | false ↦ base + block.words ]
+
+-- common blocks in their places, one behind the other
+abbrev pub commons_from : ℕ → List BlockLength → List Common
+commons_from base [] = []
+commons_from base (block ∷ blocks) = placed_common base block ∷ commons_from (end_after_common base block) blocks
 
 -- decks and common blocks in their places
 pub record Layout : Type 0 where
@@ -133,9 +155,7 @@ pub record Layout : Type 0 where
 
 -- the places of the decks of a link, and behind them those of their common blocks
 abbrev pub layout_of : List Object → Layout
-layout_of objects =
-    let decks = based_from first_base objects in
-    record { decks = decks; commons = commons_from (end_of_decks first_base decks) (common_lengths objects []) }
+layout_of objects = record { decks = based_from first_base objects; commons = commons_from (end_of_decks first_base objects) (common_lengths objects []) }
 
 -- the base of a common block
 abbrev pub common_base : List ℕ → List Common → ℕ

@@ -168,7 +168,8 @@ sign_text first _ = if first then [] else codes "+"
 abbrev pub is_none_yet : List ℕ → Bool
 is_none_yet text = length text == 0
 
--- a term that is one register joins the registers, every other term the others
+-- a term that is one register joins the registers, every other term the others; beside a register these count as written with a sign, so that an item among
+-- them is a number
 abbrev pub onto_sum : Term → Element → List OperatorElement → Sum → Sum
 onto_sum term (ARegister r) [] sum = record { sign = PlusSign; registers = sum.registers ++ (sign_text (is_none_yet sum.registers) term.operator ++ r.letter ∷ (zero_digit + r.digit) ∷ []); others = sum.others }
 onto_sum term element pairs sum = record { sign = sum.sign; registers = sum.registers; others = sum.others ++ term ∷ [] }

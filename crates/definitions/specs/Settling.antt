@@ -15,7 +15,7 @@ use Rattle.definitions.specs.Settled.{ReadStatement, read_of, Settled, Counting,
 use Rattle.definitions.specs.Blocks.{changes, open_names, block_in_use, blocks_used, is_accepted, change_of}
 use Rattle.definitions.specs.Places.{Position, position_in, is_bad, is_no_minus, least_place, to_word, asks_after}
 use Rattle.definitions.specs.Counters.{Counters, counting_in, counters_at}
-use Rattle.definitions.specs.EarlyValues.{early_names, early_value, equated, Outcome, outcome_of}
+use Rattle.definitions.specs.EarlyValues.{early_names, early_value, equated, outcome_of}
 use Rattle.definitions.specs.declared.deck_kind.DeckKind.{DeckKind}
 use Rattle.definitions.specs.declared.deck_kind.DeckKind.TheVariants.{Rel, Periph}
 use Rattle.definitions.specs.declared.number_base.NumberBase.{NumberBase}
@@ -132,12 +132,12 @@ abbrev pub operand_letters : DeckKind → Operation → Operand → View → Lis
 operand_letters Rel op.Ext (NamesOperand names) symbol = external_letters symbol names []
 operand_letters kind operation operand symbol = letter_where (is_bad operand) letter.V
 
--- the letters of the location field, and O alone or those of the variable field
-abbrev pub settled_letters : DeckKind → Operation → Operand → List ℕ → Bool → List (List ℕ) → View → List Letter → List Letter
-settled_letters kind operation operand location neutral blocks symbol outcome =
-    location_letters kind operation location (symbol location)
-    ++ (if is_refused kind operation operand location neutral blocks then letter.O ∷ []
-    else operand_letters kind operation operand symbol ++ outcome)
+-- the letters of the location field, and O alone where the operation is refused, else those of the operand and of what comes of it
+abbrev pub settled_letters : DeckKind → Seen → ReadStatement → List Letter → List Letter
+settled_letters kind seen read outcome =
+    location_letters kind read.operation read.fields.location (seen.symbol read.fields.location)
+    ++ (if is_refused kind read.operation read.operand read.fields.location seen.neutral seen.blocks then letter.O ∷ []
+    else operand_letters kind read.operation read.operand seen.symbol ++ outcome)
 
 -- what stands nowhere has the position of its block as its place, moved to a word where upper is asked
 abbrev pub place_of : DeckKind → Operation → Operand → List ℕ → Position → ℕ
@@ -145,31 +145,25 @@ place_of kind operation operand location position =
     if has_place operation then least_place kind operation operand location position.asks position.end
     else if position.asks then to_word kind position.end else position.end
 
--- a statement with its place, its counters, what follows from its size or value, what it defines, and its letters
-abbrev pub settled_as : DeckKind → List ℕ → List (List ℕ) → ReadStatement → ℕ → Counters → Outcome → List Definition → List Letter → Settled
-settled_as kind block blocks read place counters outcome definitions letters = record {
-  read = read;
-  block = block;
-  change = change_of read.operand blocks;
-  is_placed = has_place read.operation;
-  place = place;
-  end = outcome.end;
-  asks = asks_after kind read.operation read.operand read.fields.operation (length (subfields_of (pieces_of read.fields.variable)));
-  begins_run = is_run outcome.setting;
-  setting = outcome.setting;
-  location = counters.location;
-  origin = counters.origin;
-  definitions = definitions;
-  letters = letter_where (is_stray read.statement.cards) letter.C ++ letters;
-}
-
--- a statement with its place, its counters and its early value
+-- a statement with its place, its counters and its early value: what it is worth and defines, and its letters, follow from what it sees
 abbrev pub settled_with : DeckKind → Seen → ReadStatement → ℕ → Counters → Option (Result Form Letter) → Settled
 settled_with kind seen read place counters value =
     let outcome = outcome_of kind read.operation read.operand seen.block place value in
-    settled_as kind seen.block seen.blocks read place counters outcome
-    (definitions_of kind read.operation read.operand read.fields.location (equated value) counters.location seen.symbol)
-    (settled_letters kind read.operation read.operand read.fields.location seen.neutral seen.blocks seen.symbol outcome.letters)
+    record {
+      read = read;
+      block = seen.block;
+      change = change_of read.operand seen.blocks;
+      is_placed = has_place read.operation;
+      place = place;
+      end = outcome.end;
+      asks = asks_after kind read.operation read.operand read.fields.operation (length (subfields_of (pieces_of read.fields.variable)));
+      begins_run = is_run outcome.setting;
+      setting = outcome.setting;
+      location = counters.location;
+      origin = counters.origin;
+      definitions = definitions_of kind read.operation read.operand read.fields.location (equated value) counters.location seen.symbol;
+      letters = letter_where (is_stray read.statement.cards) letter.C ++ settled_letters kind seen read outcome.letters;
+    }
 
 -- a statement, settled from what it sees
 abbrev pub settled_from : DeckKind → Seen → Statement → Settled

@@ -1,5 +1,5 @@
-//! The language, in `specs/`: what a program and its definitions name alike (characters, letters, kinds
-//! of decks, number bases), and the laws of the definitions, each the contract of a function.
+//! The language, in `specs/`: what a program and its definitions name alike (characters, counted
+//! items, letters, kinds of decks, number bases), and the laws of the definitions, each the contract of a function.
 //!
 //! `specs/Lib.antt` is the table of contents. A reader of this project has to believe these files,
 //! and nothing else of the language. Statements are read newest first, so a definition searches all
@@ -11,7 +11,9 @@
 
 // What code and definitions name alike.
 mod characters;
+mod counted_items;
 mod deck_kind;
+mod item_text;
 mod letter;
 mod number_base;
 mod texts;
@@ -32,9 +34,11 @@ mod reach_laws;
 mod edit_laws;
 
 pub use characters::{char_of, display_of, has_display_code};
+pub use counted_items::{digit_count, is_digit, item_at};
 pub use deck_kind::DeckKind;
 pub use edit_laws::{agreement_lasts, bindings_are_enough};
 pub use field_laws::{fields_fill, fields_fit, instructions_fill_parcels};
+pub use item_text::{ItemSpan, ItemText};
 pub use laws::{
     bases_are_sums, octal_reads_back, one_cut_into_fields, places_are_the_least, reads_the_grammar,
     statements_have_all_cards, words_fit,

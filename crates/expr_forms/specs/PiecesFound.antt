@@ -1,11 +1,9 @@
 -- The pieces that were found in a text, in the words of the definitions.
 use Rattle.std.specs.Prelude.{ℕ, List, [], ◌∷◌, Option, Some, None}
-use Rattle.definitions.specs.CountedItems.{CountedItem, CountedSpan}
+use Rattle.definitions.specs.ItemTexts.{item_as}
 use Rattle.definitions.specs.Pieces.{Mark, Comma, Plus, Minus, Star, Slash, Equals, Piece, IsMark, IsCountedItem, Plain, Spot, Inside, ByMark, spot_behind, pieces_at}
 use Rattle.expr_forms.specs.declared.pieces.Mark as marks
 use Rattle.expr_forms.specs.declared.pieces.Mark.TheVariants as mark
-use Rattle.expr_forms.specs.declared.item_text.ItemText as items
-use Rattle.expr_forms.specs.declared.pieces.ItemSpan as spans
 use Rattle.expr_forms.specs.declared.pieces.Piece as pieces
 use Rattle.expr_forms.specs.declared.pieces.Piece.TheVariants as piece
 use Rattle.expr_forms.specs.declared.pieces.PieceFound as found
@@ -18,14 +16,6 @@ mark_as mark.Minus = Minus
 mark_as mark.Star = Star
 mark_as mark.Slash = Slash
 mark_as mark.Equals = Equals
-
--- the item
-abbrev pub item_as : items.ItemText → CountedItem
-item_as item = record { letter = item.letter; characters = item.characters.now }
-
--- the item and how many characters it takes
-abbrev pub span_as : spans.ItemSpan → CountedSpan
-span_as span = record { item = item_as span.item; taken = span.taken }
 
 -- the piece
 abbrev pub piece_as : pieces.Piece → Piece

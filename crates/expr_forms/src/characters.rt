@@ -1,15 +1,8 @@
 //! The classes of characters that expressions tell apart.
-ghost use Rattle.std.specs.Prelude.{◌≡◌, ◌≤◌, ◌∷◌, [], length, codes};
-ghost use Rattle.std.specs.List.{prefix_len};
-ghost use Rattle.definitions.specs.Characters.{is_digit, is_letter, is_among, is_symbol_character, same_text};
+ghost use Rattle.std.specs.Prelude.{◌≡◌, ◌∷◌, [], codes};
+ghost use Rattle.definitions.specs.Characters.{is_letter, is_among, is_symbol_character, same_text};
 
-/// 0 to 9.
-#[inline(always)]
-pub(crate) fn is_digit(c: u8) -> bool
-    ensures { result ≡ is_digit c }
-{
-    b'0' <= c && c <= b'9'
-}
+use definitions::is_digit;
 
 fn is_letter(c: u8) -> bool
     ensures { result ≡ is_letter c }
@@ -46,20 +39,6 @@ pub(crate) fn is_symbol_character(c: u8) -> bool
     ensures { result ≡ is_symbol_character c }
 {
     is_letter(c) || is_digit(c) || is_symbol_mark(c)
-}
-
-/// How many digits begin a text.
-#[inline(always)]
-pub(crate) fn digit_count(text: &[u8]) -> usize
-    ensures count { result ≡ prefix_len is_digit text.now }
-    ensures within { result ≤ length text.now }
-{
-    for (i, c) in text.iter().enumerate() {
-        if !is_digit(*c) {
-            return i;
-        }
-    }
-    text.len()
 }
 
 /// Whether a text is this character and no other.

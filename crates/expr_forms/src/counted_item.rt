@@ -4,11 +4,10 @@ ghost use Rattle.definitions.specs.CountedItems.{bits_needed};
 ghost use Rattle.definitions.specs.Coding.{words_needed};
 ghost use Rattle.definitions.specs.Kinds.{word_bits};
 ghost use Rattle.expr_forms.specs.CodedItems.{letter_character, item_of};
-ghost use Rattle.expr_forms.specs.PiecesFound.{item_as};
+ghost use Rattle.definitions.specs.ItemTexts.{item_as};
 
 use crate::item_letter::ItemLetter;
-use crate::item_text::ItemText;
-use definitions::DeckKind;
+use definitions::{DeckKind, ItemText};
 use std::marker::Model;
 
 /// How many characters an item has at most.

@@ -6,16 +6,16 @@ ghost use Rattle.definitions.specs.Operands.{CountedItemWords, number_word, data
 ghost use Rattle.definitions.specs.declared.letter.Letter.TheVariants as letter;
 ghost use Rattle.expr_forms.specs.Elements.{sign_as};
 ghost use Rattle.expr_forms.specs.Numbers.{AreDigits};
-ghost use Rattle.expr_forms.specs.PiecesFound.{mark_as, item_as, pieces_in};
+ghost use Rattle.definitions.specs.ItemTexts.{item_as};
+ghost use Rattle.expr_forms.specs.PiecesFound.{mark_as, pieces_in};
 ghost use Rattle.expr_forms.specs.Readings.{datum_as, alone, signed_word};
 
 use crate::elements::Sign;
 use crate::expressions::Expr;
-use crate::item_text::ItemText;
 use crate::numbers::{Number, digits_read, number_read};
 use crate::pieces::{Mark, Piece, piece_at_start};
 use crate::subfields::Subfields;
-use definitions::{Letter, NumberBase};
+use definitions::{ItemText, Letter, NumberBase};
 use std::marker::Model;
 
 /// What fills words of DATA or CON.

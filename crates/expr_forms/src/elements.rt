@@ -8,12 +8,11 @@ ghost use Rattle.definitions.specs.declared.number_base.NumberBase.{NumberBase};
 ghost use Rattle.expr_forms.specs.PiecesFound.{mark_as};
 ghost use Rattle.expr_forms.specs.Elements.{sign_as, element_as, elements_found, ends_element, signed_literal};
 
-use crate::item_text::ItemText;
 use crate::numbers::{Number, number_read};
 use crate::pieces::{Mark, Piece, piece_at_start, piece_behind_equals};
 use crate::register::Register;
 use crate::symbols::{is_symbol, register_of};
-use definitions::NumberBase;
+use definitions::{ItemText, NumberBase};
 
 /// No sign, plus or minus.
 #[derive(Clone, Copy, Debug)]

@@ -1,13 +1,12 @@
 //! The number that a counted item is in an expression.
 ghost use Rattle.std.specs.Prelude.{◌≡◌};
 ghost use Rattle.definitions.specs.Forms.{counted_item_form};
-ghost use Rattle.expr_forms.specs.PiecesFound.{item_as};
+ghost use Rattle.definitions.specs.ItemTexts.{item_as};
 
 use crate::coding::item_number;
 use crate::counted_item::CountedItem;
 use crate::forms::Form;
-use crate::item_text::ItemText;
-use definitions::Letter;
+use definitions::{ItemText, Letter};
 
 /// The form of an item in an expression: A where it has more than 10 characters.
 pub(crate) fn item_form(item: ItemText<'_>) -> Result<Form, Letter>

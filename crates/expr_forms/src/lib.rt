@@ -15,7 +15,6 @@
 
 // Characters, numbers, symbols and the pieces of a field.
 mod characters;
-mod item_text;
 mod numbers;
 mod pieces;
 mod register;
@@ -80,7 +79,6 @@ pub use elements::{Element, Literal, Sign};
 pub use expressions::Expr;
 pub use forms::{Form, Names, Part, Relocation};
 pub use item_letter::ItemLetter;
-pub use item_text::ItemText;
 pub use kept_expressions::KeptExpr;
 pub use kept_fields::{KeptBits, KeptData};
 pub use kept_shapes::{KeptField, KeptShape};

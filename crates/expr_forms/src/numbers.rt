@@ -5,9 +5,8 @@ ghost use Rattle.definitions.specs.Numerals.{number_of};
 ghost use Rattle.definitions.specs.Symbols.{scaled, scale_of, behind_digits, bounded, number_read};
 ghost use Rattle.expr_forms.specs.Numbers.{number_as, radix, AreDigits};
 
-use crate::characters::{digit_count, is_digit};
 use crate::magnitude::Magnitude;
-use definitions::NumberBase;
+use definitions::{NumberBase, digit_count, is_digit};
 
 /// The greatest size of a number.
 const GREATEST: u64 = (1 << 60) - 1;

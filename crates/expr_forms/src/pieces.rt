@@ -1,19 +1,12 @@
 //! The pieces of a variable field, one at a time: marks, counted items and runs of other characters
 //! (COMPASS 60492600, subfields and data items).
-ghost use Rattle.std.specs.Prelude.{◌≡◌, ◌≤◌, ◌<◌, ◌+◌, ◌^◌, ℕ, false, length, slice_index, codes, None, Some, option_map, is_none, IfSome};
+ghost use Rattle.std.specs.Prelude.{◌≡◌, ◌≤◌, ◌<◌, length, slice_index, None, Some, option_map, is_none, IfSome};
 ghost use Rattle.std.specs.List.{prefix_len};
-ghost use Rattle.definitions.specs.Characters.{is_among};
-ghost use Rattle.definitions.specs.CountedItems.{counted_item_at, counted_item_behind};
+ghost use Rattle.definitions.specs.CountedItems.{counted_item_at};
 ghost use Rattle.definitions.specs.Pieces.{AtStart, AtEquals, mark_of, pieces_at};
-ghost use Rattle.expr_forms.specs.PiecesFound.{mark_as, span_as, pieces_found};
+ghost use Rattle.expr_forms.specs.PiecesFound.{mark_as, pieces_found};
 
-use crate::characters::digit_count;
-use crate::item_text::ItemText;
-use crate::numbers::capped_number;
-use definitions::NumberBase;
-
-/// How many characters a counted item has at most, without its count and letter.
-const MOST_CHARACTERS: u64 = 100;
+use definitions::{ItemText, item_at};
 
 /// The five marks that separate, and the equals sign of a literal.
 #[derive(Clone, Copy)]
@@ -24,13 +17,6 @@ pub enum Mark {
     Star,
     Slash,
     Equals,
-}
-
-/// A counted item and how many characters of the text it takes.
-#[derive(Clone, Copy)]
-pub(crate) struct ItemSpan<'a> {
-    item: ItemText<'a>,
-    pub(crate) taken: usize,
 }
 
 /// A mark, an item, or a run of characters that are neither.
@@ -75,67 +61,6 @@ pub(crate) fn run_len(text: &[u8]) -> usize
         }
     }
     text.len()
-}
-
-#[inline(always)]
-fn is_item_letter(c: u8) -> bool
-    ensures { result ≡ is_among c (codes "HALRC") }
-{
-    matches!(c, b'H' | b'A' | b'L' | b'R' | b'C')
-}
-
-/// The item whose count of so many digits this text follows.
-#[inline(always)]
-fn item_behind(digits: usize, count: u64, text: &[u8]) -> Option<ItemSpan<'_>>
-    requires { digits + length text.now < 2 ^ 64 }
-    ensures item { option_map span_as result ≡ counted_item_behind digits count text.now }
-    ensures some { IfSome result (λ span. 0 < span.taken) }
-    ensures within { IfSome result (λ span. span.taken ≤ digits + length text.now) }
-{
-    let (letter, rest) = text.split_first()?;
-    if !is_item_letter(*letter) || count < 1 || count > MOST_CHARACTERS {
-        return None;
-    }
-    let count = count as usize;
-    if count > rest.len() {
-        return None;
-    }
-    Some(ItemSpan {
-        item: ItemText {
-            letter: *letter,
-            characters: rest.split_at(count).0,
-        },
-        taken: digits + 1 + count,
-    })
-}
-
-/// Whether the letter of an item begins a text, so that the count before it is asked for.
-#[inline(always)]
-fn begins_with_letter(text: &[u8]) -> bool
-    ensures { result ≡ false → (digits count : ℕ) → counted_item_behind digits count text.now ≡ None }
-{
-    match text.split_first() {
-        None => false,
-        Some((letter, _)) => is_item_letter(*letter),
-    }
-}
-
-/// The item that begins a text, if one does.
-#[inline(always)]
-pub(crate) fn item_at(text: &[u8]) -> Option<ItemSpan<'_>>
-    ensures item { option_map span_as result ≡ counted_item_at text.now }
-    ensures some { IfSome result (λ span. 0 < span.taken) }
-    ensures within { IfSome result (λ span. span.taken ≤ length text.now) }
-{
-    let digits = digit_count(text);
-    if digits == 0 {
-        return None;
-    }
-    let (count, rest) = text.split_at(digits);
-    if !begins_with_letter(rest) {
-        return None;
-    }
-    item_behind(digits, capped_number(NumberBase::Decimal, count), rest)
 }
 
 /// The run that begins a text with a character that is no mark, and what is behind it.

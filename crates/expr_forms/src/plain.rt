@@ -6,15 +6,14 @@ ghost use Rattle.definitions.specs.Expressions.{is_allowed, is_allowed_literal, 
 ghost use Rattle.definitions.specs.Operands.{plain_of};
 ghost use Rattle.definitions.specs.Pieces.{pieces_of};
 ghost use Rattle.definitions.specs.StatementItems.{whole_term, whole_counted_item};
-ghost use Rattle.expr_forms.specs.PiecesFound.{item_as};
+ghost use Rattle.definitions.specs.ItemTexts.{item_as};
 ghost use Rattle.expr_forms.specs.Elements.{literal_as, element_as};
 ghost use Rattle.expr_forms.specs.ElementLists.{elements_in, item_alone};
 
 use crate::elements::{Element, Literal, Sign};
 use crate::expressions::Expr;
-use crate::item_text::ItemText;
 use crate::links::Links;
-use definitions::{Letter, NumberBase};
+use definitions::{ItemText, Letter, NumberBase};
 
 /// How many characters an item in a word has at most.
 const MOST_IN_WORD: usize = 10;

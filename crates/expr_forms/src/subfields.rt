@@ -6,8 +6,8 @@ ghost use Rattle.expr_forms.specs.Numbers.{AreDigits};
 ghost use Rattle.expr_forms.specs.PiecesFound.{pieces_in};
 ghost use Rattle.expr_forms.specs.Subfields.{subfield_len, len_to_mark, text_behind, is_ended, subfields_left};
 
-use crate::characters::digit_count;
-use crate::pieces::{Mark, Piece, item_at, piece_at_start, run_len};
+use crate::pieces::{Mark, Piece, piece_at_start, run_len};
+use definitions::{digit_count, item_at};
 use std::marker::Model;
 
 /// The subfields of a variable field that are left, from left to right; a field without a comma is

@@ -5,8 +5,9 @@ ghost use Rattle.definitions.specs.Characters.{is_symbol_character};
 ghost use Rattle.definitions.specs.Symbols.{register_of, is_register, begins_symbol, is_symbol};
 ghost use Rattle.expr_forms.specs.Registers.{register_as};
 
-use crate::characters::{is_digit, is_symbol_character};
+use crate::characters::is_symbol_character;
 use crate::register::{Register, RegisterKind};
+use definitions::is_digit;
 
 /// The register that a text names, if it does.
 pub(crate) fn register_of(text: &[u8]) -> Option<Register>

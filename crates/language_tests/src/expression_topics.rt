@@ -2,9 +2,9 @@
 
 use crate::known_names::KnownNames;
 use crate::outputs::Answer;
-use definitions::NumberBase;
+use definitions::{ItemText, NumberBase};
 use expr_forms::{
-    Element, Expr, Form, ItemText, Link, Literal, Number, Operator, Part, RegisterKind, Relocation,
+    Element, Expr, Form, Link, Literal, Number, Operator, Part, RegisterKind, Relocation,
     SumRegisters, one_value, value,
 };
 

@@ -3,7 +3,7 @@
 ghost use Rattle.std.specs.Prelude.{◌≡◌, ◌<◌, ◌^◌, ◌&&◌, ◌-ℤ◌, ℕ, List, pos, unsigned_abs};
 ghost use Rattle.definitions.specs.Forms.{absolute, is_absolute};
 ghost use Rattle.definitions.specs.Coding.{counted_item_in};
-ghost use Rattle.expr_forms.specs.PiecesFound.{item_as as item_as_text};
+ghost use Rattle.definitions.specs.ItemTexts.{item_as as item_as_text};
 ghost use Rattle.definitions.specs.Settled.{Settled};
 ghost use Rattle.definitions.specs.StatementItems as definitions;
 ghost use Rattle.definitions.specs.StatementItems.{counted_item_value, small_value, whole_counted_item, count_of, shift_of, short_item, is_short, number_in, displacement_of};
@@ -12,8 +12,8 @@ ghost use Rattle.statement_coder.specs.Items.{item_as, deck_with, AreSeen};
 
 use crate::items::{Item, faulty, known};
 use crate::numbers::{BlockBases, number_in};
-use definitions::{DeckKind, Letter};
-use expr_forms::{CountedItem, Expr, Form, ItemText, Names, counted_item_in, value};
+use definitions::{DeckKind, ItemText, Letter};
+use expr_forms::{CountedItem, Expr, Form, Names, counted_item_in, value};
 
 /// Six bits as a value.
 fn small_form(bits: u64) -> Form

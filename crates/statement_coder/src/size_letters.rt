@@ -2,7 +2,7 @@
 ghost use Rattle.std.specs.Prelude.{◌≡◌, ◌++◌, ◌∷◌, [], List, if◌then◌else◌};
 ghost use Rattle.definitions.specs.Letters.{in_order};
 ghost use Rattle.definitions.specs.Operands as operands;
-ghost use Rattle.definitions.specs.Settling.{letter_where, is_refused, operand_letters, settled_letters};
+ghost use Rattle.definitions.specs.Settling.{letter_where, location_letters, is_refused, operand_letters};
 ghost use Rattle.definitions.specs.States.{names_of_blocks};
 ghost use Rattle.definitions.specs.Operations as op;
 ghost use Rattle.definitions.specs.Places.{is_bad};
@@ -137,7 +137,9 @@ pub(crate) fn size_letters<S: EarlySymbols>(
 ) -> Letters
     ensures { (operand : operands.Operand) → IsReading reading.now operand →
         result ≡ in_order (letter_where statement.now.is_stray letter.C
-        ++ settled_letters statement.now.kind (operation_as statement.now.operation) operand statement.now.location.now state.now.neutral (names_of_blocks state.now.blocks) (S.view symbols.now) (letters_as outcome)) }
+        ++ (location_letters statement.now.kind (operation_as statement.now.operation) statement.now.location.now (S.view symbols.now statement.now.location.now)
+        ++ (if is_refused statement.now.kind (operation_as statement.now.operation) operand statement.now.location.now state.now.neutral (names_of_blocks state.now.blocks) then letter.O ∷ []
+        else operand_letters statement.now.kind (operation_as statement.now.operation) operand (S.view symbols.now) ++ letters_as outcome))) }
 {
     let is_defined = symbols.symbol(statement.location).is_some();
     let stray = with_letter(

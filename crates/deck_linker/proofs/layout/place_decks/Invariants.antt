@@ -1,14 +1,13 @@
 -- The decks so far, and behind them those of the objects that are left.
 use Rattle.std.proofs.Common.{◌≡◌, ◌≤◌, ◌++◌, map}
 use Rattle.std.specs.Vec.Iter.{into_iter_items}
-use Rattle.definitions.specs.Link.{based_from, first_base}
+use Rattle.definitions.specs.Link.{based_from, end_of_decks, first_base}
 use Rattle.definitions.specs.Objects.{object_of}
-use Rattle.deck_linker.specs.Placing.{end_behind}
 use Rattle.deck_linker.proofs.layout.place_decks.Given as goal
 
 abbrev pub invariant-loop-object : goal.invariant-loop-object
 invariant-loop-object l = record {
   decks : l.decks.items ++ based_from l.end (map object_of (into_iter_items l.object-iterator)) ≡ based_from first_base (map object_of l.fn.objects.items);
-  end : end_behind l.end (map object_of (into_iter_items l.object-iterator)) ≡ end_behind first_base (map object_of l.fn.objects.items);
+  end : end_of_decks l.end (map object_of (into_iter_items l.object-iterator)) ≡ end_of_decks first_base (map object_of l.fn.objects.items);
   within : l.end ≤ 0o400000;
 }

@@ -1,7 +1,7 @@
 use Rattle.std.proofs.Common.{◌≡◌, ◌+◌, drop}
 use Rattle.std.specs.List.{prefix_len}
 use Rattle.definitions.specs.Characters.{is_digit}
-use Rattle.expr_forms.proofs.characters.digit_count.Given as goal
+use Rattle.definitions.proofs.counted_items.digit_count.Given as goal
 
 -- the characters so far, and those behind them that pass, are all that pass
 abbrev pub invariant-loop-i : goal.invariant-loop-i

@@ -1,6 +1,6 @@
 use Rattle.std.proofs.Common.{◌≡◌, min, take}
 use Rattle.definitions.specs.Numerals.{number_of}
-use Rattle.cards.proofs.counted_items.capped_number.Given as goal
+use Rattle.definitions.proofs.counted_items.capped_number.Given as goal
 
 abbrev pub invariant-loop-digit : goal.invariant-loop-digit
 invariant-loop-digit l = l.number ≡ min (number_of 10 (take l.digit-index l.digits)) 101

@@ -1,28 +1,36 @@
-//! Counted items: a count, one of H A L R C, and that many characters.
-ghost use Rattle.std.specs.Prelude.{◌≡◌, ◌≤◌, ◌<◌, ◌+◌, ◌^◌, ℕ, false, None, min, length, codes, IfSome};
+//! Counted items where they are written: a count, one of H A L R C, and that many characters
+//! (COMPASS 60492600, data items). The extent of a field and the pieces of an expression are both
+//! told by them.
+ghost use Rattle.std.specs.Prelude.{◌≡◌, ◌≤◌, ◌<◌, ◌+◌, ◌^◌, ℕ, false, None, min, length, codes, option_map, IfSome};
 ghost use Rattle.std.specs.List.{prefix_len};
 ghost use Rattle.definitions.specs.Characters.{is_digit, is_among};
 ghost use Rattle.definitions.specs.Numerals.{number_of};
 ghost use Rattle.definitions.specs.CountedItems.{counted_item_at, counted_item_behind};
-ghost use Rattle.cards.specs.ItemLengths.{taken_by};
+ghost use Rattle.definitions.specs.ItemTexts.{span_as};
+
+use crate::item_text::{ItemSpan, ItemText};
 
 /// How many characters an item has at most, without its count and letter.
 const MOST_CHARACTERS: usize = 100;
 
-fn is_digit(c: u8) -> bool
+/// 0 to 9.
+#[inline(always)]
+pub fn is_digit(c: u8) -> bool
     ensures { result ≡ is_digit c }
 {
     b'0' <= c && c <= b'9'
 }
 
+#[inline(always)]
 fn is_item_letter(c: u8) -> bool
     ensures { result ≡ is_among c (codes "HALRC") }
 {
-    c == b'H' || c == b'A' || c == b'L' || c == b'R' || c == b'C'
+    matches!(c, b'H' | b'A' | b'L' | b'R' | b'C')
 }
 
 /// How many digits begin a text.
-fn digit_count(text: &[u8]) -> usize
+#[inline(always)]
+pub fn digit_count(text: &[u8]) -> usize
     ensures count { result ≡ prefix_len is_digit text.now }
     ensures within { result ≤ length text.now }
 {
@@ -35,6 +43,7 @@ fn digit_count(text: &[u8]) -> usize
 }
 
 /// The number that digits make, or 101 where it is greater.
+#[inline(always)]
 fn capped_number(digits: &[u8]) -> usize
     ensures { result ≡ min (number_of 10 digits.now) 101 }
 {
@@ -45,21 +54,29 @@ fn capped_number(digits: &[u8]) -> usize
     number
 }
 
-/// How many characters an item takes, whose count of so many digits this text follows.
-fn len_behind(digits: usize, count: usize, text: &[u8]) -> Option<usize>
+/// The item whose count of so many digits this text follows.
+#[inline(always)]
+fn item_behind(digits: usize, count: usize, text: &[u8]) -> Option<ItemSpan<'_>>
     requires { digits + length text.now < 2 ^ 64 }
-    ensures len { result ≡ taken_by (counted_item_behind digits count text.now) }
-    ensures some { IfSome result (λ len. 0 < len) }
+    ensures item { option_map span_as result ≡ counted_item_behind digits count text.now }
+    ensures some { IfSome result (λ span. 0 < span.taken) }
+    ensures within { IfSome result (λ span. span.taken ≤ digits + length text.now) }
 {
     let (letter, rest) = text.split_first()?;
-    if is_item_letter(*letter) && 1 <= count && count <= MOST_CHARACTERS && count <= rest.len() {
-        Some(digits + 1 + count)
-    } else {
-        None
+    if !is_item_letter(*letter) || count < 1 || count > MOST_CHARACTERS || count > rest.len() {
+        return None;
     }
+    Some(ItemSpan {
+        item: ItemText {
+            letter: *letter,
+            characters: rest.split_at(count).0,
+        },
+        taken: digits + 1 + count,
+    })
 }
 
 /// Whether the letter of an item begins a text, so that the count before it is asked for.
+#[inline(always)]
 fn begins_with_letter(text: &[u8]) -> bool
     ensures { result ≡ false → (digits count : ℕ) → counted_item_behind digits count text.now ≡ None }
 {
@@ -69,10 +86,12 @@ fn begins_with_letter(text: &[u8]) -> bool
     }
 }
 
-/// How many characters the item takes that begins this text, if one does.
-pub(crate) fn item_len(text: &[u8]) -> Option<usize>
-    ensures len { result ≡ taken_by (counted_item_at text.now) }
-    ensures some { IfSome result (λ len. 0 < len) }
+/// The item that begins a text, if one does.
+#[inline(always)]
+pub fn item_at(text: &[u8]) -> Option<ItemSpan<'_>>
+    ensures item { option_map span_as result ≡ counted_item_at text.now }
+    ensures some { IfSome result (λ span. 0 < span.taken) }
+    ensures within { IfSome result (λ span. span.taken ≤ length text.now) }
 {
     let digits = digit_count(text);
     if digits == 0 {
@@ -82,5 +101,5 @@ pub(crate) fn item_len(text: &[u8]) -> Option<usize>
     if !begins_with_letter(rest) {
         return None;
     }
-    len_behind(digits, capped_number(count), rest)
+    item_behind(digits, capped_number(count), rest)
 }

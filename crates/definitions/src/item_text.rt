@@ -11,3 +11,10 @@ pub struct ItemText<'a> {
     ghost some: { 1 ≤ length characters.now },
     ghost few: { length characters.now ≤ 100 },
 }
+
+/// A counted item and how many characters of the text it takes, with its count and letter.
+#[derive(Clone, Copy)]
+pub struct ItemSpan<'a> {
+    pub item: ItemText<'a>,
+    pub taken: usize,
+}
