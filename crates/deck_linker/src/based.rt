@@ -6,7 +6,7 @@ ghost use Rattle.definitions.specs.Objects.{object_of};
 ghost use Rattle.deck_linker.specs.Placing.{placed, end_with};
 
 use crate::beyond::has_beyond;
-use deck_assembler::{Object, SharedObject};
+use deck_objects::{Object, SharedObject};
 use definitions::DeckKind;
 use std::marker::Model;
 
