@@ -2,7 +2,7 @@
 use Rattle.std.specs.Prelude.{ℕ, ◌≡◌, ◌+◌, ◌-◌, ◌^◌, ◌==◌, ◌||◌, List, [], ◌∷◌, Option, None, Some, codes, drop, if◌then◌else◌, length, min}
 use Rattle.definitions.specs.Cards.{Card, padded}
 use Rattle.definitions.specs.Fields.{from_location, unbroken_front, without_blanks}
-use Rattle.deck_assembler.specs.declared.lines.Line.{Line}
+use Rattle.deck_objects.specs.declared.lines.Line.{Line}
 use Rattle.asm_main.specs.declared.flags.Flag.{Flag}
 
 -- what follows the word that begins a text, and its blanks

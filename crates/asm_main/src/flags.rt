@@ -2,12 +2,12 @@
 ghost use Rattle.std.specs.Prelude.{◌≡◌, drop, length};
 ghost use Rattle.definitions.specs.Objects.{object_of};
 ghost use Rattle.definitions.specs.Fields.{from_location, unbroken_front, without_blanks};
-ghost use Rattle.deck_assembler.specs.PartsOf.{ArePartsOf};
-ghost use Rattle.deck_assembler.specs.declared.object.ObjectParts.{ObjectParts};
+ghost use Rattle.deck_objects.specs.PartsOf.{ArePartsOf};
+ghost use Rattle.deck_objects.specs.declared.object.ObjectParts.{ObjectParts};
 ghost use Rattle.asm_main.specs.Flags.{IsNextOf, behind_word, column_at, column_on, flag_of, flags_in, from_field, letter_words, link_words};
 
 use cards::Card;
-use deck_assembler::{Line, Object};
+use deck_objects::{Line, Object};
 use operations::Letters;
 use std::marker::Model;
 

@@ -3,7 +3,7 @@ ghost use Rattle.std.specs.Prelude.{◌≡◌, IfOk};
 ghost use Rattle.definitions.specs.DeckInput as definitions;
 
 use crate::deck::Deck;
-use deck_assembler::SharedObject;
+use deck_objects::SharedObject;
 use edit_core::assemble;
 use statement_coder::Meter;
 use std::alloc::{AllocError, Global};

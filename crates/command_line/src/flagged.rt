@@ -1,7 +1,7 @@
 //! What is flagged in files, as lines on standard error: `FILE:LINE:COLUMN: letter: what it means`.
 
 use asm_main::{Built, Chained, Flag, Flags, LinePlace, letter_words, link_words};
-use deck_assembler::SharedObject;
+use deck_objects::SharedObject;
 
 /// What the LINK lines of a map begin with.
 const LINK: &[u8] = b"LINK ";

@@ -3,7 +3,8 @@
 ghost use Rattle.std.specs.Prelude.{◌≤◌, length};
 
 use cards::{Card, StatementRoom};
-use deck_assembler::{Object, SharedObject, SizedDeck, SizedStatement};
+use deck_assembler::{SizedDeck, SizedStatement};
+use deck_objects::{Object, SharedObject};
 use expr_forms::{BitFields, ConWords, Datum, Expr, Field, Form, LinkedNames, Part, Relocation};
 use operations::Operation;
 use statement_coder::{Defines, Meter, ReadOperand, Reading, Statement};

@@ -10,12 +10,12 @@ use Rattle.statement_coder.specs.CodedItems.{IsKept}
 use Rattle.statement_coder.specs.Items.{item_as}
 use Rattle.statement_coder.specs.declared.items.Item as code
 use Rattle.statement_coder.proofs.ListLaws.{kept-length}
-use Rattle.deck_assembler.specs.CodedLines.{IsCoded, IsNamed}
+use Rattle.deck_objects.specs.CodedLines.{IsCoded, IsNamed}
+use Rattle.deck_objects.specs.LineItems.{kept_from, AreBitsOf, AreShort, AreKept}
+use Rattle.deck_objects.specs.declared.lines.CodedLine as lines
+use Rattle.deck_objects.specs.declared.lines.LineFields.{LineFields}
+use Rattle.deck_objects.specs.declared.lines.LineFields.TheVariants as kept
 use Rattle.deck_assembler.specs.CopiedFields.{AreListedAlike, AreCopied}
-use Rattle.deck_assembler.specs.LineItems.{kept_from, AreBitsOf, AreShort, AreKept}
-use Rattle.deck_assembler.specs.declared.lines.CodedLine as lines
-use Rattle.deck_assembler.specs.declared.lines.LineFields.{LineFields}
-use Rattle.deck_assembler.specs.declared.lines.LineFields.TheVariants as kept
 
 -- the end of a list is what was put there
 pub listed-put : (before after some : List code.Item) → IsKept before after → map item_as after ≡ map item_as before ++ map item_as some → (others : List code.Item) (first count : ℕ) → some ≡ take count (drop first others) →

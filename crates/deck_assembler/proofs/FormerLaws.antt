@@ -24,14 +24,17 @@ use Rattle.definitions.specs.Lengths.{BlockRow}
 use Rattle.definitions.proofs.EditLaws.{cards_in-append}
 use Rattle.definitions.proofs.ReboundLaws.{letters-enough, fields-enough}
 use Rattle.statement_coder.specs.declared.items.Item as code
-use Rattle.deck_assembler.specs.CodedLines.{IsCoded, IsShown, IsStored, AreShown}
+use Rattle.deck_objects.specs.CodedLines.{IsCoded, IsShown, IsStored, AreShown}
+use Rattle.deck_objects.specs.PartsOf.{ArePartsOf}
+use Rattle.deck_objects.specs.declared.lines.CodedLine.{CodedLine}
+use Rattle.deck_objects.specs.declared.lines.Line.{Line}
+use Rattle.deck_objects.specs.declared.object.ObjectParts.{ObjectParts}
 use Rattle.deck_assembler.specs.DeckParts.{sized_in}
 use Rattle.deck_assembler.specs.DeckWalks.{IsWalked}
 use Rattle.deck_assembler.specs.FormerLines.{IsSameTail, IsOneOf, IsMissedInFront, IsMissedInTail, IsTaken, IsTakenOfTail, IsNextInFront, IsNextInTail, IsNextLine, IsBare, WasLine, WasLineIfAny, shown_from, AreBeside, AreOfTail, AreOfHead, AreOfTailIfAny, IsBeside, AreChosen, IsWalkedBeside}
 use Rattle.deck_assembler.specs.FirstSymbols.{symbol_in}
 use Rattle.deck_assembler.specs.DueCodes.{one_where, has_line, code_due, code_due_of, CodePlan, HasNoTail, IsBesideTail, IsDueBeside, IsPlanned, IsPlanOf}
 use Rattle.deck_assembler.specs.Formers.{known_in, IsFormerOf}
-use Rattle.deck_assembler.specs.PartsOf.{ArePartsOf}
 use Rattle.deck_assembler.specs.Rebindings.{AreBindings}
 use Rattle.deck_assembler.specs.SizedDecks.{IsSizedStatement, AreSizedFrom}
 use Rattle.deck_assembler.specs.Sizers.{stood}
@@ -42,9 +45,6 @@ use Rattle.deck_assembler.specs.declared.deck_walk.Making.{Making}
 use Rattle.deck_assembler.specs.declared.former.Former.{Former}
 use Rattle.deck_assembler.specs.declared.former_lines.FormerLine.{FormerLine}
 use Rattle.deck_assembler.specs.declared.former_lines.FormerLines.{FormerLines}
-use Rattle.deck_assembler.specs.declared.lines.CodedLine.{CodedLine}
-use Rattle.deck_assembler.specs.declared.lines.Line.{Line}
-use Rattle.deck_assembler.specs.declared.object.ObjectParts.{ObjectParts}
 use Rattle.deck_assembler.specs.declared.sized_statement.SizedStatement.{SizedStatement}
 use Rattle.deck_assembler.proofs.DeckWalkLaws.{IsStep, there}
 use Rattle.deck_assembler.proofs.HeadDeckLaws.{kinds-told}

@@ -23,11 +23,11 @@ use Rattle.statement_coder.specs.declared.coded.CodedItems.{CodedItems}
 use Rattle.statement_coder.specs.declared.sizing.Sizing.{Sizing}
 use Rattle.statement_coder.proofs.ListLaws.{kept-length}
 use Rattle.definitions.specs.Filling.{HasFields, DoFill}
-use Rattle.deck_assembler.specs.LineItems.{listed, kept_from, AreBitsOf, AreShort, AreKept}
-use Rattle.deck_assembler.specs.CodedLines.{IsCoded, IsNamed}
-use Rattle.deck_assembler.specs.declared.lines.CodedLine as lines
-use Rattle.deck_assembler.specs.declared.lines.LineFields.{LineFields}
-use Rattle.deck_assembler.specs.declared.lines.LineFields.TheVariants as kept
+use Rattle.deck_objects.specs.LineItems.{listed, kept_from, AreBitsOf, AreShort, AreKept}
+use Rattle.deck_objects.specs.CodedLines.{IsCoded, IsNamed}
+use Rattle.deck_objects.specs.declared.lines.CodedLine as lines
+use Rattle.deck_objects.specs.declared.lines.LineFields.{LineFields}
+use Rattle.deck_objects.specs.declared.lines.LineFields.TheVariants as kept
 use Rattle.deck_assembler.specs.KeptFields.{IsNumber, AreKeptAs, IsTold, are_zeros}
 use Rattle.deck_assembler.proofs.ListedLaws.{bits-listed, none-listed}
 

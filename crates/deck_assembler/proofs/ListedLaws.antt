@@ -12,7 +12,7 @@ use Rattle.definitions.specs.declared.letter.Letter.{Letter}
 use Rattle.statement_coder.specs.WordItems.{is_several, known_words, words_of, in_words, listed_fields}
 use Rattle.statement_coder.proofs.JoinLaws.{width-listed, joined-listed, same-words_of}
 use Rattle.definitions.specs.Filling.{HasFields}
-use Rattle.deck_assembler.specs.LineItems.{AreBitsOf}
+use Rattle.deck_objects.specs.LineItems.{AreBitsOf}
 use Rattle.deck_assembler.proofs.KnownLaws.{unfit-append, unfit-known}
 
 -- known words fit

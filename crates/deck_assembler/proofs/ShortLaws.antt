@@ -29,7 +29,7 @@ use Rattle.definitions.proofs.FieldRoomLaws.{operand-fields}
 use Rattle.definitions.proofs.ItemLaws.{IsField, expression_item-field, number_item-field}
 use Rattle.definitions.proofs.OperandLaws.{operand_of-made}
 use Rattle.definitions.proofs.OperandShapes.{HaveWidths, IsMade}
-use Rattle.deck_assembler.specs.LineItems.{AreShort}
+use Rattle.deck_objects.specs.LineItems.{AreShort}
 use Rattle.deck_assembler.proofs.ListedLaws.{none-listed}
 
 short-append : (xs ys : List Item) → AreShort xs → AreShort ys → AreShort (xs ++ ys)

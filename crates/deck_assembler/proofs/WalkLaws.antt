@@ -24,10 +24,10 @@ use Rattle.statement_coder.specs.StatementsRead.{IsRead}
 use Rattle.statement_coder.specs.declared.sizing.Sizing.{Sizing}
 use Rattle.statement_coder.specs.declared.statement.Statement as statements
 use Rattle.statement_coder.proofs.CodingLaws.{codable}
+use Rattle.deck_objects.specs.CodedLines.{IsNamed, IsShown, IsStored}
+use Rattle.deck_objects.specs.declared.lines.CodedLine.{CodedLine}
+use Rattle.deck_objects.specs.declared.lines.Line.{Line}
 use Rattle.deck_assembler.specs.FirstSymbols.{symbol_in, with_symbol}
-use Rattle.deck_assembler.specs.CodedLines.{IsNamed, IsShown, IsStored}
-use Rattle.deck_assembler.specs.declared.lines.CodedLine.{CodedLine}
-use Rattle.deck_assembler.specs.declared.lines.Line.{Line}
 use Rattle.deck_assembler.specs.SharedNames.{enters, entries_to, is_ext}
 use Rattle.deck_assembler.specs.Walks.{Whole, all_settled, has_row, AreNoted, AreShownTo, AreLinedAs}
 use Rattle.deck_assembler.specs.declared.deck_lines.DeckLines.{DeckLines}

@@ -1,9 +1,9 @@
 -- The fields of a line, as another object has them.
 use Rattle.std.specs.Prelude.{ℕ, ◌≡◌, ◌≤◌, ◌+◌, List, length}
 use Rattle.statement_coder.specs.declared.items.Item as code
-use Rattle.deck_assembler.specs.LineItems.{listed}
-use Rattle.deck_assembler.specs.declared.lines.LineFields as kept
-use Rattle.deck_assembler.specs.declared.lines.LineFields.TheVariants as fields
+use Rattle.deck_objects.specs.LineItems.{listed}
+use Rattle.deck_objects.specs.declared.lines.LineFields as kept
+use Rattle.deck_objects.specs.declared.lines.LineFields.TheVariants as fields
 
 -- fields are listed here as so many from one on are there
 abbrev pub AreListedAlike : List code.Item → ℕ → ℕ → kept.LineFields → List code.Item → Type 0

@@ -8,7 +8,9 @@ use Rattle.definitions.specs.StatementItems.{Context}
 use Rattle.definitions.specs.Statements.{Statement}
 use Rattle.definitions.specs.Agreement.{unnumbered}
 use Rattle.definitions.specs.declared.deck_kind.DeckKind.{DeckKind}
-use Rattle.deck_assembler.specs.CodedLines.{IsCoded, AreShown}
+use Rattle.deck_objects.specs.CodedLines.{IsCoded, AreShown}
+use Rattle.deck_objects.specs.declared.lines.Line.{Line}
+use Rattle.deck_objects.specs.declared.object.ObjectParts.{ObjectParts}
 use Rattle.deck_assembler.specs.DeckWalks.{IsWalked}
 use Rattle.deck_assembler.specs.Heads.{AreHeadLines, cards_of_lines}
 use Rattle.deck_assembler.specs.Rebindings.{AreBindings}
@@ -20,8 +22,6 @@ use Rattle.deck_assembler.specs.declared.deck_walk.Making.{Making}
 use Rattle.deck_assembler.specs.declared.former.Former.{Former}
 use Rattle.deck_assembler.specs.declared.former_lines.FormerLine.{FormerLine}
 use Rattle.deck_assembler.specs.declared.former_lines.FormerLines.{FormerLines}
-use Rattle.deck_assembler.specs.declared.lines.Line.{Line}
-use Rattle.deck_assembler.specs.declared.object.ObjectParts.{ObjectParts}
 use Rattle.deck_assembler.specs.declared.rebinding.Bindings.{Bindings}
 use Rattle.deck_assembler.specs.declared.sized_statement.SizedStatement.{SizedStatement}
 

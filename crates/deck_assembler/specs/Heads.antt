@@ -11,13 +11,13 @@ use Rattle.definitions.specs.Operations.{is_neutral}
 use Rattle.definitions.specs.Statements.{Statement}
 use Rattle.definitions.specs.declared.deck_kind.DeckKind.{DeckKind}
 use Rattle.operations.specs.OperationsAs.{operation_as}
+use Rattle.deck_objects.specs.declared.lines.CodedLine.{CodedLine}
+use Rattle.deck_objects.specs.declared.lines.Line.{Line}
 use Rattle.deck_assembler.specs.Agreements.{left}
 use Rattle.deck_assembler.specs.DeckParts.{DeckPiece, sized_in}
 use Rattle.deck_assembler.specs.Formers.{known_in}
 use Rattle.deck_assembler.specs.Meetings.{cards_of, IsShort}
 use Rattle.deck_assembler.specs.OldDecks.{IsKeptOn, StandsInFront}
-use Rattle.deck_assembler.specs.declared.lines.CodedLine.{CodedLine}
-use Rattle.deck_assembler.specs.declared.lines.Line.{Line}
 use Rattle.deck_assembler.specs.declared.old_deck.OldCards.{OldCards}
 use Rattle.deck_assembler.specs.declared.old_deck.OldDeck.{OldDeck}
 use Rattle.deck_assembler.specs.declared.old_deck.Stage.TheVariants as stages

@@ -14,9 +14,9 @@ use Rattle.statement_coder.specs.WordItems.{listed_fields}
 use Rattle.statement_coder.specs.declared.coded.CodedItems.{CodedItems}
 use Rattle.statement_coder.specs.declared.sizing.Sizing.{Sizing}
 use Rattle.definitions.specs.Filling.{HasFields, DoFill}
-use Rattle.deck_assembler.specs.LineItems.{listed, AreShort}
-use Rattle.deck_assembler.specs.declared.lines.LineFields as kept
-use Rattle.deck_assembler.specs.declared.lines.LineFields.TheVariants as fields
+use Rattle.deck_objects.specs.LineItems.{listed, AreShort}
+use Rattle.deck_objects.specs.declared.lines.LineFields as kept
+use Rattle.deck_objects.specs.declared.lines.LineFields.TheVariants as fields
 
 -- fields of known bits have so many bits together, and are this number
 pub record AreTogether (fields : List Item) (width bits : ℕ) : Type 0 where

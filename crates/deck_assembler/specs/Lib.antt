@@ -1,8 +1,3 @@
--- The fields that a line keeps.
-pub mod LineItems
--- The lines and the parts of an object.
-pub mod CodedLines
-pub mod PartsOf
 -- What a record keeps of a deck, as contracts see it.
 pub mod DeckParts
 pub mod SymbolKeys

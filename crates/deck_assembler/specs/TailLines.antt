@@ -2,8 +2,8 @@
 use Rattle.std.specs.Prelude.{ℕ, zero, suc, ◌-◌, ⊤, List, [], ◌∷◌}
 use Rattle.definitions.specs.Statements.{Statement}
 use Rattle.definitions.specs.declared.deck_kind.DeckKind.{DeckKind}
+use Rattle.deck_objects.specs.declared.lines.Line.{Line}
 use Rattle.deck_assembler.specs.Tails.{IsSettledAlike}
-use Rattle.deck_assembler.specs.declared.lines.Line.{Line}
 
 -- the lines behind those of so many first cards
 abbrev pub lines_behind : ℕ → List Line → List Line

@@ -13,8 +13,8 @@ use Rattle.definitions.specs.Statements.{Statement}
 use Rattle.definitions.specs.Symbols.{TooGreat}
 use Rattle.definitions.specs.declared.deck_kind.DeckKind.{DeckKind}
 use Rattle.statement_coder.specs.declared.items.Item as code
-use Rattle.deck_assembler.specs.CodedLines.{IsShown}
-use Rattle.deck_assembler.specs.declared.lines.Line.{Line}
+use Rattle.deck_objects.specs.CodedLines.{IsShown}
+use Rattle.deck_objects.specs.declared.lines.Line.{Line}
 use Rattle.deck_assembler.specs.DeckParts.{DeckParts}
 use Rattle.deck_assembler.specs.SizedDecks.{IsSizedUp}
 use Rattle.deck_assembler.specs.SharedNames.{AreSeen, AreExternals, entries_to, have_ext}

@@ -5,11 +5,11 @@ ghost use Rattle.definitions.specs.Words as words;
 ghost use Rattle.definitions.specs.declared.deck_kind.DeckKind.{DeckKind};
 ghost use Rattle.statement_coder.specs.CodedItems.{IsKept};
 ghost use Rattle.statement_coder.specs.Items.{item_as};
-ghost use Rattle.deck_assembler.specs.CodedLines.{IsCoded, IsNamed};
+ghost use Rattle.deck_objects.specs.CodedLines.{IsCoded, IsNamed};
 ghost use Rattle.deck_assembler.specs.CopiedFields.{AreCopied};
 
 use crate::line_fields::{listed_from, put};
-use crate::{CodedLine, LineFields};
+use deck_objects::{CodedLine, LineFields};
 use statement_coder::Item;
 use std::alloc::AllocError;
 

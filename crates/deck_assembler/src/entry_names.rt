@@ -10,7 +10,8 @@ ghost use Rattle.statement_coder.specs.Readings.{IsReading};
 ghost use Rattle.deck_assembler.specs.FirstSymbols.{is_known_name, symbol_in};
 ghost use Rattle.deck_assembler.specs.SharedNames.{AreSeen};
 
-use crate::{Entry, SymbolTable};
+use crate::SymbolTable;
+use deck_objects::Entry;
 use expr_forms::{Form, LinkedNames, Name, Part, Relocation};
 use statement_coder::Reading;
 use std::alloc::{AllocError, Global};

@@ -4,12 +4,11 @@ ghost use Rattle.deck_assembler.specs.FormerLines.{AreChosen};
 ghost use Rattle.deck_assembler.specs.Heads.{AreHeadLines, IsLineOfHead, cards_of_lines};
 ghost use Rattle.deck_assembler.specs.TailLines.{lines_behind};
 
-use crate::Line;
 use crate::former_lines::{FormerLines, TailLines, ends_within};
-use crate::object::ObjectParts;
 use crate::rebinding::Bindings;
 use crate::sized_deck::SizedDeck;
 use crate::symbol_table::SymbolTable;
+use deck_objects::{Line, ObjectParts};
 use definitions::DeckKind;
 use use_blocks::{Bases, Literals};
 

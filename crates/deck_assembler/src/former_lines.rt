@@ -12,7 +12,7 @@ ghost use Rattle.deck_assembler.specs.Rebindings.{AreBindings};
 
 use crate::deck_view::DeckView;
 use crate::rebinding::{Bindings, Rebinding};
-use crate::{CodedLine, Line};
+use deck_objects::{CodedLine, Line};
 use statement_coder::{Item, KeptSizing, ReadOperand};
 
 /// The line of a statement in the object before an edit, and what names meant there.

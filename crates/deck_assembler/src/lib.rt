@@ -1,7 +1,6 @@
 //! One deck, from its cards to its object: its statements sized in pieces, with the state before each
 //! piece, its symbols, literals and the lengths of its blocks; then its lines with their fields, its
-//! entries and its externals. Contracts see an object as its deck; all else of it is, by its type, what
-//! the definitions' object of that deck has.
+//! entries and its externals. What an object is, `deck_objects` says.
 //!
 //! `SizedDeck::new` takes one statement after the other: reads it, sizes it behind the state so
 //! far, takes in its literals and what it defines, and steps lengths and state by its effect. A
@@ -14,19 +13,7 @@
 //! as coded beside what lies between (`code_due`). Where all names mean the same in both decks
 //! (`Bindings::are_same`) no statement is asked. In a deck of another kind the neutral statements in front
 //! stay, with other counters (`head_deck`), and so do their lines.
-//!
-//! A line keeps its fields as one number where they are known and have at most 60 bits, else in the
-//! object's list. That need not be the definitions' list of fields: it is as wide, has the same
-//! bits in every link, and is unfit in the same words, and nothing that reads an object can tell
-//! more. `Linking` is how a form gets its bits, and `Unlinked` the link of a listing.
 #![tactic(auto)]
-
-// Objects, and what a link makes of their fields.
-mod entries;
-mod lines;
-mod linking;
-mod object;
-mod shared_object;
 
 // Statements in pieces.
 mod pieces;
@@ -71,16 +58,11 @@ mod object_part_list;
 mod rebinding;
 mod same_bindings;
 
-pub use entries::Entry;
 pub use former::{EditedDeck, Former};
-pub use lines::{CodedLine, Line, LineFields};
-pub use linking::{Linking, Unlinked, coded_or_zero, linked_bits};
 pub use literal_words::literal_word;
-pub use object::{Object, ObjectParts};
 pub use object_part_list::{edited_parts, object_parts};
 pub use old_deck::OldCards;
 pub use pieces::Piece;
-pub use shared_object::SharedObject;
 pub use sized_deck::SizedDeck;
 pub use sized_statement::SizedStatement;
 pub use statement_lines::coded_line;

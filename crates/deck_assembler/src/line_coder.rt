@@ -6,13 +6,14 @@ ghost use Rattle.definitions.specs.Settling.{settle, settled_all};
 ghost use Rattle.definitions.specs.Statements as statements;
 ghost use Rattle.statement_coder.specs.CodedItems.{IsKept};
 ghost use Rattle.statement_coder.specs.ReadOperands.{IsReadOperand};
-ghost use Rattle.deck_assembler.specs.CodedLines.{IsNamed, IsShown};
+ghost use Rattle.deck_objects.specs.CodedLines.{IsNamed, IsShown};
 ghost use Rattle.deck_assembler.specs.SizedDecks.{IsSizedStatement};
 ghost use Rattle.deck_assembler.specs.Walks.{IsWhole, context_in, whole_of};
 
+use crate::SizedStatement;
 use crate::deck_view::DeckView;
 use crate::statement_lines::coded_line;
-use crate::{Line, SizedStatement, Unlinked};
+use deck_objects::{Line, Unlinked};
 use statement_coder::{Item, Meter, ReadOperand, code_read};
 use std::alloc::AllocError;
 

@@ -10,8 +10,8 @@ ghost use Rattle.statement_coder.specs.CodedItems.{AreTold, IsKept, is_zeros};
 ghost use Rattle.statement_coder.specs.declared.sizing.Sizing as sizings;
 ghost use Rattle.deck_assembler.specs.KeptFields.{AreKeptAs, are_zeros};
 
-use crate::LineFields;
 use crate::known_bits::{instruction_bits, listed_bits};
+use deck_objects::LineFields;
 use statement_coder::{CodedItems, InstructionItems, Item};
 use std::alloc::AllocError;
 

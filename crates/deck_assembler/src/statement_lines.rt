@@ -8,11 +8,11 @@ ghost use Rattle.definitions.specs.declared.deck_kind.DeckKind.{DeckKind};
 ghost use Rattle.statement_coder.specs.declared.items.Item as fields;
 ghost use Rattle.operations.specs.OperationsAs.{operation_as};
 ghost use Rattle.statement_coder.specs.CodedItems.{IsKept};
-ghost use Rattle.deck_assembler.specs.CodedLines.{IsCoded, IsNamed};
+ghost use Rattle.deck_objects.specs.CodedLines.{IsCoded, IsNamed};
 ghost use Rattle.deck_assembler.specs.KeptFields.{IsTold};
 
-use crate::CodedLine;
 use crate::line_fields::line_fields;
+use deck_objects::CodedLine;
 use operations::Operation;
 use statement_coder::{CodedItems, Item, KeptSizing};
 use std::alloc::AllocError;

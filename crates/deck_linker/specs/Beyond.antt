@@ -8,11 +8,11 @@ use Rattle.definitions.specs.Lengths.{BlockRow}
 use Rattle.definitions.specs.StatementItems.{Item}
 use Rattle.definitions.specs.Words.{Coded}
 use Rattle.definitions.specs.declared.deck_kind.DeckKind.{DeckKind}
-use Rattle.deck_assembler.specs.declared.lines.CodedLine.{CodedLine}
-use Rattle.deck_assembler.specs.declared.lines.Line.{Line}
-use Rattle.deck_assembler.specs.declared.lines.LineFields.{LineFields}
-use Rattle.deck_assembler.specs.declared.lines.LineFields.TheVariants as fields
-use Rattle.deck_assembler.specs.declared.object.ObjectParts.{ObjectParts}
+use Rattle.deck_objects.specs.declared.lines.CodedLine.{CodedLine}
+use Rattle.deck_objects.specs.declared.lines.Line.{Line}
+use Rattle.deck_objects.specs.declared.lines.LineFields.{LineFields}
+use Rattle.deck_objects.specs.declared.lines.LineFields.TheVariants as fields
+use Rattle.deck_objects.specs.declared.object.ObjectParts.{ObjectParts}
 
 -- whether the word before an end lies at or behind the end of memory, in a block that stands at a base
 abbrev pub reaches_beyond : DeckKind → ℕ → ℕ → Bool

@@ -5,9 +5,9 @@ use Rattle.definitions.specs.Lengths.{BlockRow}
 use Rattle.definitions.specs.Link.{Layout, Based, address_lines, block_base, unfit_words}
 use Rattle.definitions.specs.declared.deck_kind.DeckKind.{DeckKind}
 use Rattle.statement_coder.specs.declared.items.Item as code
-use Rattle.deck_assembler.specs.LineItems.{kept_items, AreKept}
-use Rattle.deck_assembler.specs.declared.lines.CodedLine as lines
-use Rattle.deck_assembler.specs.declared.lines.Line.{Line}
+use Rattle.deck_objects.specs.LineItems.{kept_items, AreKept}
+use Rattle.deck_objects.specs.declared.lines.CodedLine as lines
+use Rattle.deck_objects.specs.declared.lines.Line.{Line}
 use Rattle.deck_listing.specs.KeptSections.{DoAllFit}
 
 -- the lines of a statement in this block

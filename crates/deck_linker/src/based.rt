@@ -5,7 +5,7 @@ ghost use Rattle.definitions.specs.Link.{deck_length, placed, end_after};
 ghost use Rattle.definitions.specs.Objects.{object_of};
 
 use crate::beyond::has_beyond;
-use deck_assembler::{Object, SharedObject};
+use deck_objects::{Object, SharedObject};
 use definitions::DeckKind;
 use std::marker::Model;
 

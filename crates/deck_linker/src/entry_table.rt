@@ -9,7 +9,7 @@ use crate::based::Based;
 use crate::commons::Commons;
 use crate::name_key::NameKey;
 use crate::values::entry_value;
-use deck_assembler::Entry;
+use deck_objects::Entry;
 use expr_forms::Name;
 use std::alloc::{AllocError, Global};
 use std::collections::BTreeMap;

@@ -10,7 +10,7 @@ use crate::commons::{Common, Commons};
 use crate::entry_table::{EntryTable, enter_decks};
 use crate::name_key::NameKey;
 use crate::values::{block_base, entry_value, external_name, value_with};
-use deck_assembler::{Entry, SharedObject};
+use deck_objects::{Entry, SharedObject};
 use expr_forms::{Form, Name};
 use std::alloc::{AllocError, Global};
 use std::marker::Model;

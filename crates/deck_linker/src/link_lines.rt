@@ -12,7 +12,7 @@ use crate::linked_deck::{entries, externals, name};
 use crate::name_set::NameSet;
 use crate::unfit_fields::push_unfit_unless;
 use crate::{Based, Common, Layout};
-use deck_assembler::Entry;
+use deck_objects::Entry;
 use expr_forms::Name;
 use std::alloc::{AllocError, Global};
 

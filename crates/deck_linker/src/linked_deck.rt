@@ -1,11 +1,11 @@
 //! What the deck of an object in its place has.
 ghost use Rattle.std.specs.Prelude.{◌≡◌, List};
 ghost use Rattle.definitions.specs.Cards.{Card};
-ghost use Rattle.deck_assembler.specs.PartsOf.{ArePartsOf};
+ghost use Rattle.deck_objects.specs.PartsOf.{ArePartsOf};
 ghost use Rattle.deck_listing.specs.Walking.{HasObject};
 
 use crate::Based;
-use deck_assembler::{Entry, ObjectParts};
+use deck_objects::{Entry, ObjectParts};
 use definitions::DeckKind;
 use expr_forms::Name;
 

@@ -16,9 +16,9 @@ use crate::measuring::{Measure, measure_end, measure_listings, measure_sections}
 use crate::publication::{errors_in, shared, sum};
 use crate::sending::{send_all, send_image, send_listings};
 use crate::{Based, Layout};
-use deck_assembler::SharedObject;
 use deck_listing::Sheet;
 use deck_listing::packing::WordSpan;
+use deck_objects::SharedObject;
 use std::alloc::{AllocError, Global};
 use std::io::Write;
 use std::marker::Model;

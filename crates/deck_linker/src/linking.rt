@@ -3,7 +3,7 @@ ghost use Rattle.definitions.specs.Link.{linking_of};
 
 use crate::based::Based;
 use crate::layout::Layout;
-use deck_assembler::{Linking, coded_or_zero};
+use deck_objects::{Linking, coded_or_zero};
 use expr_forms::Form;
 
 /// A deck in a link: its blocks have their places, and its externals are what the decks enter. A field

@@ -13,7 +13,7 @@ use crate::link_text::LinkText;
 use crate::linked_deck::{entries, kind, name};
 use crate::name_set::NameSet;
 use crate::{Based, Common, Layout};
-use deck_assembler::{Entry, coded_or_zero};
+use deck_objects::{Entry, coded_or_zero};
 use std::alloc::{AllocError, Global};
 use text_ports::Text;
 

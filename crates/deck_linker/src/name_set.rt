@@ -4,7 +4,7 @@ ghost use Rattle.definitions.specs.Blocks.{is_named};
 ghost use Rattle.deck_linker.specs.Names.{with_entries, with_name};
 
 use crate::NameKey;
-use deck_assembler::Entry;
+use deck_objects::Entry;
 use expr_forms::Name;
 use std::alloc::{AllocError, Global};
 use std::collections::BTreeSet;

@@ -2,7 +2,7 @@
 ghost use Rattle.std.specs.Prelude.{ℕ, ◌≡◌, ◌+◌, ◌*◌, ◌/◌, ◌^◌, ◌<◌, ◌≤◌, ◌==◌, List, flat_map, length, map, reverse, slice_get, true, IfOk, OnOk};
 ghost use Rattle.definitions.specs.Kinds.{unit_bits, word_bits};
 ghost use Rattle.definitions.specs.Link.{address_lines, is_unfit, unfit_addresses, unfit_words};
-ghost use Rattle.deck_assembler.specs.LineItems.{AreKept, AreShort, listed};
+ghost use Rattle.deck_objects.specs.LineItems.{AreKept, AreShort, listed};
 ghost use Rattle.deck_listing.specs.KeptSections.{DoAllFit};
 ghost use Rattle.deck_linker.specs.Lines.{with_lines};
 ghost use Rattle.deck_linker.specs.UnfitLines.{AllAreKept, IsKept, unfit_in, unfit_lines, unfit_of};
@@ -12,7 +12,7 @@ ghost use Rattle.definitions.specs.Filling.{HasRoom};
 use crate::link_text::LinkText;
 use crate::linked_deck::{kind, name, parts};
 use crate::{Based, Layout};
-use deck_assembler::{CodedLine, Line, LineFields, ObjectParts};
+use deck_objects::{CodedLine, Line, LineFields, ObjectParts};
 use definitions::DeckKind;
 use statement_coder::{Content, Item, number_coded};
 use std::alloc::{AllocError, Global};

@@ -9,7 +9,7 @@ ghost use Rattle.expr_forms.specs.FormsAs.{part_as, relocation_as};
 
 use crate::based::Based;
 use crate::commons::Commons;
-use deck_assembler::Entry;
+use deck_objects::Entry;
 use expr_forms::{Form, Name, Part, Relocation};
 use use_blocks::is_common;
 

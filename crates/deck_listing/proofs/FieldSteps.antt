@@ -9,7 +9,7 @@ use Rattle.definitions.specs.Filling.{HasRoom}
 use Rattle.definitions.specs.declared.deck_kind.DeckKind.{DeckKind}
 use Rattle.definitions.specs.declared.deck_kind.DeckKind.TheVariants.{Rel, Abs, Periph}
 use Rattle.deck_listing.specs.Packing.{most_bits}
-use Rattle.deck_assembler.specs.LineItems.{AreShort}
+use Rattle.deck_objects.specs.LineItems.{AreShort}
 
 pub fields_more : (items : List code.Item) (i : ℕ) (x : code.Item) → i < length items → x ≡ get_or items i x → map item_as (take (i + 1) items) ≡ map item_as (take i items) ++ item_as x ∷ []
 fields_more items i x h e =

@@ -7,7 +7,7 @@ use Rattle.definitions.specs.StatementItems.{Item}
 use Rattle.definitions.specs.Words.{Coded, Linking, cut, joined, width_of}
 use Rattle.definitions.specs.declared.deck_kind.DeckKind.{DeckKind}
 use Rattle.definitions.specs.declared.deck_kind.DeckKind.TheVariants.{Rel, Abs, Periph}
-use Rattle.deck_assembler.specs.LineItems.{AreBitsOf}
+use Rattle.deck_objects.specs.LineItems.{AreBitsOf}
 use Rattle.deck_listing.specs.WordLines.{fields_text, has_one_line}
 
 -- the lines of a statement of a central deck that has fields, by their width and bits

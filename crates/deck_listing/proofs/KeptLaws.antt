@@ -2,7 +2,7 @@
 use Rattle.std.proofs.Common.{◌≡◌, ℕ, ◌+◌, ◌-◌, ◌*◌, ◌^◌, List, [], ◌∷◌, ◌++◌, Option, Some, None, true, false, filter, take, drop, refl, sym, ap, ap₂, subst, ◌∙◌, ℤ, pos}
 use Rattle.std.specs.Prelude.{flat_map, neg_ℤ, not, reverse, unwrap_or, ◌+ℤ◌}
 use Rattle.std.specs.List.{All}
-use Rattle.std.proofs.lemmas.List.{reverse-reverse}
+use Rattle.std.proofs.lemmas.List.{reverse-append, reverse-reverse}
 use Rattle.std.proofs.lemmas.List.Elements.{All-cons, All-drop, All-head, All-map, All-nil, All-push, All-tail, All-take}
 use Rattle.definitions.specs.Blocks.{literals_block}
 use Rattle.definitions.specs.Characters.{same_text}
@@ -20,15 +20,14 @@ use Rattle.definitions.specs.Words.{Coded, Linking, Parcel, StoredWord, content_
 use Rattle.definitions.specs.declared.deck_kind.DeckKind.{DeckKind}
 use Rattle.statement_coder.specs.Items.{content_as, item_as}
 use Rattle.statement_coder.specs.declared.items.Item as code
-use Rattle.deck_assembler.proofs.WalkLaws.{reverse-step}
-use Rattle.deck_assembler.specs.CodedLines.{IsCoded, AreCoded}
-use Rattle.deck_assembler.specs.LineItems.{kept_from, kept_items}
-use Rattle.deck_assembler.specs.PartsOf.{ArePartsOf}
-use Rattle.deck_assembler.specs.declared.lines.CodedLine as lines
-use Rattle.deck_assembler.specs.declared.lines.Line.{Line}
-use Rattle.deck_assembler.specs.declared.lines.LineFields as kept
-use Rattle.deck_assembler.specs.declared.lines.LineFields.TheVariants as fields
-use Rattle.deck_assembler.specs.declared.object.ObjectParts.{ObjectParts}
+use Rattle.deck_objects.specs.CodedLines.{IsCoded, AreCoded}
+use Rattle.deck_objects.specs.LineItems.{kept_from, kept_items}
+use Rattle.deck_objects.specs.PartsOf.{ArePartsOf}
+use Rattle.deck_objects.specs.declared.lines.CodedLine as lines
+use Rattle.deck_objects.specs.declared.lines.Line.{Line}
+use Rattle.deck_objects.specs.declared.lines.LineFields as kept
+use Rattle.deck_objects.specs.declared.lines.LineFields.TheVariants as fields
+use Rattle.deck_objects.specs.declared.object.ObjectParts.{ObjectParts}
 use Rattle.deck_listing.specs.ImageWordLines.{section_head}
 use Rattle.deck_listing.specs.KeptSections.{DoFieldsFollow, DoesContentFollow, DoesPartFollow, IsPlaced}
 
@@ -114,7 +113,7 @@ agree-lines l k kind rows items same = all-coded (DoesAgree l k) kind rows items
 agree-reverse : (l k : Linking) (all : List Coded) → DoAgree l k all → DoAgree l k (reverse all)
 agree-reverse l k [] h = All-nil (DoesAgree l k)
 agree-reverse l k (coded ∷ others) h =
-    subst (DoAgree l k) (sym (reverse-step coded others))
+    subst (DoAgree l k) (sym (reverse-append (coded ∷ []) others))
     (All-push (DoesAgree l k) (reverse others) coded (agree-reverse l k others (All-tail (DoesAgree l k) coded others h)) (All-head (DoesAgree l k) coded others h))
 
 -- the parcels of a statement

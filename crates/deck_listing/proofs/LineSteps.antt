@@ -20,10 +20,10 @@ use Rattle.deck_listing.specs.Packing.{OpenRun, Packed, moved, put_bits}
 use Rattle.deck_listing.proofs.PutLaws.{unit_some}
 use Rattle.definitions.specs.Filling.{DoFill, HasFields}
 use Rattle.definitions.specs.Rising.{run_end}
-use Rattle.deck_assembler.specs.CodedLines.{IsCoded, IsNamed}
-use Rattle.deck_assembler.specs.LineItems.{AreBitsOf, kept_items, zeros_to}
-use Rattle.deck_assembler.specs.declared.lines.CodedLine as lines
-use Rattle.deck_assembler.specs.declared.lines.LineFields.TheVariants as variant
+use Rattle.deck_objects.specs.CodedLines.{IsCoded, IsNamed}
+use Rattle.deck_objects.specs.LineItems.{AreBitsOf, kept_items, zeros_to}
+use Rattle.deck_objects.specs.declared.lines.CodedLine as lines
+use Rattle.deck_objects.specs.declared.lines.LineFields.TheVariants as variant
 use Rattle.deck_listing.specs.Putting.{StandsAt, ArePut, IsReady}
 use Rattle.deck_listing.specs.Walking.{DoesFollow}
 use Rattle.deck_listing.proofs.PutSteps.{put_one}

@@ -15,8 +15,8 @@ use Rattle.deck_listing.specs.Packing.{OpenRun, Packed, empty_run}
 use Rattle.deck_listing.proofs.PutLaws.{runs_put, runs_begun, unit_some}
 use Rattle.definitions.specs.Filling.{DoFill}
 use Rattle.definitions.specs.Rising.{run_end, end_with, end_behind}
-use Rattle.deck_assembler.specs.LineItems.{AreBitsOf, kept_items}
-use Rattle.deck_assembler.specs.declared.lines.CodedLine as lines
+use Rattle.deck_objects.specs.LineItems.{AreBitsOf, kept_items}
+use Rattle.deck_objects.specs.declared.lines.CodedLine as lines
 use Rattle.deck_listing.specs.Putting.{ArePut}
 use Rattle.deck_listing.specs.Walking.{DoesFollow, HasRuns}
 use Rattle.deck_listing.proofs.PutSteps.{parcels_put}

@@ -10,11 +10,11 @@ use Rattle.statement_coder.specs.declared.items.Item as code
 use Rattle.deck_listing.specs.Packing.{Packed}
 use Rattle.definitions.specs.Reaching.{DoReach}
 use Rattle.definitions.specs.Rising.{AreLaidOut}
-use Rattle.deck_assembler.specs.CodedLines.{IsCoded, AreCoded}
-use Rattle.deck_assembler.specs.declared.lines.CodedLine as lines
-use Rattle.deck_assembler.specs.PartsOf.{ArePartsOf}
-use Rattle.deck_assembler.specs.declared.lines.Line.{Line}
-use Rattle.deck_assembler.specs.declared.object.ObjectParts.{ObjectParts}
+use Rattle.deck_objects.specs.CodedLines.{IsCoded, AreCoded}
+use Rattle.deck_objects.specs.declared.lines.CodedLine as lines
+use Rattle.deck_objects.specs.PartsOf.{ArePartsOf}
+use Rattle.deck_objects.specs.declared.lines.Line.{Line}
+use Rattle.deck_objects.specs.declared.object.ObjectParts.{ObjectParts}
 use Rattle.deck_listing.specs.Walking.{AreEmpty, DoesFollowAll, HaveRuns, IsNextOfAll, AreWalked}
 use Rattle.deck_listing.proofs.BlockSteps.{empty-runs}
 

@@ -8,11 +8,11 @@ use Rattle.definitions.specs.Numerals.{decimal_of}
 use Rattle.definitions.specs.Operations as op
 use Rattle.definitions.specs.Words.{width_of}
 use Rattle.definitions.specs.declared.deck_kind.DeckKind.{DeckKind}
-use Rattle.deck_assembler.specs.LineItems.{AreKept, kept_items}
-use Rattle.deck_assembler.specs.declared.lines.CodedLine.{CodedLine}
-use Rattle.deck_assembler.specs.declared.lines.Line.{Line}
-use Rattle.deck_assembler.specs.declared.lines.LineFields.TheVariants as variant
-use Rattle.deck_assembler.specs.declared.object.ObjectParts.{ObjectParts}
+use Rattle.deck_objects.specs.LineItems.{AreKept, kept_items}
+use Rattle.deck_objects.specs.declared.lines.CodedLine.{CodedLine}
+use Rattle.deck_objects.specs.declared.lines.Line.{Line}
+use Rattle.deck_objects.specs.declared.lines.LineFields.TheVariants as variant
+use Rattle.deck_objects.specs.declared.object.ObjectParts.{ObjectParts}
 use Rattle.statement_coder.specs.declared.items.Item as code
 use Rattle.operations.specs.OperationsAs.{operation_as}
 use Rattle.deck_listing.specs.WordLines.{fields_text, has_one_line}

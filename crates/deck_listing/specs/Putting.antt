@@ -9,9 +9,9 @@ use Rattle.statement_coder.specs.declared.items.Item as code
 use Rattle.operations.specs.OperationsAs.{operation_as}
 use Rattle.definitions.specs.Filling.{DoFill}
 use Rattle.deck_listing.specs.Packing.{OpenRun, Packed, DoItemsFit, MayBegin, moved, put_items}
-use Rattle.deck_assembler.specs.LineItems.{kept_items, AreKept}
-use Rattle.deck_assembler.specs.declared.lines.CodedLine as lines
-use Rattle.deck_assembler.specs.declared.lines.LineFields.TheVariants as variant
+use Rattle.deck_objects.specs.LineItems.{kept_items, AreKept}
+use Rattle.deck_objects.specs.declared.lines.CodedLine as lines
+use Rattle.deck_objects.specs.declared.lines.LineFields.TheVariants as variant
 
 -- a field may begin at a bit of the block, and the parcel that is open there is not yet whole
 pub record StandsAt (size : ℕ) (run : OpenRun) (at_bit : ℕ) : Type 0 where

@@ -11,11 +11,11 @@ use Rattle.statement_coder.specs.declared.items.Item as code
 use Rattle.deck_listing.specs.Packing.{Packed, empty_run, runs_in}
 use Rattle.definitions.specs.Reaching.{DoesReach, DoReach}
 use Rattle.definitions.specs.Rising.{run_end, IsLaidOut, AreLaidOut}
-use Rattle.deck_assembler.specs.CodedLines.{IsCoded, AreCoded}
-use Rattle.deck_assembler.specs.PartsOf.{ArePartsOf}
-use Rattle.deck_assembler.specs.declared.lines.CodedLine as lines
-use Rattle.deck_assembler.specs.declared.lines.Line.{Line}
-use Rattle.deck_assembler.specs.declared.object.ObjectParts.{ObjectParts}
+use Rattle.deck_objects.specs.CodedLines.{IsCoded, AreCoded}
+use Rattle.deck_objects.specs.PartsOf.{ArePartsOf}
+use Rattle.deck_objects.specs.declared.lines.CodedLine as lines
+use Rattle.deck_objects.specs.declared.lines.Line.{Line}
+use Rattle.deck_objects.specs.declared.object.ObjectParts.{ObjectParts}
 
 -- some deck has an object of these parts
 pub record HasObject (parts : ObjectParts) : Type 0 where

@@ -8,7 +8,7 @@ use Rattle.definitions.specs.StatementItems.{Item}
 use Rattle.definitions.specs.Words.{Linking, cut, joined, width_of}
 use Rattle.definitions.specs.declared.deck_kind.DeckKind.{DeckKind}
 use Rattle.definitions.specs.declared.deck_kind.DeckKind.TheVariants.{Periph}
-use Rattle.deck_assembler.specs.LineItems.{AreShort}
+use Rattle.deck_objects.specs.LineItems.{AreShort}
 use Rattle.deck_listing.specs.declared.field_lines.OpenWord.{OpenWord}
 
 -- the line of one word of a deck, which is no instruction

@@ -4,7 +4,7 @@ ghost use Rattle.definitions.specs.Forms as forms;
 ghost use Rattle.expr_forms.specs.FormsAs.{part_as, relocation_as};
 ghost use Rattle.deck_listing.specs.Alone.{alone_base, alone_linking, alone_part, alone_relocation};
 
-use deck_assembler::{Linking, coded_or_zero};
+use deck_objects::{Linking, coded_or_zero};
 use expr_forms::{Form, Name, Part, Relocation};
 use use_blocks::{Bases, is_common};
 

@@ -4,13 +4,13 @@ ghost use Rattle.std.specs.List.{AllZip};
 ghost use Rattle.definitions.specs.Cards.{Card};
 ghost use Rattle.definitions.specs.Objects as definitions;
 ghost use Rattle.definitions.specs.Objects.{object_of};
-ghost use Rattle.deck_assembler.specs.PartsOf.{ArePartsOf};
+ghost use Rattle.deck_objects.specs.PartsOf.{ArePartsOf};
 ghost use Rattle.deck_listing.specs.BlockWords.{AreBlockWords, AreWhole, IsFilledWith};
 ghost use Rattle.deck_listing.specs.Walking.{AreEmpty, DoNamesDiffer, HasObject};
 
 use crate::packing::{WordSpan, Words};
 use crate::word_lines::put_lines;
-use deck_assembler::{Linking, Object, ObjectParts};
+use deck_objects::{Linking, Object, ObjectParts};
 use definitions::DeckKind;
 use std::alloc::{AllocError, Global};
 

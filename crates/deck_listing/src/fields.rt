@@ -5,11 +5,11 @@ ghost use Rattle.definitions.specs.Words.{width_of};
 ghost use Rattle.statement_coder.specs.Items.{item_as};
 ghost use Rattle.definitions.specs.Filling.{HasRoom};
 ghost use Rattle.deck_listing.specs.Packing.{most_bits};
-ghost use Rattle.deck_assembler.specs.LineItems.{AreShort};
+ghost use Rattle.deck_objects.specs.LineItems.{AreShort};
 ghost use Rattle.deck_listing.specs.Putting.{StandsAt, ArePut};
 
 use crate::packing::{Field, Words};
-use deck_assembler::{Linking, linked_bits};
+use deck_objects::{Linking, linked_bits};
 use statement_coder::Item;
 use std::alloc::AllocError;
 

@@ -2,10 +2,10 @@
 ghost use Rattle.std.specs.Prelude.{◌≡◌, ◌≤◌, ◌+◌, ◌-◌, ◌*◌, length, map};
 ghost use Rattle.definitions.specs.Kinds.{unit_bits};
 ghost use Rattle.definitions.specs.StatementItems.{known};
-ghost use Rattle.deck_assembler.specs.LineItems.{listed};
+ghost use Rattle.deck_objects.specs.LineItems.{listed};
 ghost use Rattle.statement_coder.specs.Items.{item_as};
 
-use deck_assembler::CodedLine;
+use deck_objects::CodedLine;
 use definitions::DeckKind;
 use statement_coder::{Content, Item};
 

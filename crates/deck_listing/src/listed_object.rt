@@ -6,7 +6,7 @@ ghost use Rattle.deck_listing.specs.KeptSections.{IsSectionOf};
 
 use crate::placed_section::PlacedSection;
 use crate::whole::listing;
-use deck_assembler::{Object, SharedObject};
+use deck_objects::{Object, SharedObject};
 use std::alloc::{AllocError, Global};
 use std::marker::Model;
 use std::sync::Arc;

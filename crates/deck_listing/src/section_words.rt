@@ -10,14 +10,14 @@ ghost use Rattle.definitions.specs.Objects.{Object};
 ghost use Rattle.definitions.specs.Words as language;
 ghost use Rattle.definitions.specs.Words.{stored_words};
 ghost use Rattle.deck_listing.specs.Filling.{as_stored};
-ghost use Rattle.deck_assembler.specs.PartsOf.{ArePartsOf};
+ghost use Rattle.deck_objects.specs.PartsOf.{ArePartsOf};
 ghost use Rattle.deck_listing.specs.BlockWords.{AreBlockWords, AreWordsOf};
 ghost use Rattle.deck_listing.specs.ImageWordLines.{block_lines, lines_of, literal_lines, row_words, rows_words, span_lines};
 
 use crate::image_lines::{address_within, push_image_line};
 use crate::packing::WordSpan;
 use crate::sheet::Sheet;
-use deck_assembler::ObjectParts;
+use deck_objects::ObjectParts;
 use definitions::DeckKind;
 use expr_forms::Name;
 use use_blocks::{BlockRow, is_common};

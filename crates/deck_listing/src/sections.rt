@@ -11,7 +11,7 @@ use crate::blocks::words_of_blocks;
 use crate::packing::WordSpan;
 use crate::section_words::push_object_words;
 use crate::sheet::Sheet;
-use deck_assembler::Object;
+use deck_objects::Object;
 use definitions::DeckKind;
 use std::alloc::{AllocError, Global};
 use text_ports::Text;

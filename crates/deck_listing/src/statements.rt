@@ -6,7 +6,7 @@ ghost use Rattle.definitions.specs.Operations as op;
 ghost use Rattle.definitions.specs.Words.{width_of};
 ghost use Rattle.deck_listing.specs.ListedParts.{AreListable, IsListable, IsListableLine, line_text, lines_text, stored_text};
 ghost use Rattle.deck_listing.specs.WordLines.{fields_text, has_one_line};
-ghost use Rattle.deck_assembler.specs.LineItems.{AreShort};
+ghost use Rattle.deck_objects.specs.LineItems.{AreShort};
 ghost use Rattle.statement_coder.specs.Items.{item_as};
 ghost use Rattle.operations.specs.OperationsAs.{operation_as};
 
@@ -15,7 +15,7 @@ use crate::kept_fields::{known_field, listed};
 use crate::lines::{push_card_lines, push_central_line, push_letters_line};
 use crate::sheet::Sheet;
 use cards::Card;
-use deck_assembler::{CodedLine, Line, LineFields, ObjectParts};
+use deck_objects::{CodedLine, Line, LineFields, ObjectParts};
 use definitions::DeckKind;
 use operations::Operation;
 use statement_coder::Item;

@@ -8,7 +8,7 @@ use crate::lines::{push_block_lines, push_deck_line, push_errors_line};
 use crate::sheet::Sheet;
 use crate::statements::push_statements;
 use cards::{Card, DeckName};
-use deck_assembler::{Line, Object, ObjectParts};
+use deck_objects::{Line, Object, ObjectParts};
 use std::alloc::{AllocError, Global};
 use text_ports::Text;
 

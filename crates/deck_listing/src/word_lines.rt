@@ -6,15 +6,15 @@ ghost use Rattle.definitions.specs.Cards.{Card};
 ghost use Rattle.definitions.specs.Operations.{is_instruction};
 ghost use Rattle.definitions.specs.Words.{Coded};
 ghost use Rattle.operations.specs.OperationsAs.{operation_as};
-ghost use Rattle.deck_assembler.specs.LineItems.{kept_items};
-ghost use Rattle.deck_assembler.specs.PartsOf.{ArePartsOf};
+ghost use Rattle.deck_objects.specs.LineItems.{kept_items};
+ghost use Rattle.deck_objects.specs.PartsOf.{ArePartsOf};
 ghost use Rattle.deck_listing.specs.Putting.{ArePut, IsReady};
 ghost use Rattle.deck_listing.specs.Walking.{AreEmpty, DoNamesDiffer, DoesFollow, DoesFollowAll, HasObject, HasRuns, HaveRuns, IsNext, IsNextOfAll};
 
 use crate::fields::put_fields;
 use crate::kept_fields::{known_field, listed};
 use crate::packing::Words;
-use deck_assembler::{CodedLine, LineFields, Linking, ObjectParts};
+use deck_objects::{CodedLine, LineFields, Linking, ObjectParts};
 use definitions::DeckKind;
 use statement_coder::Item;
 use std::alloc::AllocError;

@@ -9,7 +9,8 @@ ghost use Rattle.deck_assembler.specs.SizedDecks.{IsSizedDeck};
 ghost use Rattle.deck_assembler.specs.Tails.{IsEditedOf};
 
 use cards::{Card, DeckName};
-use deck_assembler::{EditedDeck, Object, SharedObject, SizedDeck, edited_parts, object_parts};
+use deck_assembler::{EditedDeck, SizedDeck, edited_parts, object_parts};
+use deck_objects::{Object, SharedObject};
 use statement_coder::Meter;
 use std::alloc::{AllocError, Global};
 

@@ -3,8 +3,8 @@
 use crate::deck_topics::repeated_cards;
 use crate::outputs::Answer;
 use cards::DeckName;
-use deck_assembler::SharedObject;
 use deck_linker::{Layout, Publication, link};
+use deck_objects::SharedObject;
 use edit_core::assemble;
 use expr_forms::Name;
 use statement_coder::Meter;

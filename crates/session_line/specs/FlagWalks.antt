@@ -2,7 +2,7 @@
 use Rattle.std.specs.Prelude.{ℕ, suc, ◌+◌, ◌==◌, List, [], ◌∷◌, ◌++◌, drop, length, map, take, if◌then◌else◌}
 use Rattle.definitions.specs.Cards.{Card}
 use Rattle.definitions.specs.Characters.{line_feed}
-use Rattle.deck_assembler.specs.declared.lines.Line.{Line}
+use Rattle.deck_objects.specs.declared.lines.Line.{Line}
 use Rattle.session_line.specs.Errors.{Flag, flag_of, flag_text, shows_line}
 use Rattle.session_line.specs.Replies.{line_of, text_of_lines}
 use Rattle.session_line.specs.declared.errors.ErrorsView.{ErrorsView}

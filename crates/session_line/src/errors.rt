@@ -7,8 +7,8 @@ ghost use Rattle.session_line.specs.FlagWalks.{flags_in, line_len};
 use crate::views::begins_with;
 use crate::words::{behind_blank, behind_word, from_blank, to_blank};
 use cards::{Card, DeckName};
-use deck_assembler::{Line, Object};
 use deck_listing::ListedObject;
+use deck_objects::{Line, Object};
 use definitions::is_same_text;
 use operations::Letters;
 

@@ -6,9 +6,9 @@ use crate::sweeps::decks::{DECKS, DeckText, are_same, asm_answer, is_answer, pus
 use crate::sweeps::notes::Called;
 use crate::sweeps::scene::Scene;
 use cards::{Card, DeckName, Edit, MOST_CARDS, copied_cards};
-use deck_assembler::SharedObject;
 use deck_linker::{Publication, link};
 use deck_listing::{image, listing};
+use deck_objects::SharedObject;
 use edit_core::{FinishFault, Kept, RecordFault};
 use session_line::read_batch_line;
 use statement_coder::Meter;

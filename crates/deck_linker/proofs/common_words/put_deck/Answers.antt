@@ -7,7 +7,7 @@ use Rattle.definitions.specs.Lengths.{BlockRow}
 use Rattle.definitions.specs.Link.{linking_of}
 use Rattle.definitions.specs.Objects.{Object}
 use Rattle.definitions.specs.declared.deck_kind.DeckKind.{DeckKind}
-use Rattle.deck_assembler.specs.CodedLines.{AreCoded}
+use Rattle.deck_objects.specs.CodedLines.{AreCoded}
 use Rattle.deck_listing.specs.BlockWords.{AreBlockWords, AreWordsOf}
 use Rattle.deck_listing.specs.Walking.{DoNamesDiffer}
 use Rattle.deck_linker.specs.CommonWords.{has_row}

@@ -1,6 +1,6 @@
 use Rattle.std.proofs.Common.{refl}
 use Rattle.deck_linker.specs.UnfitLines.{unfit_of, unfit_lines}
-use Rattle.deck_assembler.specs.declared.lines.Line.{Line}
+use Rattle.deck_objects.specs.declared.lines.Line.{Line}
 use Rattle.deck_linker.proofs.LineLaws.{lines-step}
 use Rattle.deck_linker.proofs.UnfitLaws.{kept-step}
 use Rattle.deck_linker.proofs.unfit_fields.push_unfit_lines.Goals as goal

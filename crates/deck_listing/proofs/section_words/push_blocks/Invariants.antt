@@ -3,7 +3,7 @@ use Rattle.std.specs.List.{AllZip}
 use Rattle.definitions.specs.Cards.{Card}
 use Rattle.definitions.specs.Objects.{Object}
 use Rattle.definitions.specs.Words.{Linking}
-use Rattle.deck_assembler.specs.PartsOf.{ArePartsOf}
+use Rattle.deck_objects.specs.PartsOf.{ArePartsOf}
 use Rattle.deck_listing.specs.BlockWords.{AreWordsOf}
 use Rattle.deck_listing.specs.ImageWordLines.{lines_of, rows_words}
 use Rattle.deck_listing.proofs.section_words.push_blocks.Given as goal

@@ -1,7 +1,7 @@
 use Rattle.std.proofs.Common.{◌≡◌, ℕ, ◌+◌, ◌<◌, List, ◌∷◌, drop, get_or, length, Vec, ap, sym, subst, ◌∙◌, arith}
 use Rattle.std.proofs.lemmas.List.{drop_more}
 use Rattle.deck_listing.specs.Packing.{Packed}
-use Rattle.deck_assembler.specs.declared.lines.Line.{Line}
+use Rattle.deck_objects.specs.declared.lines.Line.{Line}
 use Rattle.deck_listing.specs.Walking.{AreWalked}
 use Rattle.deck_listing.proofs.WalkSteps.{walked-first, walked-next, walked-on, walked-past}
 use Rattle.deck_listing.proofs.word_lines.put_lines.Goals as goal

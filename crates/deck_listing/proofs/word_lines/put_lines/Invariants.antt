@@ -1,7 +1,7 @@
 use Rattle.std.proofs.Common.{List, drop}
 use Rattle.definitions.specs.Cards.{Card}
 use Rattle.definitions.specs.Objects.{Object}
-use Rattle.deck_assembler.specs.PartsOf.{ArePartsOf}
+use Rattle.deck_objects.specs.PartsOf.{ArePartsOf}
 use Rattle.deck_listing.specs.Walking.{AreWalked}
 use Rattle.deck_listing.proofs.word_lines.put_lines.Given as goal
 

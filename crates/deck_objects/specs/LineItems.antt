@@ -8,9 +8,9 @@ use Rattle.definitions.specs.declared.deck_kind.DeckKind.{DeckKind}
 use Rattle.statement_coder.specs.Items.{item_as}
 use Rattle.statement_coder.specs.declared.items.Item as code
 use Rattle.definitions.specs.Filling.{HasFields, HasRoom}
-use Rattle.deck_assembler.specs.declared.lines.CodedLine as lines
-use Rattle.deck_assembler.specs.declared.lines.LineFields as kept
-use Rattle.deck_assembler.specs.declared.lines.LineFields.TheVariants as fields
+use Rattle.deck_objects.specs.declared.lines.CodedLine as lines
+use Rattle.deck_objects.specs.declared.lines.LineFields as kept
+use Rattle.deck_objects.specs.declared.lines.LineFields.TheVariants as fields
 
 -- some of the fields of an object
 abbrev pub listed : List code.Item → ℕ → ℕ → List Item

@@ -8,10 +8,10 @@ use Rattle.definitions.specs.Words.{Coded}
 use Rattle.definitions.specs.declared.deck_kind.DeckKind.{DeckKind}
 use Rattle.statement_coder.specs.declared.items.Item as code
 use Rattle.operations.specs.OperationsAs.{operation_as}
-use Rattle.deck_assembler.specs.LineItems.{kept_items, AreBitsOf, AreKept}
-use Rattle.deck_assembler.specs.declared.lines.CodedLine as lines
-use Rattle.deck_assembler.specs.declared.lines.Line.{Line}
-use Rattle.deck_assembler.specs.declared.lines.LineFields.TheVariants as variant
+use Rattle.deck_objects.specs.LineItems.{kept_items, AreBitsOf, AreKept}
+use Rattle.deck_objects.specs.declared.lines.CodedLine as lines
+use Rattle.deck_objects.specs.declared.lines.Line.{Line}
+use Rattle.deck_objects.specs.declared.lines.LineFields.TheVariants as variant
 
 -- a block that is there has this name
 abbrev pub IsNamed : Option BlockRow → List ℕ → Type 0

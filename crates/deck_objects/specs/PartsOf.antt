@@ -4,8 +4,8 @@ use Rattle.definitions.specs.Cards.{Card}
 use Rattle.definitions.specs.Objects.{Object}
 use Rattle.definitions.specs.Reaching.{DoReach}
 use Rattle.definitions.specs.Rising.{AreLaidOut}
-use Rattle.deck_assembler.specs.CodedLines.{AreShown, AreCoded}
-use Rattle.deck_assembler.specs.declared.object.ObjectParts.{ObjectParts}
+use Rattle.deck_objects.specs.CodedLines.{AreShown, AreCoded}
+use Rattle.deck_objects.specs.declared.object.ObjectParts.{ObjectParts}
 
 -- these are the parts of the object of a deck with these cards
 pub record ArePartsOf (cards : List Card) (parts : ObjectParts) (object : Object) : Type 0 where
