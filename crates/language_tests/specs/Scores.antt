@@ -1,4 +1,4 @@
--- How many rows or are as wanted, and how that is told (ours).
+-- How many rows or cases are as wanted, and how that is told (ours).
 use Rattle.std.specs.Prelude.{ℕ, ◌+◌, ◌-◌, ◌^◌, ◌==◌, min, List, ◌++◌, codes, decimal, Bool, if◌then◌else◌}
 use Rattle.language_tests.specs.declared.score.Score.{Score}
 

@@ -1,13 +1,18 @@
 //! Goes through tables of the language, where each row is a text and what a layer makes of it, worked
 //! by hand; and through cases, where each is an input and the whole answer of `asm_run`. A line tells
-//! each row or case that differs, and a line at the end of each kind how many are as wanted; the status
-//! is 1 where one differs, and 2 where a table or the list of the cases can't be read.
+//! each row or case that differs, and a line at the end of each kind how many are as wanted. Behind them
+//! stands a small run of what `benches` measures. The status is 1 where a row or a case differs, and 2
+//! where a table or the list of the cases can't be read, or something can't be measured.
+//!
+//! With words it goes through no table and no case, and measures alone what they name: `turns`, a layer
+//! (`parse`, `value`, `find`, `words`, `names`, `cards`, `sizes` or `codes`), or `records FILE`.
 //!
 //! A table is a file of `data/` with the name of its topic. The lines of a row's text stand in front
 //! of an arrow, and what is wanted behind it; a line that begins with `# ` says something of the rows
 //! below.
 #![tactic(auto)]
 
+mod benches;
 mod block_topics;
 mod card_topics;
 mod case_answer;
@@ -36,9 +41,12 @@ use cases::run_cases;
 use outputs::Answer;
 use score::Score;
 use std::alloc::{AllocError, AllocGlobal, Global};
-use std::io;
 use std::process::ExitCode;
-use std::rt::Files;
+use std::rt::{Env, Files};
+use std::sync::Wait;
+use std::thread::Threads;
+use std::time::{Clock, CpuClock};
+use std::{env, io};
 use tables::{Row, rows_of};
 
 /// The topics, lowest first.
@@ -127,8 +135,8 @@ const TOPICS: [&str; 82] = [
     "layouts",
 ];
 
-/// The status where a table or the list of the cases can't be read.
-const NO_TABLE_STATUS: u8 = 2;
+/// The status where a table or the list of the cases can't be read, or something can't be measured.
+const NOTHING_STATUS: u8 = 2;
 
 /// Answers what ports, cards, edits and operations make of a text, where the topic is one of theirs.
 fn lower_answer(answer: &mut Answer, topic: &str, text: &str) -> Result<bool, AllocError> {
@@ -207,11 +215,42 @@ fn run_rows<R: AllocGlobal + Files + Print>(rt: &R) -> io::Result<Score> {
     Ok(score)
 }
 
-/// Goes through all tables and all cases: 0 where all are as wanted, else 1.
-fn run<R: AllocGlobal + Files + Print>(rt: &R) -> io::Result<u8> {
+/// Goes through all tables and all cases, and then a small run of what is measured: 0 where all are as
+/// wanted, else 1.
+fn run_all<R>(rt: &R) -> io::Result<u8>
+where
+    R: AllocGlobal + Files + Threads + Wait + Sync + Clock + Print,
+{
     let of_rows = run_rows(rt)?.status();
     let of_cases = run_cases(rt)?.status();
+    benches::try_out(rt)?;
     Ok(of_rows.max(of_cases))
+}
+
+/// Measures what the arguments name, or goes through all where there are none: the status.
+fn run<R>(rt: &R) -> io::Result<u8>
+where
+    R: AllocGlobal
+        + Env
+        + Files
+        + Threads
+        + Wait
+        + Sync
+        + Send
+        + Drop
+        + Clone
+        + Clock
+        + CpuClock
+        + Print,
+{
+    let words: Vec<String> = env::args(rt)?.collect(rt.alloc())?;
+    match words.get(1) {
+        Some(word) => {
+            benches::measure(rt, word.as_str(), words.get(2))?;
+            Ok(0)
+        }
+        None => run_all(rt),
+    }
 }
 
 fn main(rt: HostRuntime) -> ExitCode {
@@ -219,7 +258,7 @@ fn main(rt: HostRuntime) -> ExitCode {
         Ok(status) => ExitCode::from(status),
         Err(error) => {
             let _ = eprintln!(&rt; "language_tests: {error}");
-            ExitCode::from(NO_TABLE_STATUS)
+            ExitCode::from(NOTHING_STATUS)
         }
     }
 }
