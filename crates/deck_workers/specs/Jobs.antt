@@ -3,7 +3,7 @@ use Rattle.std.specs.Prelude.{◌≡◌, ◌⊎◌, ℕ, ◌+◌, ◌^◌, ◌<�
 use Rattle.statement_coder.specs.Meters.{CountsAtMost}
 use Rattle.statement_coder.specs.declared.meter.Meter.{Meter}
 use Rattle.deck_workers.specs.Language.{Card, Edit, statement_count, statements_sum, CountsInOrder, edits_fault, RecordFault, OutOfMemory, DeckWork, LinkWork, Start, FromRecord, FromCards}
-pub use Rattle.desk_core.specs.Making.{start_deck, start_cards, begun_deck, done_of}
+pub use Rattle.desk_core.specs.Making.{start_deck, start_cards, deck_edited, begun_deck, done_of}
 use Rattle.deck_workers.specs.declared.jobs.Job.{Job}
 use Rattle.deck_workers.specs.declared.jobs.Job.TheVariants as job
 use Rattle.deck_workers.specs.declared.made.Made.{Made}

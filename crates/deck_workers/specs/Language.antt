@@ -2,7 +2,6 @@
 pub use Rattle.definitions.specs.Cards.{Card}
 pub use Rattle.definitions.specs.DeckInput.{Deck}
 pub use Rattle.cards.specs.declared.edits.Edit.{Edit}
-pub use Rattle.cards.specs.Edits.{edited_by}
 pub use Rattle.edit_core.specs.Edited.{statement_count}
 pub use Rattle.edit_core.specs.Sums.{statements_sum, CountsInOrder}
 pub use Rattle.edit_core.specs.Faults.{edits_fault}

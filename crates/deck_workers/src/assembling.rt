@@ -1,8 +1,8 @@
 //! A deck assembled from what a job begins with, and objects published.
 ghost use Rattle.std.specs.Prelude.{◌≡◌, ◌+◌, ◌⊎◌, false, None, Some, length, IfOk, IfErr, OnOk};
 ghost use Rattle.statement_coder.specs.Meters.{CountsAtMost, RisesBy};
-ghost use Rattle.deck_workers.specs.Language.{edited_by, edits_fault, statements_sum};
-ghost use Rattle.deck_workers.specs.Jobs.{start_deck, start_cards, start_bound, CountsDue, CountsWithin};
+ghost use Rattle.deck_workers.specs.Language.{edits_fault, statements_sum};
+ghost use Rattle.deck_workers.specs.Jobs.{start_deck, start_cards, start_bound, deck_edited, CountsDue, CountsWithin};
 
 use cards::{DeckName, Edit, first_fault};
 use deck_linker::publish;
@@ -42,8 +42,8 @@ pub(crate) fn assembled(
     edits: &[Edit],
     meter: &mut Meter,
 ) -> Result<(Held, ListedObject), RecordFault>
-    ensures record { IfOk result (λ made. made.0 ≡ record { deck = record { name = (start_deck name start).name; cards = edited_by edits.now (start_deck name start).cards } }) }
-    ensures object { IfOk result (λ made. made.1 ≡ record { name = (start_deck name start).name; cards = edited_by edits.now (start_deck name start).cards }) }
+    ensures record { IfOk result (λ made. made.0 ≡ record { deck = deck_edited name start edits.now }) }
+    ensures object { IfOk result (λ made. made.1 ≡ deck_edited name start edits.now) }
     ensures applied { IfOk result (λ made. edits_fault edits.now (start_cards start) ≡ None) }
     ensures fault { IfErr result (λ fault. ((fault ≡ RecordFault.OutOfMemory) × (edits_fault edits.now (start_cards start) ≡ None)) ⊎ (edits_fault edits.now (start_cards start) ≡ Some fault)) }
     ensures meter { CountsAtMost (start_bound start + statements_sum edits.now (start_deck name start).cards) meter.old meter.new }

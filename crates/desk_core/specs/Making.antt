@@ -1,7 +1,7 @@
 -- What a deck job makes (ours).
 use Rattle.std.specs.Prelude.{ℕ, List, Some}
 use Rattle.desk_core.specs.Language.{Card, Deck}
-use Rattle.desk_core.specs.Edits.{edited_by}
+use Rattle.desk_core.specs.Edits.{Edit, edited_by}
 use Rattle.desk_core.specs.Calls.{Done, Start, FromRecord, FromCards, DeckWork}
 
 -- the deck of a job's start: that of the record, or the cards under the name that the job has
@@ -18,9 +18,13 @@ start_cards (FromCards cards) = cards
 abbrev pub begun_deck : DeckWork → Deck
 begun_deck work = start_deck work.name work.start
 
--- the deck that a job is to assemble: its edits are made in order
+-- the deck of a job with this name, this start and these edits, which are made in order
+abbrev pub deck_edited : List ℕ → Start → List Edit → Deck
+deck_edited name start edits = record { name = (start_deck name start).name; cards = edited_by edits (start_deck name start).cards }
+
+-- the deck that a job is to assemble
 abbrev pub made_deck : DeckWork → Deck
-made_deck work = record { name = (begun_deck work).name; cards = edited_by work.edits (begun_deck work).cards }
+made_deck work = deck_edited work.name work.start work.edits
 
 -- the result of a deck job: record and object are of the deck that it assembled
 abbrev pub done_of : DeckWork → Done

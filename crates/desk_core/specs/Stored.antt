@@ -1,5 +1,5 @@
 -- How the code keeps a deck (ours).
-use Rattle.std.specs.Prelude.{◌≡◌, ◌≤◌, ℕ, List, [], ◌∷◌, ◌++◌, length, map, is_some, Option, None, Some}
+use Rattle.std.specs.Prelude.{◌≡◌, ◌≤◌, ℕ, Bool, true, false, List, [], ◌∷◌, ◌++◌, length, map, is_some, Option, None, Some}
 use Rattle.std.specs.Option.{ForSome}
 use Rattle.cards.specs.declared.carrying.MadeEdit.{MadeEdit}
 use Rattle.desk_core.specs.Language.{Card, Deck}
@@ -9,10 +9,11 @@ use Rattle.desk_core.specs.declared.past.Back.{Back}
 use Rattle.desk_core.specs.Led.{IsPastOf}
 use Rattle.desk_core.specs.Desks.{DeskDeck, Kept, Lease}
 
--- the cards of a deck, which lie in its object where it has one
-abbrev pub cards_held : List Card → Option Deck → List Card
-cards_held own None = own
-cards_held own (Some object) = object.cards
+-- the cards of a deck: those that it holds; else those of its object, where it has one
+abbrev pub cards_held : Bool → List Card → Option Deck → List Card
+cards_held true own object = own
+cards_held false own None = own
+cards_held false own (Some object) = object.cards
 
 -- a deck with its object, if it has one of its version
 abbrev pub stored_deck : List ℕ → List Card → ℕ → ℕ → Option Deck → Option Kept → List Edit → Option Lease → Past → DeskDeck

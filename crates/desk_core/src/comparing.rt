@@ -7,23 +7,18 @@ ghost use Rattle.desk_core.specs.Delivering.{same_cards, same_decks};
 use crate::stored_deck::StoredDeck;
 use cards::{Card, DeckName};
 use deck_listing::ListedObject;
+use definitions::is_same_text;
 
 pub(crate) fn same_name(name: &DeckName, other: &DeckName) -> bool
     ensures { result ≡ same_text name.now other.now }
 {
-    same_bytes(name.as_slice(), other.as_slice())
+    is_same_text(name.as_slice(), other.as_slice())
 }
 
 fn same_card(card: &Card, other: &Card) -> bool
     ensures { result ≡ same_text card.now other.now }
 {
-    same_bytes(card.as_slice(), other.as_slice())
-}
-
-fn same_bytes(text: &[u8], other: &[u8]) -> bool
-    ensures { result ≡ same_text text.now other.now }
-{
-    text == other
+    is_same_text(card.as_slice(), other.as_slice())
 }
 
 /// Whether cards are the same, one by one. Where their numbers differ none is looked at.

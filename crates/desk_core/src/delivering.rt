@@ -66,7 +66,8 @@ impl Desk {
         if !self.is_sound(place, &kept, &object) {
             return self.lose_foreign(place);
         }
-        self.decks.store_at(self.alloc, place, kept, object);
+        self.decks
+            .store_at(self.alloc, self.version, place, kept, object);
         Reply::Stored
     }
 
@@ -115,7 +116,8 @@ impl Desk {
         if !same_decks(publication.publication().objects(), self.decks.as_slice()) {
             return Reply::Refused(Refusal::Foreign);
         }
-        self.decks.refresh(publication.publication().objects());
+        self.decks
+            .refresh(self.alloc, version, publication.publication().objects());
         self.publication = Some(publication);
         Reply::Stored
     }

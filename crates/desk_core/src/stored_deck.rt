@@ -1,5 +1,5 @@
 //! A deck as the desk keeps it.
-ghost use Rattle.std.specs.Prelude.{◌≡◌, ◌≤◌, ◌||◌, length, None, Some, [], ◌∷◌, is_ok, is_some, option_map, Ok, true, IfOk, OnOk, if◌then◌else◌};
+ghost use Rattle.std.specs.Prelude.{◌≡◌, ◌≤◌, ◌||◌, length, None, Some, [], ◌∷◌, is_ok, is_some, option_map, Ok, true, IfOk, if◌then◌else◌};
 ghost use Rattle.desk_core.specs.Desks.{is_named, is_leased, deck_of};
 ghost use Rattle.desk_core.specs.Edits.{fault_of, first_fault};
 ghost use Rattle.desk_core.specs.Changing.{added_deck, replaced_deck, edited_deck};
@@ -30,16 +30,20 @@ use std::alloc::{AllocError, Global};
 use std::marker::Model;
 use std::mem::replace;
 
+/// Of how many changes of a desk, the latest ones, those of a deck count as late.
+const LATELY: u64 = 16;
+
 /// A deck on the desk: its name and cards; its identity, which is the version that its addition made, or
 /// that of the last deck put in its place;
-/// the version of the last change of it; its object, if it has one of that version, in which its cards lie then;
-/// its record, if it is here, and the edits that the record lacks; the lease, if one is out; and what is kept of its changes.
+/// the version of the last change of it; its object, if it has one of that version, in which its cards lie unless
+/// it holds them; its record, if it is here, and the edits that the record lacks; the lease, if one is out; and what is kept of its changes.
 /// It has at most 20,000 cards, and its past led to them.
 #[derive(Drop)]
 pub struct StoredDeck {
     name: DeckName,
-    /// Its cards where it has no object; those of an object lie there, and these are not read.
+    /// Its cards, where it holds them; else they lie in its object, and these are not read.
     own_cards: Vec<Card>,
+    holds_cards: bool,
     identity: u64,
     version: u64,
     object: Option<ListedObject>,
@@ -55,9 +59,9 @@ impl Model for StoredDeck {
 
     ghost Value = { DeskDeck };
 
-    ghost view = { λ d. stored_deck d.name (cards_held d.own_cards.items d.object) d.identity d.version d.object d.kept d.waiting.items d.lease d.past };
+    ghost view = { λ d. stored_deck d.name (cards_held d.holds_cards d.own_cards.items d.object) d.identity d.version d.object d.kept d.waiting.items d.lease d.past };
 
-    ghost invariant = { λ d. IsStored d.name (cards_held d.own_cards.items d.object) d.object d.past };
+    ghost invariant = { λ d. IsStored d.name (cards_held d.holds_cards d.own_cards.items d.object) d.object d.past };
 }
 
 impl StoredDeck {
@@ -69,6 +73,7 @@ impl StoredDeck {
         StoredDeck {
             name: deck.name,
             own_cards: deck.cards,
+            holds_cards: true,
             identity: version,
             version,
             object: None,
@@ -102,6 +107,9 @@ impl StoredDeck {
     pub(crate) fn cards(&self) -> &[Card]
         ensures { result.now ≡ self.now.cards }
     {
+        if self.holds_cards {
+            return self.own_cards.as_slice();
+        }
         match &self.object {
             Some(object) => object.object().cards(),
             None => self.own_cards.as_slice(),
@@ -135,7 +143,8 @@ impl StoredDeck {
     {
         let keeps = self.keeps_edits();
         let count = self.past.len();
-        hold_cards(alloc, &mut self.own_cards, &self.object)?;
+        hold_cards(alloc, self.holds_cards, &mut self.own_cards, &self.object)?;
+        self.holds_cards = true;
         let back = Back {
             edit: undo_of(edit, &self.own_cards),
             by: by.copied(),
@@ -174,6 +183,7 @@ impl StoredDeck {
         }
         self.past.trim();
         self.own_cards = cards;
+        self.holds_cards = true;
         self.version = version;
         self.object = None;
         Ok(())
@@ -185,6 +195,7 @@ impl StoredDeck {
         ensures { self.new ≡ replaced_deck version cards.items self.old }
     {
         self.own_cards = cards;
+        self.holds_cards = true;
         self.identity = version;
         self.version = version;
         self.object = None;
@@ -290,7 +301,18 @@ impl StoredDeck {
         ensures { result ≡ same_deck object.now (deck_of self.now) }
     {
         let object = object.object();
-        same_name(object.name(), &self.name) && same_cards(object.cards(), self.cards())
+        same_name(object.name(), &self.name) && same_cards(object.cards(), self.compared_cards())
+    }
+
+    /// Its cards, as they lie in its object where it has one: who compares that object with itself reads them
+    /// once.
+    fn compared_cards(&self) -> &[Card]
+        ensures { result.now ≡ self.now.cards }
+    {
+        match &self.object {
+            Some(object) => object.object().cards(),
+            None => self.cards(),
+        }
     }
 
     /// Whether a record is of it, by name and cards.
@@ -328,15 +350,29 @@ impl StoredDeck {
         }
     }
 
-    /// The same object with what a link has added to it takes the place of its own, where it has one.
-    pub(crate) fn refresh(&mut self, object: &ListedObject)
+    /// The same object with what the link of a version has added to it takes the place of its own, where it has
+    /// one. If it was not changed lately, its cards lie in the object alone from then on.
+    pub(crate) fn refresh(&mut self, alloc: Global, version: u64, object: &ListedObject)
         requires { object.now ≡ deck_of self.old }
         ensures { self.new ≡ self.old }
     {
-        if self.object.is_some() {
-            if let Ok(shared) = object.share() {
-                self.object = Some(shared);
-            }
+        if self.object.is_none() {
+            return;
+        }
+        if let Ok(shared) = object.share() {
+            self.object = Some(shared);
+        }
+        self.let_cards_go(alloc, version);
+    }
+
+    /// Where it has an object and was not changed by one of the latest changes, of which the last made this
+    /// version, its cards lie in the object alone from then on.
+    pub(crate) fn let_cards_go(&mut self, alloc: Global, latest: u64)
+        ensures { self.new ≡ self.old }
+    {
+        if self.object.is_some() && latest.saturating_sub(self.version) >= LATELY {
+            self.own_cards = Vec::new(alloc);
+            self.holds_cards = false;
         }
     }
 
@@ -393,14 +429,13 @@ impl StoredDeck {
         self.lease = None;
     }
 
-    /// Record and object come in, and its cards lie in the object from then on; the lease ends.
-    pub(crate) fn store(&mut self, alloc: Global, kept: Held, object: ListedObject)
+    /// Record and object come in; the lease ends.
+    pub(crate) fn store(&mut self, kept: Held, object: ListedObject)
         requires { object ≡ deck_of self.old }
         ensures { self.new ≡ stored (Some kept) self.old }
     {
         self.kept = Some(kept);
         self.object = Some(object);
-        self.own_cards = Vec::new(alloc);
         self.lease = None;
     }
 }
@@ -409,12 +444,15 @@ impl StoredDeck {
 /// changes.
 fn hold_cards(
     alloc: Global,
+    holds: bool,
     own: &mut Vec<Card>,
     object: &Option<ListedObject>,
 ) -> Result<(), AllocError>
-    ensures cards { OnOk result (own.new.items ≡ cards_held own.old.items object.now) }
-    ensures same { cards_held own.new.items object.now ≡ cards_held own.old.items object.now }
+    ensures { own.new.items ≡ (if is_ok result then cards_held holds own.old.items object.now else own.old.items) }
 {
+    if holds {
+        return Ok(());
+    }
     if let Some(object) = object {
         *own = copied_cards(alloc, object.object().cards())?;
     }
