@@ -4,7 +4,7 @@ use Rattle.std.proofs.lemmas.List.{drop_more, drop-set}
 use Rattle.std.specs.Prelude.{◌==◌}
 use Rattle.std.specs.Io.KnownBytes.{Consumes, IsAtEnd, prepend_known}
 use Rattle.text_ports.specs.Lines.{line_feed}
-use Rattle.asm_main.specs.Chains.{is_open_behind, joined, joined_with}
+use Rattle.asm_main.specs.Joins.Chains.{is_open_behind, joined, joined_with}
 use Rattle.asm_main.specs.declared.chained.Part.{Part}
 
 -- a line behind two runs of bytes

@@ -10,7 +10,7 @@ use Rattle.definitions.specs.DeckInput.{Input, Decks, Faulty, BadName, NameTaken
 use Rattle.asm_main.specs.Inputs.{newest_first}
 use Rattle.asm_main.specs.declared.deck_cut.CardRole.{CardRole}
 use Rattle.asm_main.specs.declared.deck_cut.CardRole.TheVariants.{Begins, Misnamed, Continues}
-use Rattle.asm_main.specs.CardRoles.{role_of, begun_named}
+use Rattle.asm_main.specs.Joins.CardRoles.{role_of, begun_named}
 use Rattle.asm_main.proofs.DeckLaws.{newest_first-push, in_card_order-push, length-newest_first, is_taken-newest_first}
 
 -- a deck that is begun with its card

@@ -7,7 +7,7 @@ use Rattle.std.specs.Io.KnownBytes.{Consumes}
 use Rattle.definitions.specs.Characters.{blank}
 use Rattle.text_ports.specs.Lines.{line_feed}
 use Rattle.asm_main.specs.declared.filtered.Filter.{Filter}
-use Rattle.asm_main.specs.Filters.{NextIs, columns_behind, columns_with, end_of, filtered, folded, is_filled, is_open, is_plain, tab, tab_blanks}
+use Rattle.asm_main.specs.Joins.Filters.{NextIs, columns_behind, columns_with, end_of, filtered, folded, is_filled, is_open, is_plain, tab, tab_blanks}
 
 -- the first item that is set is the first that is taken
 pub take-set : (buf : List ℕ) (b : ℕ) → 0 < length buf → take 1 (slice_set buf 0 b) ≡ b ∷ []

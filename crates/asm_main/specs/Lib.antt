@@ -1,11 +1,6 @@
-pub mod CardRoles
 pub mod Inputs
 pub mod Faults
 pub mod Runs
 pub mod Builds
-pub mod Chains
-pub mod Outputs
-pub mod FaultWords
-pub mod Flags
-pub mod Filters
-pub mod Ways
+-- What no promise leads to.
+pub mod Joins

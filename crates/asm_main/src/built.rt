@@ -2,10 +2,10 @@
 //! part.
 ghost use Rattle.std.specs.Prelude.{◌≡◌, ◌<◌, ◌≤◌, ◌+◌, ◌^◌, length, IfErr, IfOk};
 ghost use Rattle.definitions.specs.Build.{build_of, image_of};
-ghost use Rattle.text_ports.specs.Sending.{Sends, count_after_sending};
+ghost use Rattle.text_ports.specs.Joins.Sending.{Sends, count_after_sending};
 ghost use Rattle.deck_linker.specs.Publishing.{listings, map_of};
 ghost use Rattle.asm_main.specs.Builds.{Counts};
-ghost use Rattle.asm_main.specs.Ways.{decks_of};
+ghost use Rattle.asm_main.specs.Joins.Ways.{decks_of};
 
 use crate::deck::Deck;
 use crate::objects::objects_of;

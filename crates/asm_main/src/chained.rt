@@ -2,7 +2,7 @@
 ghost use Rattle.std.specs.Prelude.{◌≡◌, ◌<◌, ◌-◌, take, [], vec_len, IfOk, false, None, Some};
 ghost use Rattle.std.specs.Io.{ReadsAtMost};
 ghost use Rattle.std.specs.Io.KnownBytes.{Consumes, IsAtEnd, ReadConsumes};
-ghost use Rattle.asm_main.specs.Chains.{TurnReads, ends_behind, given_in, is_open_behind, left_of, lines_given, next_after, place_in};
+ghost use Rattle.asm_main.specs.Joins.Chains.{TurnReads, ends_behind, given_in, is_open_behind, left_of, lines_given, next_after, place_in};
 
 use std::io;
 use std::io::Read;
@@ -211,7 +211,7 @@ impl<R: Read> Chained<R> {
 }
 
 impl<R: Read> Read for Chained<R> {
-    ghost use Rattle.asm_main.specs.Chains.{left_of};
+    ghost use Rattle.asm_main.specs.Joins.Chains.{left_of};
 
     ghost remaining = { left_of R.remaining };
 

@@ -6,7 +6,7 @@ ghost use Rattle.definitions.specs.Characters.{blank, comma, same_text};
 ghost use Rattle.definitions.specs.InputLines.{Line};
 ghost use Rattle.definitions.specs.DeckInput.{Decks, is_taken, continued, with_card, with_line};
 ghost use Rattle.asm_main.specs.Inputs.{newest_first, IsFaultOf};
-ghost use Rattle.asm_main.specs.CardRoles.{role_of, begun_named};
+ghost use Rattle.asm_main.specs.Joins.CardRoles.{role_of, begun_named};
 
 use crate::asm_fault::AsmFault;
 use crate::deck::Deck;

@@ -1,6 +1,6 @@
 //! The faults of the input in words, and the line and the column that each is about.
 ghost use Rattle.std.specs.Prelude.{◌≡◌, option_map};
-ghost use Rattle.asm_main.specs.FaultWords.{card_words, character_words, fault_column, fault_line, fault_words};
+ghost use Rattle.asm_main.specs.Joins.FaultWords.{card_words, character_words, fault_column, fault_line, fault_words};
 
 use crate::asm_fault::AsmFault;
 use cards::CardFault;

@@ -2,7 +2,7 @@
 ghost use Rattle.std.specs.Prelude.{◌≡◌, ℕ, List, true, false};
 ghost use Rattle.std.specs.List.{list_all};
 ghost use Rattle.asm_main.specs.declared.filtered.Filter.{Filter};
-ghost use Rattle.asm_main.specs.Filters.{filtered, is_open, is_plain};
+ghost use Rattle.asm_main.specs.Joins.Filters.{filtered, is_open, is_plain};
 
 /// Input without tabs and small letters, whose last line has its line feed, stays as it is, whatever
 /// is filtered.

@@ -1,7 +1,7 @@
 //! Old decks as people have them, made into cards: a filter in front of the input.
 ghost use Rattle.std.specs.Prelude.{◌≡◌, ◌≤◌, ◌<◌, ◌∷◌, ◌++◌, ℕ, List, replicate};
 ghost use Rattle.definitions.specs.Characters.{blank};
-ghost use Rattle.asm_main.specs.Filters.{EndGives, GivesNext, columns_behind, columns_with, end_of, filtered, filtered_left, folded, is_filled, tab_blanks};
+ghost use Rattle.asm_main.specs.Joins.Filters.{EndGives, GivesNext, columns_behind, columns_with, end_of, filtered, filtered_left, folded, is_filled, tab_blanks};
 
 use std::io;
 use std::io::Read;
@@ -163,7 +163,7 @@ impl<R: Read> Filtered<R> {
 }
 
 impl<R: Read> Read for Filtered<R> {
-    ghost use Rattle.asm_main.specs.Filters.{filtered_left};
+    ghost use Rattle.asm_main.specs.Joins.Filters.{filtered_left};
 
     ghost remaining = { filtered_left R.remaining };
 

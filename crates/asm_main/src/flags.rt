@@ -2,9 +2,9 @@
 ghost use Rattle.std.specs.Prelude.{◌≡◌, drop, length};
 ghost use Rattle.definitions.specs.Objects.{object_of};
 ghost use Rattle.definitions.specs.Fields.{from_location, unbroken_front, without_blanks};
-ghost use Rattle.deck_objects.specs.PartsOf.{ArePartsOf};
+ghost use Rattle.deck_objects.specs.Joins.PartsOf.{ArePartsOf};
 ghost use Rattle.deck_objects.specs.declared.object.ObjectParts.{ObjectParts};
-ghost use Rattle.asm_main.specs.Flags.{IsNextOf, behind_word, column_at, column_on, flag_of, flags_in, from_field, letter_words, link_words};
+ghost use Rattle.asm_main.specs.Joins.Flags.{IsNextOf, behind_word, column_at, column_on, flag_of, flags_in, from_field, letter_words, link_words};
 
 use cards::Card;
 use deck_objects::{Line, Object};
@@ -31,7 +31,7 @@ pub struct Flags<'a> {
 
 impl<'a> Model for Flags<'a> {
     ghost use Rattle.std.specs.Prelude.{List};
-    ghost use Rattle.asm_main.specs.Flags.{flags_in};
+    ghost use Rattle.asm_main.specs.Joins.Flags.{flags_in};
     ghost use Rattle.asm_main.specs.declared.flags.Flag.{Flag};
 
     ghost Value = { List Flag };

@@ -5,7 +5,7 @@ ghost use Rattle.definitions.specs.Answer.{answer_of};
 ghost use Rattle.definitions.specs.Build.{build_of};
 ghost use Rattle.asm_main.specs.Builds.{IsBuilt, IsOutputAfter, Gives, IsToldBy, IsPartOf, Counts};
 ghost use Rattle.asm_main.specs.Inputs.{input_in, AreDecksOf, TellsFaultOf, ReadsToFault, IsSoundBefore};
-ghost use Rattle.asm_main.specs.Ways.{decks_of};
+ghost use Rattle.asm_main.specs.Joins.Ways.{decks_of};
 ghost use Rattle.asm_main.specs.Runs.{IsBeforeWriting, IsReadBefore, input_count_after, output_count_after, run_status};
 
 use crate::asm_fault::AsmFault;

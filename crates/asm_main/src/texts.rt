@@ -1,10 +1,10 @@
 //! Those of the three texts of a build that go to one output.
 ghost use Rattle.std.specs.Prelude.{◌≡◌, ◌<◌, ◌^◌, length, IfErr, IfOk, true};
 ghost use Rattle.definitions.specs.Build.{build_of, image_of};
-ghost use Rattle.text_ports.specs.Sending.{Sends, count_after_sending};
+ghost use Rattle.text_ports.specs.Joins.Sending.{Sends, count_after_sending};
 ghost use Rattle.deck_linker.specs.Publishing.{listings};
-ghost use Rattle.asm_main.specs.Outputs.{front_to, text_to, text_where};
-ghost use Rattle.asm_main.specs.Ways.{decks_of};
+ghost use Rattle.asm_main.specs.Joins.Outputs.{front_to, text_to, text_where};
+ghost use Rattle.asm_main.specs.Joins.Ways.{decks_of};
 
 use crate::built::Built;
 use std::io::Write;

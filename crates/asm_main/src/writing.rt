@@ -1,7 +1,7 @@
 //! What is published, to a writer.
 ghost use Rattle.std.specs.Prelude.{◌≡◌, ◌++◌, length, IfOk};
 ghost use Rattle.definitions.specs.Build.{build_of};
-ghost use Rattle.text_ports.specs.Sending.{Sends, count_after_sending};
+ghost use Rattle.text_ports.specs.Joins.Sending.{Sends, count_after_sending};
 
 use deck_linker::Publication;
 use std::io::Write;

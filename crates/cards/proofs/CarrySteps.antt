@@ -6,7 +6,7 @@ use Rattle.cards.specs.declared.edits.Edit.{Edit}
 use Rattle.cards.specs.declared.carrying.Origin.{Origin}
 use Rattle.cards.specs.declared.carrying.Touched.{Touched}
 use Rattle.cards.specs.Carrying.{Whereabouts, carried_place, placed, origin_of, stands_from, stands_after, in_front, carried}
-use Rattle.cards.specs.CarrySteps.{stands_through, placed_all, AreNear, in_front_all, carried_to}
+use Rattle.cards.specs.Joins.CarrySteps.{stands_through, placed_all, AreNear, in_front_all, carried_to}
 
 -- where the cards stand once one edit more is made
 pub stands-more : (edits : List Edit) (places : List ℕ) (n : ℕ) (edit : Edit) (now : ℕ) (stands : Whereabouts) → n < length edits → n < length places → edit ≡ get_or edits n edit → now ≡ get_or places n now →

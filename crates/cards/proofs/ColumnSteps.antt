@@ -6,7 +6,7 @@ use Rattle.std.proofs.lemmas.Bool.{ne_eqb}
 use Rattle.std.proofs.lemmas.List.{take_more, take-take, take-replicate, drop-replicate, take_at}
 use Rattle.definitions.specs.Cards.{trimmed, onto_columns, padded}
 use Rattle.definitions.specs.Characters.{blank, display_code_of}
-use Rattle.cards.specs.Columns.{IsPadded}
+use Rattle.cards.specs.Joins.Columns.{IsPadded}
 
 -- a blank more at the end is dropped
 trimmed-blank : (cs : List ℕ) → trimmed (cs ++ blank ∷ []) ≡ trimmed cs

@@ -11,7 +11,7 @@ use Rattle.cards.specs.declared.edits.EditFault.{EditFault}
 use Rattle.cards.specs.Causes.{when, first_cause}
 use Rattle.cards.specs.Counts.{fault_at, count_after, fault_from}
 use Rattle.cards.specs.Edits.{is_place, fault_of, edited, edited_by, first_fault}
-use Rattle.cards.specs.CarrySteps.{place_in}
+use Rattle.cards.specs.Joins.CarrySteps.{place_in}
 use Rattle.cards.specs.Converging.{HasPlace, HavePlaces}
 
 -- a cause that is absent

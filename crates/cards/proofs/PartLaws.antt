@@ -6,7 +6,7 @@ use Rattle.std.proofs.lemmas.Bool.Decides.{eqb_tells}
 use Rattle.definitions.specs.Characters.{blank, same_text}
 use Rattle.definitions.specs.Fields.{without_blanks}
 use Rattle.definitions.proofs.TextLaws.{same_text-true, same_text-refl}
-use Rattle.cards.specs.FieldParts.{in_time}
+use Rattle.cards.specs.Joins.FieldParts.{in_time}
 
 -- what the test of two texts tells
 pub same_text-Decides : (a b : List ℕ) → Decides (same_text a b) (a ≡ b)

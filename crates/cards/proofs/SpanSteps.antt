@@ -9,8 +9,8 @@ use Rattle.definitions.specs.Cards.{Card, is_comma_card}
 use Rattle.definitions.specs.Statements.{Statement, statements_of, onto_latest, continues}
 use Rattle.cards.specs.declared.statement_list.Span.{Span}
 use Rattle.cards.specs.declared.statement_list.Before.{Before}
-use Rattle.cards.specs.Befores.{before_of, with_card, is_continued_by}
-use Rattle.cards.specs.Spans.{IsSpan, statement_at, statements_at, with_last}
+use Rattle.cards.specs.Joins.Befores.{before_of, with_card, is_continued_by}
+use Rattle.cards.specs.Joins.Spans.{IsSpan, statement_at, statements_at, with_last}
 use Rattle.cards.proofs.BeforeSteps.{before_of-more, few-more}
 
 -- the first `k` cards, newest first

@@ -1,13 +1,8 @@
 pub mod CardReads
-pub mod Columns
-pub mod Spans
-pub mod Befores
-pub mod FieldParts
-pub mod CardParts
-pub mod Readings
 pub mod Causes
 pub mod Edits
 pub mod Counts
 pub mod Carrying
-pub mod CarrySteps
 pub mod Converging
+-- What no promise leads to.
+pub mod Joins

@@ -5,7 +5,7 @@ ghost use Rattle.definitions.specs.Cards.{card_of, is_comma_card, is_comment, pa
 ghost use Rattle.definitions.specs.Characters.{display_code_of};
 ghost use Rattle.definitions.specs.Fields.{fields_of};
 ghost use Rattle.cards.specs.CardReads.{read_as};
-ghost use Rattle.cards.specs.FieldParts.{AreWithin, fields_at};
+ghost use Rattle.cards.specs.Joins.FieldParts.{AreWithin, fields_at};
 
 use crate::card_parts::{CardParts, parts_on};
 use crate::field_parts::Parts;
@@ -31,7 +31,7 @@ pub struct Card {
 
 impl Model for Card {
     ghost use Rattle.std.specs.Prelude.{ℕ, List, take};
-    ghost use Rattle.cards.specs.CardParts.{IsCard};
+    ghost use Rattle.cards.specs.Joins.CardParts.{IsCard};
 
     ghost Value = { List ℕ };
 

@@ -2,8 +2,8 @@
 ghost use Rattle.std.specs.Prelude.{◌≡◌, ◌≤◌, ◌+◌, ◌||◌, ◌∷◌, [], length};
 ghost use Rattle.definitions.specs.Cards.{is_comma_card, is_comment, padded};
 ghost use Rattle.definitions.specs.Fields.{fields_of};
-ghost use Rattle.cards.specs.CardParts.{part_as, parts_as};
-ghost use Rattle.cards.specs.FieldParts.{AreWithin, fields_at};
+ghost use Rattle.cards.specs.Joins.CardParts.{part_as, parts_as};
+ghost use Rattle.cards.specs.Joins.FieldParts.{AreWithin, fields_at};
 
 use crate::field_parts::{Part, Parts, cut};
 

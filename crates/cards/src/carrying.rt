@@ -3,7 +3,7 @@ ghost use Rattle.std.specs.Prelude.{◌≡◌, ◌≤◌, ◌<◌, ◌+◌, ◌-
 ghost use Rattle.definitions.specs.Cards.{Card};
 ghost use Rattle.cards.specs.Edits.{first_fault};
 ghost use Rattle.cards.specs.Carrying.{moved, seen_before, origin_of, in_gap, carried_place, carried};
-ghost use Rattle.cards.specs.CarrySteps.{stands_through, placed_all, AreLow, AreNear, carried_to, carried_as};
+ghost use Rattle.cards.specs.Joins.CarrySteps.{stands_through, placed_all, AreLow, AreNear, carried_to, carried_as};
 
 use crate::edits::Edit;
 

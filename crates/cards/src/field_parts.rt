@@ -3,7 +3,7 @@ ghost use Rattle.std.specs.Prelude.{◌≡◌, ◌==◌, ◌≤◌, ◌+◌, not
 ghost use Rattle.std.specs.List.{prefix_len};
 ghost use Rattle.definitions.specs.Characters.{blank, same_text};
 ghost use Rattle.definitions.specs.Fields.{unbroken_front, without_blanks, from_location, variable_of, fields_of_text};
-ghost use Rattle.cards.specs.FieldParts.{part_of, fields_at, AreWithin, in_time};
+ghost use Rattle.cards.specs.Joins.FieldParts.{part_of, fields_at, AreWithin, in_time};
 
 use crate::variable_fields::variable_len;
 

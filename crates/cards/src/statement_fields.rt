@@ -1,7 +1,7 @@
 //! The fields of a statement.
 ghost use Rattle.std.specs.Prelude.{◌≡◌, ◌≤◌, ◌∷◌, [], length};
 ghost use Rattle.definitions.specs.Fields.{fields_of, fields_of_text, no_fields};
-ghost use Rattle.cards.specs.FieldParts.{AreWithin, fields_at};
+ghost use Rattle.cards.specs.Joins.FieldParts.{AreWithin, fields_at};
 
 use crate::card::Card;
 use crate::field_parts::{Parts, cut, part_text};
@@ -17,7 +17,7 @@ pub struct Fields<'a> {
 }
 
 impl<'a> Model for Fields<'a> {
-    ghost use Rattle.cards.specs.FieldParts.{FieldTexts, fields_made};
+    ghost use Rattle.cards.specs.Joins.FieldParts.{FieldTexts, fields_made};
 
     ghost Value = { FieldTexts };
 

@@ -1,8 +1,8 @@
 //! The statements of a deck's cards.
 ghost use Rattle.std.specs.Prelude.{◌≡◌, ◌-◌, ◌^◌, ◌<◌, [], IfOk, All, length, reverse, take, drop, ◌+◌, ◌≤◌};
 ghost use Rattle.definitions.specs.Statements.{statements_of};
-ghost use Rattle.cards.specs.Spans.{IsSpan, statements_at, with_last};
-ghost use Rattle.cards.specs.Befores.{before_of, is_continued_by, with_card};
+ghost use Rattle.cards.specs.Joins.Spans.{IsSpan, statements_at, with_last};
+ghost use Rattle.cards.specs.Joins.Befores.{before_of, is_continued_by, with_card};
 
 use crate::card::Card;
 use std::alloc::{AllocError, Global};

@@ -2,7 +2,7 @@
 ghost use Rattle.std.specs.Prelude.{◌≡◌, ◌≤◌, ◌<◌, ◌+◌, ◌∷◌, length, drop, slice_index, is_some, MatchOption};
 ghost use Rattle.definitions.specs.Pieces.{AtStart, field_at, mark_of, begun_by, begun_by_counted_item, begun_at};
 ghost use Rattle.definitions.specs.CountedItems.{counted_item_at};
-ghost use Rattle.cards.specs.Readings.{spot_of, Leads, extent_at};
+ghost use Rattle.cards.specs.Joins.Readings.{spot_of, Leads, extent_at};
 
 use definitions::item_at;
 

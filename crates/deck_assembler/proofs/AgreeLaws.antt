@@ -1,6 +1,6 @@
 -- From where two decks agree, what is left of the one stays as it was sized in the other.
 use Rattle.std.proofs.Common.{◌≡◌, ℕ, ◌+◌, ◌≤◌, List, [], ◌∷◌, ◌++◌, Option, Some, None, Bool, take, drop, map, length, refl, sym, ap, ap₂, ◌∙◌, subst, if◌then◌else◌}
-use Rattle.cards.specs.Spans.{statement_at}
+use Rattle.cards.specs.Joins.Spans.{statement_at}
 use Rattle.definitions.specs.Cards.{Card}
 use Rattle.definitions.specs.Literals.{operand_literals}
 use Rattle.definitions.specs.Operands.{Operand, NamesOperand}
@@ -14,19 +14,19 @@ use Rattle.definitions.specs.Agreement.{Agree, early_symbols, lawful_names, unnu
 use Rattle.definitions.specs.declared.deck_kind.DeckKind.{DeckKind}
 use Rattle.definitions.proofs.StateSteps.{settled_all-in_use}
 use Rattle.definitions.proofs.TailLaws.{views-agree, tails-agree}
-use Rattle.statement_coder.specs.Definitions.{defined_by, IsOfExt}
-use Rattle.statement_coder.specs.Sizings.{IsSizing}
+use Rattle.statement_coder.specs.Joins.Definitions.{defined_by, IsOfExt}
+use Rattle.statement_coder.specs.Joins.Sizings.{IsSizing}
 use Rattle.statement_coder.specs.declared.definitions_made.Defines as code
 use Rattle.statement_coder.specs.declared.definitions_made.Defines.TheVariants as defines
 use Rattle.statement_coder.specs.declared.sizing.Sizing.{Sizing}
-use Rattle.deck_assembler.specs.Agreements.{AreNamesAlike, AreExternalsAlike, AreAlikeFrom}
-use Rattle.deck_assembler.specs.OldDecks.{AreKeptFrom}
-use Rattle.deck_assembler.specs.SizedDecks.{IsSizedStatement, AreSizedFrom}
-use Rattle.deck_assembler.specs.Tails.{AreKeptAlike}
+use Rattle.deck_assembler.specs.Joins.Agreements.{AreNamesAlike, AreExternalsAlike, AreAlikeFrom}
+use Rattle.deck_assembler.specs.Joins.OldDecks.{AreKeptFrom}
+use Rattle.deck_assembler.specs.Joins.SizedDecks.{IsSizedStatement, AreSizedFrom}
+use Rattle.deck_assembler.specs.Joins.Tails.{AreKeptAlike}
 use Rattle.deck_assembler.specs.declared.sized_statement.SizedStatement.{SizedStatement}
 use Rattle.deck_assembler.proofs.OntoLaws.{drop-more}
 use Rattle.std.specs.Prelude.{IfSome}
-use Rattle.statement_coder.specs.KeptReadings.{IsKeptReading}
+use Rattle.statement_coder.specs.Joins.KeptReadings.{IsKeptReading}
 
 known-alike : (v w : View) (name : List ℕ) (so_far : List Definition) → v name ≡ w name → is_known v name so_far ≡ is_known w name so_far
 known-alike v w name so_far e = λ i. is_known (λ other. e i) name so_far

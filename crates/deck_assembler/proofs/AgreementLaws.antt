@@ -18,15 +18,15 @@ use Rattle.definitions.specs.declared.deck_kind.DeckKind.{DeckKind}
 use Rattle.definitions.proofs.EditLaws.{agreement-lasts, cards_in-append}
 use Rattle.definitions.proofs.NamesLaws.{all-behind}
 use Rattle.definitions.proofs.TailLaws.{settled_all-append}
-use Rattle.statement_coder.specs.Definitions.{IsOfExt}
+use Rattle.statement_coder.specs.Joins.Definitions.{IsOfExt}
 use Rattle.statement_coder.specs.declared.definitions_made.Defines as code
 use Rattle.statement_coder.specs.declared.definitions_made.Defines.TheVariants as defines
-use Rattle.deck_assembler.specs.Agreements.{AreAlikeFrom, AreExternalsAlike}
-use Rattle.deck_assembler.specs.FirstSymbols.{symbol_in}
-use Rattle.deck_assembler.specs.Formers.{known_in}
-use Rattle.deck_assembler.specs.Meetings.{AgreeFrom, AreMeeting, IsShort, StandApart, WillAgreeLater}
-use Rattle.deck_assembler.specs.SizedDecks.{AreSizedFrom}
-use Rattle.deck_assembler.specs.Sizers.{stood}
+use Rattle.deck_assembler.specs.Joins.Agreements.{AreAlikeFrom, AreExternalsAlike}
+use Rattle.deck_assembler.specs.Joins.FirstSymbols.{symbol_in}
+use Rattle.deck_assembler.specs.Joins.Formers.{known_in}
+use Rattle.deck_assembler.specs.Joins.Meetings.{AgreeFrom, AreMeeting, IsShort, StandApart, WillAgreeLater}
+use Rattle.deck_assembler.specs.Joins.SizedDecks.{AreSizedFrom}
+use Rattle.deck_assembler.specs.Joins.Sizers.{stood}
 use Rattle.deck_assembler.specs.declared.old_deck.OldDeck.{OldDeck}
 use Rattle.deck_assembler.specs.declared.sized_statement.SizedStatement.{SizedStatement}
 use Rattle.deck_assembler.proofs.CutLaws.{known-cards}

@@ -12,10 +12,10 @@ use Rattle.definitions.specs.declared.deck_kind.DeckKind.{DeckKind}
 use Rattle.definitions.proofs.NamesLaws.{all-front, all-behind}
 use Rattle.statement_coder.specs.declared.definitions_made.Defines as code
 use Rattle.statement_coder.specs.declared.definitions_made.Defines.TheVariants as defines
-use Rattle.deck_assembler.specs.Agreements.{left, DoesAgree, IsAgreeing, IsAlike, AreAlikeFrom, AreAlike, AreExternalsAlike, AreNamesAlike, StandAlike}
-use Rattle.deck_assembler.specs.DeckParts.{DeckPiece, sized_in}
-use Rattle.deck_assembler.specs.FirstSymbols.{symbol_in}
-use Rattle.deck_assembler.specs.SizedDecks.{IsSizedStatement, AreSizedFrom}
+use Rattle.deck_assembler.specs.Joins.Agreements.{left, DoesAgree, IsAgreeing, IsAlike, AreAlikeFrom, AreAlike, AreExternalsAlike, AreNamesAlike, StandAlike}
+use Rattle.deck_assembler.specs.Joins.DeckParts.{DeckPiece, sized_in}
+use Rattle.deck_assembler.specs.Joins.FirstSymbols.{symbol_in}
+use Rattle.deck_assembler.specs.Joins.SizedDecks.{IsSizedStatement, AreSizedFrom}
 use Rattle.deck_assembler.specs.declared.early_trial.Trial.{Trial}
 use Rattle.deck_assembler.specs.declared.old_deck.OldDeck.{OldDeck}
 use Rattle.deck_assembler.specs.declared.sized_statement.SizedStatement.{SizedStatement}

@@ -9,8 +9,8 @@ use Rattle.std.proofs.lemmas.Option.{slice_get-get_or}
 use Rattle.definitions.specs.Characters.{same_text}
 use Rattle.definitions.specs.Lengths.{BlockRow}
 use Rattle.definitions.proofs.TextLaws.{same_text-true}
-use Rattle.deck_objects.specs.CodedLines.{IsNamed}
-use Rattle.deck_assembler.specs.Walks.{has_row}
+use Rattle.deck_objects.specs.Joins.CodedLines.{IsNamed}
+use Rattle.deck_assembler.specs.Joins.Walks.{has_row}
 
 -- the test of a row
 abbrev is_row : List ℕ → BlockRow → Bool

@@ -5,17 +5,17 @@ use Rattle.std.proofs.lemmas.List.{drop-map, drop_at, length-map, take_all, leng
 use Rattle.definitions.specs.Lengths.{BlockRow}
 use Rattle.definitions.specs.Words.{Coded}
 use Rattle.definitions.specs.declared.deck_kind.DeckKind.{DeckKind}
-use Rattle.operations.specs.OperationsAs.{operation_as}
-use Rattle.statement_coder.specs.CodedItems.{IsKept}
-use Rattle.statement_coder.specs.Items.{item_as}
+use Rattle.operations.specs.Joins.OperationsAs.{operation_as}
+use Rattle.statement_coder.specs.Joins.CodedItems.{IsKept}
+use Rattle.statement_coder.specs.Joins.Items.{item_as}
 use Rattle.statement_coder.specs.declared.items.Item as code
 use Rattle.statement_coder.proofs.ListLaws.{kept-length}
-use Rattle.deck_objects.specs.CodedLines.{IsCoded, IsNamed}
-use Rattle.deck_objects.specs.LineItems.{kept_from, AreBitsOf, AreShort, AreKept}
+use Rattle.deck_objects.specs.Joins.CodedLines.{IsCoded, IsNamed}
+use Rattle.deck_objects.specs.Joins.LineItems.{kept_from, AreBitsOf, AreShort, AreKept}
 use Rattle.deck_objects.specs.declared.lines.CodedLine as lines
 use Rattle.deck_objects.specs.declared.lines.LineFields.{LineFields}
 use Rattle.deck_objects.specs.declared.lines.LineFields.TheVariants as kept
-use Rattle.deck_assembler.specs.CopiedFields.{AreListedAlike, AreCopied}
+use Rattle.deck_assembler.specs.Joins.CopiedFields.{AreListedAlike, AreCopied}
 
 -- the end of a list is what was put there
 pub listed-put : (before after some : List code.Item) → IsKept before after → map item_as after ≡ map item_as before ++ map item_as some → (others : List code.Item) (first count : ℕ) → some ≡ take count (drop first others) →

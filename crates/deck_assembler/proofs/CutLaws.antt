@@ -12,8 +12,8 @@ use Rattle.definitions.specs.Agreement.{HaveSameCards}
 use Rattle.definitions.proofs.EditLaws.{cards_in-append}
 use Rattle.definitions.proofs.NamesLaws.{all-behind}
 use Rattle.definitions.proofs.StatementLaws.{cards_in-statements_of}
-use Rattle.deck_assembler.specs.Formers.{known_in}
-use Rattle.deck_assembler.specs.Sizers.{stood}
+use Rattle.deck_assembler.specs.Joins.Formers.{known_in}
+use Rattle.deck_assembler.specs.Joins.Sizers.{stood}
 use Rattle.deck_assembler.proofs.EndLaws.{end-none}
 
 -- each statement has a card

@@ -4,17 +4,17 @@ use Rattle.std.specs.Prelude.{reverse}
 use Rattle.std.specs.List.{AllByRecursion}
 use Rattle.std.proofs.lemmas.List.{reverse-reverse, drop_all}
 use Rattle.std.proofs.lemmas.List.Elements.{All-from_recursion, recursion_from_All}
-use Rattle.cards.specs.Spans.{IsSpan, statement_at, statements_at}
+use Rattle.cards.specs.Joins.Spans.{IsSpan, statement_at, statements_at}
 use Rattle.cards.specs.declared.statement_list.Span.{Span}
 use Rattle.definitions.specs.Cards.{Card}
 use Rattle.definitions.specs.DeckKinds.{up_to_end, behind_end, kind_of_statements}
 use Rattle.definitions.specs.Statements.{Statement, statements_of, cards_in, AreNumbered}
 use Rattle.definitions.specs.declared.deck_kind.DeckKind.{DeckKind}
 use Rattle.definitions.proofs.StatementLaws.{cards_in-statements_of, numbered-statements_of}
-use Rattle.deck_assembler.specs.DeckParts.{DeckParts}
-use Rattle.deck_assembler.specs.FirstStatements.{first_statements, all_statements, IsEnding}
-use Rattle.deck_assembler.specs.SizedDecks.{AreListedFrom, IsSizedUp, IsSizedDeck}
-use Rattle.deck_assembler.specs.Sizers.{stood, ahead, IsSizer}
+use Rattle.deck_assembler.specs.Joins.DeckParts.{DeckParts}
+use Rattle.deck_assembler.specs.Joins.FirstStatements.{first_statements, all_statements, IsEnding}
+use Rattle.deck_assembler.specs.Joins.SizedDecks.{AreListedFrom, IsSizedUp, IsSizedDeck}
+use Rattle.deck_assembler.specs.Joins.Sizers.{stood, ahead, IsSizer}
 use Rattle.deck_assembler.specs.declared.sizer.Sizer.{Sizer}
 use Rattle.deck_assembler.proofs.EndLaws.{all-split, next-span}
 use Rattle.deck_assembler.proofs.ForwardLaws.{stood-more, ahead-less, all-forward, sized-count}

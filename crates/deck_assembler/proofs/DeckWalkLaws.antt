@@ -6,11 +6,11 @@ use Rattle.definitions.specs.Lengths.{block_rows}
 use Rattle.definitions.specs.Objects.{Shown, shown_of, only_listed}
 use Rattle.definitions.specs.Settling.{settle, settled_all}
 use Rattle.definitions.specs.Statements.{Statement}
-use Rattle.deck_assembler.specs.DeckParts.{sized_in}
-use Rattle.deck_assembler.specs.SizedDecks.{AreSizedFrom, AreListedFrom, IsSizedStatement, IsListedStatement}
+use Rattle.deck_assembler.specs.Joins.DeckParts.{sized_in}
+use Rattle.deck_assembler.specs.Joins.SizedDecks.{AreSizedFrom, AreListedFrom, IsSizedStatement, IsListedStatement}
 use Rattle.deck_assembler.specs.declared.sized_statement.SizedStatement.{SizedStatement}
-use Rattle.deck_assembler.specs.Walks.{Whole, IsWhole, has_row, all_settled, context_in, AreLined, AreLinedAs, AreNoted}
-use Rattle.deck_assembler.specs.DeckWalks.{IsWalked, IsListing}
+use Rattle.deck_assembler.specs.Joins.Walks.{Whole, IsWhole, has_row, all_settled, context_in, AreLined, AreLinedAs, AreNoted}
+use Rattle.deck_assembler.specs.Joins.DeckWalks.{IsWalked, IsListing}
 use Rattle.deck_assembler.specs.declared.deck_lines.DeckLines.{DeckLines}
 use Rattle.deck_assembler.specs.declared.deck_walk.Making.{Making}
 use Rattle.deck_assembler.proofs.UsedLaws.{block-there}

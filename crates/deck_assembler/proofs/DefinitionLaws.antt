@@ -14,13 +14,13 @@ use Rattle.definitions.specs.declared.deck_kind.DeckKind.{DeckKind}
 use Rattle.definitions.specs.declared.deck_kind.DeckKind.TheVariants.{Rel, Abs, Periph}
 use Rattle.definitions.proofs.TextLaws.{same_text-true}
 use Rattle.expr_forms.specs.declared.use_fields.UseField.TheVariants as use_field
-use Rattle.statement_coder.specs.Definitions.{defined_by, externals_of}
-use Rattle.statement_coder.specs.Readings.{IsReading, IsLawful, IsLawfulName}
+use Rattle.statement_coder.specs.Joins.Definitions.{defined_by, externals_of}
+use Rattle.statement_coder.specs.Joins.Readings.{IsReading, IsLawful, IsLawfulName}
 use Rattle.statement_coder.specs.declared.definitions_made.Defines as code
 use Rattle.statement_coder.specs.declared.definitions_made.Defines.TheVariants as defines
 use Rattle.statement_coder.specs.declared.readings.Reading as readings
 use Rattle.statement_coder.specs.declared.readings.Reading.TheVariants as reading
-use Rattle.deck_assembler.specs.FirstSymbols.{is_known_name, with_symbol, with_externals, with_names, with_defined, IsLawfulOperand}
+use Rattle.deck_assembler.specs.Joins.FirstSymbols.{is_known_name, with_symbol, with_externals, with_names, with_defined, IsLawfulOperand}
 use Rattle.deck_assembler.proofs.NameTexts.{symbol-known, linked-known}
 
 pub lawful-shape : (operand : Operand) (read : readings.Reading) → IsReading read operand → IsLawful read → IsLawfulOperand operand

@@ -16,11 +16,11 @@ use Rattle.definitions.specs.Statements.{Statement}
 use Rattle.definitions.specs.Agreement.{settled_tail}
 use Rattle.definitions.specs.declared.deck_kind.DeckKind.{DeckKind}
 use Rattle.definitions.proofs.TailLaws.{settled_all-append}
-use Rattle.deck_assembler.specs.DueCodes.{one_where, has_line, one_due, code_due, code_due_in, code_due_of, CodePlan, IsPlanOf}
-use Rattle.deck_assembler.specs.Formers.{known_in}
-use Rattle.deck_assembler.specs.Meetings.{StandApart}
-use Rattle.deck_assembler.specs.Tails.{HasTailIfAny, HasTailWithin, StandBeforeTail}
-use Rattle.deck_assembler.specs.Walks.{Whole, IsWhole}
+use Rattle.deck_assembler.specs.Joins.DueCodes.{one_where, has_line, one_due, code_due, code_due_in, code_due_of, CodePlan, IsPlanOf}
+use Rattle.deck_assembler.specs.Joins.Formers.{known_in}
+use Rattle.deck_assembler.specs.Joins.Meetings.{StandApart}
+use Rattle.deck_assembler.specs.Joins.Tails.{HasTailIfAny, HasTailWithin, StandBeforeTail}
+use Rattle.deck_assembler.specs.Joins.Walks.{Whole, IsWhole}
 use Rattle.deck_assembler.specs.declared.former.Former.{Former}
 use Rattle.deck_assembler.proofs.AgreementLaws.{between, untouched-before}
 use Rattle.deck_assembler.proofs.DueCodeLaws.{settled-length}

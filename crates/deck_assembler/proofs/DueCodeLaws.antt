@@ -8,13 +8,13 @@ use Rattle.definitions.specs.Rebound.{is_rebound}
 use Rattle.definitions.specs.Settling.{settle, settled_all}
 use Rattle.definitions.specs.Statements.{Statement, cards_in}
 use Rattle.definitions.specs.declared.deck_kind.DeckKind.{DeckKind}
-use Rattle.deck_assembler.specs.DeckParts.{sized_in}
-use Rattle.deck_assembler.specs.DueCodes.{one_where, has_line, one_due, code_due_in, CodePlan, IsPlanned, IsBesideFront, IsBesideTail, HasNoTail, IsDueBeside, IsWalkedDue}
-use Rattle.deck_assembler.specs.FormerLines.{IsSameTail, IsMissedInFront, IsMissedInTail, IsNextInFront, IsNextInTail, IsNextLine, AreBeside}
-use Rattle.deck_assembler.specs.Rebindings.{AreBindings}
-use Rattle.deck_assembler.specs.SizedDecks.{AreSizedFrom, IsSizedStatement}
-use Rattle.deck_assembler.specs.Sizers.{stood}
-use Rattle.deck_assembler.specs.Walks.{Whole, IsWhole, context_in}
+use Rattle.deck_assembler.specs.Joins.DeckParts.{sized_in}
+use Rattle.deck_assembler.specs.Joins.DueCodes.{one_where, has_line, one_due, code_due_in, CodePlan, IsPlanned, IsBesideFront, IsBesideTail, HasNoTail, IsDueBeside, IsWalkedDue}
+use Rattle.deck_assembler.specs.Joins.FormerLines.{IsSameTail, IsMissedInFront, IsMissedInTail, IsNextInFront, IsNextInTail, IsNextLine, AreBeside}
+use Rattle.deck_assembler.specs.Joins.Rebindings.{AreBindings}
+use Rattle.deck_assembler.specs.Joins.SizedDecks.{AreSizedFrom, IsSizedStatement}
+use Rattle.deck_assembler.specs.Joins.Sizers.{stood}
+use Rattle.deck_assembler.specs.Joins.Walks.{Whole, IsWhole, context_in}
 use Rattle.deck_assembler.specs.declared.former_lines.FormerLine.{FormerLine}
 use Rattle.deck_assembler.specs.declared.former_lines.FormerLines.{FormerLines}
 use Rattle.deck_assembler.specs.declared.sized_statement.SizedStatement.{SizedStatement}

@@ -4,7 +4,7 @@ use Rattle.std.specs.List.{AllByRecursion}
 use Rattle.std.specs.Prelude.{reverse, map}
 use Rattle.std.proofs.lemmas.Bool.{cases_lt}
 use Rattle.std.proofs.lemmas.List.{length-drop, length-reverse, reverse-append, reverse-reverse, map-append}
-use Rattle.cards.specs.Spans.{statement_at}
+use Rattle.cards.specs.Joins.Spans.{statement_at}
 use Rattle.cards.specs.declared.statement_list.Span.{Span}
 use Rattle.definitions.specs.Cards.{Card}
 use Rattle.definitions.specs.DeckKinds.{has_end, up_to_end}
@@ -15,15 +15,15 @@ use Rattle.definitions.specs.States.{state_after}
 use Rattle.definitions.specs.Agreement.{HaveSameCards}
 use Rattle.definitions.specs.declared.deck_kind.DeckKind.{DeckKind}
 use Rattle.definitions.proofs.EditLaws.{cards_in-append}
-use Rattle.deck_assembler.specs.Agreements.{left, DoesAgree, HasFront, StandAlike}
-use Rattle.deck_assembler.specs.DeckParts.{DeckPiece, sized_in}
-use Rattle.deck_assembler.specs.FirstSymbols.{symbol_in}
-use Rattle.deck_assembler.specs.FirstStatements.{first_statements}
-use Rattle.deck_assembler.specs.Formers.{known_in}
-use Rattle.deck_assembler.specs.Meetings.{cards_of, IsBounded, IsNextOf, IsShort, HasPiece, AreMeeting, AgreeFrom, WillAgreeLater, WillMeet, IsCutAlike, IsNextKnown}
-use Rattle.deck_assembler.specs.OldDecks.{IsInFront}
-use Rattle.deck_assembler.specs.SizedDecks.{AreFilled, AreSizedFrom}
-use Rattle.deck_assembler.specs.Sizers.{stood, ahead, IsSizer}
+use Rattle.deck_assembler.specs.Joins.Agreements.{left, DoesAgree, HasFront, StandAlike}
+use Rattle.deck_assembler.specs.Joins.DeckParts.{DeckPiece, sized_in}
+use Rattle.deck_assembler.specs.Joins.FirstSymbols.{symbol_in}
+use Rattle.deck_assembler.specs.Joins.FirstStatements.{first_statements}
+use Rattle.deck_assembler.specs.Joins.Formers.{known_in}
+use Rattle.deck_assembler.specs.Joins.Meetings.{cards_of, IsBounded, IsNextOf, IsShort, HasPiece, AreMeeting, AgreeFrom, WillAgreeLater, WillMeet, IsCutAlike, IsNextKnown}
+use Rattle.deck_assembler.specs.Joins.OldDecks.{IsInFront}
+use Rattle.deck_assembler.specs.Joins.SizedDecks.{AreFilled, AreSizedFrom}
+use Rattle.deck_assembler.specs.Joins.Sizers.{stood, ahead, IsSizer}
 use Rattle.deck_assembler.specs.declared.old_deck.OldDeck.{OldDeck}
 use Rattle.deck_assembler.specs.declared.sized_statement.SizedStatement.{SizedStatement}
 use Rattle.deck_assembler.specs.declared.sizer.Sizer.{Sizer}

@@ -4,14 +4,14 @@ use Rattle.std.specs.Prelude.{reverse}
 use Rattle.std.proofs.Math.Seq.{take-suc, take-length}
 use Rattle.std.proofs.lemmas.List.{reverse-append, length-reverse, length-drop, map-append, length-map, drop_all}
 use Rattle.std.proofs.lemmas.List.Elements.{All-get_or}
-use Rattle.cards.specs.Spans.{IsSpan, statement_at, statements_at}
+use Rattle.cards.specs.Joins.Spans.{IsSpan, statement_at, statements_at}
 use Rattle.cards.specs.declared.statement_list.Span.{Span}
 use Rattle.definitions.specs.Cards.{Card}
 use Rattle.definitions.specs.DeckKinds.{is_end, has_end, up_to_end, behind_end}
 use Rattle.definitions.specs.Fields.{fields_of}
 use Rattle.definitions.specs.Statements.{Statement, AreNumbered}
-use Rattle.deck_assembler.specs.FirstStatements.{first_statements, all_statements, IsEnding}
-use Rattle.deck_assembler.specs.Sizers.{stood, IsNext}
+use Rattle.deck_assembler.specs.Joins.FirstStatements.{first_statements, all_statements, IsEnding}
+use Rattle.deck_assembler.specs.Joins.Sizers.{stood, IsNext}
 
 -- one span more
 pub first-step : (cards : List Card) (spans : List Span) (count : ℕ) (span : Span) → count < length spans →

@@ -7,8 +7,8 @@ use Rattle.definitions.specs.Forms.{Form}
 use Rattle.definitions.specs.Settled.{Settled, Definition, defined_in, defined, or_form}
 use Rattle.definitions.specs.declared.letter.Letter.TheVariants as letter
 use Rattle.deck_assembler.proofs.DefinitionLaws.{defined_in-push}
-use Rattle.deck_assembler.specs.FirstSymbols.{is_known_name, symbol_in, with_symbol}
-use Rattle.deck_assembler.specs.SharedNames.{AreSeen}
+use Rattle.deck_assembler.specs.Joins.FirstSymbols.{is_known_name, symbol_in, with_symbol}
+use Rattle.deck_assembler.specs.Joins.SharedNames.{AreSeen}
 
 -- what is worth something is a known name
 pub symbol_in-known : (seen : List (ℕ × Form)) (name : List ℕ) (form : Form) → symbol_in seen name ≡ Some form → is_known_name name ≡ true

@@ -15,12 +15,12 @@ use Rattle.definitions.specs.Settling.{View, external, externals, is_known, defi
 use Rattle.definitions.specs.Statements.{Statement}
 use Rattle.definitions.specs.declared.deck_kind.DeckKind.{DeckKind}
 use Rattle.definitions.specs.declared.deck_kind.DeckKind.TheVariants.{Rel, Abs, Periph}
-use Rattle.statement_coder.specs.Definitions as made
-use Rattle.statement_coder.specs.Readings.{IsLawfulName}
-use Rattle.deck_assembler.specs.FirstSymbols.{symbol_in, with_symbol, with_names, IsLawfulOperand}
+use Rattle.statement_coder.specs.Joins.Definitions as made
+use Rattle.statement_coder.specs.Joins.Readings.{IsLawfulName}
+use Rattle.deck_assembler.specs.Joins.FirstSymbols.{symbol_in, with_symbol, with_names, IsLawfulOperand}
 use Rattle.deck_assembler.proofs.DefinitionLaws.{AreFresh, fresh-of, joined, joined-fresh, or_form-none, is_some-or, external-step, names-joined, symbol-joined}
 use Rattle.deck_assembler.proofs.NameTexts.{linked-known}
-use Rattle.deck_assembler.specs.SharedNames.{with_new, with_new_of, is_ext, AreExternals}
+use Rattle.deck_assembler.specs.Joins.SharedNames.{with_new, with_new_of, is_ext, AreExternals}
 
 filter_map-push : (so_far : List Definition) (name : List ℕ) → filter_map external_name (so_far ++ external name ∷ []) ≡ filter_map external_name so_far ++ name ∷ []
 filter_map-push so_far name = filter_map-append external_name so_far (external name ∷ [])

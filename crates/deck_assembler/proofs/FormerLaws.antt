@@ -24,23 +24,23 @@ use Rattle.definitions.specs.Lengths.{BlockRow}
 use Rattle.definitions.proofs.EditLaws.{cards_in-append}
 use Rattle.definitions.proofs.ReboundLaws.{letters-enough, fields-enough}
 use Rattle.statement_coder.specs.declared.items.Item as code
-use Rattle.deck_objects.specs.CodedLines.{IsCoded, IsShown, IsStored, AreShown}
-use Rattle.deck_objects.specs.PartsOf.{ArePartsOf}
+use Rattle.deck_objects.specs.Joins.CodedLines.{IsCoded, IsShown, IsStored, AreShown}
+use Rattle.deck_objects.specs.Joins.PartsOf.{ArePartsOf}
 use Rattle.deck_objects.specs.declared.lines.CodedLine.{CodedLine}
 use Rattle.deck_objects.specs.declared.lines.Line.{Line}
 use Rattle.deck_objects.specs.declared.object.ObjectParts.{ObjectParts}
-use Rattle.deck_assembler.specs.DeckParts.{sized_in}
-use Rattle.deck_assembler.specs.DeckWalks.{IsWalked}
-use Rattle.deck_assembler.specs.FormerLines.{IsSameTail, IsOneOf, IsMissedInFront, IsMissedInTail, IsTaken, IsTakenOfTail, IsNextInFront, IsNextInTail, IsNextLine, IsBare, WasLine, WasLineIfAny, shown_from, AreBeside, AreOfTail, AreOfHead, AreOfTailIfAny, IsBeside, AreChosen, IsWalkedBeside}
-use Rattle.deck_assembler.specs.FirstSymbols.{symbol_in}
-use Rattle.deck_assembler.specs.DueCodes.{one_where, has_line, code_due, code_due_of, CodePlan, HasNoTail, IsBesideTail, IsDueBeside, IsPlanned, IsPlanOf}
-use Rattle.deck_assembler.specs.Formers.{known_in, IsFormerOf}
-use Rattle.deck_assembler.specs.Rebindings.{AreBindings}
-use Rattle.deck_assembler.specs.SizedDecks.{IsSizedStatement, AreSizedFrom}
-use Rattle.deck_assembler.specs.Sizers.{stood}
-use Rattle.deck_assembler.specs.TailLines.{lines_behind, AreAlikeOn}
-use Rattle.deck_assembler.specs.Tails.{AreSettledAlike, HasTail, HasTailIfAny, IsEditedOf, StandBeforeTail}
-use Rattle.deck_assembler.specs.Walks.{Whole, IsWhole, has_row, AreLined, AreNoted}
+use Rattle.deck_assembler.specs.Joins.DeckParts.{sized_in}
+use Rattle.deck_assembler.specs.Joins.DeckWalks.{IsWalked}
+use Rattle.deck_assembler.specs.Joins.FormerLines.{IsSameTail, IsOneOf, IsMissedInFront, IsMissedInTail, IsTaken, IsTakenOfTail, IsNextInFront, IsNextInTail, IsNextLine, IsBare, WasLine, WasLineIfAny, shown_from, AreBeside, AreOfTail, AreOfHead, AreOfTailIfAny, IsBeside, AreChosen, IsWalkedBeside}
+use Rattle.deck_assembler.specs.Joins.FirstSymbols.{symbol_in}
+use Rattle.deck_assembler.specs.Joins.DueCodes.{one_where, has_line, code_due, code_due_of, CodePlan, HasNoTail, IsBesideTail, IsDueBeside, IsPlanned, IsPlanOf}
+use Rattle.deck_assembler.specs.Joins.Formers.{known_in, IsFormerOf}
+use Rattle.deck_assembler.specs.Joins.Rebindings.{AreBindings}
+use Rattle.deck_assembler.specs.Joins.SizedDecks.{IsSizedStatement, AreSizedFrom}
+use Rattle.deck_assembler.specs.Joins.Sizers.{stood}
+use Rattle.deck_assembler.specs.Joins.TailLines.{lines_behind, AreAlikeOn}
+use Rattle.deck_assembler.specs.Joins.Tails.{AreSettledAlike, HasTail, HasTailIfAny, IsEditedOf, StandBeforeTail}
+use Rattle.deck_assembler.specs.Joins.Walks.{Whole, IsWhole, has_row, AreLined, AreNoted}
 use Rattle.deck_assembler.specs.declared.deck_walk.Making.{Making}
 use Rattle.deck_assembler.specs.declared.former.Former.{Former}
 use Rattle.deck_assembler.specs.declared.former_lines.FormerLine.{FormerLine}

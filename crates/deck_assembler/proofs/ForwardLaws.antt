@@ -5,10 +5,10 @@ use Rattle.std.proofs.lemmas.List.{reverse-append, length-reverse}
 use Rattle.definitions.specs.Cards.{Card}
 use Rattle.definitions.specs.Statements.{Statement, cards_in}
 use Rattle.definitions.specs.declared.deck_kind.DeckKind.{DeckKind}
-use Rattle.deck_assembler.specs.DeckParts.{DeckPiece, sized_in}
-use Rattle.deck_assembler.specs.PieceSteps.{sized_newest}
-use Rattle.deck_assembler.specs.SizedDecks.{AreListedFrom, AreSizedFrom}
-use Rattle.deck_assembler.specs.Sizers.{stood, ahead, AreSized}
+use Rattle.deck_assembler.specs.Joins.DeckParts.{DeckPiece, sized_in}
+use Rattle.deck_assembler.specs.Joins.PieceSteps.{sized_newest}
+use Rattle.deck_assembler.specs.Joins.SizedDecks.{AreListedFrom, AreSizedFrom}
+use Rattle.deck_assembler.specs.Joins.Sizers.{stood, ahead, AreSized}
 use Rattle.deck_assembler.proofs.OntoLaws.{onto, onto-reverse, onto-back, append-none, drop-more}
 use Rattle.deck_assembler.specs.declared.sized_statement.SizedStatement.{SizedStatement}
 

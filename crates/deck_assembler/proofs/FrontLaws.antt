@@ -2,7 +2,7 @@
 use Rattle.std.proofs.Common.{◌≡◌, ℕ, suc, ◌+◌, ◌<◌, ◌≤◌, inl, inr, false, List, [], ◌∷◌, ◌++◌, drop, get_or, length, refl, sym, ap, ◌∙◌, subst, arith, length-append, length-take-le}
 use Rattle.std.specs.Prelude.{reverse}
 use Rattle.std.proofs.lemmas.Bool.{cases_lt}
-use Rattle.cards.specs.Spans.{statement_at}
+use Rattle.cards.specs.Joins.Spans.{statement_at}
 use Rattle.cards.specs.declared.statement_list.Span.{Span}
 use Rattle.definitions.specs.Cards.{Card}
 use Rattle.definitions.specs.DeckKinds.{has_end, up_to_end}
@@ -10,12 +10,12 @@ use Rattle.definitions.specs.Edits.{Edited, IsUntouched}
 use Rattle.definitions.specs.Statements.{Statement, cards_in, statements_of}
 use Rattle.definitions.specs.declared.deck_kind.DeckKind.{DeckKind}
 use Rattle.definitions.proofs.EditLaws.{cards_in-append}
-use Rattle.deck_assembler.specs.Agreements.{left}
-use Rattle.deck_assembler.specs.FirstStatements.{first_statements, all_statements}
-use Rattle.deck_assembler.specs.Formers.{known_in}
-use Rattle.deck_assembler.specs.OldDecks.{IsAtStage, IsInFront, IsOnSpan, GoesOn, StandsInFront}
-use Rattle.deck_assembler.specs.SizedDecks.{AreSizedFrom}
-use Rattle.deck_assembler.specs.Sizers.{stood, ahead}
+use Rattle.deck_assembler.specs.Joins.Agreements.{left}
+use Rattle.deck_assembler.specs.Joins.FirstStatements.{first_statements, all_statements}
+use Rattle.deck_assembler.specs.Joins.Formers.{known_in}
+use Rattle.deck_assembler.specs.Joins.OldDecks.{IsAtStage, IsInFront, IsOnSpan, GoesOn, StandsInFront}
+use Rattle.deck_assembler.specs.Joins.SizedDecks.{AreSizedFrom}
+use Rattle.deck_assembler.specs.Joins.Sizers.{stood, ahead}
 use Rattle.deck_assembler.specs.declared.old_deck.OldDeck.{OldDeck}
 use Rattle.deck_assembler.specs.declared.old_deck.Stage.TheVariants as stages
 use Rattle.deck_assembler.specs.declared.sized_statement.SizedStatement.{SizedStatement}

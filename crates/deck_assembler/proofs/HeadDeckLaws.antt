@@ -17,18 +17,18 @@ use Rattle.definitions.specs.declared.deck_kind.DeckKind.{DeckKind}
 use Rattle.definitions.specs.declared.deck_kind.DeckKind.TheVariants.{Rel, Abs, Periph}
 use Rattle.definitions.proofs.EditLaws.{cards_in-append}
 use Rattle.definitions.proofs.NamesLaws.{all-behind}
-use Rattle.operations.specs.OperationsAs.{operation_as}
-use Rattle.statement_coder.specs.Definitions.{defined_by, IsOfExt}
-use Rattle.statement_coder.specs.KeptReadings.{IsKeptReading}
-use Rattle.statement_coder.specs.Sizings.{IsSizing}
-use Rattle.use_blocks.specs.EffectsAs.{change_as, setting_as}
-use Rattle.deck_assembler.specs.Agreements.{left, HaveSameEnd}
-use Rattle.deck_assembler.specs.DeckParts.{DeckParts, sized_in}
-use Rattle.deck_assembler.specs.Formers.{known_in}
-use Rattle.deck_assembler.specs.Heads.{counter_of, AreHead, IsHeadDeck, IsOldDeck, IsRecounted, IsWholeDeck, BeginsBeside}
-use Rattle.deck_assembler.specs.Meetings.{cards_of, IsShort}
-use Rattle.deck_assembler.specs.OldDecks.{IsAtStage, IsInFront, IsKeptOn}
-use Rattle.deck_assembler.specs.SizedDecks.{IsSizedDeck, IsSizedStatement, AreSizedFrom}
+use Rattle.operations.specs.Joins.OperationsAs.{operation_as}
+use Rattle.statement_coder.specs.Joins.Definitions.{defined_by, IsOfExt}
+use Rattle.statement_coder.specs.Joins.KeptReadings.{IsKeptReading}
+use Rattle.statement_coder.specs.Joins.Sizings.{IsSizing}
+use Rattle.use_blocks.specs.Joins.EffectsAs.{change_as, setting_as}
+use Rattle.deck_assembler.specs.Joins.Agreements.{left, HaveSameEnd}
+use Rattle.deck_assembler.specs.Joins.DeckParts.{DeckParts, sized_in}
+use Rattle.deck_assembler.specs.Joins.Formers.{known_in}
+use Rattle.deck_assembler.specs.Joins.Heads.{counter_of, AreHead, IsHeadDeck, IsOldDeck, IsRecounted, IsWholeDeck, BeginsBeside}
+use Rattle.deck_assembler.specs.Joins.Meetings.{cards_of, IsShort}
+use Rattle.deck_assembler.specs.Joins.OldDecks.{IsAtStage, IsInFront, IsKeptOn}
+use Rattle.deck_assembler.specs.Joins.SizedDecks.{IsSizedDeck, IsSizedStatement, AreSizedFrom}
 use Rattle.deck_assembler.specs.declared.old_deck.OldCards.{OldCards}
 use Rattle.deck_assembler.specs.declared.old_deck.OldDeck.{OldDeck}
 use Rattle.deck_assembler.specs.declared.sized_statement.SizedStatement.{SizedStatement}

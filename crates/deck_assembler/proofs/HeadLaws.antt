@@ -2,7 +2,7 @@
 use Rattle.std.proofs.Common.{◌≡◌, ℕ, ◌+◌, ◌-◌, ◌≤◌, List, [], ◌∷◌, ◌++◌, take, drop, length, refl, sym, ap, ◌∙◌, subst, arith, length-take-le}
 use Rattle.std.specs.Prelude.{reverse}
 use Rattle.std.proofs.lemmas.List.{take-take, drop-take, length-take, length-drop, reverse-reverse}
-use Rattle.cards.specs.Spans.{statement_at}
+use Rattle.cards.specs.Joins.Spans.{statement_at}
 use Rattle.cards.specs.declared.statement_list.Span.{Span}
 use Rattle.definitions.specs.Cards.{Card}
 use Rattle.definitions.specs.DeckKinds.{up_to_end, behind_end}
@@ -12,12 +12,12 @@ use Rattle.definitions.specs.Settling.{View, settled_all}
 use Rattle.definitions.specs.Statements.{Statement, statements_of}
 use Rattle.definitions.specs.States.{state_after}
 use Rattle.definitions.specs.declared.deck_kind.DeckKind.{DeckKind}
-use Rattle.deck_assembler.specs.Agreements.{left, HasFront, IsSameFront}
-use Rattle.deck_assembler.specs.DeckParts.{DeckParts, sized_in}
-use Rattle.deck_assembler.specs.FirstSymbols.{symbol_in}
-use Rattle.deck_assembler.specs.OldDecks.{IsAtStage, IsInFront, IsOnSpan}
-use Rattle.deck_assembler.specs.SizedDecks.{IsSizedStatement, AreSizedFrom, IsSizedDeck}
-use Rattle.deck_assembler.specs.Sizers.{stood, ahead, IsNext, IsSizer}
+use Rattle.deck_assembler.specs.Joins.Agreements.{left, HasFront, IsSameFront}
+use Rattle.deck_assembler.specs.Joins.DeckParts.{DeckParts, sized_in}
+use Rattle.deck_assembler.specs.Joins.FirstSymbols.{symbol_in}
+use Rattle.deck_assembler.specs.Joins.OldDecks.{IsAtStage, IsInFront, IsOnSpan}
+use Rattle.deck_assembler.specs.Joins.SizedDecks.{IsSizedStatement, AreSizedFrom, IsSizedDeck}
+use Rattle.deck_assembler.specs.Joins.Sizers.{stood, ahead, IsNext, IsSizer}
 use Rattle.deck_assembler.specs.declared.old_deck.OldDeck.{OldDeck}
 use Rattle.deck_assembler.specs.declared.old_deck.Stage.TheVariants as stages
 use Rattle.deck_assembler.specs.declared.sized_statement.SizedStatement.{SizedStatement}

@@ -16,16 +16,16 @@ use Rattle.definitions.specs.Statements.{Statement, cards_in}
 use Rattle.definitions.specs.Words.{Coded}
 use Rattle.definitions.specs.declared.deck_kind.DeckKind.{DeckKind}
 use Rattle.statement_coder.specs.declared.items.Item as code
-use Rattle.deck_objects.specs.CodedLines.{IsCoded, IsShown, IsStored, AreShown}
-use Rattle.deck_objects.specs.LineItems.{kept_from, kept_items, AreBitsOf, AreKept, AreShort}
+use Rattle.deck_objects.specs.Joins.CodedLines.{IsCoded, IsShown, IsStored, AreShown}
+use Rattle.deck_objects.specs.Joins.LineItems.{kept_from, kept_items, AreBitsOf, AreKept, AreShort}
 use Rattle.deck_objects.specs.declared.lines.CodedLine.{CodedLine}
 use Rattle.deck_objects.specs.declared.lines.Line.{Line}
 use Rattle.deck_objects.specs.declared.lines.LineFields as kept
 use Rattle.deck_objects.specs.declared.lines.LineFields.TheVariants as fields
-use Rattle.deck_assembler.specs.FormerLines.{shown_from, AreBeside}
-use Rattle.deck_assembler.specs.Formers.{known_in}
-use Rattle.deck_assembler.specs.Heads.{counter_of, cards_of_lines, AreHeadLines, IsLineOfHead}
-use Rattle.deck_assembler.specs.Rebindings.{AreBindings}
+use Rattle.deck_assembler.specs.Joins.FormerLines.{shown_from, AreBeside}
+use Rattle.deck_assembler.specs.Joins.Formers.{known_in}
+use Rattle.deck_assembler.specs.Joins.Heads.{counter_of, cards_of_lines, AreHeadLines, IsLineOfHead}
+use Rattle.deck_assembler.specs.Joins.Rebindings.{AreBindings}
 use Rattle.deck_assembler.specs.declared.former_lines.FormerLines.{FormerLines}
 use Rattle.deck_assembler.proofs.ForwardLaws.{stood-more}
 use Rattle.deck_assembler.proofs.HeadDeckLaws.{DoStop, HasTop, head-top}

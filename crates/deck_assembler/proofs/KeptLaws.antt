@@ -13,22 +13,22 @@ use Rattle.definitions.specs.Settling.{View}
 use Rattle.definitions.specs.StatementItems.{Item, known}
 use Rattle.definitions.specs.Words.{Coded, width_of}
 use Rattle.definitions.specs.declared.deck_kind.DeckKind.{DeckKind}
-use Rattle.statement_coder.specs.Items.{item_as, items_as}
+use Rattle.statement_coder.specs.Joins.Items.{item_as, items_as}
 use Rattle.statement_coder.specs.declared.items.Item as code
 use Rattle.statement_coder.specs.declared.instruction_fields.InstructionItems.{InstructionItems}
-use Rattle.operations.specs.OperationsAs.{operation_as}
-use Rattle.statement_coder.specs.CodedItems.{IsKept, is_zeros, stores_zeros, zeros_of}
-use Rattle.statement_coder.specs.WordItems.{listed_fields}
+use Rattle.operations.specs.Joins.OperationsAs.{operation_as}
+use Rattle.statement_coder.specs.Joins.CodedItems.{IsKept, is_zeros, stores_zeros, zeros_of}
+use Rattle.statement_coder.specs.Joins.WordItems.{listed_fields}
 use Rattle.statement_coder.specs.declared.coded.CodedItems.{CodedItems}
 use Rattle.statement_coder.specs.declared.sizing.Sizing.{Sizing}
 use Rattle.statement_coder.proofs.ListLaws.{kept-length}
 use Rattle.definitions.specs.Filling.{HasFields, DoFill}
-use Rattle.deck_objects.specs.LineItems.{listed, kept_from, AreBitsOf, AreShort, AreKept}
-use Rattle.deck_objects.specs.CodedLines.{IsCoded, IsNamed}
+use Rattle.deck_objects.specs.Joins.LineItems.{listed, kept_from, AreBitsOf, AreShort, AreKept}
+use Rattle.deck_objects.specs.Joins.CodedLines.{IsCoded, IsNamed}
 use Rattle.deck_objects.specs.declared.lines.CodedLine as lines
 use Rattle.deck_objects.specs.declared.lines.LineFields.{LineFields}
 use Rattle.deck_objects.specs.declared.lines.LineFields.TheVariants as kept
-use Rattle.deck_assembler.specs.KeptFields.{IsNumber, AreKeptAs, IsTold, are_zeros}
+use Rattle.deck_assembler.specs.Joins.KeptFields.{IsNumber, AreKeptAs, IsTold, are_zeros}
 use Rattle.deck_assembler.proofs.ListedLaws.{bits-listed, none-listed}
 
 -- the end of a list

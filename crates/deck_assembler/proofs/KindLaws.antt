@@ -8,8 +8,8 @@ use Rattle.definitions.specs.Statements.{Statement}
 use Rattle.definitions.specs.declared.deck_kind.DeckKind.{DeckKind}
 use Rattle.definitions.proofs.TextLaws.{same_text-true}
 use Rattle.deck_assembler.proofs.ReverseLaws.{map-reverse}
-use Rattle.operations.specs.KindsFound.{kind_made_by, or_kind, kind_found}
-use Rattle.deck_assembler.specs.FirstStatements.{fields_in}
+use Rattle.operations.specs.Joins.KindsFound.{kind_made_by, or_kind, kind_found}
+use Rattle.deck_assembler.specs.Joins.FirstStatements.{fields_in}
 
 or_kind-some : (found : Option DeckKind) (operation : Option Operation) → is_some found ≡ true → or_kind found operation ≡ found
 or_kind-some None operation h = absurd (true≢false (sym h))

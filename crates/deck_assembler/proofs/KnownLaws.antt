@@ -7,7 +7,7 @@ use Rattle.definitions.specs.Link.{Layout, Based, is_unfit, unfit_words}
 use Rattle.definitions.specs.StatementItems.{Item, Content, Known}
 use Rattle.definitions.specs.Words.{content_bits, width_of}
 use Rattle.statement_coder.proofs.JoinLaws.{width-append, joined-append}
-use Rattle.deck_assembler.specs.KeptFields.{AreTogether}
+use Rattle.deck_assembler.specs.Joins.KeptFields.{AreTogether}
 
 -- what does not fit in fields behind others
 pub unfit-append : (layout : Layout) (based : Based) (from : ℕ) (xs ys : List Item) → unfit_words layout based from (xs ++ ys) ≡ unfit_words layout based from xs ++ unfit_words layout based (from + width_of xs) ys

@@ -2,19 +2,19 @@
 use Rattle.std.proofs.Common.{◌≡◌, ℕ, ◌+◌, ◌-◌, ◌<◌, ◌≤◌, ◌⊎◌, inl, inr, List, [], ◌∷◌, ◌++◌, drop, length, refl, sym, ap, ◌∙◌, subst, arith, length-append}
 use Rattle.std.specs.Prelude.{Option, Some, None, Result, Ok, Err, IfOk, IfSome, reverse}
 use Rattle.std.proofs.lemmas.List.{length-drop}
-use Rattle.cards.specs.Spans.{statement_at}
+use Rattle.cards.specs.Joins.Spans.{statement_at}
 use Rattle.cards.specs.declared.statement_list.Span.{Span}
 use Rattle.definitions.specs.Cards.{Card}
 use Rattle.definitions.specs.Settling.{View, settled_all}
 use Rattle.definitions.specs.Statements.{Statement}
 use Rattle.definitions.specs.declared.deck_kind.DeckKind.{DeckKind}
-use Rattle.deck_assembler.specs.Agreements.{left, AreAlikeFrom, HasFront, HaveSameEnd, IsAgreeing, IsOfSameDeck}
-use Rattle.deck_assembler.specs.Formers.{known_in}
-use Rattle.deck_assembler.specs.Meetings.{IsSoon, WillAgreeAt}
-use Rattle.deck_assembler.specs.OldDecks.{AreKeptFrom, IsAtStage, IsInTail, IsKeptOn, IsOnSpan}
-use Rattle.deck_assembler.specs.SizedDecks.{IsSizedStatement, AreSizedFrom}
-use Rattle.deck_assembler.specs.Sizers.{stood, ahead, IsNext, IsSizer}
-use Rattle.deck_assembler.specs.Tails.{AreKeptAlike, HasTailIfAny, HasTailWithin, HaveOneTail, IsSettledAlike}
+use Rattle.deck_assembler.specs.Joins.Agreements.{left, AreAlikeFrom, HasFront, HaveSameEnd, IsAgreeing, IsOfSameDeck}
+use Rattle.deck_assembler.specs.Joins.Formers.{known_in}
+use Rattle.deck_assembler.specs.Joins.Meetings.{IsSoon, WillAgreeAt}
+use Rattle.deck_assembler.specs.Joins.OldDecks.{AreKeptFrom, IsAtStage, IsInTail, IsKeptOn, IsOnSpan}
+use Rattle.deck_assembler.specs.Joins.SizedDecks.{IsSizedStatement, AreSizedFrom}
+use Rattle.deck_assembler.specs.Joins.Sizers.{stood, ahead, IsNext, IsSizer}
+use Rattle.deck_assembler.specs.Joins.Tails.{AreKeptAlike, HasTailIfAny, HasTailWithin, HaveOneTail, IsSettledAlike}
 use Rattle.deck_assembler.specs.declared.old_deck.OldDeck.{OldDeck}
 use Rattle.deck_assembler.specs.declared.old_deck.Stage.{Stage}
 use Rattle.deck_assembler.specs.declared.old_deck.Stage.TheVariants as stages

@@ -5,7 +5,7 @@ use Rattle.std.proofs.lemmas.Bool.{eqb-true, lt-ltb}
 use Rattle.std.proofs.lemmas.Bool.Decides.{nat_tests}
 use Rattle.definitions.specs.Characters.{is_among, is_digit, is_letter, is_symbol_character}
 use Rattle.definitions.specs.Symbols.{begins_symbol, is_register, is_symbol, is_linked_name}
-use Rattle.deck_assembler.specs.FirstSymbols.{is_known_name}
+use Rattle.deck_assembler.specs.Joins.FirstSymbols.{is_known_name}
 use Rattle.deck_assembler.proofs.SymbolLaws.{both_first, both_second}
 
 either : (x y : Bool) {A : Type 0} → (x || y) ≡ true → (x ≡ true → A) → (y ≡ true → A) → A

@@ -25,7 +25,7 @@ use Rattle.definitions.specs.declared.deck_kind.DeckKind.TheVariants.{Rel, Abs, 
 use Rattle.definitions.specs.declared.letter.Letter.{Letter}
 use Rattle.definitions.specs.declared.number_base.NumberBase.{NumberBase}
 use Rattle.definitions.proofs.TextLaws.{same_text-true}
-use Rattle.deck_assembler.specs.Heads.{counter_of}
+use Rattle.deck_assembler.specs.Joins.Heads.{counter_of}
 
 -- whether a statement may stand in front of ABS and PERIPH
 abbrev pub IsNeutral : Statement → Type 0

@@ -10,10 +10,10 @@ use Rattle.definitions.specs.Statements.{Statement}
 use Rattle.definitions.specs.States.{Effect, state_after, effect_of, advanced}
 use Rattle.definitions.specs.declared.deck_kind.DeckKind.{DeckKind}
 use Rattle.definitions.proofs.StateSteps.{state_after-step, settled_all-in_use}
-use Rattle.deck_assembler.specs.Agreements.{HasFront, HaveSameEnd, IsOfSameDeck, IsSameFront}
-use Rattle.deck_assembler.specs.FirstSymbols.{symbol_in, with_defined, IsLawfulOperand}
-use Rattle.deck_assembler.specs.Formers.{known_in}
-use Rattle.deck_assembler.specs.SizedDecks.{IsSizedStatement, AreSizedFrom}
+use Rattle.deck_assembler.specs.Joins.Agreements.{HasFront, HaveSameEnd, IsOfSameDeck, IsSameFront}
+use Rattle.deck_assembler.specs.Joins.FirstSymbols.{symbol_in, with_defined, IsLawfulOperand}
+use Rattle.deck_assembler.specs.Joins.Formers.{known_in}
+use Rattle.deck_assembler.specs.Joins.SizedDecks.{IsSizedStatement, AreSizedFrom}
 use Rattle.deck_assembler.specs.declared.old_deck.OldDeck.{OldDeck}
 use Rattle.deck_assembler.specs.declared.old_deck.Stage.{Stage}
 use Rattle.deck_assembler.specs.declared.sized_statement.SizedStatement.{SizedStatement}

@@ -3,8 +3,8 @@ use Rattle.std.proofs.Common.{◌≡◌, ◌∙◌, ℕ, ◌+◌, List, [], ◌�
 use Rattle.std.specs.Prelude.{filter_map}
 use Rattle.std.proofs.lemmas.List.{reverse-append}
 use Rattle.std.proofs.lemmas.List.Elements.{filter_map-append}
-use Rattle.deck_objects.specs.CodedLines.{IsCoded, IsStored, AreShown, AreCoded}
-use Rattle.deck_objects.specs.PartsOf.{ArePartsOf}
+use Rattle.deck_objects.specs.Joins.CodedLines.{IsCoded, IsStored, AreShown, AreCoded}
+use Rattle.deck_objects.specs.Joins.PartsOf.{ArePartsOf}
 use Rattle.deck_objects.specs.declared.lines.CodedLine.{CodedLine}
 use Rattle.deck_objects.specs.declared.lines.Line.{Line}
 use Rattle.deck_objects.specs.declared.object.ObjectParts.{ObjectParts}
@@ -25,10 +25,10 @@ use Rattle.definitions.specs.declared.deck_kind.DeckKind.TheVariants.{Rel, Abs, 
 use Rattle.statement_coder.specs.declared.items.Item as code
 use Rattle.definitions.proofs.ReachLaws.{statements-reach}
 use Rattle.definitions.proofs.RiseLaws.{statements-laid_out}
-use Rattle.deck_assembler.specs.SizedDecks.{AreListedFrom}
-use Rattle.deck_assembler.specs.SharedNames.{entries_to}
-use Rattle.deck_assembler.specs.Walks.{Whole, IsWhole, all_settled, context_in, AreShownTo, AreLinedAs}
-use Rattle.deck_assembler.specs.DeckWalks.{IsDone, IsListing, shown_with}
+use Rattle.deck_assembler.specs.Joins.SizedDecks.{AreListedFrom}
+use Rattle.deck_assembler.specs.Joins.SharedNames.{entries_to}
+use Rattle.deck_assembler.specs.Joins.Walks.{Whole, IsWhole, all_settled, context_in, AreShownTo, AreLinedAs}
+use Rattle.deck_assembler.specs.Joins.DeckWalks.{IsDone, IsListing, shown_with}
 use Rattle.deck_assembler.specs.declared.deck_lines.DeckLines.{DeckLines}
 use Rattle.deck_assembler.specs.declared.deck_walk.Making.{Making}
 use Rattle.deck_assembler.proofs.UnlistedLaws.{all-listed}

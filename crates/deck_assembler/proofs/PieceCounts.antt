@@ -3,8 +3,8 @@ use Rattle.std.proofs.Common.{◌≡◌, ℕ, zero, suc, ◌+◌, ◌<◌, ◌�
 use Rattle.definitions.specs.Cards.{Card}
 use Rattle.definitions.specs.Statements.{Statement}
 use Rattle.definitions.specs.declared.deck_kind.DeckKind.{DeckKind}
-use Rattle.deck_assembler.specs.DeckParts.{DeckPiece, sized_in}
-use Rattle.deck_assembler.specs.SizedDecks.{AreSizedFrom}
+use Rattle.deck_assembler.specs.Joins.DeckParts.{DeckPiece, sized_in}
+use Rattle.deck_assembler.specs.Joins.SizedDecks.{AreSizedFrom}
 use Rattle.deck_assembler.specs.declared.sized_statement.SizedStatement.{SizedStatement}
 
 -- those of a piece and of those before it are among all

@@ -7,10 +7,10 @@ use Rattle.std.proofs.lemmas.List.{length-drop, reverse-append}
 use Rattle.definitions.specs.Cards.{Card}
 use Rattle.definitions.specs.Statements.{Statement, cards_in}
 use Rattle.definitions.specs.declared.deck_kind.DeckKind.{DeckKind}
-use Rattle.deck_assembler.specs.Agreements.{left}
-use Rattle.deck_assembler.specs.DeckParts.{DeckPiece, sized_in}
-use Rattle.deck_assembler.specs.Meetings.{cards_of, HasPiece, IsNextOf, IsShort}
-use Rattle.deck_assembler.specs.SizedDecks.{AreSizedFrom}
+use Rattle.deck_assembler.specs.Joins.Agreements.{left}
+use Rattle.deck_assembler.specs.Joins.DeckParts.{DeckPiece, sized_in}
+use Rattle.deck_assembler.specs.Joins.Meetings.{cards_of, HasPiece, IsNextOf, IsShort}
+use Rattle.deck_assembler.specs.Joins.SizedDecks.{AreSizedFrom}
 use Rattle.deck_assembler.specs.declared.old_deck.OldDeck.{OldDeck}
 use Rattle.deck_assembler.specs.declared.sized_statement.SizedStatement.{SizedStatement}
 use Rattle.deck_assembler.proofs.AlikeLaws.{sized_in-append}

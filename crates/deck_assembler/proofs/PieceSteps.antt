@@ -7,9 +7,9 @@ use Rattle.definitions.specs.Settling.{settled_all}
 use Rattle.definitions.specs.Statements.{Statement}
 use Rattle.definitions.specs.States.{BlockState, state_after}
 use Rattle.definitions.specs.declared.deck_kind.DeckKind.{DeckKind}
-use Rattle.deck_assembler.specs.DeckParts.{DeckPiece}
-use Rattle.deck_assembler.specs.PieceSteps.{most_statements, is_full, with_pushed, onto_latest, with_statement, sized_newest}
-use Rattle.deck_assembler.specs.Sizers.{HaveStates, IsFilled, AreFilledNewest}
+use Rattle.deck_assembler.specs.Joins.DeckParts.{DeckPiece}
+use Rattle.deck_assembler.specs.Joins.PieceSteps.{most_statements, is_full, with_pushed, onto_latest, with_statement, sized_newest}
+use Rattle.deck_assembler.specs.Joins.Sizers.{HaveStates, IsFilled, AreFilledNewest}
 use Rattle.deck_assembler.specs.declared.sized_statement.SizedStatement.{SizedStatement}
 
 -- a piece is begun with one statement

@@ -20,20 +20,20 @@ use Rattle.definitions.specs.StatementItems.{Context, final_names}
 use Rattle.definitions.specs.Symbols.{Number, Value, TooGreat}
 use Rattle.definitions.specs.declared.letter.Letter.{Letter}
 use Rattle.definitions.specs.declared.letter.Letter.TheVariants as letter
-use Rattle.expr_forms.specs.Shapes.{field_as, instruction_with, long_values, HasForm}
+use Rattle.expr_forms.specs.Joins.Shapes.{field_as, instruction_with, long_values, HasForm}
 use Rattle.expr_forms.specs.declared.shapes.Field as code
 use Rattle.expr_forms.specs.declared.shapes.Field.TheVariants as field
 use Rattle.expr_forms.specs.declared.shapes.Shape.{Shape}
-use Rattle.statement_coder.specs.ReadOperands.{IsReadOperand}
-use Rattle.statement_coder.specs.Readings.{IsReading, IsInstruction}
+use Rattle.statement_coder.specs.Joins.ReadOperands.{IsReadOperand}
+use Rattle.statement_coder.specs.Joins.Readings.{IsReading, IsInstruction}
 use Rattle.statement_coder.specs.declared.read_operands.ReadOperand.{ReadOperand}
 use Rattle.statement_coder.specs.declared.readings.Reading as readings
 use Rattle.statement_coder.specs.declared.readings.Reading.TheVariants as reading
 use Rattle.expr_forms.specs.declared.use_fields.UseField as uses
 use Rattle.expr_forms.specs.declared.use_fields.UseField.TheVariants as use_field
-use Rattle.expr_forms.specs.Readings.{use_as}
-use Rattle.operations.specs.OperationsAs.{operation_as}
-use Rattle.deck_assembler.specs.Rebindings.{names_in, context_at, differs, shape_elements, reading_elements, AreBindings, IsRebinding}
+use Rattle.expr_forms.specs.Joins.Readings.{use_as}
+use Rattle.operations.specs.Joins.OperationsAs.{operation_as}
+use Rattle.deck_assembler.specs.Joins.Rebindings.{names_in, context_at, differs, shape_elements, reading_elements, AreBindings, IsRebinding}
 use Rattle.deck_assembler.specs.declared.rebinding.Bindings.{Bindings}
 use Rattle.deck_assembler.specs.declared.rebinding.Rebinding.{Rebinding}
 use Rattle.deck_assembler.proofs.OntoLaws.{append-none}

@@ -13,10 +13,10 @@ use Rattle.definitions.specs.StatementItems.{Context, final_names}
 use Rattle.definitions.specs.Statements.{Statement}
 use Rattle.definitions.specs.declared.letter.Letter.{Letter}
 use Rattle.use_blocks.proofs.SameLaws.{same_relocation-Decides}
-use Rattle.deck_assembler.specs.FirstSymbols.{symbol_in}
-use Rattle.deck_assembler.specs.FormerLines.{MeanAsViewed}
-use Rattle.deck_assembler.specs.Rebindings.{AreBindings}
-use Rattle.deck_assembler.specs.Walks.{IsWhole, context_in, whole_of}
+use Rattle.deck_assembler.specs.Joins.FirstSymbols.{symbol_in}
+use Rattle.deck_assembler.specs.Joins.FormerLines.{MeanAsViewed}
+use Rattle.deck_assembler.specs.Joins.Rebindings.{AreBindings}
+use Rattle.deck_assembler.specs.Joins.Walks.{IsWhole, context_in, whole_of}
 use Rattle.deck_assembler.specs.declared.deck_view.DeckView.{DeckView}
 use Rattle.deck_assembler.specs.declared.rebinding.Bindings.{Bindings}
 

@@ -22,14 +22,14 @@ use Rattle.definitions.specs.declared.deck_kind.DeckKind.{DeckKind}
 use Rattle.definitions.specs.declared.deck_kind.DeckKind.TheVariants.{Rel, Abs, Periph}
 use Rattle.definitions.specs.declared.letter.Letter.{Letter}
 use Rattle.definitions.proofs.WordLaws.{pow_positive, picked_cond}
-use Rattle.statement_coder.specs.CodedItems.{stores_zeros}
-use Rattle.statement_coder.specs.WordItems.{is_several, known_words, words_of, in_words, listed_fields}
+use Rattle.statement_coder.specs.Joins.CodedItems.{stores_zeros}
+use Rattle.statement_coder.specs.Joins.WordItems.{is_several, known_words, words_of, in_words, listed_fields}
 use Rattle.definitions.specs.Filling.{HasRoom, DoFit, IsWholeWords, AreLongWhole}
 use Rattle.definitions.proofs.FieldRoomLaws.{operand-fields}
 use Rattle.definitions.proofs.ItemLaws.{IsField, expression_item-field, number_item-field}
 use Rattle.definitions.proofs.OperandLaws.{operand_of-made}
 use Rattle.definitions.proofs.OperandShapes.{HaveWidths, IsMade}
-use Rattle.deck_objects.specs.LineItems.{AreShort}
+use Rattle.deck_objects.specs.Joins.LineItems.{AreShort}
 use Rattle.deck_assembler.proofs.ListedLaws.{none-listed}
 
 short-append : (xs ys : List Item) → AreShort xs → AreShort ys → AreShort (xs ++ ys)

@@ -12,21 +12,21 @@ use Rattle.definitions.specs.States.{BlockState, Effect, state_after, seen_from,
 use Rattle.definitions.specs.declared.deck_kind.DeckKind.{DeckKind}
 use Rattle.definitions.specs.declared.number_base.NumberBase.{NumberBase}
 use Rattle.definitions.proofs.StateSteps.{seen_of-state, state_after-step, lengths_of-step, settled_all-in_use}
-use Rattle.operations.specs.OperationsAs.{operation_as}
-use Rattle.use_blocks.specs.Changes.{IsAccepted}
-use Rattle.use_blocks.specs.EffectsAs.{change_as}
-use Rattle.statement_coder.specs.KeptReadings.{IsKeptReading}
-use Rattle.statement_coder.specs.Readings.{IsReading}
-use Rattle.statement_coder.specs.Sizings.{read_as, settled_read, IsSizing}
-use Rattle.statement_coder.specs.StatementsRead.{IsRead}
+use Rattle.operations.specs.Joins.OperationsAs.{operation_as}
+use Rattle.use_blocks.specs.Joins.Changes.{IsAccepted}
+use Rattle.use_blocks.specs.Joins.EffectsAs.{change_as}
+use Rattle.statement_coder.specs.Joins.KeptReadings.{IsKeptReading}
+use Rattle.statement_coder.specs.Joins.Readings.{IsReading}
+use Rattle.statement_coder.specs.Joins.Sizings.{read_as, settled_read, IsSizing}
+use Rattle.statement_coder.specs.Joins.StatementsRead.{IsRead}
 use Rattle.statement_coder.specs.declared.readings.Reading as readings
 use Rattle.statement_coder.specs.declared.sizing.Sizing.{Sizing}
 use Rattle.statement_coder.specs.declared.statement.Statement as statements
 use Rattle.statement_coder.proofs.ReadLaws.{settled-sizing}
-use Rattle.deck_assembler.specs.FirstSymbols.{with_defined}
-use Rattle.deck_assembler.specs.PieceSteps.{with_statement, sized_newest}
-use Rattle.deck_assembler.specs.Sizers.{stood, ahead, IsNext, IsNoted, AreSized, HaveStates, AreFilledNewest, IsSizer}
-use Rattle.deck_assembler.specs.SizedDecks.{IsSizedStatement}
+use Rattle.deck_assembler.specs.Joins.FirstSymbols.{with_defined}
+use Rattle.deck_assembler.specs.Joins.PieceSteps.{with_statement, sized_newest}
+use Rattle.deck_assembler.specs.Joins.Sizers.{stood, ahead, IsNext, IsNoted, AreSized, HaveStates, AreFilledNewest, IsSizer}
+use Rattle.deck_assembler.specs.Joins.SizedDecks.{IsSizedStatement}
 use Rattle.deck_assembler.specs.declared.sized_statement.SizedStatement.{SizedStatement}
 use Rattle.deck_assembler.specs.declared.sizer.Sizer.{Sizer}
 use Rattle.deck_assembler.proofs.DefinitionLaws.{defined-step}

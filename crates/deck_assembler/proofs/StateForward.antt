@@ -7,10 +7,10 @@ use Rattle.definitions.specs.Settling.{settled_all}
 use Rattle.definitions.specs.Statements.{Statement}
 use Rattle.definitions.specs.States.{state_after}
 use Rattle.definitions.specs.declared.deck_kind.DeckKind.{DeckKind}
-use Rattle.deck_assembler.specs.DeckParts.{DeckPiece}
-use Rattle.deck_assembler.specs.PieceSteps.{most_statements, sized_newest}
-use Rattle.deck_assembler.specs.SizedDecks.{passed, HaveStatesFrom, AreFilled}
-use Rattle.deck_assembler.specs.Sizers.{HaveStates, AreFilledNewest}
+use Rattle.deck_assembler.specs.Joins.DeckParts.{DeckPiece}
+use Rattle.deck_assembler.specs.Joins.PieceSteps.{most_statements, sized_newest}
+use Rattle.deck_assembler.specs.Joins.SizedDecks.{passed, HaveStatesFrom, AreFilled}
+use Rattle.deck_assembler.specs.Joins.Sizers.{HaveStates, AreFilledNewest}
 use Rattle.deck_assembler.proofs.OntoLaws.{onto, onto-reverse, onto-back, drop-onto, drop-more, append-none}
 
 -- how many statements pieces have

@@ -5,7 +5,7 @@ use Rattle.std.proofs.lemmas.List.{length-append, length-replicate}
 use Rattle.std.proofs.lemmas.Nat.{be_bytes_8}
 use Rattle.std.specs.Int.{w64, from_be_bytes, to_be_bytes}
 use Rattle.std.specs.List.{list_all}
-use Rattle.deck_assembler.specs.SymbolKeys.{is_name, padded}
+use Rattle.deck_assembler.specs.Joins.SymbolKeys.{is_name, padded}
 
 and_first : (x y : Bool) → (x && y) ≡ true → x ≡ true
 and_first true y h = refl

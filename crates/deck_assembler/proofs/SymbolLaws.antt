@@ -14,10 +14,10 @@ use Rattle.definitions.specs.Characters.{same_text}
 use Rattle.definitions.specs.Forms.{Form}
 use Rattle.definitions.specs.Settled.{or_form}
 use Rattle.definitions.proofs.TextLaws.{same_text-true, same_text-refl}
-use Rattle.deck_assembler.specs.SymbolKeys.{is_name, key_of}
+use Rattle.deck_assembler.specs.Joins.SymbolKeys.{is_name, key_of}
 use Rattle.deck_assembler.specs.declared.symbol_key.SymbolKey.{SymbolKey}
 use Rattle.deck_assembler.proofs.SymbolKeyLaws.{same-name}
-use Rattle.deck_assembler.specs.FirstSymbols.{is_known_name, number_of_name, symbol_in, with_symbol}
+use Rattle.deck_assembler.specs.Joins.FirstSymbols.{is_known_name, number_of_name, symbol_in, with_symbol}
 
 pub both_first : (x y : Bool) → (x && y) ≡ true → x ≡ true
 both_first true y h = refl

@@ -13,23 +13,23 @@ use Rattle.definitions.specs.Pieces.{pieces_of, subfields_of}
 use Rattle.definitions.specs.Settling.{View}
 use Rattle.definitions.specs.declared.deck_kind.DeckKind.{DeckKind}
 use Rattle.definitions.specs.declared.number_base.NumberBase.{NumberBase}
-use Rattle.expr_forms.specs.Kept.{shape_of}
-use Rattle.expr_forms.specs.Readings.{use_as}
+use Rattle.expr_forms.specs.Joins.Kept.{shape_of}
+use Rattle.expr_forms.specs.Joins.Readings.{use_as}
 use Rattle.expr_forms.specs.declared.use_fields.UseField as uses
 use Rattle.expr_forms.specs.declared.use_fields.UseField.TheVariants as use_field
-use Rattle.expr_forms.specs.Shapes.{field_as, instruction_with, HasForm}
+use Rattle.expr_forms.specs.Joins.Shapes.{field_as, instruction_with, HasForm}
 use Rattle.expr_forms.specs.declared.shapes.Field as code
 use Rattle.expr_forms.specs.declared.shapes.Field.TheVariants as field
 use Rattle.expr_forms.specs.declared.shapes.Shape.{Shape}
-use Rattle.statement_coder.specs.KeptReadings.{IsKeptReading}
-use Rattle.statement_coder.specs.Readings.{IsInstruction}
+use Rattle.statement_coder.specs.Joins.KeptReadings.{IsKeptReading}
+use Rattle.statement_coder.specs.Joins.Readings.{IsInstruction}
 use Rattle.statement_coder.specs.declared.definitions_made.Defines as made
 use Rattle.statement_coder.specs.declared.definitions_made.Defines.TheVariants as defines
 use Rattle.statement_coder.specs.declared.kept_readings.KeptReading as readings
 use Rattle.statement_coder.specs.declared.kept_readings.KeptReading.TheVariants as kept
 use Rattle.statement_coder.proofs.LawfulLaws.{data-lawful}
-use Rattle.deck_assembler.specs.FirstSymbols.{with_defined}
-use Rattle.deck_assembler.specs.LiteralsRead.{is_data_words, is_told, kept_literals, shape_literals, IsTold}
+use Rattle.deck_assembler.specs.Joins.FirstSymbols.{with_defined}
+use Rattle.deck_assembler.specs.Joins.LiteralsRead.{is_data_words, is_told, kept_literals, shape_literals, IsTold}
 
 -- the literals of an instruction, if there is one
 literals_found : Option Instruction → List Literal

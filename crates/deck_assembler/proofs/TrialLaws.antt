@@ -10,9 +10,9 @@ use Rattle.definitions.specs.Statements.{Statement}
 use Rattle.definitions.specs.Agreement.{Agree, own_symbols, operand_symbols}
 use Rattle.definitions.specs.declared.deck_kind.DeckKind.{DeckKind}
 use Rattle.statement_coder.specs.declared.definitions_made.Defines as code
-use Rattle.deck_assembler.specs.Agreements.{AreExternalsAlike, IsAlike, AreAlikeFrom, IsNextAlike, AreTried}
-use Rattle.deck_assembler.specs.FirstSymbols.{symbol_in}
-use Rattle.deck_assembler.specs.SizedDecks.{AreSizedFrom}
+use Rattle.deck_assembler.specs.Joins.Agreements.{AreExternalsAlike, IsAlike, AreAlikeFrom, IsNextAlike, AreTried}
+use Rattle.deck_assembler.specs.Joins.FirstSymbols.{symbol_in}
+use Rattle.deck_assembler.specs.Joins.SizedDecks.{AreSizedFrom}
 use Rattle.deck_assembler.specs.declared.early_trial.Trial.{Trial}
 use Rattle.deck_assembler.specs.declared.sized_statement.SizedStatement.{SizedStatement}
 

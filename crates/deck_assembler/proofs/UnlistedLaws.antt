@@ -6,11 +6,11 @@ use Rattle.definitions.specs.Entries.{externals_of}
 use Rattle.definitions.specs.Settling.{settle, settled_all}
 use Rattle.definitions.specs.Statements.{Statement}
 use Rattle.definitions.specs.declared.deck_kind.DeckKind.{DeckKind}
-use Rattle.operations.specs.OperationsAs.{operation_as}
-use Rattle.deck_assembler.specs.DeckParts.{DeckPiece, sized_in}
-use Rattle.deck_assembler.specs.SharedNames.{has_ext, have_ext, is_ext}
-use Rattle.deck_assembler.specs.SizedDecks.{AreSizedFrom}
-use Rattle.deck_assembler.specs.Walks.{Whole, IsWhole, AreNoted, all_settled}
+use Rattle.operations.specs.Joins.OperationsAs.{operation_as}
+use Rattle.deck_assembler.specs.Joins.DeckParts.{DeckPiece, sized_in}
+use Rattle.deck_assembler.specs.Joins.SharedNames.{has_ext, have_ext, is_ext}
+use Rattle.deck_assembler.specs.Joins.SizedDecks.{AreSizedFrom}
+use Rattle.deck_assembler.specs.Joins.Walks.{Whole, IsWhole, AreNoted, all_settled}
 use Rattle.deck_assembler.specs.declared.deck_names.DeckNames.{DeckNames}
 use Rattle.deck_assembler.specs.declared.sized_statement.SizedStatement.{SizedStatement}
 use Rattle.deck_assembler.proofs.ExternalLaws.{other-externals}

@@ -9,7 +9,7 @@ use Rattle.definitions.specs.Settling.{settle, settled_all}
 use Rattle.definitions.specs.Statements.{Statement}
 use Rattle.definitions.specs.declared.deck_kind.DeckKind.{DeckKind}
 use Rattle.definitions.proofs.TextLaws.{same_text-refl}
-use Rattle.deck_assembler.specs.Walks.{has_row}
+use Rattle.deck_assembler.specs.Joins.Walks.{has_row}
 
 or-true : (b : Bool) → (b || true) ≡ true
 or-true true = refl

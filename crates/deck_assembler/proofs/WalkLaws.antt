@@ -18,18 +18,18 @@ use Rattle.definitions.specs.declared.deck_kind.DeckKind.{DeckKind}
 use Rattle.definitions.specs.declared.deck_kind.DeckKind.TheVariants.{Rel, Abs, Periph}
 use Rattle.definitions.specs.declared.number_base.NumberBase.{NumberBase}
 use Rattle.statement_coder.specs.declared.items.Item as code
-use Rattle.statement_coder.specs.CodedItems.{IsKept}
-use Rattle.statement_coder.specs.Sizings.{IsCodable}
-use Rattle.statement_coder.specs.StatementsRead.{IsRead}
+use Rattle.statement_coder.specs.Joins.CodedItems.{IsKept}
+use Rattle.statement_coder.specs.Joins.Sizings.{IsCodable}
+use Rattle.statement_coder.specs.Joins.StatementsRead.{IsRead}
 use Rattle.statement_coder.specs.declared.sizing.Sizing.{Sizing}
 use Rattle.statement_coder.specs.declared.statement.Statement as statements
 use Rattle.statement_coder.proofs.CodingLaws.{codable}
-use Rattle.deck_objects.specs.CodedLines.{IsNamed, IsShown, IsStored}
+use Rattle.deck_objects.specs.Joins.CodedLines.{IsNamed, IsShown, IsStored}
 use Rattle.deck_objects.specs.declared.lines.CodedLine.{CodedLine}
 use Rattle.deck_objects.specs.declared.lines.Line.{Line}
-use Rattle.deck_assembler.specs.FirstSymbols.{symbol_in, with_symbol}
-use Rattle.deck_assembler.specs.SharedNames.{enters, entries_to, is_ext}
-use Rattle.deck_assembler.specs.Walks.{Whole, all_settled, has_row, AreNoted, AreShownTo, AreLinedAs}
+use Rattle.deck_assembler.specs.Joins.FirstSymbols.{symbol_in, with_symbol}
+use Rattle.deck_assembler.specs.Joins.SharedNames.{enters, entries_to, is_ext}
+use Rattle.deck_assembler.specs.Joins.Walks.{Whole, all_settled, has_row, AreNoted, AreShownTo, AreLinedAs}
 use Rattle.deck_assembler.specs.declared.deck_lines.DeckLines.{DeckLines}
 use Rattle.deck_assembler.specs.declared.deck_names.DeckNames.{DeckNames}
 use Rattle.deck_assembler.proofs.ExternalLaws.{nothing-followed, symbol-followed}

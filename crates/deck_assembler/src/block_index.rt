@@ -1,8 +1,8 @@
 //! The index of a block among the blocks of its deck.
 ghost use Rattle.std.specs.Prelude.{◌≡◌, ◌≤◌, true, length, position, slice_get};
 ghost use Rattle.definitions.specs.Characters.{same_text};
-ghost use Rattle.deck_objects.specs.CodedLines.{IsNamed};
-ghost use Rattle.deck_assembler.specs.Walks.{has_row};
+ghost use Rattle.deck_objects.specs.Joins.CodedLines.{IsNamed};
+ghost use Rattle.deck_assembler.specs.Joins.Walks.{has_row};
 
 use expr_forms::Name;
 use use_blocks::BlockRow;

@@ -3,10 +3,10 @@ ghost use Rattle.std.specs.Prelude.{◌≡◌, ◌≤◌, ◌+◌, ◌-◌, ◌+
 ghost use Rattle.definitions.specs.Lengths.{BlockRow};
 ghost use Rattle.definitions.specs.Words as words;
 ghost use Rattle.definitions.specs.declared.deck_kind.DeckKind.{DeckKind};
-ghost use Rattle.statement_coder.specs.CodedItems.{IsKept};
-ghost use Rattle.statement_coder.specs.Items.{item_as};
-ghost use Rattle.deck_objects.specs.CodedLines.{IsCoded, IsNamed};
-ghost use Rattle.deck_assembler.specs.CopiedFields.{AreCopied};
+ghost use Rattle.statement_coder.specs.Joins.CodedItems.{IsKept};
+ghost use Rattle.statement_coder.specs.Joins.Items.{item_as};
+ghost use Rattle.deck_objects.specs.Joins.CodedLines.{IsCoded, IsNamed};
+ghost use Rattle.deck_assembler.specs.Joins.CopiedFields.{AreCopied};
 
 use crate::line_fields::{listed_from, put};
 use deck_objects::{CodedLine, LineFields};

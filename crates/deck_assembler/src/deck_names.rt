@@ -4,12 +4,12 @@ ghost use Rattle.definitions.specs.Cards.{Card};
 ghost use Rattle.definitions.specs.Settled.{Settled, defined};
 ghost use Rattle.definitions.specs.Settling.{number_base_of, settle, settled_all};
 ghost use Rattle.definitions.specs.Statements as statements;
-ghost use Rattle.operations.specs.OperationsAs.{operation_as};
-ghost use Rattle.statement_coder.specs.Sizings.{IsSizing};
-ghost use Rattle.statement_coder.specs.StatementsRead.{IsRead};
-ghost use Rattle.deck_assembler.specs.Walks.{AreNoted, all_settled, IsWhole, Whole, whole_of};
-ghost use Rattle.deck_assembler.specs.SizedDecks.{IsSizedStatement};
-ghost use Rattle.deck_assembler.specs.SharedNames.{AreSeen, enters, entries_to, has_ext, have_ext};
+ghost use Rattle.operations.specs.Joins.OperationsAs.{operation_as};
+ghost use Rattle.statement_coder.specs.Joins.Sizings.{IsSizing};
+ghost use Rattle.statement_coder.specs.Joins.StatementsRead.{IsRead};
+ghost use Rattle.deck_assembler.specs.Joins.Walks.{AreNoted, all_settled, IsWhole, Whole, whole_of};
+ghost use Rattle.deck_assembler.specs.Joins.SizedDecks.{IsSizedStatement};
+ghost use Rattle.deck_assembler.specs.Joins.SharedNames.{AreSeen, enters, entries_to, has_ext, have_ext};
 
 use crate::deck_view::DeckView;
 use crate::entry_names::EntryNames;

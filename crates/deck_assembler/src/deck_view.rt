@@ -1,8 +1,8 @@
 //! What all statements of a deck are coded with.
 ghost use Rattle.std.specs.Prelude.{◌≡◌};
 ghost use Rattle.definitions.specs.Literals.{literal_form, offset_form};
-ghost use Rattle.expr_forms.specs.Elements.{literal_as};
-ghost use Rattle.deck_assembler.specs.Walks.{is_too_great};
+ghost use Rattle.expr_forms.specs.Joins.Elements.{literal_as};
+ghost use Rattle.deck_assembler.specs.Joins.Walks.{is_too_great};
 
 use crate::rebinding::Bindings;
 use crate::{SizedDeck, literal_word};
@@ -73,7 +73,7 @@ pub(crate) fn literal_form(literals: &Literals, literal: Literal<'_>) -> Result<
 
 impl FinalSymbols for DeckView<'_> {
     ghost use Rattle.definitions.specs.Literals.{literal_form};
-    ghost use Rattle.deck_assembler.specs.FirstSymbols.{symbol_in};
+    ghost use Rattle.deck_assembler.specs.Joins.FirstSymbols.{symbol_in};
 
     ghost symbols = { λ v. symbol_in v.deck.now.symbols };
 

@@ -3,8 +3,8 @@
 ghost use Rattle.std.specs.Prelude.{◌≡◌, ◌≤◌, length, OnOk};
 ghost use Rattle.definitions.specs.Operands as operands;
 ghost use Rattle.definitions.specs.Settling.{external};
-ghost use Rattle.statement_coder.specs.Readings.{IsReading};
-ghost use Rattle.deck_assembler.specs.FirstSymbols.{symbol_in, with_symbol, with_externals, with_names, with_defined};
+ghost use Rattle.statement_coder.specs.Joins.Readings.{IsReading};
+ghost use Rattle.deck_assembler.specs.Joins.FirstSymbols.{symbol_in, with_symbol, with_externals, with_names, with_defined};
 
 use crate::symbol_table::SymbolTable;
 use expr_forms::{Form, LinkedNames, Name, Part, Relocation};

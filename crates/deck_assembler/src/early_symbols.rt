@@ -4,11 +4,11 @@ ghost use Rattle.std.specs.Prelude.{◌≡◌, ◌||◌, true};
 ghost use Rattle.std.specs.Bool.{Decides};
 ghost use Rattle.definitions.specs.Operands as operands;
 ghost use Rattle.definitions.specs.Agreement.{Agree, defines_location, lawful_names, own_symbols, operand_symbols, symbols_in};
-ghost use Rattle.operations.specs.OperationsAs.{operation_as};
-ghost use Rattle.statement_coder.specs.Readings.{IsReading};
-ghost use Rattle.deck_assembler.specs.FirstSymbols.{symbol_in};
-ghost use Rattle.deck_assembler.specs.Agreements.{AreExternalsAlike, is_externals};
-ghost use Rattle.deck_assembler.specs.SharedNames.{is_ext};
+ghost use Rattle.operations.specs.Joins.OperationsAs.{operation_as};
+ghost use Rattle.statement_coder.specs.Joins.Readings.{IsReading};
+ghost use Rattle.deck_assembler.specs.Joins.FirstSymbols.{symbol_in};
+ghost use Rattle.deck_assembler.specs.Joins.Agreements.{AreExternalsAlike, is_externals};
+ghost use Rattle.deck_assembler.specs.Joins.SharedNames.{is_ext};
 
 use crate::external_names::is_ext;
 use crate::symbol_table::SymbolTable;

@@ -1,8 +1,8 @@
 //! A trial of the statements that are left of a deck: whether what they define or read early has one
 //! value in front of them in two decks (ours).
 ghost use Rattle.std.specs.Prelude.{◌≡◌, ◌∷◌, ◌++◌, true, None, List};
-ghost use Rattle.deck_assembler.specs.Agreements.{AreAlike, IsNextAlike, AreTried};
-ghost use Rattle.deck_assembler.specs.DeckParts.{sized_in};
+ghost use Rattle.deck_assembler.specs.Joins.Agreements.{AreAlike, IsNextAlike, AreTried};
+ghost use Rattle.deck_assembler.specs.Joins.DeckParts.{sized_in};
 ghost use Rattle.deck_assembler.specs.declared.sized_statement.SizedStatement as code;
 
 use crate::deck_lines::{later_cards, next_cards};

@@ -6,9 +6,9 @@ ghost use Rattle.definitions.specs.Operands as operands;
 ghost use Rattle.definitions.specs.Operations as op;
 ghost use Rattle.definitions.specs.Settled.{Settled, defined};
 ghost use Rattle.definitions.specs.declared.letter.Letter.TheVariants as letter;
-ghost use Rattle.statement_coder.specs.Readings.{IsReading};
-ghost use Rattle.deck_assembler.specs.FirstSymbols.{is_known_name, symbol_in};
-ghost use Rattle.deck_assembler.specs.SharedNames.{AreSeen};
+ghost use Rattle.statement_coder.specs.Joins.Readings.{IsReading};
+ghost use Rattle.deck_assembler.specs.Joins.FirstSymbols.{is_known_name, symbol_in};
+ghost use Rattle.deck_assembler.specs.Joins.SharedNames.{AreSeen};
 
 use crate::SymbolTable;
 use deck_objects::Entry;

@@ -8,12 +8,12 @@ ghost use Rattle.definitions.specs.Settled.{Settled, defined};
 ghost use Rattle.definitions.specs.Settling.{external, number_base_of, settle};
 ghost use Rattle.definitions.specs.Statements as statements;
 ghost use Rattle.definitions.specs.declared.deck_kind.DeckKind as kinds;
-ghost use Rattle.operations.specs.OperationsAs.{operation_as};
-ghost use Rattle.statement_coder.specs.Readings.{IsReading, IsLawful};
-ghost use Rattle.statement_coder.specs.Sizings.{IsSizing};
-ghost use Rattle.statement_coder.specs.StatementsRead.{IsRead};
-ghost use Rattle.deck_assembler.specs.FirstSymbols.{symbol_in, with_symbol, with_externals, with_names};
-ghost use Rattle.deck_assembler.specs.SharedNames.{AreExternals, is_ext, with_new, with_new_of};
+ghost use Rattle.operations.specs.Joins.OperationsAs.{operation_as};
+ghost use Rattle.statement_coder.specs.Joins.Readings.{IsReading, IsLawful};
+ghost use Rattle.statement_coder.specs.Joins.Sizings.{IsSizing};
+ghost use Rattle.statement_coder.specs.Joins.StatementsRead.{IsRead};
+ghost use Rattle.deck_assembler.specs.Joins.FirstSymbols.{symbol_in, with_symbol, with_externals, with_names};
+ghost use Rattle.deck_assembler.specs.Joins.SharedNames.{AreExternals, is_ext, with_new, with_new_of};
 
 use crate::SymbolTable;
 use definitions::{DeckKind, NumberBase};

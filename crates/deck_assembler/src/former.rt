@@ -1,8 +1,8 @@
 //! What coding an edited deck needs of the deck before the edit.
 ghost use Rattle.std.specs.Prelude.{◌≡◌, ◌-◌, ◌⊎◌, [], true};
-ghost use Rattle.deck_assembler.specs.FormerLines.{AreChosen};
-ghost use Rattle.deck_assembler.specs.Heads.{AreHeadLines, IsLineOfHead, cards_of_lines};
-ghost use Rattle.deck_assembler.specs.TailLines.{lines_behind};
+ghost use Rattle.deck_assembler.specs.Joins.FormerLines.{AreChosen};
+ghost use Rattle.deck_assembler.specs.Joins.Heads.{AreHeadLines, IsLineOfHead, cards_of_lines};
+ghost use Rattle.deck_assembler.specs.Joins.TailLines.{lines_behind};
 
 use crate::former_lines::{FormerLines, TailLines, ends_within};
 use crate::rebinding::Bindings;

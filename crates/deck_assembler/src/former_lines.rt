@@ -5,10 +5,10 @@ ghost use Rattle.std.specs.Prelude.{◌≡◌, ◌≤◌, ◌+◌, true, IfSome}
 ghost use Rattle.definitions.specs.Rebound.{is_rebound};
 ghost use Rattle.definitions.specs.Settled.{Settled, defined};
 ghost use Rattle.definitions.specs.StatementItems.{Context};
-ghost use Rattle.statement_coder.specs.ReadOperands.{IsReadOperand};
-ghost use Rattle.deck_assembler.specs.FirstSymbols.{symbol_in};
-ghost use Rattle.deck_assembler.specs.FormerLines.{IsBare, IsMissedInFront, IsMissedInTail, IsNextInFront, IsNextInTail, IsNextLine};
-ghost use Rattle.deck_assembler.specs.Rebindings.{AreBindings};
+ghost use Rattle.statement_coder.specs.Joins.ReadOperands.{IsReadOperand};
+ghost use Rattle.deck_assembler.specs.Joins.FirstSymbols.{symbol_in};
+ghost use Rattle.deck_assembler.specs.Joins.FormerLines.{IsBare, IsMissedInFront, IsMissedInTail, IsNextInFront, IsNextInTail, IsNextLine};
+ghost use Rattle.deck_assembler.specs.Joins.Rebindings.{AreBindings};
 
 use crate::deck_view::DeckView;
 use crate::rebinding::{Bindings, Rebinding};

@@ -1,10 +1,10 @@
 //! The neutral statements in front of an edited card: in a deck of another kind they stay as they were
 //! sized, but for their two counters.
 ghost use Rattle.std.specs.Prelude.{◌≡◌, ◌++◌, List, true, IfOk};
-ghost use Rattle.deck_assembler.specs.Agreements.{left};
-ghost use Rattle.deck_assembler.specs.DeckParts.{sized_in};
-ghost use Rattle.deck_assembler.specs.Heads.{AreHead, IsHeadDeck, IsOfHead, IsRecounted};
-ghost use Rattle.deck_assembler.specs.Meetings.{cards_of};
+ghost use Rattle.deck_assembler.specs.Joins.Agreements.{left};
+ghost use Rattle.deck_assembler.specs.Joins.DeckParts.{sized_in};
+ghost use Rattle.deck_assembler.specs.Joins.Heads.{AreHead, IsHeadDeck, IsOfHead, IsRecounted};
+ghost use Rattle.deck_assembler.specs.Joins.Meetings.{cards_of};
 
 use crate::former_lines::ends_within;
 use crate::old_deck::{OldCards, OldDeck, Stage};

@@ -1,8 +1,8 @@
 //! Known fields one behind the other, as one number.
 ghost use Rattle.std.specs.Prelude.{◌≡◌, ◌+◌, ◌*◌, ◌≤◌, ◌<◌, ◌^◌, ◌++◌, ◌∷◌, [], List, IfSome, map};
 ghost use Rattle.definitions.specs.StatementItems as definitions;
-ghost use Rattle.statement_coder.specs.Items.{item_as, items_as, option_items};
-ghost use Rattle.deck_assembler.specs.KeptFields.{AreTogether};
+ghost use Rattle.statement_coder.specs.Joins.Items.{item_as, items_as, option_items};
+ghost use Rattle.deck_assembler.specs.Joins.KeptFields.{AreTogether};
 
 use statement_coder::{Content, InstructionItems, Item};
 

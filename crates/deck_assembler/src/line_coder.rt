@@ -4,11 +4,11 @@ ghost use Rattle.definitions.specs.Cards.{Card};
 ghost use Rattle.definitions.specs.Objects.{shown_of};
 ghost use Rattle.definitions.specs.Settling.{settle, settled_all};
 ghost use Rattle.definitions.specs.Statements as statements;
-ghost use Rattle.statement_coder.specs.CodedItems.{IsKept};
-ghost use Rattle.statement_coder.specs.ReadOperands.{IsReadOperand};
-ghost use Rattle.deck_objects.specs.CodedLines.{IsNamed, IsShown};
-ghost use Rattle.deck_assembler.specs.SizedDecks.{IsSizedStatement};
-ghost use Rattle.deck_assembler.specs.Walks.{IsWhole, context_in, whole_of};
+ghost use Rattle.statement_coder.specs.Joins.CodedItems.{IsKept};
+ghost use Rattle.statement_coder.specs.Joins.ReadOperands.{IsReadOperand};
+ghost use Rattle.deck_objects.specs.Joins.CodedLines.{IsNamed, IsShown};
+ghost use Rattle.deck_assembler.specs.Joins.SizedDecks.{IsSizedStatement};
+ghost use Rattle.deck_assembler.specs.Joins.Walks.{IsWhole, context_in, whole_of};
 
 use crate::SizedStatement;
 use crate::deck_view::DeckView;

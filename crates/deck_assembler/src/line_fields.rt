@@ -4,11 +4,11 @@ ghost use Rattle.std.specs.Prelude.{◌≡◌, ◌≤◌, ◌-◌, ◌++◌, ◌
 ghost use Rattle.definitions.specs.Operands.{Operand};
 ghost use Rattle.definitions.specs.StatementItems as definitions;
 ghost use Rattle.definitions.specs.declared.deck_kind.DeckKind.{DeckKind};
-ghost use Rattle.statement_coder.specs.Items.{item_as, items_as, option_items};
+ghost use Rattle.statement_coder.specs.Joins.Items.{item_as, items_as, option_items};
 ghost use Rattle.statement_coder.specs.declared.items.Item as fields;
-ghost use Rattle.statement_coder.specs.CodedItems.{AreTold, IsKept, is_zeros};
+ghost use Rattle.statement_coder.specs.Joins.CodedItems.{AreTold, IsKept, is_zeros};
 ghost use Rattle.statement_coder.specs.declared.sizing.Sizing as sizings;
-ghost use Rattle.deck_assembler.specs.KeptFields.{AreKeptAs, are_zeros};
+ghost use Rattle.deck_assembler.specs.Joins.KeptFields.{AreKeptAs, are_zeros};
 
 use crate::known_bits::{instruction_bits, listed_bits};
 use deck_objects::LineFields;

@@ -3,12 +3,12 @@ ghost use Rattle.std.specs.Prelude.{◌≡◌, ◌<◌, ◌^◌, [], IfOk, OnOk,
 ghost use Rattle.definitions.specs.Literals as literals;
 ghost use Rattle.definitions.specs.Literals.{literals_in, value_literals, datum_literals, operand_literals, with_literals, signed_number};
 ghost use Rattle.definitions.specs.Operands as operands;
-ghost use Rattle.expr_forms.specs.Elements.{literal_as, sign_as};
-ghost use Rattle.expr_forms.specs.Readings.{datum_as, bit_field_as};
-ghost use Rattle.operations.specs.OperationsAs.{operation_as};
-ghost use Rattle.statement_coder.specs.Readings.{IsReading, IsLawful};
-ghost use Rattle.deck_assembler.specs.LiteralsRead.{shape_literals, bit_literals, is_told, kept_literals, IsTold};
-ghost use Rattle.expr_forms.specs.Kept.{field_of};
+ghost use Rattle.expr_forms.specs.Joins.Elements.{literal_as, sign_as};
+ghost use Rattle.expr_forms.specs.Joins.Readings.{datum_as, bit_field_as};
+ghost use Rattle.operations.specs.Joins.OperationsAs.{operation_as};
+ghost use Rattle.statement_coder.specs.Joins.Readings.{IsReading, IsLawful};
+ghost use Rattle.deck_assembler.specs.Joins.LiteralsRead.{shape_literals, bit_literals, is_told, kept_literals, IsTold};
+ghost use Rattle.expr_forms.specs.Joins.Kept.{field_of};
 
 use crate::sized_statement::SizedStatement;
 use expr_forms::{

@@ -2,15 +2,15 @@
 //! of that stays as it was sized.
 ghost use Rattle.std.specs.Prelude.{ℕ, ◌≡◌, ◌≤◌, ◌+◌, ◌⊎◌, ◌∷◌, ◌++◌, true, false, [], List, Ok, None, IfOk, IfSome, OnOk, drop, length};
 ghost use Rattle.std.specs.Option.{option_to_list};
-ghost use Rattle.cards.specs.Spans.{IsSpan};
+ghost use Rattle.cards.specs.Joins.Spans.{IsSpan};
 ghost use Rattle.definitions.specs.Cards as deck_cards;
 ghost use Rattle.definitions.specs.Statements as statements;
 ghost use Rattle.definitions.specs.declared.deck_kind.DeckKind as kinds;
-ghost use Rattle.deck_assembler.specs.Agreements.{left, DoesAgree, HasFront, IsAgreeing, IsOfSameDeck, IsSameFront};
-ghost use Rattle.deck_assembler.specs.DeckParts.{sized_in};
-ghost use Rattle.deck_assembler.specs.Meetings.{HasPiece, IsNextOf, KeepsDue};
-ghost use Rattle.deck_assembler.specs.OldDecks.{IsInFront, IsOnSpan, IsThatOf, KeepsFront, KeepsOn};
-ghost use Rattle.deck_assembler.specs.Sizers.{IsSizer};
+ghost use Rattle.deck_assembler.specs.Joins.Agreements.{left, DoesAgree, HasFront, IsAgreeing, IsOfSameDeck, IsSameFront};
+ghost use Rattle.deck_assembler.specs.Joins.DeckParts.{sized_in};
+ghost use Rattle.deck_assembler.specs.Joins.Meetings.{HasPiece, IsNextOf, KeepsDue};
+ghost use Rattle.deck_assembler.specs.Joins.OldDecks.{IsInFront, IsOnSpan, IsThatOf, KeepsFront, KeepsOn};
+ghost use Rattle.deck_assembler.specs.Joins.Sizers.{IsSizer};
 ghost use Rattle.deck_assembler.specs.declared.old_deck.Stage.TheVariants as stages;
 ghost use Rattle.deck_assembler.specs.declared.sized_statement.SizedStatement as code;
 ghost use Rattle.deck_assembler.specs.declared.sizer.Sizer as sizers;

@@ -1,6 +1,6 @@
 //! The statements of a deck in pieces of at most 128 (ours).
 ghost use Rattle.std.specs.Prelude.{◌≡◌, ◌≤◌, ◌<◌, ◌∷◌, ◌++◌, [], false, length, reverse, IfOk, OnOk};
-ghost use Rattle.deck_assembler.specs.PieceSteps.{is_full, with_pushed, with_statement, onto_latest};
+ghost use Rattle.deck_assembler.specs.Joins.PieceSteps.{is_full, with_pushed, with_statement, onto_latest};
 
 use crate::sized_statement::SizedStatement;
 use std::alloc::{AllocError, Global};
@@ -19,7 +19,7 @@ pub struct Piece {
 
 impl Model for Piece {
     ghost use Rattle.std.specs.Prelude.{◌<◌, ◌≤◌, length};
-    ghost use Rattle.deck_assembler.specs.DeckParts.{DeckPiece};
+    ghost use Rattle.deck_assembler.specs.Joins.DeckParts.{DeckPiece};
 
     ghost Value = { DeckPiece };
 

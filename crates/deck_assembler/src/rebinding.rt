@@ -6,11 +6,11 @@ ghost use Rattle.definitions.specs.Expressions.{ASymbol, ALiteral, elements_of};
 ghost use Rattle.definitions.specs.Forms.{Added, Subtracted};
 ghost use Rattle.definitions.specs.Rebound.{datum_elements, name_elements, part_base, relocation_base, same_form, same_part, same_value, value_elements};
 ghost use Rattle.definitions.specs.Operations as op;
-ghost use Rattle.expr_forms.specs.Elements.{element_as, literal_as};
-ghost use Rattle.expr_forms.specs.FormsAs.{part_as, relocation_as};
-ghost use Rattle.expr_forms.specs.Readings.{bit_field_as, datum_as};
-ghost use Rattle.operations.specs.OperationsAs.{operation_as};
-ghost use Rattle.deck_assembler.specs.Rebindings.{bit_elements, context_at, differs, reading_elements, shape_elements};
+ghost use Rattle.expr_forms.specs.Joins.Elements.{element_as, literal_as};
+ghost use Rattle.expr_forms.specs.Joins.FormsAs.{part_as, relocation_as};
+ghost use Rattle.expr_forms.specs.Joins.Readings.{bit_field_as, datum_as};
+ghost use Rattle.operations.specs.Joins.OperationsAs.{operation_as};
+ghost use Rattle.deck_assembler.specs.Joins.Rebindings.{bit_elements, context_at, differs, reading_elements, shape_elements};
 
 use crate::deck_view::literal_form;
 use crate::symbol_table::SymbolTable;

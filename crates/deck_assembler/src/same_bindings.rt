@@ -1,7 +1,7 @@
 //! Whether all names mean the same in two decks, so that no statement of one is bound otherwise in the
 //! other.
 ghost use Rattle.std.specs.Prelude.{◌≡◌, true};
-ghost use Rattle.deck_assembler.specs.Rebindings.{MeanSame};
+ghost use Rattle.deck_assembler.specs.Joins.Rebindings.{MeanSame};
 
 use crate::rebinding::Bindings;
 use expr_forms::Name;

@@ -1,20 +1,20 @@
 //! All of a deck: its statements up to END, sized one behind the other.
 ghost use Rattle.std.specs.Prelude.{ℕ, ◌≡◌, ◌<◌, ◌≤◌, ◌+◌, ◌⊎◌, List, [], All, length, take, reverse, IfOk, OnOk};
-ghost use Rattle.cards.specs.Spans.{IsSpan, statements_at};
+ghost use Rattle.cards.specs.Joins.Spans.{IsSpan, statements_at};
 ghost use Rattle.definitions.specs.Cards as deck_cards;
 ghost use Rattle.definitions.specs.DeckKinds.{up_to_end, kind_of_statements};
 ghost use Rattle.definitions.specs.Edits.{DoAgree, Edited, IsUntouched, Split};
 ghost use Rattle.definitions.specs.Statements as deck_statements;
 ghost use Rattle.definitions.specs.Statements.{statements_of};
-ghost use Rattle.statement_coder.specs.Meters.{RisesBy};
-ghost use Rattle.deck_assembler.specs.Agreements.{HaveSameEnd};
-ghost use Rattle.deck_assembler.specs.DeckParts.{sized_in};
-ghost use Rattle.deck_assembler.specs.Formers.{IsFormerOf, known_in};
-ghost use Rattle.deck_assembler.specs.Heads.{BeginsBeside, IsHeadDeck, IsOldDeck, IsWholeDeck};
-ghost use Rattle.deck_assembler.specs.Meetings.{StandApart, WillAgree};
-ghost use Rattle.deck_assembler.specs.OldDecks.{IsKeptOn, StandsInFront};
-ghost use Rattle.deck_assembler.specs.SizedDecks.{IsSizedDeck};
-ghost use Rattle.deck_assembler.specs.Tails.{HasTailIfAny, HasTailWithin};
+ghost use Rattle.statement_coder.specs.Joins.Meters.{RisesBy};
+ghost use Rattle.deck_assembler.specs.Joins.Agreements.{HaveSameEnd};
+ghost use Rattle.deck_assembler.specs.Joins.DeckParts.{sized_in};
+ghost use Rattle.deck_assembler.specs.Joins.Formers.{IsFormerOf, known_in};
+ghost use Rattle.deck_assembler.specs.Joins.Heads.{BeginsBeside, IsHeadDeck, IsOldDeck, IsWholeDeck};
+ghost use Rattle.deck_assembler.specs.Joins.Meetings.{StandApart, WillAgree};
+ghost use Rattle.deck_assembler.specs.Joins.OldDecks.{IsKeptOn, StandsInFront};
+ghost use Rattle.deck_assembler.specs.Joins.SizedDecks.{IsSizedDeck};
+ghost use Rattle.deck_assembler.specs.Joins.Tails.{HasTailIfAny, HasTailWithin};
 ghost use Rattle.deck_assembler.specs.declared.old_deck.Stage.TheVariants as stages;
 
 use crate::former::{EditedDeck, Former};
@@ -44,7 +44,7 @@ pub struct SizedDeck {
 }
 
 impl Model for SizedDeck {
-    ghost use Rattle.deck_assembler.specs.DeckParts.{DeckParts};
+    ghost use Rattle.deck_assembler.specs.Joins.DeckParts.{DeckParts};
 
     ghost Value = { DeckParts };
 

@@ -6,10 +6,10 @@ ghost use Rattle.definitions.specs.Settling.{View};
 ghost use Rattle.definitions.specs.StatementItems as definitions;
 ghost use Rattle.definitions.specs.declared.deck_kind.DeckKind.{DeckKind};
 ghost use Rattle.statement_coder.specs.declared.items.Item as fields;
-ghost use Rattle.operations.specs.OperationsAs.{operation_as};
-ghost use Rattle.statement_coder.specs.CodedItems.{IsKept};
-ghost use Rattle.deck_objects.specs.CodedLines.{IsCoded, IsNamed};
-ghost use Rattle.deck_assembler.specs.KeptFields.{IsTold};
+ghost use Rattle.operations.specs.Joins.OperationsAs.{operation_as};
+ghost use Rattle.statement_coder.specs.Joins.CodedItems.{IsKept};
+ghost use Rattle.deck_objects.specs.Joins.CodedLines.{IsCoded, IsNamed};
+ghost use Rattle.deck_assembler.specs.Joins.KeptFields.{IsTold};
 
 use crate::line_fields::line_fields;
 use deck_objects::CodedLine;

@@ -1,7 +1,7 @@
 //! Names as the keys of a map: one number each.
 ghost use Rattle.std.specs.Prelude.{◌≡◌, ◌==◌, ◌≤◌, length, not};
 ghost use Rattle.std.specs.List.{list_all};
-ghost use Rattle.deck_assembler.specs.SymbolKeys.{is_name, key_of, padded};
+ghost use Rattle.deck_assembler.specs.Joins.SymbolKeys.{is_name, key_of, padded};
 
 /// How many characters a name has at most.
 const MOST_CHARACTERS: usize = 8;

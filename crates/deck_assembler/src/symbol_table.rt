@@ -3,7 +3,7 @@
 ghost use Rattle.std.specs.Prelude.{◌≡◌, ℕ, ◌==◌, nat_eq, true, Some, None, IfOk, OnOk, OnErr, if◌then◌else◌};
 ghost use Rattle.std.specs.Map.{lookup};
 ghost use Rattle.definitions.specs.Settled.{or_form};
-ghost use Rattle.deck_assembler.specs.FirstSymbols.{symbol_in, with_symbol};
+ghost use Rattle.deck_assembler.specs.Joins.FirstSymbols.{symbol_in, with_symbol};
 
 use crate::symbol_key::SymbolKey;
 use expr_forms::Form;
@@ -119,7 +119,7 @@ fn are_entries_same(forms: &BTreeMap<u64, Form>, others: &BTreeMap<u64, Form>) -
 }
 
 impl EarlySymbols for SymbolTable {
-    ghost use Rattle.deck_assembler.specs.FirstSymbols.{symbol_in};
+    ghost use Rattle.deck_assembler.specs.Joins.FirstSymbols.{symbol_in};
 
     ghost view = { λ symbols. symbol_in symbols };
 

@@ -1,6 +1,6 @@
 //! The statements of a deck up to END, one after the other (COMPASS 60492600, END, ABS, PERIPH).
 ghost use Rattle.std.specs.Prelude.{ℕ, ◌≡◌, ◌≤◌, ◌<◌, ◌⊎◌, ◌+◌, ◌-◌, ◌^◌, ◌∷◌, [], List, All, IfOk, OnOk, length, map, min};
-ghost use Rattle.cards.specs.Spans.{IsSpan, statement_at};
+ghost use Rattle.cards.specs.Joins.Spans.{IsSpan, statement_at};
 ghost use Rattle.cards.specs.declared.statement_list.Span.{Span};
 ghost use Rattle.definitions.specs.Cards as deck_cards;
 ghost use Rattle.definitions.specs.DeckKinds.{is_end, up_to_end, kind_of_statements};
@@ -9,18 +9,18 @@ ghost use Rattle.definitions.specs.Operations.{operation_of};
 ghost use Rattle.definitions.specs.Statements as statements;
 ghost use Rattle.definitions.specs.Statements.{AreNumbered};
 ghost use Rattle.definitions.specs.States.{names_of_blocks};
-ghost use Rattle.operations.specs.KindsFound.{kind_found};
-ghost use Rattle.operations.specs.OperationsAs.{operation_as};
-ghost use Rattle.statement_coder.specs.Meters.{RisesBy};
-ghost use Rattle.use_blocks.specs.BlockLengths.{block_names};
-ghost use Rattle.use_blocks.specs.Changes.{IsAccepted};
-ghost use Rattle.use_blocks.specs.EffectsAs.{change_as};
-ghost use Rattle.deck_assembler.specs.FirstStatements.{all_statements, first_statements, IsEnding};
-ghost use Rattle.deck_assembler.specs.Meetings.{IsBounded, IsNextKnown, WillAgree};
-ghost use Rattle.deck_assembler.specs.OldDecks.{GoesOn, IsKeptOn, IsOnSpan, StandsInFront};
-ghost use Rattle.deck_assembler.specs.SizedDecks.{IsSizedStatement};
-ghost use Rattle.deck_assembler.specs.Sizers.{stood, ahead, IsNext, IsSizer};
-ghost use Rattle.deck_assembler.specs.Tails.{HasTailIfAny, HasTailWithin};
+ghost use Rattle.operations.specs.Joins.KindsFound.{kind_found};
+ghost use Rattle.operations.specs.Joins.OperationsAs.{operation_as};
+ghost use Rattle.statement_coder.specs.Joins.Meters.{RisesBy};
+ghost use Rattle.use_blocks.specs.Joins.BlockLengths.{block_names};
+ghost use Rattle.use_blocks.specs.Joins.Changes.{IsAccepted};
+ghost use Rattle.use_blocks.specs.Joins.EffectsAs.{change_as};
+ghost use Rattle.deck_assembler.specs.Joins.FirstStatements.{all_statements, first_statements, IsEnding};
+ghost use Rattle.deck_assembler.specs.Joins.Meetings.{IsBounded, IsNextKnown, WillAgree};
+ghost use Rattle.deck_assembler.specs.Joins.OldDecks.{GoesOn, IsKeptOn, IsOnSpan, StandsInFront};
+ghost use Rattle.deck_assembler.specs.Joins.SizedDecks.{IsSizedStatement};
+ghost use Rattle.deck_assembler.specs.Joins.Sizers.{stood, ahead, IsNext, IsSizer};
+ghost use Rattle.deck_assembler.specs.Joins.Tails.{HasTailIfAny, HasTailWithin};
 ghost use Rattle.deck_assembler.specs.declared.old_deck.Stage.TheVariants as stages;
 
 use crate::known_statements::known_statement;

@@ -15,17 +15,17 @@ use Rattle.definitions.specs.Objects.{Object}
 use Rattle.definitions.specs.StatementItems.{Item}
 use Rattle.definitions.specs.Words.{Coded, Linking, StoredWord, stored_words}
 use Rattle.definitions.specs.declared.deck_kind.DeckKind.{DeckKind}
-use Rattle.statement_coder.specs.Items.{item_as}
+use Rattle.statement_coder.specs.Joins.Items.{item_as}
 use Rattle.statement_coder.specs.declared.items.Item as code
-use Rattle.deck_objects.specs.CodedLines.{AreCoded, IsCoded, IsNamed}
-use Rattle.deck_objects.specs.LineItems.{AreBitsOf, AreKept, kept_from, kept_items}
-use Rattle.deck_objects.specs.PartsOf.{ArePartsOf}
+use Rattle.deck_objects.specs.Joins.CodedLines.{AreCoded, IsCoded, IsNamed}
+use Rattle.deck_objects.specs.Joins.LineItems.{AreBitsOf, AreKept, kept_from, kept_items}
+use Rattle.deck_objects.specs.Joins.PartsOf.{ArePartsOf}
 use Rattle.deck_objects.specs.declared.lines.CodedLine.{CodedLine}
 use Rattle.deck_objects.specs.declared.lines.Line.{Line}
 use Rattle.deck_objects.specs.declared.lines.LineFields.{LineFields}
 use Rattle.deck_objects.specs.declared.lines.LineFields.TheVariants as fields
 use Rattle.deck_objects.specs.declared.object.ObjectParts.{ObjectParts}
-use Rattle.deck_linker.specs.Beyond.{coded_beyond, has_items, keeps_fields, literals_beyond, stores_beyond}
+use Rattle.deck_linker.specs.Joins.Beyond.{coded_beyond, has_items, keeps_fields, literals_beyond, stores_beyond}
 use Rattle.deck_linker.proofs.TestLaws.{lt-true}
 use Rattle.deck_linker.proofs.WordLaws.{any-block, list_any-same}
 

@@ -11,14 +11,14 @@ use Rattle.definitions.specs.Link.{has_beyond}
 use Rattle.definitions.specs.Objects.{Object}
 use Rattle.definitions.specs.declared.deck_kind.DeckKind.{DeckKind}
 use Rattle.definitions.proofs.TextLaws.{same_text-refl}
-use Rattle.deck_objects.specs.PartsOf.{ArePartsOf}
+use Rattle.deck_objects.specs.Joins.PartsOf.{ArePartsOf}
 use Rattle.deck_objects.specs.declared.lines.CodedLine.{CodedLine}
 use Rattle.deck_objects.specs.declared.lines.Line.{Line}
 use Rattle.deck_objects.specs.declared.object.ObjectParts.{ObjectParts}
-use Rattle.deck_listing.specs.Walking.{DoNamesDiffer}
+use Rattle.deck_listing.specs.Joins.Walking.{DoNamesDiffer}
 use Rattle.deck_listing.proofs.BlockSteps.{behind_other}
-use Rattle.deck_linker.specs.Beyond.{is_plain, keeps_fields, line_beyond, listed_beyond, literals_beyond, literals_row_beyond, parts_beyond, stores_beyond}
-use Rattle.deck_linker.specs.NameKeys.{same_text_equivalence}
+use Rattle.deck_linker.specs.Joins.Beyond.{is_plain, keeps_fields, line_beyond, listed_beyond, literals_beyond, literals_row_beyond, parts_beyond, stores_beyond}
+use Rattle.deck_linker.specs.Joins.NameKeys.{same_text_equivalence}
 use Rattle.deck_linker.proofs.BeyondLaws.{line_of_row, listed_of_row, row_beyond, rows-beyond}
 use Rattle.deck_linker.proofs.WordLaws.{list_any-same}
 

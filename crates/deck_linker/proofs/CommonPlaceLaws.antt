@@ -9,9 +9,9 @@ use Rattle.definitions.specs.Lengths.{BlockLength, BlockRow}
 use Rattle.definitions.specs.Link.{with_common}
 use Rattle.definitions.proofs.TextLaws.{same_text-true}
 use Rattle.use_blocks.proofs.OffsetLaws.{push-here, push-other}
-use Rattle.deck_linker.specs.CommonPlaces.{HasPlaces, length_at, widened}
-use Rattle.deck_linker.specs.NameKeys.{name_order, same_in_order, same_text_equivalence}
-use Rattle.deck_linker.specs.Placing.{names_of_lengths}
+use Rattle.deck_linker.specs.Joins.CommonPlaces.{HasPlaces, length_at, widened}
+use Rattle.deck_linker.specs.Joins.NameKeys.{name_order, same_in_order, same_text_equivalence}
+use Rattle.deck_linker.specs.Joins.Placing.{names_of_lengths}
 
 -- a common block that is there is widened in its place
 record IsThere (row : BlockRow) (i k : ℕ) (blocks : List BlockLength) : Type 0 where

@@ -13,12 +13,12 @@ use Rattle.definitions.specs.Lengths.{BlockRow}
 use Rattle.definitions.specs.Link.{Based, Common, Layout}
 use Rattle.definitions.specs.Words.{StoredWord}
 use Rattle.definitions.proofs.TextLaws.{same_text-refl, same_text_tells}
-use Rattle.deck_listing.specs.Filling.{DoSpansRise, as_stored}
+use Rattle.deck_listing.specs.Joins.Filling.{DoSpansRise, as_stored}
 use Rattle.deck_listing.specs.declared.packing.word_spans.WordSpan.{WordSpan}
-use Rattle.deck_listing.specs.Walking.{DoNamesDiffer}
+use Rattle.deck_listing.specs.Joins.Walking.{DoNamesDiffer}
 use Rattle.deck_listing.proofs.BlockSteps.{behind_other}
-use Rattle.deck_linker.specs.CommonWords.{AreCommonWords, AreMade, AreNone, DoListsRise, IsPutOver, common_place, deck_words, has_common, has_row, over_deck, over_row, over_rows}
-use Rattle.deck_linker.specs.Placing.{names_of_commons}
+use Rattle.deck_linker.specs.Joins.CommonWords.{AreCommonWords, AreMade, AreNone, DoListsRise, IsPutOver, common_place, deck_words, has_common, has_row, over_deck, over_row, over_rows}
+use Rattle.deck_linker.specs.Joins.Placing.{names_of_commons}
 
 -- a place that is found lies between the first and the end
 found-from : {X : Type 0} (t : X → Bool) (from : ℕ) (xs : List X) (i : ℕ) → position_from t from xs ≡ Some i → (from ≤ i) × (i < from + length xs)

@@ -9,7 +9,7 @@ use Rattle.definitions.specs.Lengths.{BlockRow}
 use Rattle.definitions.specs.Words.{Coded, Linking, Parcel, onto_runs, parcels_of, runs_of, stored, stored_words, words_in}
 use Rattle.definitions.specs.declared.deck_kind.DeckKind.{DeckKind}
 use Rattle.statement_coder.specs.declared.items.Item as code
-use Rattle.deck_objects.specs.CodedLines.{IsNamed, AreCoded}
+use Rattle.deck_objects.specs.Joins.CodedLines.{IsNamed, AreCoded}
 use Rattle.deck_objects.specs.declared.lines.CodedLine as lines
 use Rattle.deck_objects.specs.declared.lines.Line.{Line}
 use Rattle.deck_linker.proofs.UnfitLaws.{IsGoingOn}

@@ -7,8 +7,8 @@ use Rattle.definitions.specs.Link.{Layout, Common, addressed}
 use Rattle.definitions.specs.Image.{word_line, common_words, common_section, common_section_by}
 use Rattle.definitions.specs.Words.{StoredWord}
 use Rattle.definitions.specs.declared.deck_kind.DeckKind.TheVariants.{Rel}
-use Rattle.deck_listing.specs.Filling.{words_from}
-use Rattle.deck_linker.specs.Sections.{common_head, common_word, common_words_text}
+use Rattle.deck_listing.specs.Joins.Filling.{words_from}
+use Rattle.deck_linker.specs.Joins.Sections.{common_head, common_word, common_words_text}
 use Rattle.deck_linker.proofs.TextLaws.{four-ended}
 
 -- a word of a span is written

@@ -11,16 +11,16 @@ use Rattle.definitions.specs.DeckInput.{Deck}
 use Rattle.definitions.specs.Link.{Based, Layout, layout_of, linking_of}
 use Rattle.definitions.specs.Objects.{object_of}
 use Rattle.text_ports.proofs.SendSteps.{texts-more}
-use Rattle.text_ports.specs.Sending.{Sends}
+use Rattle.text_ports.specs.Joins.Sending.{Sends}
 use Rattle.text_ports.specs.declared.writing.Broken.{Broken}
 use Rattle.deck_listing.proofs.BlockSteps.{zip-at}
-use Rattle.deck_listing.specs.BlockWords.{AreBlockWords, AreWordsOf}
-use Rattle.deck_listing.specs.Sheets.{room_of, text_of}
+use Rattle.deck_listing.specs.Joins.BlockWords.{AreBlockWords, AreWordsOf}
+use Rattle.deck_listing.specs.Joins.Sheets.{room_of, text_of}
 use Rattle.deck_listing.specs.declared.packing.word_spans.WordSpan.{WordSpan}
-use Rattle.deck_linker.specs.CommonWords.{AreCommonWords}
-use Rattle.deck_linker.specs.InPieces.{AreDeckWords, AreLinked, DoFit, deck_text, end_text}
+use Rattle.deck_linker.specs.Joins.CommonWords.{AreCommonWords}
+use Rattle.deck_linker.specs.Joins.InPieces.{AreDeckWords, AreLinked, DoFit, deck_text, end_text}
 use Rattle.deck_linker.specs.Publishing.{listings, map_of}
-use Rattle.deck_linker.specs.Sections.{deck_section}
+use Rattle.deck_linker.specs.Joins.Sections.{deck_section}
 
 module _ {A : Type 0} (text : A → List ℕ) where
   -- more room

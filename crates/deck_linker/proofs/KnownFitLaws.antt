@@ -3,7 +3,7 @@ use Rattle.std.proofs.Common.{◌≡◌, ℕ, zero, suc, ◌<◌, Bool, true, Li
 use Rattle.std.specs.Prelude.{slice_get}
 use Rattle.std.proofs.lemmas.Option.{slice_get-get_or}
 use Rattle.definitions.specs.Link.{Based, Layout}
-use Rattle.deck_linker.specs.UnfitLines.{AreKnownToFit}
+use Rattle.deck_linker.specs.Joins.UnfitLines.{AreKnownToFit}
 use Rattle.deck_listing.specs.KeptSections.{DoAllFit}
 
 -- what stands in a list with one more behind it stood there before, or is that one

@@ -2,7 +2,7 @@
 use Rattle.std.proofs.Common.{◌≡◌, ℕ, ◌+◌, ◌<◌, drop, get_or, List, [], ◌∷◌, ◌++◌, length, refl, sym, ap, ◌∙◌, arith, append-nil, append_assoc}
 use Rattle.std.specs.Prelude.{flat_map}
 use Rattle.std.proofs.lemmas.List.{at_drop_more}
-use Rattle.deck_linker.specs.Lines.{Written, with_line, with_lines}
+use Rattle.deck_linker.specs.Joins.Lines.{Written, with_line, with_lines}
 
 -- lines behind lines
 pub lines_joined : (written : Written) (xs ys : List (List ℕ)) → with_lines written (xs ++ ys) ≡ with_lines (with_lines written xs) ys

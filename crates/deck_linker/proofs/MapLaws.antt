@@ -10,9 +10,9 @@ use Rattle.definitions.specs.Numerals.{octal_of}
 use Rattle.definitions.specs.Listing.{line}
 use Rattle.definitions.specs.Link.{Layout, Based, Common, deck_length, entry_value, names_of, link_lines}
 use Rattle.definitions.specs.Map.{deck_line, common_line, entry_line, entry_lines, all_entry_lines, map_text}
-use Rattle.deck_linker.specs.Names.{with_entries, HaveNames}
-use Rattle.deck_linker.specs.Lines.{Written, with_lines}
-use Rattle.deck_linker.specs.MapLines.{entries_of_decks, map_front, shown_place, shown_value}
+use Rattle.deck_linker.specs.Joins.Names.{with_entries, HaveNames}
+use Rattle.deck_linker.specs.Joins.Lines.{Written, with_lines}
+use Rattle.deck_linker.specs.Joins.MapLines.{entries_of_decks, map_front, shown_place, shown_value}
 use Rattle.deck_linker.proofs.LineLaws.{with_lines-text, with_lines-count}
 use Rattle.deck_linker.proofs.TextLaws.{two-pieces, two-ended, four-pieces, four-ended}
 use Rattle.deck_linker.proofs.NameLaws.{have-entries, entry_lines-same}

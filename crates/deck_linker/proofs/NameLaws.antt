@@ -12,8 +12,8 @@ use Rattle.definitions.specs.Settled.{Definition}
 use Rattle.definitions.specs.Link.{Based, Common, names_of, doubled_lines, link_line}
 use Rattle.definitions.specs.Map.{entry_line, entry_lines}
 use Rattle.definitions.proofs.TextLaws.{same_text-true}
-use Rattle.deck_linker.specs.NameKeys.{name_order, same_in_order}
-use Rattle.deck_linker.specs.Names.{with_name, with_entries, HaveNames}
+use Rattle.deck_linker.specs.Joins.NameKeys.{name_order, same_in_order}
+use Rattle.deck_linker.specs.Joins.Names.{with_name, with_entries, HaveNames}
 
 -- a name that is there already changes nothing
 or_there : (b c : Bool) → (b ≡ true → c ≡ true) → c ≡ (c || b)

@@ -7,7 +7,7 @@ use Rattle.definitions.specs.Link.{Based, Common, based_from, deck_length, end_a
 use Rattle.definitions.specs.Objects.{Object}
 use Rattle.definitions.specs.declared.deck_kind.DeckKind.{DeckKind}
 use Rattle.definitions.specs.declared.deck_kind.DeckKind.TheVariants.{Rel, Abs, Periph}
-use Rattle.deck_linker.specs.Placing.{names_of_lengths, names_of_commons}
+use Rattle.deck_linker.specs.Joins.Placing.{names_of_lengths, names_of_commons}
 use Rattle.deck_linker.proofs.TestLaws.{lt-true, lt-false}
 
 -- an object with its base, and whether it passes the end

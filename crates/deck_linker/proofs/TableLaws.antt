@@ -6,7 +6,7 @@ use Rattle.std.proofs.lemmas.List.{length-map}
 use Rattle.std.proofs.lemmas.Bool.Decides.{nat_tests}
 use Rattle.definitions.specs.Characters.{same_text}
 use Rattle.definitions.specs.Link.{Common, common_base}
-use Rattle.deck_linker.specs.Placing.{names_of_commons, base_at}
+use Rattle.deck_linker.specs.Joins.Placing.{names_of_commons, base_at}
 
 some-inj : {i j : ℕ} → Some i ≡ Some j → i ≡ j
 some-inj e = cc

@@ -11,11 +11,11 @@ use Rattle.definitions.specs.Link.{Based, Common, Layout, common_base}
 use Rattle.definitions.specs.Objects.{Object}
 use Rattle.definitions.specs.StatementItems.{Content, Known, Linked}
 use Rattle.definitions.proofs.TextLaws.{same_text-true}
-use Rattle.statement_coder.specs.Items.{content_as}
+use Rattle.statement_coder.specs.Joins.Items.{content_as}
 use Rattle.statement_coder.specs.declared.items.Item as code
 use Rattle.deck_listing.specs.KeptSections.{DoFieldsFollow, DoesContentFollow, DoesFollow, DoesPartFollow, IsPlaced, worth_in}
-use Rattle.deck_linker.specs.Names.{with_name}
-use Rattle.deck_linker.specs.TakenValues.{AreMore, AreMoreTaken, AreTaken, DoNamesFollow, IsAdded, IsTaken}
+use Rattle.deck_linker.specs.Joins.Names.{with_name}
+use Rattle.deck_linker.specs.Joins.TakenValues.{AreMore, AreMoreTaken, AreTaken, DoNamesFollow, IsAdded, IsTaken}
 use Rattle.deck_linker.specs.declared.taken_values.Taken.{Taken}
 use Rattle.deck_linker.proofs.NameLaws.{added}
 

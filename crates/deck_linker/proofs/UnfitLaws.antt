@@ -8,11 +8,11 @@ use Rattle.definitions.specs.Link.{Layout, Based, address_lines, block_base, unf
 use Rattle.definitions.specs.Words.{Coded}
 use Rattle.definitions.specs.declared.deck_kind.DeckKind.{DeckKind}
 use Rattle.statement_coder.specs.declared.items.Item as code
-use Rattle.deck_objects.specs.CodedLines.{IsNamed, IsCoded, AreCoded}
-use Rattle.deck_objects.specs.LineItems.{kept_items}
+use Rattle.deck_objects.specs.Joins.CodedLines.{IsNamed, IsCoded, AreCoded}
+use Rattle.deck_objects.specs.Joins.LineItems.{kept_items}
 use Rattle.deck_objects.specs.declared.lines.CodedLine as lines
 use Rattle.deck_objects.specs.declared.lines.Line.{Line}
-use Rattle.deck_linker.specs.UnfitLines.{unfit_in, unfit_of, unfit_lines, IsKept, AllAreKept}
+use Rattle.deck_linker.specs.Joins.UnfitLines.{unfit_in, unfit_of, unfit_lines, IsKept, AllAreKept}
 
 in_block : (layout : Layout) (based : Based) (items : List code.Item) (line : lines.CodedLine) (coded : Coded) (row : Option BlockRow) → IsNamed row coded.settled.block →
     line.place ≡ coded.settled.place → ((from : ℕ) → unfit_words layout based from (kept_items based.object.kind items line) ≡ unfit_words layout based from coded.fields) →

@@ -3,7 +3,7 @@ use Rattle.std.proofs.Common.{ℕ, ◌≡◌, List, Option, Some, None, refl, ap
 use Rattle.std.specs.Prelude.{neg_ℤ}
 use Rattle.definitions.specs.Forms.{Part, Added, Subtracted, Relocation, Block, External}
 use Rattle.definitions.specs.StatementItems.{part_value}
-use Rattle.deck_linker.specs.Placing.{external_in, worth}
+use Rattle.deck_linker.specs.Joins.Placing.{external_in, worth}
 
 -- a relocation that is added
 pub worth-added : (block externals : List ℕ → ℤ) (external : ℤ) (relocation : Relocation) → external ≡ external_in externals (Some (Added relocation)) →

@@ -14,7 +14,7 @@ use Rattle.definitions.specs.Words.{Coded, Linking, Parcel, StoredWord, cut, par
 use Rattle.definitions.specs.declared.deck_kind.DeckKind.{DeckKind}
 use Rattle.definitions.specs.declared.deck_kind.DeckKind.TheVariants.{Rel, Abs, Periph}
 use Rattle.definitions.specs.Lengths.{BlockRow}
-use Rattle.deck_linker.specs.Beyond.{coded_beyond, has_items, reaches_beyond, stores_beyond}
+use Rattle.deck_linker.specs.Joins.Beyond.{coded_beyond, has_items, reaches_beyond, stores_beyond}
 use Rattle.deck_linker.proofs.TestLaws.{lt-true, lt-false}
 
 -- tests, one or the other

@@ -5,7 +5,7 @@ ghost use Rattle.definitions.specs.Blocks.{literals_block};
 ghost use Rattle.definitions.specs.Characters.{same_text};
 ghost use Rattle.definitions.specs.Link.{has_beyond};
 ghost use Rattle.definitions.specs.Objects.{object_of};
-ghost use Rattle.deck_linker.specs.Beyond.{is_plain, keeps_fields, line_beyond, listed_beyond, literals_beyond, literals_row_beyond, parts_beyond, reaches_beyond};
+ghost use Rattle.deck_linker.specs.Joins.Beyond.{is_plain, keeps_fields, line_beyond, listed_beyond, literals_beyond, literals_row_beyond, parts_beyond, reaches_beyond};
 
 use deck_objects::{CodedLine, Line, LineFields, Object, ObjectParts};
 use definitions::DeckKind;

@@ -2,9 +2,9 @@
 ghost use Rattle.std.specs.Prelude.{◌≡◌, ◌<◌, ◌^◌, ◌++◌, [], Some, flat_map, length, true};
 ghost use Rattle.std.specs.Option.{is_some};
 ghost use Rattle.definitions.specs.Image.{common_section_by, common_words};
-ghost use Rattle.deck_linker.specs.CommonWords.{AreCommonWords, common_place};
-ghost use Rattle.deck_linker.specs.Sections.{common_head, common_words_text};
-ghost use Rattle.deck_listing.specs.Filling.{DoSpansRise, as_stored, words_from};
+ghost use Rattle.deck_linker.specs.Joins.CommonWords.{AreCommonWords, common_place};
+ghost use Rattle.deck_linker.specs.Joins.Sections.{common_head, common_words_text};
+ghost use Rattle.deck_listing.specs.Joins.Filling.{DoSpansRise, as_stored, words_from};
 
 use crate::{Common, Layout};
 use deck_listing::packing::WordSpan;

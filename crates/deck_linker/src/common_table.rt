@@ -2,8 +2,8 @@
 ghost use Rattle.std.specs.Prelude.{◌≡◌, ◌≤◌, ◌<◌, [], length, map, position, slice_set, OnOk, IfOk};
 ghost use Rattle.definitions.specs.Characters.{same_text};
 ghost use Rattle.definitions.specs.Link.{with_common, with_commons, common_lengths, commons_from};
-ghost use Rattle.deck_linker.specs.CommonPlaces.{length_at, widened};
-ghost use Rattle.deck_linker.specs.Placing.{names_of_lengths};
+ghost use Rattle.deck_linker.specs.Joins.CommonPlaces.{length_at, widened};
+ghost use Rattle.deck_linker.specs.Joins.Placing.{names_of_lengths};
 
 use crate::based::Based;
 use crate::commons::{Common, place_common};
@@ -40,7 +40,7 @@ pub(crate) struct CommonTable {
 impl Model for CommonTable {
     ghost use Rattle.std.specs.Prelude.{List};
     ghost use Rattle.definitions.specs.Lengths.{BlockLength};
-    ghost use Rattle.deck_linker.specs.CommonPlaces.{HasPlaces};
+    ghost use Rattle.deck_linker.specs.Joins.CommonPlaces.{HasPlaces};
 
     ghost Value = { List BlockLength };
 

@@ -3,10 +3,10 @@ ghost use Rattle.std.specs.Prelude.{◌≡◌, ◌<◌, ◌^◌, length, IfOk, O
 ghost use Rattle.std.specs.List.{AllZip};
 ghost use Rattle.definitions.specs.Image.{common_words};
 ghost use Rattle.definitions.specs.Link.{linking_of};
-ghost use Rattle.deck_linker.specs.CommonWords.{AreCommonWords, AreMade, AreNone, DoListsRise, IsPutOver, has_common, over_deck, over_row, over_rows};
-ghost use Rattle.deck_listing.specs.BlockWords.{AreWordsOf};
-ghost use Rattle.deck_listing.specs.Walking.{DoNamesDiffer};
-ghost use Rattle.deck_listing.specs.Filling.{DoSpansRise, as_stored};
+ghost use Rattle.deck_linker.specs.Joins.CommonWords.{AreCommonWords, AreMade, AreNone, DoListsRise, IsPutOver, has_common, over_deck, over_row, over_rows};
+ghost use Rattle.deck_listing.specs.Joins.BlockWords.{AreWordsOf};
+ghost use Rattle.deck_listing.specs.Joins.Walking.{DoNamesDiffer};
+ghost use Rattle.deck_listing.specs.Joins.Filling.{DoSpansRise, as_stored};
 
 use crate::linked_deck::parts;
 use crate::{Based, DeckLinking, Layout};

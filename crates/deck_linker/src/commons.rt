@@ -1,8 +1,8 @@
 //! The common blocks of a link (COMPASS 60492600, labelled common; where they stand is ours).
 ghost use Rattle.std.specs.Prelude.{◌≡◌, ◌≤◌, [], map, IfOk};
 ghost use Rattle.definitions.specs.Link.{commons_from, common_base, common_lengths, end_after_common, placed_common};
-ghost use Rattle.deck_linker.specs.CommonWords.{common_place};
-ghost use Rattle.deck_linker.specs.Placing.{base_at};
+ghost use Rattle.deck_linker.specs.Joins.CommonWords.{common_place};
+ghost use Rattle.deck_linker.specs.Joins.Placing.{base_at};
 
 use crate::based::{Based, MEMORY_END};
 use crate::common_table::CommonTable;
@@ -83,7 +83,7 @@ pub(crate) struct Commons {
 impl Model for Commons {
     ghost use Rattle.std.specs.Prelude.{◌≡◌, List};
     ghost use Rattle.definitions.specs.Link as definitions;
-    ghost use Rattle.deck_linker.specs.Placing.{names_of_commons, names_of_lengths};
+    ghost use Rattle.deck_linker.specs.Joins.Placing.{names_of_commons, names_of_lengths};
 
     ghost Value = { List definitions.Common };
 

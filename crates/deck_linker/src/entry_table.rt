@@ -2,8 +2,8 @@
 ghost use Rattle.std.specs.Prelude.{ℕ, ◌≡◌, ◌<◌, ◌^◌, List, OnOk, IfOk, unsigned_abs};
 ghost use Rattle.std.specs.BTreeMap.{get};
 ghost use Rattle.definitions.specs.Link.{entered, entered_in, or_value};
-ghost use Rattle.deck_linker.specs.NameKeys.{name_order};
-ghost use Rattle.deck_linker.specs.Placing.{entry_alone};
+ghost use Rattle.deck_linker.specs.Joins.NameKeys.{name_order};
+ghost use Rattle.deck_linker.specs.Joins.Placing.{entry_alone};
 
 use crate::based::Based;
 use crate::commons::Commons;

@@ -3,10 +3,10 @@ ghost use Rattle.std.specs.Prelude.{◌≡◌, ◌++◌, flat_map, length, IfOk,
 ghost use Rattle.definitions.specs.Image.{image_text};
 ghost use Rattle.definitions.specs.Link as definitions;
 ghost use Rattle.definitions.specs.Link.{linking_of};
-ghost use Rattle.deck_listing.specs.BlockWords.{AreBlockWords};
-ghost use Rattle.deck_linker.specs.CommonWords.{AreCommonWords};
-ghost use Rattle.deck_linker.specs.InPieces.{AreDeckWords, end_text};
-ghost use Rattle.deck_linker.specs.Sections.{deck_section};
+ghost use Rattle.deck_listing.specs.Joins.BlockWords.{AreBlockWords};
+ghost use Rattle.deck_linker.specs.Joins.CommonWords.{AreCommonWords};
+ghost use Rattle.deck_linker.specs.Joins.InPieces.{AreDeckWords, end_text};
+ghost use Rattle.deck_linker.specs.Joins.Sections.{deck_section};
 
 use crate::common_image::push_commons;
 use crate::common_words::words_of_commons;

@@ -5,8 +5,8 @@ ghost use Rattle.std.specs.List.{All};
 ghost use Rattle.definitions.specs.Image.{image_text, section};
 ghost use Rattle.definitions.specs.Objects.{object_of};
 ghost use Rattle.deck_listing.specs.KeptSections.{DoAllFit, DoAllFitAt, IsPlaced, IsSection, worth_in};
-ghost use Rattle.deck_linker.specs.Sections.{deck_section};
-ghost use Rattle.deck_linker.specs.UnfitLines.{AreKnownToFit};
+ghost use Rattle.deck_linker.specs.Joins.Sections.{deck_section};
+ghost use Rattle.deck_linker.specs.Joins.UnfitLines.{AreKnownToFit};
 
 use crate::common_words::words_of_commons;
 use crate::image::{deck_words, push_end};

@@ -2,8 +2,8 @@
 ghost use Rattle.std.specs.Prelude.{◌≡◌, ◌≤◌, ◌<◌, ◌+◌, ◌^◌, map, IfOk, IfSome, unsigned_abs};
 ghost use Rattle.definitions.specs.Link.{based_from, block_base, common_base, end_of_decks, entered, entry_value, external_value, first_base, layout_of, linked_value};
 ghost use Rattle.definitions.specs.Objects.{object_of};
-ghost use Rattle.deck_linker.specs.CommonWords.{common_place};
-ghost use Rattle.deck_linker.specs.Placing.{external_in};
+ghost use Rattle.deck_linker.specs.Joins.CommonWords.{common_place};
+ghost use Rattle.deck_linker.specs.Joins.Placing.{external_in};
 
 use crate::based::{Based, place};
 use crate::commons::{Common, Commons};
@@ -29,7 +29,7 @@ pub struct Layout {
 impl Model for Layout {
     ghost use Rattle.std.specs.Prelude.{ℕ, ◌≡◌, List};
     ghost use Rattle.std.specs.BTreeMap.{get};
-    ghost use Rattle.deck_linker.specs.NameKeys.{name_order};
+    ghost use Rattle.deck_linker.specs.Joins.NameKeys.{name_order};
     ghost use Rattle.definitions.specs.Link as definitions;
     ghost use Rattle.definitions.specs.Link.{entered};
 

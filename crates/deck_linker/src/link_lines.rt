@@ -2,9 +2,9 @@
 ghost use Rattle.std.specs.Prelude.{◌≡◌, [], Some, flat_map, slice_get, true, OnOk};
 ghost use Rattle.definitions.specs.Blocks.{is_named};
 ghost use Rattle.definitions.specs.Link.{doubled_lines, entry_names, lines_from, link_lines, missing_lines, past_lines};
-ghost use Rattle.deck_linker.specs.DeckLines.{lines_of_common, lines_of_deck, lines_of_decks};
-ghost use Rattle.deck_linker.specs.Lines.{with_lines};
-ghost use Rattle.deck_linker.specs.UnfitLines.{AreKnownToFit};
+ghost use Rattle.deck_linker.specs.Joins.DeckLines.{lines_of_common, lines_of_deck, lines_of_decks};
+ghost use Rattle.deck_linker.specs.Joins.Lines.{with_lines};
+ghost use Rattle.deck_linker.specs.Joins.UnfitLines.{AreKnownToFit};
 ghost use Rattle.deck_listing.specs.KeptSections.{DoAllFit};
 
 use crate::link_text::LinkText;

@@ -2,7 +2,7 @@
 ghost use Rattle.std.specs.Prelude.{◌≡◌, ◌≤◌, ◌<◌, ◌++◌, ◌∷◌, [], codes, length, OnOk};
 ghost use Rattle.definitions.specs.Link.{link_line};
 ghost use Rattle.definitions.specs.Numerals.{octal_of};
-ghost use Rattle.deck_linker.specs.Lines.{with_line};
+ghost use Rattle.deck_linker.specs.Joins.Lines.{with_line};
 
 use std::alloc::AllocError;
 use std::marker::Model;
@@ -17,7 +17,7 @@ pub(crate) struct LinkText {
 
 impl Model for LinkText {
     ghost use Rattle.std.specs.Prelude.{◌≤◌, length};
-    ghost use Rattle.deck_linker.specs.Lines.{Written};
+    ghost use Rattle.deck_linker.specs.Joins.Lines.{Written};
 
     ghost Value = { Written };
 

@@ -1,8 +1,8 @@
 //! What the deck of an object in its place has.
 ghost use Rattle.std.specs.Prelude.{◌≡◌, List};
 ghost use Rattle.definitions.specs.Cards.{Card};
-ghost use Rattle.deck_objects.specs.PartsOf.{ArePartsOf};
-ghost use Rattle.deck_listing.specs.Walking.{HasObject};
+ghost use Rattle.deck_objects.specs.Joins.PartsOf.{ArePartsOf};
+ghost use Rattle.deck_listing.specs.Joins.Walking.{HasObject};
 
 use crate::Based;
 use deck_objects::{Entry, ObjectParts};

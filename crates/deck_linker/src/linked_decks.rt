@@ -3,11 +3,11 @@
 ghost use Rattle.std.specs.Prelude.{◌≡◌, ◌≤◌, ◌<◌, ◌^◌, ◌+◌, flat_map, length, IfOk, IfErr};
 ghost use Rattle.std.specs.List.{AllZip};
 ghost use Rattle.definitions.specs.Build.{build_of, image_of};
-ghost use Rattle.text_ports.specs.Sending.{Sends, count_after_sending};
-ghost use Rattle.deck_linker.specs.CommonWords.{AreCommonWords};
-ghost use Rattle.deck_linker.specs.InPieces.{AreDeckWords, DoFit, deck_text, end_text};
+ghost use Rattle.text_ports.specs.Joins.Sending.{Sends, count_after_sending};
+ghost use Rattle.deck_linker.specs.Joins.CommonWords.{AreCommonWords};
+ghost use Rattle.deck_linker.specs.Joins.InPieces.{AreDeckWords, DoFit, deck_text, end_text};
 ghost use Rattle.deck_linker.specs.Publishing.{listings, map_of};
-ghost use Rattle.deck_linker.specs.Sections.{deck_section};
+ghost use Rattle.deck_linker.specs.Joins.Sections.{deck_section};
 
 use crate::common_words::words_of_commons;
 use crate::image::deck_words;
@@ -44,7 +44,7 @@ pub struct LinkedDecks {
 impl Model for LinkedDecks {
     ghost use Rattle.std.specs.Prelude.{List};
     ghost use Rattle.definitions.specs.DeckInput.{Deck};
-    ghost use Rattle.deck_linker.specs.InPieces.{AreLinked};
+    ghost use Rattle.deck_linker.specs.Joins.InPieces.{AreLinked};
 
     ghost Value = { List Deck };
 

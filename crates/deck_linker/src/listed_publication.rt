@@ -2,7 +2,7 @@
 //! are made for it, the listings are shared with all who hold these objects.
 ghost use Rattle.std.specs.Prelude.{◌≡◌, ◌<◌, ◌≤◌, ◌+◌, ◌^◌, ◌++◌, length, option_map, IfOk, IfErr, OnOk};
 ghost use Rattle.definitions.specs.Build.{image_of, listing_of};
-ghost use Rattle.text_ports.specs.Sending.{Sends, count_after_sending};
+ghost use Rattle.text_ports.specs.Joins.Sending.{Sends, count_after_sending};
 ghost use Rattle.deck_linker.specs.Publishing.{lines_in, listing_named, listings, map_of};
 
 use crate::Layout;

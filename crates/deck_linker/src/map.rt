@@ -5,8 +5,8 @@ ghost use Rattle.definitions.specs.Coding.{coded_in};
 ghost use Rattle.definitions.specs.Link.{entry_value, link_lines};
 ghost use Rattle.definitions.specs.Listing.{line};
 ghost use Rattle.definitions.specs.Map.{common_line, deck_line, entry_line, entry_lines, map_text};
-ghost use Rattle.deck_linker.specs.UnfitLines.{AreKnownToFit};
-ghost use Rattle.deck_linker.specs.MapLines.{entries_of_decks, map_front, new_entry, shown_place, shown_value};
+ghost use Rattle.deck_linker.specs.Joins.UnfitLines.{AreKnownToFit};
+ghost use Rattle.deck_linker.specs.Joins.MapLines.{entries_of_decks, map_front, new_entry, shown_place, shown_value};
 
 use crate::link_lines::push_link_lines;
 use crate::link_text::LinkText;

@@ -1,15 +1,15 @@
 //! How long the parts of the texts of linked decks are. Each part is made for it, and let go again.
 ghost use Rattle.std.specs.Prelude.{◌≡◌, ◌≤◌, ◌+◌, flat_map, length, IfOk};
 ghost use Rattle.std.specs.List.{AllZip};
-ghost use Rattle.deck_listing.specs.BlockWords.{AreBlockWords};
-ghost use Rattle.deck_listing.specs.Sheets.{room_of, text_of};
+ghost use Rattle.deck_listing.specs.Joins.BlockWords.{AreBlockWords};
+ghost use Rattle.deck_listing.specs.Joins.Sheets.{room_of, text_of};
 ghost use Rattle.definitions.specs.Link.{linking_of};
 ghost use Rattle.definitions.specs.Listing.{deck_listing};
 ghost use Rattle.definitions.specs.Objects.{object_of};
-ghost use Rattle.deck_linker.specs.CommonWords.{AreCommonWords};
-ghost use Rattle.deck_linker.specs.InPieces.{AreDeckWords, DoFit, deck_text, end_text};
+ghost use Rattle.deck_linker.specs.Joins.CommonWords.{AreCommonWords};
+ghost use Rattle.deck_linker.specs.Joins.InPieces.{AreDeckWords, DoFit, deck_text, end_text};
 ghost use Rattle.deck_linker.specs.Publishing.{listings};
-ghost use Rattle.deck_linker.specs.Sections.{deck_section};
+ghost use Rattle.deck_linker.specs.Joins.Sections.{deck_section};
 
 use crate::image::{push_deck, push_end};
 use crate::publication::sum;

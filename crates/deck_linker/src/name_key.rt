@@ -4,7 +4,7 @@ ghost use Rattle.std.specs.Cmp.{partial_equiv_from_equiv, partial_order_from_agr
 ghost use Rattle.std.specs.Cmp.Lexicographic.{nat_list_cmp_total};
 ghost use Rattle.std.specs.Ordering.{as_partial_cmp};
 ghost use Rattle.definitions.specs.Characters.{same_text};
-ghost use Rattle.deck_linker.specs.NameKeys.{name_order, same_in_order, same_text_equivalence};
+ghost use Rattle.deck_linker.specs.Joins.NameKeys.{name_order, same_in_order, same_text_equivalence};
 
 use expr_forms::Name;
 use std::cmp::Ordering;

@@ -1,7 +1,7 @@
 //! Sets of names.
 ghost use Rattle.std.specs.Prelude.{◌≡◌, [], OnOk};
 ghost use Rattle.definitions.specs.Blocks.{is_named};
-ghost use Rattle.deck_linker.specs.Names.{with_entries, with_name};
+ghost use Rattle.deck_linker.specs.Joins.Names.{with_entries, with_name};
 
 use crate::NameKey;
 use deck_objects::Entry;

@@ -2,12 +2,12 @@
 //! here asks for memory.
 ghost use Rattle.std.specs.Prelude.{◌≡◌, ◌≤◌, ◌<◌, ◌+◌, ◌^◌, ◌++◌, ◌∷◌, [], flat_map, length, IfOk, OnOk};
 ghost use Rattle.std.specs.List.{AllZip};
-ghost use Rattle.text_ports.specs.Sending.{Sends, count_after_sending};
-ghost use Rattle.deck_listing.specs.Sheets.{room_of, text_of};
-ghost use Rattle.deck_linker.specs.CommonWords.{AreCommonWords};
-ghost use Rattle.deck_linker.specs.InPieces.{AreDeckWords, DoFit, deck_text, end_text};
+ghost use Rattle.text_ports.specs.Joins.Sending.{Sends, count_after_sending};
+ghost use Rattle.deck_listing.specs.Joins.Sheets.{room_of, text_of};
+ghost use Rattle.deck_linker.specs.Joins.CommonWords.{AreCommonWords};
+ghost use Rattle.deck_linker.specs.Joins.InPieces.{AreDeckWords, DoFit, deck_text, end_text};
 ghost use Rattle.deck_linker.specs.Publishing.{listings};
-ghost use Rattle.deck_linker.specs.Sections.{deck_section};
+ghost use Rattle.deck_linker.specs.Joins.Sections.{deck_section};
 
 use crate::image::{push_deck, push_end};
 use crate::{Based, Layout};

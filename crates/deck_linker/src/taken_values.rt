@@ -4,9 +4,9 @@ ghost use Rattle.std.specs.Prelude.{◌≡◌, option_map, IfOk, OnOk};
 ghost use Rattle.definitions.specs.Image.{section};
 ghost use Rattle.definitions.specs.Link as definitions;
 ghost use Rattle.deck_listing.specs.KeptSections.{DoAllFit, IsPlaced, worth_in};
-ghost use Rattle.deck_linker.specs.TakenValues.{AreFieldsTaken, AreTaken, DoesAdd, IsContentTaken, IsPartTaken, IsTaken};
-ghost use Rattle.expr_forms.specs.FormsAs.{part_as, relocation_as};
-ghost use Rattle.statement_coder.specs.Items.{content_as};
+ghost use Rattle.deck_linker.specs.Joins.TakenValues.{AreFieldsTaken, AreTaken, DoesAdd, IsContentTaken, IsPartTaken, IsTaken};
+ghost use Rattle.expr_forms.specs.Joins.FormsAs.{part_as, relocation_as};
+ghost use Rattle.statement_coder.specs.Joins.Items.{content_as};
 
 use crate::linked_deck::parts;
 use crate::name_set::NameSet;

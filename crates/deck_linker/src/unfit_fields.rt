@@ -2,11 +2,11 @@
 ghost use Rattle.std.specs.Prelude.{ℕ, ◌≡◌, ◌+◌, ◌*◌, ◌/◌, ◌^◌, ◌<◌, ◌≤◌, ◌==◌, List, flat_map, length, map, reverse, slice_get, true, IfOk, OnOk};
 ghost use Rattle.definitions.specs.Kinds.{unit_bits, word_bits};
 ghost use Rattle.definitions.specs.Link.{address_lines, is_unfit, unfit_addresses, unfit_words};
-ghost use Rattle.deck_objects.specs.LineItems.{AreKept, AreShort, listed};
+ghost use Rattle.deck_objects.specs.Joins.LineItems.{AreKept, AreShort, listed};
 ghost use Rattle.deck_listing.specs.KeptSections.{DoAllFit};
-ghost use Rattle.deck_linker.specs.Lines.{with_lines};
-ghost use Rattle.deck_linker.specs.UnfitLines.{AllAreKept, IsKept, unfit_in, unfit_lines, unfit_of};
-ghost use Rattle.statement_coder.specs.Items.{item_as};
+ghost use Rattle.deck_linker.specs.Joins.Lines.{with_lines};
+ghost use Rattle.deck_linker.specs.Joins.UnfitLines.{AllAreKept, IsKept, unfit_in, unfit_lines, unfit_of};
+ghost use Rattle.statement_coder.specs.Joins.Items.{item_as};
 ghost use Rattle.definitions.specs.Filling.{HasRoom};
 
 use crate::link_text::LinkText;

@@ -4,8 +4,8 @@ ghost use Rattle.std.specs.Prelude.{ℕ, ◌≡◌, ◌<◌, ◌+◌, ◌^◌, L
 ghost use Rattle.definitions.specs.Forms.{Added};
 ghost use Rattle.definitions.specs.Link.{block_base, entry_value, form_value};
 ghost use Rattle.definitions.specs.StatementItems.{part_value};
-ghost use Rattle.deck_linker.specs.Placing.{external_in, external_of, worth};
-ghost use Rattle.expr_forms.specs.FormsAs.{part_as, relocation_as};
+ghost use Rattle.deck_linker.specs.Joins.Placing.{external_in, external_of, worth};
+ghost use Rattle.expr_forms.specs.Joins.FormsAs.{part_as, relocation_as};
 
 use crate::based::Based;
 use crate::commons::Commons;

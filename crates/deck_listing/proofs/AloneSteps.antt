@@ -3,7 +3,7 @@ use Rattle.std.proofs.Common.{◌≡◌, ℕ, List, [], false, ap}
 use Rattle.definitions.specs.Lengths.{BlockRow}
 use Rattle.definitions.specs.Link.{Based, Layout, linking_of}
 use Rattle.definitions.specs.Objects.{Object}
-use Rattle.deck_listing.specs.Alone.{alone_linking}
+use Rattle.deck_listing.specs.Joins.Alone.{alone_linking}
 
 -- no other decks and no common blocks
 abbrev pub nothing : Layout

@@ -12,12 +12,12 @@ use Rattle.definitions.specs.Words.{Coded, Linking, Parcel, runs_of, stored, wor
 use Rattle.definitions.specs.declared.deck_kind.DeckKind.{DeckKind}
 use Rattle.definitions.proofs.TextLaws.{same_text-refl, same_text_tells}
 use Rattle.statement_coder.specs.declared.items.Item as code
-use Rattle.deck_listing.specs.Packing.{Packed, empty_run}
-use Rattle.deck_objects.specs.CodedLines.{IsNamed}
+use Rattle.deck_listing.specs.Joins.Packing.{Packed, empty_run}
+use Rattle.deck_objects.specs.Joins.CodedLines.{IsNamed}
 use Rattle.deck_objects.specs.declared.lines.CodedLine as lines
 use Rattle.deck_listing.specs.declared.packing.word_spans.WordSpan.{WordSpan}
-use Rattle.deck_listing.specs.BlockWords.{AreWhole, AreWordsOf, IsFilledWith}
-use Rattle.deck_listing.specs.Walking.{AreEmpty, DoNamesDiffer, DoesFollow, DoesFollowAll, HasRuns, HaveRuns}
+use Rattle.deck_listing.specs.Joins.BlockWords.{AreWhole, AreWordsOf, IsFilledWith}
+use Rattle.deck_listing.specs.Joins.Walking.{AreEmpty, DoNamesDiffer, DoesFollow, DoesFollowAll, HasRuns, HaveRuns}
 use Rattle.deck_listing.proofs.RunSteps.{other-runs}
 
 -- what is put at a place stands there

@@ -3,13 +3,13 @@ use Rattle.std.proofs.Common.{◌≡◌, ℕ, zero, suc, ◌+◌, ◌^◌, ◌<�
 use Rattle.std.proofs.lemmas.List.{map-append, take_more}
 use Rattle.definitions.specs.StatementItems.{Item}
 use Rattle.definitions.specs.Words.{width_of}
-use Rattle.statement_coder.specs.Items.{item_as}
+use Rattle.statement_coder.specs.Joins.Items.{item_as}
 use Rattle.statement_coder.specs.declared.items.Item as code
 use Rattle.definitions.specs.Filling.{HasRoom}
 use Rattle.definitions.specs.declared.deck_kind.DeckKind.{DeckKind}
 use Rattle.definitions.specs.declared.deck_kind.DeckKind.TheVariants.{Rel, Abs, Periph}
-use Rattle.deck_listing.specs.Packing.{most_bits}
-use Rattle.deck_objects.specs.LineItems.{AreShort}
+use Rattle.deck_listing.specs.Joins.Packing.{most_bits}
+use Rattle.deck_objects.specs.Joins.LineItems.{AreShort}
 
 pub fields_more : (items : List code.Item) (i : ℕ) (x : code.Item) → i < length items → x ≡ get_or items i x → map item_as (take (i + 1) items) ≡ map item_as (take i items) ++ item_as x ∷ []
 fields_more items i x h e =

@@ -7,8 +7,8 @@ use Rattle.definitions.specs.StatementItems.{Item}
 use Rattle.definitions.specs.Words.{Coded, Linking, cut, joined, width_of}
 use Rattle.definitions.specs.declared.deck_kind.DeckKind.{DeckKind}
 use Rattle.definitions.specs.declared.deck_kind.DeckKind.TheVariants.{Rel, Abs, Periph}
-use Rattle.deck_objects.specs.LineItems.{AreBitsOf}
-use Rattle.deck_listing.specs.WordLines.{fields_text, has_one_line}
+use Rattle.deck_objects.specs.Joins.LineItems.{AreBitsOf}
+use Rattle.deck_listing.specs.Joins.WordLines.{fields_text, has_one_line}
 
 -- the lines of a statement of a central deck that has fields, by their width and bits
 abbrev central_of : Operation → ℕ → ℕ → ℕ → List ℕ

@@ -7,8 +7,8 @@ use Rattle.std.proofs.lemmas.List.{reverse-append}
 use Rattle.definitions.specs.Kinds.{units}
 use Rattle.definitions.specs.Words.{Parcel, StoredWord, in_word, latest_in_word, word_of_parcels, with_number, words_in_run, words_in, stored}
 use Rattle.definitions.specs.declared.deck_kind.DeckKind.{DeckKind}
-use Rattle.deck_listing.specs.Spans.{RiseWithin}
-use Rattle.deck_listing.specs.Filling.{DoSpansRise, IsFilled, as_stored, found, is_none_there, is_within, latest_value, or_else, value_in, value_of_parcels, words_from}
+use Rattle.deck_listing.specs.Joins.Spans.{RiseWithin}
+use Rattle.deck_listing.specs.Joins.Filling.{DoSpansRise, IsFilled, as_stored, found, is_none_there, is_within, latest_value, or_else, value_in, value_of_parcels, words_from}
 use Rattle.deck_listing.specs.declared.packing.word_spans.WordSpan.{WordSpan}
 use Rattle.deck_listing.proofs.RiseLaws.{rise-wider, rise-lower, found-here, or_assoc, or_else-none, within_tells}
 

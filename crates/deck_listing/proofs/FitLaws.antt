@@ -11,8 +11,8 @@ use Rattle.definitions.specs.Link.{Based, Layout, address_lines, block_base, is_
 use Rattle.definitions.specs.Objects.{Object}
 use Rattle.definitions.specs.StatementItems.{Content, Item, Known, Linked}
 use Rattle.definitions.specs.Words.{Coded}
-use Rattle.deck_objects.specs.LineItems.{kept_items}
-use Rattle.deck_objects.specs.PartsOf.{ArePartsOf}
+use Rattle.deck_objects.specs.Joins.LineItems.{kept_items}
+use Rattle.deck_objects.specs.Joins.PartsOf.{ArePartsOf}
 use Rattle.deck_objects.specs.declared.object.ObjectParts.{ObjectParts}
 use Rattle.deck_listing.specs.KeptSections.{DoAllFit, DoFieldsFollow, DoesContentFollow, IsPlaced}
 use Rattle.deck_listing.proofs.KeptLaws.{DoesItemFollow, DoItemsFollow, all-coded, kept-follow, worth-same}

@@ -10,8 +10,8 @@ use Rattle.definitions.specs.Kinds.{units}
 use Rattle.definitions.specs.Words.{Parcel, bits_at, in_word, filling_of, word_of_parcels}
 use Rattle.definitions.specs.declared.deck_kind.DeckKind.{DeckKind}
 use Rattle.definitions.specs.declared.deck_kind.DeckKind.TheVariants.{Rel, Abs, Periph}
-use Rattle.deck_listing.specs.Packing.{parcel_at}
-use Rattle.deck_listing.specs.Filling.{DoSpansRise, IsFilled, IsGathered, IsOpenWord, found, is_none_there, or_else, value_in, value_of_parcels, word_made}
+use Rattle.deck_listing.specs.Joins.Packing.{parcel_at}
+use Rattle.deck_listing.specs.Joins.Filling.{DoSpansRise, IsFilled, IsGathered, IsOpenWord, found, is_none_there, or_else, value_in, value_of_parcels, word_made}
 use Rattle.deck_listing.specs.declared.packing.word_spans.WordSpan.{WordSpan}
 use Rattle.deck_listing.specs.declared.packing.gathering.OpenWord.{OpenWord}
 use Rattle.deck_listing.proofs.RiseLaws.{spans-wider, spans-push, found-append, found-above, found-here, found-before, found-past, or_else-none, none-or_else}

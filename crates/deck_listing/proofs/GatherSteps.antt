@@ -4,8 +4,8 @@ use Rattle.std.proofs.lemmas.List.{drop_more, take_more, replicate_more, length-
 use Rattle.definitions.specs.Kinds.{units}
 use Rattle.definitions.specs.Words.{Parcel, parcels_from}
 use Rattle.definitions.specs.declared.deck_kind.DeckKind.{DeckKind}
-use Rattle.deck_listing.specs.Packing.{parcel_at}
-use Rattle.deck_listing.specs.Spans.{RiseWithin, places, parcels_in, span_parcels}
+use Rattle.deck_listing.specs.Joins.Packing.{parcel_at}
+use Rattle.deck_listing.specs.Joins.Spans.{RiseWithin, places, parcels_in, span_parcels}
 use Rattle.deck_listing.specs.declared.packing.spans.Span.{Span}
 use Rattle.deck_listing.proofs.PackingLaws.{parcels_from-append}
 use Rattle.deck_listing.proofs.ParcelSteps.{parcels_in-push}

@@ -13,9 +13,9 @@ use Rattle.definitions.specs.Link.{AddressedWord, addressed, block_words, is_bey
 use Rattle.definitions.specs.Objects.{Object}
 use Rattle.definitions.specs.Words.{Linking, StoredWord}
 use Rattle.definitions.specs.declared.deck_kind.DeckKind.{DeckKind}
-use Rattle.deck_listing.specs.Filling.{as_stored, words_from}
+use Rattle.deck_listing.specs.Joins.Filling.{as_stored, words_from}
 use Rattle.deck_listing.specs.declared.packing.word_spans.WordSpan.{WordSpan}
-use Rattle.deck_listing.specs.ImageWordLines.{block_lines, lines_of, row_words, rows_words, span_lines}
+use Rattle.deck_listing.specs.Joins.ImageWordLines.{block_lines, lines_of, row_words, rows_words, span_lines}
 
 lines-append : (kind : DeckKind) (xs ys : List AddressedWord) → lines_of kind (xs ++ ys) ≡ lines_of kind xs ++ lines_of kind ys
 lines-append kind xs ys =

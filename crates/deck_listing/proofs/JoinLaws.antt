@@ -1,8 +1,8 @@
 -- Equal words one behind the other as one span.
 use Rattle.std.proofs.Common.{◌≡◌, ℕ, zero, suc, ◌+◌, ◌^◌, ◌≤◌, List, [], ◌∷◌, ◌++◌, refl, sym, ap, subst, ◌∙◌, arith, append_assoc}
 use Rattle.definitions.specs.Words.{StoredWord}
-use Rattle.deck_listing.specs.Filling.{DoSpansRise, as_stored, words_from}
-use Rattle.deck_listing.specs.Joining.{AreJoined, IsJoining}
+use Rattle.deck_listing.specs.Joins.Filling.{DoSpansRise, as_stored, words_from}
+use Rattle.deck_listing.specs.Joins.Joining.{AreJoined, IsJoining}
 use Rattle.deck_listing.specs.declared.packing.word_spans.WordSpan.{WordSpan}
 use Rattle.deck_listing.proofs.RiseLaws.{spans-order}
 

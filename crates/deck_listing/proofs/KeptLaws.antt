@@ -18,17 +18,17 @@ use Rattle.definitions.specs.Operations.{is_instruction}
 use Rattle.definitions.specs.StatementItems.{Content, Item, Known, Linked, part_value}
 use Rattle.definitions.specs.Words.{Coded, Linking, Parcel, StoredWord, content_bits, cut, joined, onto_runs, parcels_from, parcels_of, runs_of, stored, width_of, words_in}
 use Rattle.definitions.specs.declared.deck_kind.DeckKind.{DeckKind}
-use Rattle.statement_coder.specs.Items.{content_as, item_as}
+use Rattle.statement_coder.specs.Joins.Items.{content_as, item_as}
 use Rattle.statement_coder.specs.declared.items.Item as code
-use Rattle.deck_objects.specs.CodedLines.{IsCoded, AreCoded}
-use Rattle.deck_objects.specs.LineItems.{kept_from, kept_items}
-use Rattle.deck_objects.specs.PartsOf.{ArePartsOf}
+use Rattle.deck_objects.specs.Joins.CodedLines.{IsCoded, AreCoded}
+use Rattle.deck_objects.specs.Joins.LineItems.{kept_from, kept_items}
+use Rattle.deck_objects.specs.Joins.PartsOf.{ArePartsOf}
 use Rattle.deck_objects.specs.declared.lines.CodedLine as lines
 use Rattle.deck_objects.specs.declared.lines.Line.{Line}
 use Rattle.deck_objects.specs.declared.lines.LineFields as kept
 use Rattle.deck_objects.specs.declared.lines.LineFields.TheVariants as fields
 use Rattle.deck_objects.specs.declared.object.ObjectParts.{ObjectParts}
-use Rattle.deck_listing.specs.ImageWordLines.{section_head}
+use Rattle.deck_listing.specs.Joins.ImageWordLines.{section_head}
 use Rattle.deck_listing.specs.KeptSections.{DoFieldsFollow, DoesContentFollow, DoesPartFollow, IsPlaced}
 
 -- what the part of a form is worth

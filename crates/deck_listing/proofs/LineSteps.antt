@@ -15,17 +15,17 @@ use Rattle.definitions.specs.declared.deck_kind.DeckKind.{DeckKind}
 use Rattle.definitions.specs.declared.deck_kind.DeckKind.TheVariants.{Rel, Abs, Periph}
 use Rattle.definitions.proofs.TextLaws.{same_text-true}
 use Rattle.statement_coder.specs.declared.items.Item as code
-use Rattle.operations.specs.OperationsAs.{operation_as}
-use Rattle.deck_listing.specs.Packing.{OpenRun, Packed, moved, put_bits}
+use Rattle.operations.specs.Joins.OperationsAs.{operation_as}
+use Rattle.deck_listing.specs.Joins.Packing.{OpenRun, Packed, moved, put_bits}
 use Rattle.deck_listing.proofs.PutLaws.{unit_some}
 use Rattle.definitions.specs.Filling.{DoFill, HasFields}
 use Rattle.definitions.specs.Rising.{run_end}
-use Rattle.deck_objects.specs.CodedLines.{IsCoded, IsNamed}
-use Rattle.deck_objects.specs.LineItems.{AreBitsOf, kept_items, zeros_to}
+use Rattle.deck_objects.specs.Joins.CodedLines.{IsCoded, IsNamed}
+use Rattle.deck_objects.specs.Joins.LineItems.{AreBitsOf, kept_items, zeros_to}
 use Rattle.deck_objects.specs.declared.lines.CodedLine as lines
 use Rattle.deck_objects.specs.declared.lines.LineFields.TheVariants as variant
-use Rattle.deck_listing.specs.Putting.{StandsAt, ArePut, IsReady}
-use Rattle.deck_listing.specs.Walking.{DoesFollow}
+use Rattle.deck_listing.specs.Joins.Putting.{StandsAt, ArePut, IsReady}
+use Rattle.deck_listing.specs.Joins.Walking.{DoesFollow}
 use Rattle.deck_listing.proofs.PutSteps.{put_one}
 
 -- a line that is ready stands behind the run

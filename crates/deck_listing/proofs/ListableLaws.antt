@@ -17,13 +17,13 @@ use Rattle.statement_coder.specs.declared.items.Item as code
 use Rattle.definitions.specs.Filling.{DoFill, HasFields}
 use Rattle.definitions.specs.Reaching.{DoReach, DoesReach}
 use Rattle.definitions.specs.Rising.{AreLaidOut}
-use Rattle.deck_objects.specs.CodedLines.{AreCoded, IsCoded}
-use Rattle.deck_objects.specs.PartsOf.{ArePartsOf}
+use Rattle.deck_objects.specs.Joins.CodedLines.{AreCoded, IsCoded}
+use Rattle.deck_objects.specs.Joins.PartsOf.{ArePartsOf}
 use Rattle.deck_objects.specs.declared.lines.CodedLine.{CodedLine}
 use Rattle.deck_objects.specs.declared.lines.Line.{Line}
 use Rattle.deck_objects.specs.declared.object.ObjectParts.{ObjectParts}
-use Rattle.deck_listing.specs.ListedParts.{AreListable, IsListable, IsListableLine}
-use Rattle.deck_listing.specs.WordLines.{has_one_line}
+use Rattle.deck_listing.specs.Joins.ListedParts.{AreListable, IsListable, IsListableLine}
+use Rattle.deck_listing.specs.Joins.WordLines.{has_one_line}
 use Rattle.deck_listing.proofs.FieldTexts.{has_one_line-true}
 
 -- what is known of a statement of a deck

@@ -14,14 +14,14 @@ use Rattle.definitions.specs.Objects.{Object, Shown}
 use Rattle.definitions.specs.Words.{Coded}
 use Rattle.definitions.specs.declared.deck_kind.DeckKind.{DeckKind}
 use Rattle.statement_coder.specs.declared.items.Item as code
-use Rattle.deck_objects.specs.CodedLines.{AreShown, IsShown, IsStored}
-use Rattle.deck_objects.specs.LineItems.{kept_items}
-use Rattle.deck_objects.specs.PartsOf.{ArePartsOf}
+use Rattle.deck_objects.specs.Joins.CodedLines.{AreShown, IsShown, IsStored}
+use Rattle.deck_objects.specs.Joins.LineItems.{kept_items}
+use Rattle.deck_objects.specs.Joins.PartsOf.{ArePartsOf}
 use Rattle.deck_objects.specs.declared.lines.CodedLine.{CodedLine}
 use Rattle.deck_objects.specs.declared.lines.Line.{Line}
 use Rattle.deck_objects.specs.declared.object.ObjectParts.{ObjectParts}
-use Rattle.deck_listing.specs.ListedParts.{flagged_lines, has_letters, line_text, lines_text, parts_text, stored_text}
-use Rattle.deck_listing.specs.WordLines.{fields_text}
+use Rattle.deck_listing.specs.Joins.ListedParts.{flagged_lines, has_letters, line_text, lines_text, parts_text, stored_text}
+use Rattle.deck_listing.specs.Joins.WordLines.{fields_text}
 use Rattle.deck_listing.proofs.FieldTexts.{fields_text-items, fields_text-same}
 
 -- a statement in the listing of a deck of this kind with these blocks

@@ -6,7 +6,7 @@ use Rattle.std.proofs.lemmas.List.{drop_more}
 use Rattle.definitions.specs.Image.{word_line}
 use Rattle.definitions.specs.Kinds.{memory_end}
 use Rattle.definitions.specs.declared.deck_kind.DeckKind.{DeckKind}
-use Rattle.deck_listing.specs.ImageWordLines.{literal_lines}
+use Rattle.deck_listing.specs.Joins.ImageWordLines.{literal_lines}
 use Rattle.deck_listing.proofs.ImageLineSteps.{is_within, is_beyond_end}
 
 -- the lines of literals, the first of which lies within the memory

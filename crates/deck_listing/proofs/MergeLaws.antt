@@ -5,8 +5,8 @@ use Rattle.std.specs.Prelude.{Vec, Result, Ok, Err, IfOk, if◌then◌else◌}
 use Rattle.std.proofs.lemmas.List.{take-append-drop}
 use Rattle.definitions.specs.Words.{Parcel}
 use Rattle.definitions.specs.declared.deck_kind.DeckKind.{DeckKind}
-use Rattle.deck_listing.specs.Spans.{DoRunsRise, parcels_in, parcels_in_runs}
-use Rattle.deck_listing.specs.Filling.{DoSpansRise, IsBetween, IsFilled, IsMerging, IsTaking, found, or_else, part_of, value_in, latest_value}
+use Rattle.deck_listing.specs.Joins.Spans.{DoRunsRise, parcels_in, parcels_in_runs}
+use Rattle.deck_listing.specs.Joins.Filling.{DoSpansRise, IsBetween, IsFilled, IsMerging, IsTaking, found, or_else, part_of, value_in, latest_value}
 use Rattle.deck_listing.specs.declared.packing.spans.Span.{Span}
 use Rattle.deck_listing.specs.declared.packing.word_spans.WordSpan.{WordSpan}
 use Rattle.deck_listing.proofs.RiseLaws.{spans-lower, spans-append, spans-push, found-append, found-above, found-under, found-here, found-before, found-past, within_tells, or_assoc, or_else-none, none-or_else, order_of}

@@ -7,9 +7,9 @@ use Rattle.std.proofs.lemmas.List.Sorted.{list_any-IsPermutation, IsPermutation-
 use Rattle.definitions.specs.Kinds.{units}
 use Rattle.definitions.specs.Words.{Parcel, parcels_from, with_number, words_in_run, words_in}
 use Rattle.definitions.specs.declared.deck_kind.DeckKind.{DeckKind}
-use Rattle.deck_listing.specs.Filling.{is_none_there}
-use Rattle.deck_listing.specs.Packing.{Packed, runs_in}
-use Rattle.deck_listing.specs.Spans.{has_parcel, lies_in, parcels_in, parcels_in_runs, run_of}
+use Rattle.deck_listing.specs.Joins.Filling.{is_none_there}
+use Rattle.deck_listing.specs.Joins.Packing.{Packed, runs_in}
+use Rattle.deck_listing.specs.Joins.Spans.{has_parcel, lies_in, parcels_in, parcels_in_runs, run_of}
 use Rattle.deck_listing.specs.declared.packing.spans.Span.{Span}
 use Rattle.deck_listing.specs.declared.packing.spans.OpenParcel.{OpenParcel}
 use Rattle.deck_listing.proofs.PackedLaws.{block}

@@ -4,8 +4,8 @@ use Rattle.std.proofs.lemmas.Bool.{cases_order}
 use Rattle.std.proofs.lemmas.Bool.Decides.{eqb_tells, leb_tells}
 use Rattle.definitions.specs.Image.{with_stored, with_all_stored}
 use Rattle.definitions.specs.Words.{StoredWord}
-use Rattle.deck_listing.specs.Spans.{RiseWithin}
-use Rattle.deck_listing.specs.Filling.{DoSpansRise, IsFilled, as_stored, found, or_else, words_from}
+use Rattle.deck_listing.specs.Joins.Spans.{RiseWithin}
+use Rattle.deck_listing.specs.Joins.Filling.{DoSpansRise, IsFilled, as_stored, found, or_else, words_from}
 use Rattle.deck_listing.specs.declared.packing.word_spans.WordSpan.{WordSpan}
 use Rattle.deck_listing.proofs.RiseLaws.{none-or_else, or_else-none, order_of, rise-lower, rise-order}
 use Rattle.deck_listing.proofs.FillLaws.{stored_at, stored_offsets, stored_at-other, stored_at-under, spans-found, spans-rise, unique}

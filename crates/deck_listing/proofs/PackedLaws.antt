@@ -5,9 +5,9 @@ use Rattle.definitions.specs.Kinds.{units, unit_bits, word_bits}
 use Rattle.definitions.specs.Kinds.{most_words}
 use Rattle.definitions.specs.Words.{Parcel, stored, words_in}
 use Rattle.definitions.specs.declared.deck_kind.DeckKind.{DeckKind}
-use Rattle.deck_listing.specs.Packing.{MayBegin, OpenRun, Packed, empty_run, most_bits, moved, put_bits, runs_in}
-use Rattle.deck_listing.specs.Spans.{DoRunsRise, IsKept, parcels_in, parcels_in_runs, run_of}
-use Rattle.deck_listing.specs.Filling.{IsFilled, as_stored, found, latest_value, or_else, value_in}
+use Rattle.deck_listing.specs.Joins.Packing.{MayBegin, OpenRun, Packed, empty_run, most_bits, moved, put_bits, runs_in}
+use Rattle.deck_listing.specs.Joins.Spans.{DoRunsRise, IsKept, parcels_in, parcels_in_runs, run_of}
+use Rattle.deck_listing.specs.Joins.Filling.{IsFilled, as_stored, found, latest_value, or_else, value_in}
 use Rattle.deck_listing.specs.declared.packing.word_spans.WordSpan.{WordSpan}
 use Rattle.deck_listing.specs.declared.packing.spans.Span.{Span}
 use Rattle.deck_listing.specs.declared.packing.spans.OpenParcel.{OpenParcel}

@@ -4,7 +4,7 @@ use Rattle.std.proofs.Math.Nat.{mod-lt, pow-suc as pow-succ}
 use Rattle.std.proofs.lemmas.Nat.{pow_pos, shr_below, shr_split}
 use Rattle.std.proofs.lemmas.Bool.Decides.{eqb_tells}
 use Rattle.definitions.specs.Words.{Parcel, cut, parcels_from}
-use Rattle.deck_listing.specs.Packing.{OpenRun, put_bit, put_bits, parcel_at}
+use Rattle.deck_listing.specs.Joins.Packing.{OpenRun, put_bit, put_bits, parcel_at}
 
 -- a number below a power of two is one below half of it and a last bit
 half_below : (n w : ℕ) → n < 2 ^ suc w → n / 2 < 2 ^ w

@@ -2,8 +2,8 @@
 use Rattle.std.proofs.Common.{◌≡◌, ℕ, ◌+◌, ◌-◌, ◌*◌, ◌/◌, ◌%◌, ◌^◌, ◌<◌, ◌≤◌, Bool, List, [], ◌∷◌, ◌++◌, refl, sym, ap, subst, ◌∙◌, arith, append_assoc, append-nil}
 use Rattle.std.proofs.Math.Nat.{mod-lt, pow-le-pow_right}
 use Rattle.std.proofs.lemmas.Nat.{pow-add, pow_pos, shr_below, shr_split, shl_whole, mul-add-lt}
-use Rattle.deck_listing.specs.Packing.{put_bits, parcel_at}
-use Rattle.deck_listing.specs.Spans.{IsField, IsPut, IsSplit, parcels_in, span_parcels, run_of}
+use Rattle.deck_listing.specs.Joins.Packing.{put_bits, parcel_at}
+use Rattle.deck_listing.specs.Joins.Spans.{IsField, IsPut, IsSplit, parcels_in, span_parcels, run_of}
 use Rattle.deck_listing.specs.declared.packing.spans.Span.{Span}
 use Rattle.deck_listing.specs.declared.packing.spans.OpenParcel.{OpenParcel}
 use Rattle.deck_listing.specs.declared.packing.fields.Field.{Field}

@@ -12,8 +12,8 @@ use Rattle.definitions.specs.Words.{Parcel, Coded, Linking, cut, parcels_from, w
 use Rattle.definitions.specs.Operations.{is_instruction}
 use Rattle.definitions.specs.declared.deck_kind.DeckKind.{DeckKind}
 use Rattle.definitions.specs.declared.deck_kind.DeckKind.TheVariants.{Rel, Abs, Periph}
-use Rattle.deck_listing.specs.Packing.{OpenRun, Packed, DoItemsFit, end_bit, most_bits, moved, MayBegin, put_bit, put_bits, put_items, parcel_at, runs_in}
-use Rattle.deck_listing.specs.Spans.{IsOpen, IsPut, IsKept, RiseWithin, DoRunsRise, places, parcels_in, run_of, span_parcels}
+use Rattle.deck_listing.specs.Joins.Packing.{OpenRun, Packed, DoItemsFit, end_bit, most_bits, moved, MayBegin, put_bit, put_bits, put_items, parcel_at, runs_in}
+use Rattle.deck_listing.specs.Joins.Spans.{IsOpen, IsPut, IsKept, RiseWithin, DoRunsRise, places, parcels_in, run_of, span_parcels}
 use Rattle.deck_listing.specs.declared.packing.spans.Span.{Span}
 use Rattle.deck_listing.specs.declared.packing.spans.OpenParcel.{OpenParcel}
 use Rattle.deck_listing.specs.declared.packing.fields.Field.{Field}

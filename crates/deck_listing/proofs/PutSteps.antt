@@ -5,9 +5,9 @@ use Rattle.std.proofs.lemmas.Nat.{le-div}
 use Rattle.std.proofs.lemmas.Bool.Decides.{eqb_tells}
 use Rattle.definitions.specs.StatementItems.{Item}
 use Rattle.definitions.specs.Words.{Linking, content_bits, cut, joined, parcels_from, width_of}
-use Rattle.deck_listing.specs.Packing.{OpenRun, DoItemsFit, end_bit, moved, put_bits, put_items}
+use Rattle.deck_listing.specs.Joins.Packing.{OpenRun, DoItemsFit, end_bit, moved, put_bits, put_items}
 use Rattle.deck_listing.proofs.PutLaws.{items_whole, put_bits-end}
-use Rattle.deck_listing.specs.Putting.{StandsAt, ArePut}
+use Rattle.deck_listing.specs.Joins.Putting.{StandsAt, ArePut}
 
 whole_parcels : (size n : ℕ) → 0 < size → n % size ≡ 0 → size * (n / size) ≡ n
 whole_parcels size n some h = omega arith

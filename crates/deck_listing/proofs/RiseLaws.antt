@@ -6,8 +6,8 @@ use Rattle.definitions.specs.Kinds.{units}
 use Rattle.definitions.specs.Words.{Parcel, parcels_from}
 use Rattle.definitions.specs.declared.deck_kind.DeckKind.{DeckKind}
 use Rattle.definitions.specs.declared.deck_kind.DeckKind.TheVariants.{Rel, Abs, Periph}
-use Rattle.deck_listing.specs.Spans.{RiseWithin, places}
-use Rattle.deck_listing.specs.Filling.{DoSpansRise, found, is_within, or_else}
+use Rattle.deck_listing.specs.Joins.Spans.{RiseWithin, places}
+use Rattle.deck_listing.specs.Joins.Filling.{DoSpansRise, found, is_within, or_else}
 use Rattle.deck_listing.specs.declared.packing.word_spans.WordSpan.{WordSpan}
 
 pub rise-wider : (low : ℕ) (ns : List ℕ) (high higher : ℕ) → RiseWithin low ns high → high ≤ higher → RiseWithin low ns higher

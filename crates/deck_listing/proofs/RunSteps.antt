@@ -10,15 +10,15 @@ use Rattle.definitions.specs.StatementItems.{Item}
 use Rattle.definitions.specs.Words.{Coded, Linking, Parcel, cut, joined, parcels_from, parcels_of, onto_runs, runs_of, width_of}
 use Rattle.definitions.specs.declared.deck_kind.DeckKind.{DeckKind}
 use Rattle.statement_coder.specs.declared.items.Item as code
-use Rattle.operations.specs.OperationsAs.{operation_as}
-use Rattle.deck_listing.specs.Packing.{OpenRun, Packed, empty_run}
+use Rattle.operations.specs.Joins.OperationsAs.{operation_as}
+use Rattle.deck_listing.specs.Joins.Packing.{OpenRun, Packed, empty_run}
 use Rattle.deck_listing.proofs.PutLaws.{runs_put, runs_begun, unit_some}
 use Rattle.definitions.specs.Filling.{DoFill}
 use Rattle.definitions.specs.Rising.{run_end, end_with, end_behind}
-use Rattle.deck_objects.specs.LineItems.{AreBitsOf, kept_items}
+use Rattle.deck_objects.specs.Joins.LineItems.{AreBitsOf, kept_items}
 use Rattle.deck_objects.specs.declared.lines.CodedLine as lines
-use Rattle.deck_listing.specs.Putting.{ArePut}
-use Rattle.deck_listing.specs.Walking.{DoesFollow, HasRuns}
+use Rattle.deck_listing.specs.Joins.Putting.{ArePut}
+use Rattle.deck_listing.specs.Joins.Walking.{DoesFollow, HasRuns}
 use Rattle.deck_listing.proofs.PutSteps.{parcels_put}
 use Rattle.deck_listing.proofs.LineSteps.{follows-ready}
 

@@ -4,7 +4,7 @@ use Rattle.definitions.specs.Image.{section}
 use Rattle.definitions.specs.Link.{Based, Layout, linking_of, object_words}
 use Rattle.definitions.specs.Objects.{Object}
 use Rattle.definitions.specs.declared.deck_kind.DeckKind.{DeckKind}
-use Rattle.deck_listing.specs.ImageWordLines.{lines_of, section_head}
+use Rattle.deck_listing.specs.Joins.ImageWordLines.{lines_of, section_head}
 
 -- the first line and the words of a deck that stands there are its section
 pub section_put : (layout : Layout) (based : Based) (object : Object) (base : ℕ) (name : List ℕ) (kind : DeckKind) (start headed after : List ℕ) →

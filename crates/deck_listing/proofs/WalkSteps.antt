@@ -7,15 +7,15 @@ use Rattle.definitions.specs.Objects.{Object}
 use Rattle.definitions.specs.Words.{Coded, Linking}
 use Rattle.definitions.specs.declared.deck_kind.DeckKind.{DeckKind}
 use Rattle.statement_coder.specs.declared.items.Item as code
-use Rattle.deck_listing.specs.Packing.{Packed}
+use Rattle.deck_listing.specs.Joins.Packing.{Packed}
 use Rattle.definitions.specs.Reaching.{DoReach}
 use Rattle.definitions.specs.Rising.{AreLaidOut}
-use Rattle.deck_objects.specs.CodedLines.{IsCoded, AreCoded}
+use Rattle.deck_objects.specs.Joins.CodedLines.{IsCoded, AreCoded}
 use Rattle.deck_objects.specs.declared.lines.CodedLine as lines
-use Rattle.deck_objects.specs.PartsOf.{ArePartsOf}
+use Rattle.deck_objects.specs.Joins.PartsOf.{ArePartsOf}
 use Rattle.deck_objects.specs.declared.lines.Line.{Line}
 use Rattle.deck_objects.specs.declared.object.ObjectParts.{ObjectParts}
-use Rattle.deck_listing.specs.Walking.{AreEmpty, DoesFollowAll, HaveRuns, IsNextOfAll, AreWalked}
+use Rattle.deck_listing.specs.Joins.Walking.{AreEmpty, DoesFollowAll, HaveRuns, IsNextOfAll, AreWalked}
 use Rattle.deck_listing.proofs.BlockSteps.{empty-runs}
 
 -- the statement of the first line, and the others

@@ -16,8 +16,8 @@ use Rattle.definitions.specs.declared.deck_kind.DeckKind.TheVariants.{Rel, Abs, 
 use Rattle.definitions.proofs.WordLaws.{pow_positive}
 use Rattle.definitions.specs.Filling.{HasRoom}
 use Rattle.definitions.proofs.CodingLaws.{coded_in-below}
-use Rattle.deck_objects.specs.LineItems.{AreShort}
-use Rattle.deck_listing.specs.WordLines.{AreJoined, DoFillWords, behind_full, lines_ahead, with_bits, word_line, word_lines}
+use Rattle.deck_objects.specs.Joins.LineItems.{AreShort}
+use Rattle.deck_listing.specs.Joins.WordLines.{AreJoined, DoFillWords, behind_full, lines_ahead, with_bits, word_line, word_lines}
 use Rattle.deck_listing.specs.declared.field_lines.OpenWord.{OpenWord}
 use Rattle.deck_listing.proofs.CutLaws.{cut-first}
 use Rattle.deck_listing.proofs.ParcelSteps.{joined_below}

@@ -7,8 +7,8 @@ use Rattle.definitions.specs.Kinds.{units, unit_bits}
 use Rattle.definitions.specs.Words.{Parcel, bits_at, filling_of, in_word, last_places, parcels_from}
 use Rattle.definitions.specs.declared.deck_kind.DeckKind.{DeckKind}
 use Rattle.definitions.specs.declared.deck_kind.DeckKind.TheVariants.{Rel, Abs, Periph}
-use Rattle.deck_listing.specs.Spans.{span_parcels}
-use Rattle.deck_listing.specs.Filling.{AreZeroWords, IsGathered, IsOpenWord, found, is_none_there, value_of_parcels, zero_parcels}
+use Rattle.deck_listing.specs.Joins.Spans.{span_parcels}
+use Rattle.deck_listing.specs.Joins.Filling.{AreZeroWords, IsGathered, IsOpenWord, found, is_none_there, value_of_parcels, zero_parcels}
 use Rattle.deck_listing.specs.declared.packing.gathering.OpenWord.{OpenWord}
 use Rattle.deck_listing.specs.declared.packing.spans.Span.{Span}
 use Rattle.deck_listing.specs.declared.packing.word_spans.WordSpan.{WordSpan}

@@ -9,7 +9,7 @@ use Rattle.definitions.specs.Link.{Based, Layout, block_base, external_value, un
 use Rattle.definitions.specs.Listing.{deck_listing}
 use Rattle.definitions.specs.Objects.{Object, object_of}
 use Rattle.definitions.specs.StatementItems.{Content, Known, Linked}
-use Rattle.statement_coder.specs.Items.{content_as}
+use Rattle.statement_coder.specs.Joins.Items.{content_as}
 use Rattle.statement_coder.specs.declared.items.Item as code
 
 -- what a block or an external of a deck is worth in a link

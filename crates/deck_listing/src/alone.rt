@@ -1,8 +1,8 @@
 //! How forms are linked in a deck that stands alone.
 ghost use Rattle.std.specs.Prelude.{◌≡◌, ◌<◌, ◌^◌, ◌+ℤ◌, option_map, pos, unsigned_abs};
 ghost use Rattle.definitions.specs.Forms as forms;
-ghost use Rattle.expr_forms.specs.FormsAs.{part_as, relocation_as};
-ghost use Rattle.deck_listing.specs.Alone.{alone_base, alone_linking, alone_part, alone_relocation};
+ghost use Rattle.expr_forms.specs.Joins.FormsAs.{part_as, relocation_as};
+ghost use Rattle.deck_listing.specs.Joins.Alone.{alone_base, alone_linking, alone_part, alone_relocation};
 
 use deck_objects::{Linking, coded_or_zero};
 use expr_forms::{Form, Name, Part, Relocation};

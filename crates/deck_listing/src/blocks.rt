@@ -4,9 +4,9 @@ ghost use Rattle.std.specs.List.{AllZip};
 ghost use Rattle.definitions.specs.Cards.{Card};
 ghost use Rattle.definitions.specs.Objects as definitions;
 ghost use Rattle.definitions.specs.Objects.{object_of};
-ghost use Rattle.deck_objects.specs.PartsOf.{ArePartsOf};
-ghost use Rattle.deck_listing.specs.BlockWords.{AreBlockWords, AreWhole, IsFilledWith};
-ghost use Rattle.deck_listing.specs.Walking.{AreEmpty, DoNamesDiffer, HasObject};
+ghost use Rattle.deck_objects.specs.Joins.PartsOf.{ArePartsOf};
+ghost use Rattle.deck_listing.specs.Joins.BlockWords.{AreBlockWords, AreWhole, IsFilledWith};
+ghost use Rattle.deck_listing.specs.Joins.Walking.{AreEmpty, DoNamesDiffer, HasObject};
 
 use crate::packing::{WordSpan, Words};
 use crate::word_lines::put_lines;

@@ -2,11 +2,11 @@
 ghost use Rattle.std.specs.Prelude.{◌≡◌, ◌+◌, ◌≤◌, [], ◌∷◌, map, OnOk};
 ghost use Rattle.definitions.specs.Kinds.{unit_bits};
 ghost use Rattle.definitions.specs.Words.{width_of};
-ghost use Rattle.statement_coder.specs.Items.{item_as};
+ghost use Rattle.statement_coder.specs.Joins.Items.{item_as};
 ghost use Rattle.definitions.specs.Filling.{HasRoom};
-ghost use Rattle.deck_listing.specs.Packing.{most_bits};
-ghost use Rattle.deck_objects.specs.LineItems.{AreShort};
-ghost use Rattle.deck_listing.specs.Putting.{StandsAt, ArePut};
+ghost use Rattle.deck_listing.specs.Joins.Packing.{most_bits};
+ghost use Rattle.deck_objects.specs.Joins.LineItems.{AreShort};
+ghost use Rattle.deck_listing.specs.Joins.Putting.{StandsAt, ArePut};
 
 use crate::packing::{Field, Words};
 use deck_objects::{Linking, linked_bits};

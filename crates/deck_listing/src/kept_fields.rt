@@ -2,8 +2,8 @@
 ghost use Rattle.std.specs.Prelude.{◌≡◌, ◌≤◌, ◌+◌, ◌-◌, ◌*◌, length, map};
 ghost use Rattle.definitions.specs.Kinds.{unit_bits};
 ghost use Rattle.definitions.specs.StatementItems.{known};
-ghost use Rattle.deck_objects.specs.LineItems.{listed};
-ghost use Rattle.statement_coder.specs.Items.{item_as};
+ghost use Rattle.deck_objects.specs.Joins.LineItems.{listed};
+ghost use Rattle.statement_coder.specs.Joins.Items.{item_as};
 
 use deck_objects::CodedLine;
 use definitions::DeckKind;

@@ -5,7 +5,7 @@ ghost use Rattle.definitions.specs.Forms.{Relocation};
 ghost use Rattle.definitions.specs.Image.{section};
 ghost use Rattle.definitions.specs.Link.{Based, Layout};
 ghost use Rattle.definitions.specs.Objects.{Object};
-ghost use Rattle.deck_objects.specs.PartsOf.{ArePartsOf};
+ghost use Rattle.deck_objects.specs.Joins.PartsOf.{ArePartsOf};
 ghost use Rattle.deck_objects.specs.declared.object.ObjectParts.{ObjectParts};
 ghost use Rattle.deck_listing.specs.KeptSections.{DoAllFit, DoFieldsFollow, IsPlaced};
 

@@ -1,6 +1,6 @@
 //! The section of a deck in the image of a link, as it is kept for later links.
 ghost use Rattle.std.specs.Prelude.{◌≡◌, option_map};
-ghost use Rattle.expr_forms.specs.FormsAs.{relocation_as};
+ghost use Rattle.expr_forms.specs.Joins.FormsAs.{relocation_as};
 
 use expr_forms::Relocation;
 use std::marker::Model;
@@ -17,7 +17,7 @@ pub struct LinkValue {
 impl Model for LinkValue {
     ghost use Rattle.std.specs.Prelude.{ℤ};
     ghost use Rattle.definitions.specs.Forms as definitions;
-    ghost use Rattle.expr_forms.specs.FormsAs.{relocation_as};
+    ghost use Rattle.expr_forms.specs.Joins.FormsAs.{relocation_as};
 
     ghost Value = { definitions.Relocation × ℤ };
 

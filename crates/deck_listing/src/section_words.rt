@@ -9,10 +9,10 @@ ghost use Rattle.definitions.specs.Link.{object_words};
 ghost use Rattle.definitions.specs.Objects.{Object};
 ghost use Rattle.definitions.specs.Words as language;
 ghost use Rattle.definitions.specs.Words.{stored_words};
-ghost use Rattle.deck_listing.specs.Filling.{as_stored};
-ghost use Rattle.deck_objects.specs.PartsOf.{ArePartsOf};
-ghost use Rattle.deck_listing.specs.BlockWords.{AreBlockWords, AreWordsOf};
-ghost use Rattle.deck_listing.specs.ImageWordLines.{block_lines, lines_of, literal_lines, row_words, rows_words, span_lines};
+ghost use Rattle.deck_listing.specs.Joins.Filling.{as_stored};
+ghost use Rattle.deck_objects.specs.Joins.PartsOf.{ArePartsOf};
+ghost use Rattle.deck_listing.specs.Joins.BlockWords.{AreBlockWords, AreWordsOf};
+ghost use Rattle.deck_listing.specs.Joins.ImageWordLines.{block_lines, lines_of, literal_lines, row_words, rows_words, span_lines};
 
 use crate::image_lines::{address_within, push_image_line};
 use crate::packing::WordSpan;

@@ -3,8 +3,8 @@ ghost use Rattle.std.specs.Prelude.{◌≡◌, ◌++◌, length, IfOk};
 ghost use Rattle.definitions.specs.Image.{image_alone, section};
 ghost use Rattle.definitions.specs.Link.{Based, Layout, linking_of};
 ghost use Rattle.definitions.specs.Objects.{object_of};
-ghost use Rattle.deck_listing.specs.BlockWords.{AreBlockWords};
-ghost use Rattle.deck_listing.specs.ImageWordLines.{section_head};
+ghost use Rattle.deck_listing.specs.Joins.BlockWords.{AreBlockWords};
+ghost use Rattle.deck_listing.specs.Joins.ImageWordLines.{section_head};
 
 use crate::alone::Alone;
 use crate::blocks::words_of_blocks;

@@ -1,7 +1,7 @@
 //! A text that lines are put to.
 ghost use Rattle.std.specs.Prelude.{◌≡◌, ◌≤◌, ◌++◌, ◌∷◌, [], length, IfOk};
 ghost use Rattle.definitions.specs.Numerals.{decimal_of, octal_of};
-ghost use Rattle.deck_listing.specs.Sheets.{room_of, text_of};
+ghost use Rattle.deck_listing.specs.Joins.Sheets.{room_of, text_of};
 
 use std::alloc::{AllocError, Global};
 use std::marker::Model;
@@ -23,7 +23,7 @@ pub struct Sheet {
 
 impl Model for Sheet {
     ghost use Rattle.std.specs.Prelude.{ℕ, List, ◌++◌, ◌∷◌, vec_capacity};
-    ghost use Rattle.deck_listing.specs.Sheets.{IsSheet};
+    ghost use Rattle.deck_listing.specs.Joins.Sheets.{IsSheet};
 
     ghost Value = { List ℕ };
 

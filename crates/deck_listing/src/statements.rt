@@ -4,11 +4,11 @@ ghost use Rattle.definitions.specs.Kinds.{units, word_bits};
 ghost use Rattle.definitions.specs.Listing.{central_lines, unlinked};
 ghost use Rattle.definitions.specs.Operations as op;
 ghost use Rattle.definitions.specs.Words.{width_of};
-ghost use Rattle.deck_listing.specs.ListedParts.{AreListable, IsListable, IsListableLine, line_text, lines_text, stored_text};
-ghost use Rattle.deck_listing.specs.WordLines.{fields_text, has_one_line};
-ghost use Rattle.deck_objects.specs.LineItems.{AreShort};
-ghost use Rattle.statement_coder.specs.Items.{item_as};
-ghost use Rattle.operations.specs.OperationsAs.{operation_as};
+ghost use Rattle.deck_listing.specs.Joins.ListedParts.{AreListable, IsListable, IsListableLine, line_text, lines_text, stored_text};
+ghost use Rattle.deck_listing.specs.Joins.WordLines.{fields_text, has_one_line};
+ghost use Rattle.deck_objects.specs.Joins.LineItems.{AreShort};
+ghost use Rattle.statement_coder.specs.Joins.Items.{item_as};
+ghost use Rattle.operations.specs.Joins.OperationsAs.{operation_as};
 
 use crate::field_lines::{joined_fields, push_word_lines};
 use crate::kept_fields::{known_field, listed};

@@ -2,7 +2,7 @@
 ghost use Rattle.std.specs.Prelude.{◌≡◌, ◌<◌, ◌^◌, ◌++◌, length, IfOk};
 ghost use Rattle.definitions.specs.Listing.{deck_listing, errors_of};
 ghost use Rattle.definitions.specs.Objects.{object_of};
-ghost use Rattle.deck_listing.specs.ListedParts.{AreListable, flagged_lines, has_letters, parts_text};
+ghost use Rattle.deck_listing.specs.Joins.ListedParts.{AreListable, flagged_lines, has_letters, parts_text};
 
 use crate::lines::{push_block_lines, push_deck_line, push_errors_line};
 use crate::sheet::Sheet;

@@ -5,11 +5,11 @@ ghost use Rattle.definitions.specs.Objects.{Object};
 ghost use Rattle.definitions.specs.Cards.{Card};
 ghost use Rattle.definitions.specs.Operations.{is_instruction};
 ghost use Rattle.definitions.specs.Words.{Coded};
-ghost use Rattle.operations.specs.OperationsAs.{operation_as};
-ghost use Rattle.deck_objects.specs.LineItems.{kept_items};
-ghost use Rattle.deck_objects.specs.PartsOf.{ArePartsOf};
-ghost use Rattle.deck_listing.specs.Putting.{ArePut, IsReady};
-ghost use Rattle.deck_listing.specs.Walking.{AreEmpty, DoNamesDiffer, DoesFollow, DoesFollowAll, HasObject, HasRuns, HaveRuns, IsNext, IsNextOfAll};
+ghost use Rattle.operations.specs.Joins.OperationsAs.{operation_as};
+ghost use Rattle.deck_objects.specs.Joins.LineItems.{kept_items};
+ghost use Rattle.deck_objects.specs.Joins.PartsOf.{ArePartsOf};
+ghost use Rattle.deck_listing.specs.Joins.Putting.{ArePut, IsReady};
+ghost use Rattle.deck_listing.specs.Joins.Walking.{AreEmpty, DoNamesDiffer, DoesFollow, DoesFollowAll, HasObject, HasRuns, HaveRuns, IsNext, IsNextOfAll};
 
 use crate::fields::put_fields;
 use crate::kept_fields::{known_field, listed};

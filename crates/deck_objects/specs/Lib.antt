@@ -1,5 +1,2 @@
--- The fields that a line keeps.
-pub mod LineItems
--- The lines and the parts of an object.
-pub mod CodedLines
-pub mod PartsOf
+-- What no promise leads to.
+pub mod Joins

@@ -8,7 +8,7 @@ ghost use Rattle.definitions.specs.StatementItems.{number_in};
 ghost use Rattle.definitions.specs.declared.deck_kind.DeckKind.{DeckKind};
 ghost use Rattle.definitions.specs.Words as words;
 ghost use Rattle.definitions.specs.Words.{content_bits};
-ghost use Rattle.statement_coder.specs.Items.{deck_with, item_as};
+ghost use Rattle.statement_coder.specs.Joins.Items.{deck_with, item_as};
 ghost use Rattle.definitions.specs.Filling.{HasRoom};
 
 use expr_forms::{Form, Name};

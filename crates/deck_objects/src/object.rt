@@ -2,7 +2,7 @@
 ghost use Rattle.std.specs.Prelude.{◌≡◌};
 ghost use Rattle.definitions.specs.DeckInput.{Deck};
 ghost use Rattle.definitions.specs.Objects.{object_of};
-ghost use Rattle.deck_objects.specs.PartsOf.{ArePartsOf};
+ghost use Rattle.deck_objects.specs.Joins.PartsOf.{ArePartsOf};
 
 use crate::entries::Entry;
 use crate::lines::Line;
@@ -38,7 +38,7 @@ pub struct Object {
 impl Model for Object {
     ghost use Rattle.definitions.specs.DeckInput.{Deck};
     ghost use Rattle.definitions.specs.Objects.{object_of};
-    ghost use Rattle.deck_objects.specs.PartsOf.{ArePartsOf};
+    ghost use Rattle.deck_objects.specs.Joins.PartsOf.{ArePartsOf};
 
     ghost Value = { Deck };
 

@@ -2,7 +2,7 @@
 use Rattle.std.proofs.Common.{◌≡◌, Bool, false, List, None, ap₂, subst, ◌∙◌}
 use Rattle.statement_coder.specs.declared.meter.Meter.{Meter}
 use Rattle.edit_core.specs.Faults.{against_all}
-use Rattle.deck_workers.specs.Language.{Card, Edit, edits_fault, CountsInOrder}
+use Rattle.deck_workers.specs.Joins.Language.{Card, Edit, edits_fault, CountsInOrder}
 
 pub counts-edits : (edits : List Edit) (own begun cards : List Card) (is_spent : Bool) (old new : Meter) → own ≡ begun → own ≡ cards → is_spent ≡ false → edits_fault edits begun ≡ None →
     (against_all edits is_spent own ≡ None → CountsInOrder edits own old new) → CountsInOrder edits cards old new

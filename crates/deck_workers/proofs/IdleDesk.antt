@@ -13,9 +13,9 @@ use Rattle.desk_core.proofs.Publishing.{step_comes}
 use Rattle.desk_core.proofs.Told.{IsTold}
 use Rattle.desk_core.proofs.EveryRun.{told_last, told_through}
 use Rattle.desk_core.proofs.IdleClaims.{idle_is_published}
-use Rattle.deck_workers.specs.Language.{Call, Claim, Reply, Refusal}
+use Rattle.deck_workers.specs.Joins.Language.{Call, Claim, Reply, Refusal}
 use Rattle.deck_workers.specs.Rounds.{Round, Resting, Working, entries_of, entries_in}
-use Rattle.deck_workers.specs.Settling.{Settles, used_up, ended, end_of, end_of_claim, refusal_in, IsIdleAt, IsSettled}
+use Rattle.deck_workers.specs.Joins.Settling.{Settles, used_up, ended, end_of, end_of_claim, refusal_in, IsIdleAt, IsSettled}
 use Rattle.deck_workers.specs.declared.settling.Settled.{Settled}
 use Rattle.deck_workers.specs.declared.settling.Settled.TheVariants.{Idle, Refused, Waiting, Turns}
 

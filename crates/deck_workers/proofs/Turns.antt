@@ -10,7 +10,7 @@ use Rattle.desk_core.specs.Runs.{History}
 use Rattle.deck_workers.specs.Rounds.{Round, entries_of, entries_in}
 use Rattle.statement_coder.specs.declared.meter.Meter.{Meter}
 use Rattle.deck_workers.specs.Jobs.{CountsWithin}
-use Rattle.deck_workers.specs.Settling.{GoesOn, SettlesOn, used_up, ended, IsTurn, round_bound, rounds_bound, round_least, rounds_least}
+use Rattle.deck_workers.specs.Joins.Settling.{GoesOn, SettlesOn, used_up, ended, IsTurn, round_bound, rounds_bound, round_least, rounds_least}
 use Rattle.deck_workers.specs.declared.settling.Settled.{Settled}
 use Rattle.deck_workers.specs.declared.settling.Settled.TheVariants.{Turns}
 

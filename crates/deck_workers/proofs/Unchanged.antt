@@ -2,7 +2,7 @@
 use Rattle.std.proofs.Common.{◌≡◌, ℕ, List, [], ◌∷◌, ◌++◌, None, refl, sym, ap, ◌∙◌, subst}
 use Rattle.turn_office.specs.Histories.{Leads}
 use Rattle.desk_core.specs.Desks.{Desk, decks_of}
-use Rattle.deck_workers.specs.Language.{Call, Claim, Reply}
+use Rattle.deck_workers.specs.Joins.Language.{Call, Claim, Reply}
 use Rattle.desk_core.specs.Steps.{Steps}
 use Rattle.desk_core.specs.Runs.{History, change_asked}
 use Rattle.desk_core.proofs.Outcomes.{Outcome, by_staying, by_changing, by_publishing}
@@ -10,7 +10,7 @@ use Rattle.desk_core.proofs.Publishing.{step_comes}
 use Rattle.deck_workers.specs.declared.made.Made.{Made}
 use Rattle.deck_workers.specs.declared.made.Made.TheVariants as made
 use Rattle.deck_workers.specs.Rounds.{Round, Resting, Working, call_of, entries_of, entries_in}
-use Rattle.deck_workers.specs.Settling.{Settles, used_up, ended}
+use Rattle.deck_workers.specs.Joins.Settling.{Settles, used_up, ended}
 use Rattle.deck_workers.specs.declared.settling.Settled.{Settled}
 use Rattle.deck_workers.proofs.Turns.{entries-more}
 

@@ -1,8 +1,8 @@
 -- What a job gives (ours): a function of the job, and one free choice.
 use Rattle.std.specs.Prelude.{◌≡◌, ◌⊎◌, ℕ, ◌+◌, ◌^◌, ◌<◌, ◌≤◌, Bool, true, false, List, Option, Some, None, length}
-use Rattle.statement_coder.specs.Meters.{CountsAtMost}
+use Rattle.statement_coder.specs.Joins.Meters.{CountsAtMost}
 use Rattle.statement_coder.specs.declared.meter.Meter.{Meter}
-use Rattle.deck_workers.specs.Language.{Card, Edit, statement_count, statements_sum, CountsInOrder, edits_fault, RecordFault, OutOfMemory, DeckWork, LinkWork, Start, FromRecord, FromCards}
+use Rattle.deck_workers.specs.Joins.Language.{Card, Edit, statement_count, statements_sum, CountsInOrder, edits_fault, RecordFault, OutOfMemory, DeckWork, LinkWork, Start, FromRecord, FromCards}
 pub use Rattle.desk_core.specs.Making.{start_deck, start_cards, deck_edited, begun_deck, done_of}
 use Rattle.deck_workers.specs.declared.jobs.Job.{Job}
 use Rattle.deck_workers.specs.declared.jobs.Job.TheVariants as job

@@ -1,6 +1,6 @@
 pub mod Working
-pub mod Language
 pub mod Jobs
 pub mod Rounds
 pub mod Subscribers
-pub mod Settling
+-- What no promise leads to.
+pub mod Joins

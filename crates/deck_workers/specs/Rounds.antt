@@ -2,7 +2,7 @@
 use Rattle.std.specs.Prelude.{◌≡◌, ℕ, List, [], ◌∷◌, Option, Some, None}
 use Rattle.std.specs.List.{flat_map}
 use Rattle.turn_office.specs.Histories.{entry}
-use Rattle.deck_workers.specs.Language.{Call, Claim, DeliverDeck, DeliverLink, GiveUp, Reply, DeckJob, LinkJob}
+use Rattle.deck_workers.specs.Joins.Language.{Call, Claim, DeliverDeck, DeliverLink, GiveUp, Reply, DeckJob, LinkJob}
 use Rattle.desk_core.specs.Runs.{History}
 use Rattle.deck_workers.specs.declared.jobs.Job.{Job}
 use Rattle.deck_workers.specs.declared.jobs.Job.TheVariants as job

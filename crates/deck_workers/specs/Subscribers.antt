@@ -1,6 +1,6 @@
 -- What a subscriber hears of rounds (ours): of each publication that the desk took, once, and of nothing else.
 use Rattle.std.specs.Prelude.{◌≡◌, ℕ, List, [], ◌∷◌, ◌++◌, Option, Some, None}
-use Rattle.deck_workers.specs.Language.{Reply, Stored}
+use Rattle.deck_workers.specs.Joins.Language.{Reply, Stored}
 use Rattle.deck_workers.specs.Rounds.{Round, Resting, Working, published_in}
 
 module _ {S : Type 0} (hears : S → ℕ → S → Type 0) where

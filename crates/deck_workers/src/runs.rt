@@ -40,7 +40,7 @@ pub trait Runs {
 /// apply, or, where all apply, for want of memory, and then with its record. With a record it sizes and
 /// codes no more than the sum of what is due for its edits in order, with the 128 of a piece for each.
 impl Runs for DeckWork {
-    ghost use Rattle.deck_workers.specs.Language.{DeckWork};
+    ghost use Rattle.deck_workers.specs.Joins.Language.{DeckWork};
     ghost use Rattle.deck_workers.specs.Jobs.{MayMakeDeck, DeckCounts, deck_bound, start_bound};
 
     ghost gives = { MayMakeDeck };
@@ -76,7 +76,7 @@ impl Runs for DeckWork {
 /// A link job makes the publication of its objects under its version, or is lost for want of memory.
 impl Runs for LinkWork {
     ghost use Rattle.std.specs.Prelude.{ℕ, ◌≡◌};
-    ghost use Rattle.deck_workers.specs.Language.{LinkWork};
+    ghost use Rattle.deck_workers.specs.Joins.Language.{LinkWork};
     ghost use Rattle.deck_workers.specs.Jobs.{MayMakeLink};
 
     ghost gives = { MayMakeLink };

@@ -2,9 +2,9 @@
 ghost use Rattle.std.specs.Prelude.{◌≡◌, option_map};
 ghost use Rattle.desk_core.specs.Desks.{decks_of};
 ghost use Rattle.desk_core.specs.Steps.{Steps};
-ghost use Rattle.deck_workers.specs.Language.{Reply};
+ghost use Rattle.deck_workers.specs.Joins.Language.{Reply};
 ghost use Rattle.deck_workers.specs.Rounds.{call_of};
-ghost use Rattle.deck_workers.specs.Settling.{SettlesOn, IsSettled, IsTurn, end_of_claim, refusal_in};
+ghost use Rattle.deck_workers.specs.Joins.Settling.{SettlesOn, IsSettled, IsTurn, end_of_claim, refusal_in};
 
 use crate::jobs::job_in;
 use crate::made::Made;

@@ -1,13 +1,13 @@
 -- Calls whose outcome is a change, where nothing speaks against it.
 use Rattle.std.proofs.Common.{◌≡◌, ℕ, ◌+◌, List, [], ◌∷◌, Option, None, Some, Result, Ok, Err, option_map, refl}
-use Rattle.desk_core.specs.Language.{Deck}
-use Rattle.desk_core.specs.Edits.{Edit}
+use Rattle.desk_core.specs.Joins.Language.{Deck}
+use Rattle.desk_core.specs.Joins.Edits.{Edit}
 use Rattle.desk_core.specs.Changes.{Added, Dropped, Edited, Put}
 use Rattle.desk_core.specs.Desks.{Desk, DeskDeck, deck_named}
-use Rattle.desk_core.specs.Calls.{Call, AddDeck, PutDeck, DropDeck, EditDeck, Batch, EditSince, BatchSince, Undo, Changed, Carried}
+use Rattle.desk_core.specs.Joins.Calls.{Call, AddDeck, PutDeck, DropDeck, EditDeck, Batch, EditSince, BatchSince, Undo, Changed, Carried}
 use Rattle.desk_core.specs.Changing.{accepted, against_add, added, add_deck, against_put, put_where, put_deck, against_drop, dropped, drop_deck, edited, against_edit, edit_deck, against_batch, batch}
 use Rattle.cards.specs.declared.carrying.Touched.{Touched}
-use Rattle.desk_core.specs.Calls.{NoDeck, TouchedCard}
+use Rattle.desk_core.specs.Joins.Calls.{NoDeck, TouchedCard}
 use Rattle.desk_core.specs.Carrying.{carried_since, against_carry, accept_carried, edit_since_of, edit_since, batch_since_of, batch_since, alone}
 use Rattle.desk_core.specs.Undoing.{backs_at, against_change, undo_where, undo}
 use Rattle.desk_core.specs.Runs.{change_asked}

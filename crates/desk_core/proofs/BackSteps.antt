@@ -4,10 +4,10 @@ use Rattle.std.proofs.lemmas.List.{at_drop_more, take-append-drop}
 use Rattle.std.proofs.lemmas.List.Sums.{fold-append}
 use Rattle.cards.specs.Counts.{fault_at, count_after}
 use Rattle.cards.proofs.FaultLaws.{fault-of-count, edited-length}
-use Rattle.desk_core.specs.Language.{Card}
-use Rattle.desk_core.specs.Edits.{Edit, fault_of, edited, edited_by, first_fault}
+use Rattle.desk_core.specs.Joins.Language.{Card}
+use Rattle.desk_core.specs.Joins.Edits.{Edit, fault_of, edited, edited_by, first_fault}
 use Rattle.desk_core.specs.declared.past.Back.{Back}
-use Rattle.desk_core.specs.Stored.{backs_from}
+use Rattle.desk_core.specs.Joins.Stored.{backs_from}
 use Rattle.desk_core.proofs.CardCounts.{first-applies}
 use Rattle.desk_core.proofs.PastLaws.{fault-later}
 

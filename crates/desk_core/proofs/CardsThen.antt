@@ -5,14 +5,14 @@ use Rattle.std.proofs.lemmas.Bool.Decides.{leb_tells}
 use Rattle.std.proofs.lemmas.List.{take_all, take-append-le}
 use Rattle.std.proofs.Math.Seq.{take-length}
 use Rattle.turn_office.specs.Histories.{Leads}
-use Rattle.desk_core.specs.Language.{Card, Deck, same_text}
-use Rattle.desk_core.specs.Causes.{when}
-use Rattle.desk_core.specs.Edits.{Edit, edited_by}
+use Rattle.desk_core.specs.Joins.Language.{Card, Deck, same_text}
+use Rattle.desk_core.specs.Joins.Causes.{when}
+use Rattle.desk_core.specs.Joins.Edits.{Edit, edited_by}
 use Rattle.desk_core.specs.Changes.{Change, decks_after}
 use Rattle.desk_core.specs.Past.{Past, KeptEdit, behind, backs_of}
 use Rattle.desk_core.specs.Led.{HaveLed}
 use Rattle.desk_core.specs.Desks.{Desk, DeskDeck, new_desk_at, deck_of, decks_of, is_named, deck_named}
-use Rattle.desk_core.specs.Calls.{Call, Changes, CardsAt, Reply, ChangesAre, CardsBefore, Refused, OutOfMemory, NoDeck, OldVersion, Forgotten}
+use Rattle.desk_core.specs.Joins.Calls.{Call, Changes, CardsAt, Reply, ChangesAre, CardsBefore, Refused, OutOfMemory, NoDeck, OldVersion, Forgotten}
 use Rattle.desk_core.specs.Answers.{Answer}
 use Rattle.desk_core.specs.Earlier.{against_since, edits_behind, changes_of, cards_at_of}
 use Rattle.desk_core.specs.Carrying.{cards_of}

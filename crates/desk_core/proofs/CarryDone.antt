@@ -3,17 +3,17 @@ use Rattle.std.proofs.Common.{◌≡◌, ℕ, ◌+◌, List, [], ◌∷◌, leng
 use Rattle.std.specs.Prelude.{slice_get, slice_index_or}
 use Rattle.std.specs.Option.{ForSome}
 use Rattle.cards.specs.declared.carrying.Touched.{Touched}
-use Rattle.desk_core.specs.Edits.{Edit, first_fault}
+use Rattle.desk_core.specs.Joins.Edits.{Edit, first_fault}
 use Rattle.desk_core.specs.Desks.{Desk, DeskDeck, is_named}
-use Rattle.desk_core.specs.OwnNames.{IsPlaceOf, changed_at}
-use Rattle.desk_core.specs.Calls.{Reply, Refused, Refusal, Carried, BatchSize, OutOfMemory}
-use Rattle.desk_core.specs.Causes.{when}
+use Rattle.desk_core.specs.Joins.OwnNames.{IsPlaceOf, changed_at}
+use Rattle.desk_core.specs.Joins.Calls.{Reply, Refused, Refusal, Carried, BatchSize, OutOfMemory}
+use Rattle.desk_core.specs.Joins.Causes.{when}
 use Rattle.desk_core.specs.Earlier.{against_since}
 use Rattle.desk_core.specs.Answers.{Answer, against_next}
 use Rattle.desk_core.specs.Changing.{edited_deck, is_batch}
 use Rattle.desk_core.specs.Carrying.{cards_of, carried_since, against_carried, against_carry, bad_edit, accept_carried, batch_since, batch_since_of, edit_since, edit_since_of, alone}
 use Rattle.desk_core.specs.Steps.{is_made}
-use Rattle.desk_core.specs.Turns.{IsAnswer, MayAnswer}
+use Rattle.desk_core.specs.Joins.Turns.{IsAnswer, MayAnswer}
 use Rattle.desk_core.proofs.AnswerLaws.{told, done, lacking, head-clear, map-clear}
 use Rattle.desk_core.proofs.PlaceLaws.{element-at}
 use Rattle.desk_core.proofs.ChangeDone.{next_with, edited-same}

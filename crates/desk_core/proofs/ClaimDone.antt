@@ -3,11 +3,11 @@ use Rattle.std.proofs.Common.{◌≡◌, ℕ, ◌+◌, true, cond, List, inl, So
 use Rattle.std.specs.Prelude.{slice_get}
 use Rattle.std.specs.List.{list_any}
 use Rattle.desk_core.specs.Desks.{Desk, DeskDeck}
-use Rattle.desk_core.specs.Calls.{Refused, Refusal, OutOfMemory, DeckJob, DeckWork}
+use Rattle.desk_core.specs.Joins.Calls.{Refused, Refusal, OutOfMemory, DeckJob, DeckWork}
 use Rattle.desk_core.specs.Answers.{Answer, unless, against_next}
 use Rattle.desk_core.specs.Claiming.{is_behind, is_free, given, deck_work, hand_out, claim_deck, claim_link, claim}
-use Rattle.desk_core.specs.OwnNames.{IsPlaceOf, changed_at}
-use Rattle.desk_core.specs.Turns.{MayAnswer}
+use Rattle.desk_core.specs.Joins.OwnNames.{IsPlaceOf, changed_at}
+use Rattle.desk_core.specs.Joins.Turns.{MayAnswer}
 use Rattle.desk_core.proofs.AnswerLaws.{told, done, lacking}
 use Rattle.desk_core.proofs.PlaceLaws.{element-at, named-with}
 

@@ -3,9 +3,9 @@ use Rattle.std.proofs.Common.{◌≡◌, ℕ, ◌+◌, ◌≤◌, ◌==◌, Bool
 use Rattle.std.specs.List.{list_any}
 use Rattle.std.proofs.lemmas.Bool.{cond_both, and_parts}
 use Rattle.turn_office.specs.Histories.{entry}
-use Rattle.desk_core.specs.Edits.{Edit}
+use Rattle.desk_core.specs.Joins.Edits.{Edit}
 use Rattle.desk_core.specs.Desks.{Desk, DeskDeck, Lease, Kept, is_leased_at}
-use Rattle.desk_core.specs.Calls.{Claim, DeckJob, DeckWork, Refusal}
+use Rattle.desk_core.specs.Joins.Calls.{Claim, DeckJob, DeckWork, Refusal}
 use Rattle.desk_core.specs.Answers.{Answer, unless, against_next}
 use Rattle.desk_core.specs.Claiming.{claim, claim_deck, claim_link, hand_out, hand_out_link, deck_work, given, start_of, edits_for, is_behind, is_free, is_published}
 use Rattle.desk_core.specs.Runs.{History}

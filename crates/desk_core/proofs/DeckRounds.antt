@@ -3,21 +3,21 @@ use Rattle.std.proofs.Common.{◌≡◌, inl, inr, ℕ, ◌+◌, ◌==◌, ◌<�
 use Rattle.std.specs.Prelude.{slice_get}
 use Rattle.std.specs.List.{list_any}
 use Rattle.std.proofs.lemmas.Bool.{cases_Bool, cond_both, cond-true, cond-false, and_from, and_parts, not-true, le-ltb}
-use Rattle.desk_core.specs.Language.{Deck}
-use Rattle.desk_core.specs.Causes.{when}
-use Rattle.desk_core.specs.Edits.{edited_by, first_fault}
+use Rattle.desk_core.specs.Joins.Language.{Deck}
+use Rattle.desk_core.specs.Joins.Causes.{when}
+use Rattle.desk_core.specs.Joins.Edits.{edited_by, first_fault}
 use Rattle.desk_core.specs.Desks.{Desk, DeskDeck, Kept, deck_of, greatest_number}
-use Rattle.desk_core.specs.Calls.{Call, DeliverDeck, GiveUp, DeckWork, Reply, Stored, Refused, Refusal, Foreign, VersionsSpent}
+use Rattle.desk_core.specs.Joins.Calls.{Call, DeliverDeck, GiveUp, DeckWork, Reply, Stored, Refused, Refusal, Foreign, VersionsSpent}
 use Rattle.desk_core.specs.Answers.{Answer, answers, unless, against_next}
 use Rattle.desk_core.specs.Claiming.{claim, claim_deck, claim_link, hand_out, is_behind, is_free, given, deck_work, start_of, edits_for}
 use Rattle.desk_core.specs.Delivering.{same_deck, lost, stored, is_for}
-use Rattle.desk_core.specs.Delivered.{foreign_at, result_at}
+use Rattle.desk_core.specs.Joins.Delivered.{foreign_at, result_at}
 use Rattle.desk_core.specs.Steps.{answer}
 use Rattle.desk_core.specs.Making.{start_deck, start_cards, done_of}
 use Rattle.desk_core.specs.Rounds.{end_of_deck, after_job, after_round}
-use Rattle.desk_core.specs.OwnNames.{HaveOwnNames, IsPlaceOf, has_lease, changed_at}
+use Rattle.desk_core.specs.Joins.OwnNames.{HaveOwnNames, IsPlaceOf, has_lease, changed_at}
 use Rattle.desk_core.specs.Progress.{is_given}
-use Rattle.desk_core.specs.Turns.{IsAnswer}
+use Rattle.desk_core.specs.Joins.Turns.{IsAnswer}
 use Rattle.desk_core.proofs.Same.{same_deck-itself}
 use Rattle.desk_core.proofs.PlaceLaws.{named-with, own-with, each}
 use Rattle.desk_core.proofs.DeliverDone as deliver_done

@@ -2,8 +2,8 @@
 use Rattle.std.proofs.Common.{◌≡◌, ℕ, Bool, true, false, cond, not, ◌||◌, List, [], ◌∷◌, ◌++◌, map, filter, find, is_some, Option, None, Some, refl, sym, ap, ap₂, ◌∙◌}
 use Rattle.std.specs.List.{list_any}
 use Rattle.std.proofs.lemmas.List.{map-append}
-use Rattle.desk_core.specs.Language.{Card, Deck, same_text}
-use Rattle.desk_core.specs.Edits.{Edit, edited_by}
+use Rattle.desk_core.specs.Joins.Language.{Card, Deck, same_text}
+use Rattle.desk_core.specs.Joins.Edits.{Edit, edited_by}
 use Rattle.desk_core.specs.Changes.{Put, edited_if_named, put_over, changed}
 use Rattle.desk_core.specs.Desks.{DeskDeck, deck_of, is_named, put_if_named}
 use Rattle.desk_core.specs.Changing.{edited_deck, added_deck, replaced_deck}

@@ -3,14 +3,14 @@ use Rattle.std.proofs.Common.{◌≡◌, ℕ, ◌==◌, not, ◌&&◌, ◌||◌,
 use Rattle.std.specs.Prelude.{slice_get}
 use Rattle.std.proofs.lemmas.Bool.{cases_Bool}
 use Rattle.std.proofs.lemmas.List.{length-map}
-use Rattle.desk_core.specs.Language.{Card, Deck}
+use Rattle.desk_core.specs.Joins.Language.{Card, Deck}
 use Rattle.desk_core.specs.Desks.{Desk, DeskDeck, Kept, deck_of, with_deck}
-use Rattle.desk_core.specs.Calls.{Reply, Refused, Foreign, Stale, Stored, Cleared, Done}
+use Rattle.desk_core.specs.Joins.Calls.{Reply, Refused, Foreign, Stale, Stored, Cleared, Done}
 use Rattle.desk_core.specs.Answers.{Answer, answers}
-use Rattle.desk_core.specs.Delivered.{foreign_at, kept_at, result_at}
+use Rattle.desk_core.specs.Joins.Delivered.{foreign_at, kept_at, result_at}
 use Rattle.desk_core.specs.Delivering.{same_cards, same_decks, same_deck, is_record_of, lost, given_back, stored, is_for, take_result, deliver_to, deliver_deck, give_up_of, give_up}
-use Rattle.desk_core.specs.OwnNames.{IsPlaceOf, has_lease, changed_at}
-use Rattle.desk_core.specs.Turns.{IsAnswer}
+use Rattle.desk_core.specs.Joins.OwnNames.{IsPlaceOf, has_lease, changed_at}
+use Rattle.desk_core.specs.Joins.Turns.{IsAnswer}
 use Rattle.desk_core.proofs.PlaceLaws.{element-at, named-with}
 use Rattle.desk_core.proofs.Same.{equal_cards, equal_lists}
 

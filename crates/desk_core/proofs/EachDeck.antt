@@ -4,12 +4,12 @@ use Rattle.std.specs.List.{list_any, AllByRecursion}
 use Rattle.std.proofs.lemmas.Bool.{cond_both, ltb-false}
 use Rattle.cards.specs.declared.carrying.Touched.{Touched}
 use Rattle.turn_office.specs.Histories.{Leads}
-use Rattle.desk_core.specs.Language.{Card, Deck}
-use Rattle.desk_core.specs.Causes.{when}
-use Rattle.desk_core.specs.Edits.{Edit, most_cards, fault_of, first_fault, edited_by}
+use Rattle.desk_core.specs.Joins.Language.{Card, Deck}
+use Rattle.desk_core.specs.Joins.Causes.{when}
+use Rattle.desk_core.specs.Joins.Edits.{Edit, most_cards, fault_of, first_fault, edited_by}
 use Rattle.desk_core.specs.Past.{Past, begun_at, past_after}
 use Rattle.desk_core.specs.Desks.{Desk, DeskDeck, Publication, most_decks, is_named, deck_named, put_if_named, is_leased, is_leased_at, decks_of}
-use Rattle.desk_core.specs.Calls.{Call, AddDeck, PutDeck, DropDeck, EditDeck, Batch, EditSince, BatchSince, Undo, Changes, CardsAt, Cards, Show, Status, Claim, DeliverDeck, DeliverLink, GiveUp, Done, Reply, Refusal, NameTaken, TooManyDecks, DeckFull, NoDeck, BatchSize}
+use Rattle.desk_core.specs.Joins.Calls.{Call, AddDeck, PutDeck, DropDeck, EditDeck, Batch, EditSince, BatchSince, Undo, Changes, CardsAt, Cards, Show, Status, Claim, DeliverDeck, DeliverLink, GiveUp, Done, Reply, Refusal, NameTaken, TooManyDecks, DeckFull, NoDeck, BatchSize}
 use Rattle.desk_core.specs.Answers.{Answer, unless, against_next}
 use Rattle.desk_core.specs.Changing.{accepted, against_add, added_deck, added, against_put, replaced_deck, put, put_where, against_drop, dropped, edited_deck, edited, against_edit, against_batch, refusal_of, is_batch, against_seen}
 use Rattle.desk_core.specs.Carrying.{carried_since, against_carry, accept_carried, edit_since_of, batch_since_of, bad_edit, alone}
@@ -17,7 +17,7 @@ use Rattle.desk_core.specs.Undoing.{backs_at, against_change, undo_where}
 use Rattle.desk_core.specs.Earlier.{against_since, changes_of, cards_at_of}
 use Rattle.desk_core.specs.Claiming.{claim, claim_deck, claim_link, hand_out, hand_out_link, given, is_behind, is_free, is_published}
 use Rattle.desk_core.specs.Delivering.{deliver_to, take_result, deck_leased, lost, given_back, stored, is_for, is_sound, same_decks, deliver_link, give_up_of}
-use Rattle.desk_core.specs.OwnNames.{HaveOwnNames}
+use Rattle.desk_core.specs.Joins.OwnNames.{HaveOwnNames}
 use Rattle.desk_core.specs.Steps.{answer, Steps}
 use Rattle.desk_core.specs.Runs.{History}
 use Rattle.desk_core.proofs.AnswerLaws.{no-reason, head-clear, map-clear}

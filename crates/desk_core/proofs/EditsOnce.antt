@@ -2,9 +2,9 @@
 use Rattle.std.proofs.Common.{◌≡◌, ℕ, ◌==◌, Bool, true, false, cond, List, [], ◌∷◌, ◌++◌, reverse, Option, Some, None, refl, sym, ap, ◌∙◌, subst, append_assoc, append-nil, eqb-true}
 use Rattle.std.specs.Prelude.{⊤}
 use Rattle.turn_office.specs.Histories.{Leads}
-use Rattle.desk_core.specs.Edits.{Edit}
+use Rattle.desk_core.specs.Joins.Edits.{Edit}
 use Rattle.desk_core.specs.Desks.{Desk, new_desk_at}
-use Rattle.desk_core.specs.Calls.{Call, EditDeck, Batch, EditSince, BatchSince, Undo, Claim, DeliverDeck, GiveUp, Reply, Changed, Carried, DeckJob, Cleared, Refused, Foreign, Start, FromRecord, FromCards}
+use Rattle.desk_core.specs.Joins.Calls.{Call, EditDeck, Batch, EditSince, BatchSince, Undo, Claim, DeliverDeck, GiveUp, Reply, Changed, Carried, DeckJob, Cleared, Refused, Foreign, Start, FromRecord, FromCards}
 use Rattle.desk_core.specs.Steps.{Steps}
 use Rattle.desk_core.specs.Runs.{History, Runs}
 use Rattle.desk_core.specs.Jobs.{identity_of, deck_of_lease, Effect, HandsOut, Loses, Edits, Leaves, effect_if, effect_on, after_effect, since_job, IsDueFrom, accepted_by, handed_by, accepted_edits, handed_edits, IsPartOf}

@@ -3,10 +3,10 @@ use Rattle.std.proofs.Common.{◌≡◌, inl, inr, ℕ, true, false, List, [], �
 use Rattle.std.specs.List.{cons_option}
 use Rattle.turn_office.specs.declared.history.Entry.{Entry}
 use Rattle.turn_office.specs.Histories.{Leads}
-use Rattle.desk_core.specs.Language.{listing_of, image_of}
+use Rattle.desk_core.specs.Joins.Language.{listing_of, image_of}
 use Rattle.desk_core.specs.Changes.{Change}
 use Rattle.desk_core.specs.Desks.{Desk, Publication, new_desk_at}
-use Rattle.desk_core.specs.Calls.{Call, Show, Reply, Changed, Shown, Refused, Refusal, OutOfMemory}
+use Rattle.desk_core.specs.Joins.Calls.{Call, Show, Reply, Changed, Shown, Refused, Refusal, OutOfMemory}
 use Rattle.desk_core.specs.Reading.{show_reply}
 use Rattle.desk_core.specs.Steps.{Steps}
 use Rattle.desk_core.specs.Runs.{History, Runs, change_asked, accepts, change_in, changes_in, IsBuildOf, IsUnchanged, IsOfItsChanges}

@@ -3,7 +3,7 @@ use Rattle.std.proofs.Common.{◌≡◌, inl, inr, ℕ, true, find, Option, Some
 use Rattle.std.specs.List.{list_any}
 use Rattle.std.proofs.lemmas.Bool.{cond_both}
 use Rattle.desk_core.specs.Desks.{Desk, DeskDeck, Publication, is_leased_at}
-use Rattle.desk_core.specs.Calls.{Claim, Reply, Idle, Refused, Refusal, OutOfMemory}
+use Rattle.desk_core.specs.Joins.Calls.{Claim, Reply, Idle, Refused, Refusal, OutOfMemory}
 use Rattle.desk_core.specs.Answers.{Answer, unless, against_next}
 use Rattle.desk_core.specs.Claiming.{claim, claim_deck, claim_link, hand_out, hand_out_link, is_behind, is_free, is_published}
 use Rattle.desk_core.specs.Steps.{Steps}

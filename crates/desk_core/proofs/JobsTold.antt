@@ -4,10 +4,10 @@ use Rattle.std.specs.Prelude.{⊤, if◌then◌else◌}
 use Rattle.std.specs.Option.{option_or}
 use Rattle.std.specs.List.{AllByRecursion}
 use Rattle.turn_office.specs.declared.history.Entry.{Entry}
-use Rattle.desk_core.specs.Language.{same_text}
-use Rattle.desk_core.specs.Edits.{Edit}
+use Rattle.desk_core.specs.Joins.Language.{same_text}
+use Rattle.desk_core.specs.Joins.Edits.{Edit}
 use Rattle.desk_core.specs.Desks.{Desk, DeskDeck, Lease, new_desk_at}
-use Rattle.desk_core.specs.Calls.{Call, AddDeck, PutDeck, Reply, Changed}
+use Rattle.desk_core.specs.Joins.Calls.{Call, AddDeck, PutDeck, Reply, Changed}
 use Rattle.desk_core.specs.Runs.{History}
 use Rattle.desk_core.specs.Jobs.{identity_in, identity_of, leased_in, deck_of_lease, effect_on, after_effect, since_job}
 use Rattle.desk_core.proofs.Same.{equal_texts, same_text-itself}

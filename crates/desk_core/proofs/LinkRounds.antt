@@ -4,7 +4,7 @@ use Rattle.std.specs.Prelude.{find}
 use Rattle.std.specs.List.{list_any}
 use Rattle.std.proofs.lemmas.Bool.{cond-true, cond-false}
 use Rattle.desk_core.specs.Desks.{Desk, Lease, Publication, is_leased_at, decks_of, greatest_number}
-use Rattle.desk_core.specs.Calls.{Idle, Stored, Refusal}
+use Rattle.desk_core.specs.Joins.Calls.{Idle, Stored, Refusal}
 use Rattle.desk_core.specs.Answers.{Answer, answers, unless}
 use Rattle.desk_core.specs.Claiming.{claim, claim_deck, claim_link, hand_out_link, is_behind, is_free, is_published}
 use Rattle.desk_core.specs.Delivering.{deliver_link, same_decks, unlinked}

@@ -5,12 +5,12 @@ use Rattle.cards.specs.Carrying.{seen_before}
 use Rattle.cards.specs.Converging.{edits_in, Converge}
 use Rattle.cards.proofs.FaultLaws.{have-places}
 use Rattle.cards.proofs.Batches.{seen-tells, converges}
-use Rattle.desk_core.specs.Language.{Card}
-use Rattle.desk_core.specs.Edits.{Edit, fault_of, edited, first_fault}
+use Rattle.desk_core.specs.Joins.Language.{Card}
+use Rattle.desk_core.specs.Joins.Edits.{Edit, fault_of, edited, first_fault}
 use Rattle.desk_core.specs.Past.{KeptEdit}
 use Rattle.desk_core.specs.Led.{HaveLed}
 use Rattle.desk_core.specs.Desks.{Desk, DeskDeck, deck_named}
-use Rattle.desk_core.specs.Calls.{EditSince, BatchSince, Undo, Carried, Refused, Refusal, OutOfMemory}
+use Rattle.desk_core.specs.Joins.Calls.{EditSince, BatchSince, Undo, Carried, Refused, Refusal, OutOfMemory}
 use Rattle.desk_core.specs.Answers.{Answer, unless}
 use Rattle.desk_core.specs.Earlier.{edits_behind}
 use Rattle.desk_core.specs.Carrying.{made_in, cards_of, carried_since, against_carry, accept_carried, batch_since_of, edit_since_of, alone}

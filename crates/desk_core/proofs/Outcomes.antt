@@ -2,7 +2,7 @@
 use Rattle.std.proofs.Common.{◌≡◌, ◌+◌, Bool, true, false, cond, Option, Some, None, refl}
 use Rattle.desk_core.specs.Changes.{Change, changed}
 use Rattle.desk_core.specs.Desks.{Desk, Publication, decks_of}
-use Rattle.desk_core.specs.Calls.{Call, Reply, Changed, Stored, Refused, Refusal}
+use Rattle.desk_core.specs.Joins.Calls.{Call, Reply, Changed, Stored, Refused, Refusal}
 use Rattle.desk_core.specs.Answers.{Answer, answers, unless}
 use Rattle.desk_core.specs.Runs.{IsUnchanged, change_asked, accepts}
 

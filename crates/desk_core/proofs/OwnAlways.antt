@@ -3,11 +3,11 @@ use Rattle.std.proofs.Common.{◌≡◌, ℕ, ◌+◌, ◌==◌, Bool, true, fal
 use Rattle.std.specs.List.{list_any}
 use Rattle.std.proofs.lemmas.Bool.{cond_both}
 use Rattle.turn_office.specs.Histories.{Leads}
-use Rattle.desk_core.specs.Language.{Deck, same_text}
-use Rattle.desk_core.specs.Causes.{when, first_cause}
-use Rattle.desk_core.specs.Edits.{Edit}
+use Rattle.desk_core.specs.Joins.Language.{Deck, same_text}
+use Rattle.desk_core.specs.Joins.Causes.{when, first_cause}
+use Rattle.desk_core.specs.Joins.Edits.{Edit}
 use Rattle.desk_core.specs.Desks.{Desk, DeskDeck, Publication, new_desk_at, is_named, deck_named, put_if_named, is_leased, is_leased_at, decks_of}
-use Rattle.desk_core.specs.Calls.{Call, AddDeck, PutDeck, DropDeck, EditDeck, Batch, EditSince, BatchSince, Undo, Changes, CardsAt, Cards, Show, Status, Claim, DeliverDeck, DeliverLink, GiveUp, Done, Reply, Refusal, NameTaken}
+use Rattle.desk_core.specs.Joins.Calls.{Call, AddDeck, PutDeck, DropDeck, EditDeck, Batch, EditSince, BatchSince, Undo, Changes, CardsAt, Cards, Show, Status, Claim, DeliverDeck, DeliverLink, GiveUp, Done, Reply, Refusal, NameTaken}
 use Rattle.desk_core.specs.Answers.{Answer, unless, against_next}
 use Rattle.desk_core.specs.Changing.{accepted, against_add, added_deck, added, add_deck, against_put, replaced_deck, put, put_where, against_drop, dropped, drop_deck, edited_deck, edited, against_edit, edit_deck, against_batch, batch}
 use Rattle.cards.specs.declared.carrying.Touched.{Touched}
@@ -18,7 +18,7 @@ use Rattle.desk_core.specs.Claiming.{claim, claim_deck, claim_link, hand_out, ha
 use Rattle.desk_core.specs.Delivering.{deliver_to, take_result, deck_leased, lost, given_back, stored, is_for, is_sound, same_decks, deliver_link, give_up_of}
 use Rattle.desk_core.specs.Steps.{answer, Steps}
 use Rattle.desk_core.specs.Runs.{History, Runs}
-use Rattle.desk_core.specs.OwnNames.{HaveOwnNames}
+use Rattle.desk_core.specs.Joins.OwnNames.{HaveOwnNames}
 use Rattle.desk_core.proofs.PlaceLaws.{fails-head, own-added}
 
 -- a deck in another form under its name

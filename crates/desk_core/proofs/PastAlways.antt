@@ -1,6 +1,6 @@
 -- The past of each deck led to its cards, and its versions rise to the desk's, in every run.
 use Rattle.std.proofs.Common.{◌≡◌, ℕ, ◌+◌, ◌≤◌, List, length, Some, sym, subst, arith}
-use Rattle.desk_core.specs.Language.{Card}
+use Rattle.desk_core.specs.Joins.Language.{Card}
 use Rattle.desk_core.specs.Led.{HaveLed, IsPastOf}
 use Rattle.desk_core.specs.Past.{Past}
 use Rattle.desk_core.specs.Desks.{Desk, DeskDeck, new_desk_at, is_named, deck_named}

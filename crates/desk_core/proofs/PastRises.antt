@@ -2,8 +2,8 @@
 use Rattle.std.proofs.Common.{◌≡◌, ℕ, zero, suc, ◌+◌, ◌≤◌, ◌<◌, Bool, true, false, cond, nat_le, nat_lt, List, [], ◌∷◌, ◌++◌, length, take, drop, None, refl, sym, ap, ◌∙◌, arith}
 use Rattle.std.proofs.lemmas.Bool.{ltb-true, lt-ltb, false_from_ne_true}
 use Rattle.std.proofs.lemmas.List.Sums.{fold-append}
-use Rattle.desk_core.specs.Language.{Card}
-use Rattle.desk_core.specs.Edits.{Edit, edited, edited_by, first_fault}
+use Rattle.desk_core.specs.Joins.Language.{Card}
+use Rattle.desk_core.specs.Joins.Edits.{Edit, edited, edited_by, first_fault}
 use Rattle.desk_core.specs.Past.{Past, KeptEdit, kept_edits, with_edits, most_kept, last_version, without_oldest, trimmed, past_after, behind, backs_of}
 use Rattle.desk_core.proofs.PastLaws.{led-kept, led-brings}
 use Rattle.desk_core.proofs.UndoTakesBack.{backs-append}

@@ -5,9 +5,9 @@ use Rattle.std.specs.List.{AllByRecursion, position_or_len}
 use Rattle.std.proofs.lemmas.Bool.{cases_Bool, ltb-true, ltb-false}
 use Rattle.std.proofs.lemmas.List.Folds.{find_at}
 use Rattle.std.proofs.lemmas.Option.{slice_get-get_or}
-use Rattle.desk_core.specs.Language.{same_text}
+use Rattle.desk_core.specs.Joins.Language.{same_text}
 use Rattle.desk_core.specs.Desks.{DeskDeck, is_named, put_if_named}
-use Rattle.desk_core.specs.OwnNames.{HaveOwnNames, IsPlaceOf, with_at}
+use Rattle.desk_core.specs.Joins.OwnNames.{HaveOwnNames, IsPlaceOf, with_at}
 use Rattle.desk_core.proofs.Same.{equal_texts, same_text-itself}
 use Rattle.desk_core.proofs.TellingDecks.{none_found, found_told}
 

@@ -3,7 +3,7 @@ use Rattle.std.proofs.Common.{◌≡◌, ℕ, List, [], ◌∷◌, Some, ◌∙�
 use Rattle.turn_office.specs.Histories.{Leads}
 use Rattle.desk_core.specs.Changes.{Change}
 use Rattle.desk_core.specs.Desks.{Desk, Publication}
-use Rattle.desk_core.specs.Calls.{Call, Reply}
+use Rattle.desk_core.specs.Joins.Calls.{Call, Reply}
 use Rattle.desk_core.specs.Steps.{Steps}
 use Rattle.desk_core.specs.Runs.{History, Runs, changes_in, IsPublishedFrom}
 use Rattle.desk_core.proofs.Outcomes.{Outcome, by_staying, by_changing, by_publishing}

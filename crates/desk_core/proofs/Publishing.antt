@@ -2,7 +2,7 @@
 use Rattle.std.proofs.Common.{inl, inr, ℕ, ◌==◌, not, refl, eqb-true}
 use Rattle.std.proofs.lemmas.Bool.{cond_both, not-false}
 use Rattle.desk_core.specs.Desks.{Desk, Publication, decks_of, is_leased, is_leased_at}
-use Rattle.desk_core.specs.Calls.{Call, AddDeck, PutDeck, DropDeck, EditDeck, Batch, EditSince, BatchSince, Undo, Changes, CardsAt, Cards, Show, Status, Claim, DeliverDeck, DeliverLink, GiveUp, Reply, OutOfMemory}
+use Rattle.desk_core.specs.Joins.Calls.{Call, AddDeck, PutDeck, DropDeck, EditDeck, Batch, EditSince, BatchSince, Undo, Changes, CardsAt, Cards, Show, Status, Claim, DeliverDeck, DeliverLink, GiveUp, Reply, OutOfMemory}
 use Rattle.desk_core.specs.Delivering.{deliver_link, take_link, same_decks}
 use Rattle.desk_core.specs.Steps.{answer, Steps}
 use Rattle.desk_core.proofs.Same.{equal_lists}

@@ -3,9 +3,9 @@ use Rattle.std.proofs.Common.{◌≡◌, ℕ, ◌==◌, Bool, true, false, cond,
 use Rattle.std.proofs.lemmas.Bool.{cond_both, or_parts}
 use Rattle.turn_office.specs.declared.history.Entry.{Entry}
 use Rattle.turn_office.specs.Histories.{entry}
-use Rattle.desk_core.specs.Edits.{Edit}
+use Rattle.desk_core.specs.Joins.Edits.{Edit}
 use Rattle.desk_core.specs.Desks.{Desk, DeskDeck, Lease, Kept, Publication, decks_of, with_deck, is_leased, is_leased_at}
-use Rattle.desk_core.specs.Calls.{Call, DeliverDeck, DeliverLink, GiveUp, Done, Reply, Stored, Cleared, Refused, Stale, Foreign}
+use Rattle.desk_core.specs.Joins.Calls.{Call, DeliverDeck, DeliverLink, GiveUp, Done, Reply, Stored, Cleared, Refused, Stale, Foreign}
 use Rattle.desk_core.specs.Answers.{answers}
 use Rattle.desk_core.specs.Delivering.{deliver_deck, deliver_to, take_result, deck_leased, lost, given_back, stored, is_for, is_sound, same_decks, deliver_link, give_up, give_up_of, unlinked}
 use Rattle.desk_core.specs.Runs.{History}

@@ -6,7 +6,7 @@ use Rattle.std.proofs.lemmas.Bool.{cond-true, cond-false}
 use Rattle.std.proofs.lemmas.List.Folds.{find_at}
 use Rattle.desk_core.specs.Desks.{Desk, DeskDeck, Kept, Lease, is_leased}
 use Rattle.desk_core.specs.Claiming.{is_behind, is_published}
-use Rattle.desk_core.specs.OwnNames.{with_at, has_lease}
+use Rattle.desk_core.specs.Joins.OwnNames.{with_at, has_lease}
 use Rattle.desk_core.specs.Progress.{is_given}
 use Rattle.desk_core.specs.Rounds.{most_rounds}
 use Rattle.desk_core.proofs.Progress.{neither}

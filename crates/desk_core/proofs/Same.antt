@@ -2,7 +2,7 @@
 use Rattle.std.proofs.Common.{◌≡◌, ℕ, ◌==◌, true, List, [], ◌∷◌, refl, ap₂, eq-eqb}
 use Rattle.std.proofs.lemmas.Bool.{and_parts, and_from}
 use Rattle.definitions.proofs.TextLaws.{same_text-true}
-use Rattle.desk_core.specs.Language.{Card, Deck, same_text}
+use Rattle.desk_core.specs.Joins.Language.{Card, Deck, same_text}
 use Rattle.desk_core.specs.Delivering.{same_cards, same_deck, same_decks}
 
 -- texts that are told to be the same

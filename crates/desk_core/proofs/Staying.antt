@@ -2,7 +2,7 @@
 use Rattle.std.proofs.Common.{◌≡◌, ℕ, ◌==◌, false, not, ◌||◌, is_none, List, find, Option, Some, None, refl}
 use Rattle.std.specs.List.{list_any}
 use Rattle.desk_core.specs.Desks.{Desk, DeskDeck, Publication, deck_of, deck_named, with_deck, is_leased, is_leased_at}
-use Rattle.desk_core.specs.Calls.{Call, Changes, CardsAt, Cards, Show, Status, Claim, DeliverDeck, GiveUp, Done, Reply, NoDeck}
+use Rattle.desk_core.specs.Joins.Calls.{Call, Changes, CardsAt, Cards, Show, Status, Claim, DeliverDeck, GiveUp, Done, Reply, NoDeck}
 use Rattle.desk_core.specs.Earlier.{against_since, changes_of, changes, cards_at_of, cards_at}
 use Rattle.desk_core.specs.Answers.{answers, against_next}
 use Rattle.desk_core.specs.Reading.{cards, cards_reply, show, show_reply, status}

@@ -3,10 +3,10 @@ use Rattle.std.proofs.Common.{◌≡◌, ℕ, ◌+◌, ◌-◌, ◌≤◌, List,
 use Rattle.std.proofs.lemmas.List.{take-append-le}
 use Rattle.std.proofs.lemmas.List.Sums.{fold-append}
 use Rattle.std.proofs.Math.Seq.{take-length}
-use Rattle.desk_core.specs.Language.{Deck}
+use Rattle.desk_core.specs.Joins.Language.{Deck}
 use Rattle.desk_core.specs.Changes.{Change, changed, decks_after}
 use Rattle.desk_core.specs.Desks.{Desk, Publication, new_desk_at, decks_of}
-use Rattle.desk_core.specs.Calls.{Call, Reply}
+use Rattle.desk_core.specs.Joins.Calls.{Call, Reply}
 use Rattle.desk_core.specs.Runs.{IsUnchanged}
 use Rattle.desk_core.proofs.Outcomes.{Changes, Publishes}
 

@@ -2,7 +2,7 @@
 use Rattle.std.proofs.Common.{◌≡◌, ℕ, ◌<◌, ◌≤◌, ◌==◌, Bool, true, false, cond, List, ◌∷◌, map, Some, None, refl, ap, ◌∙◌, arith, eq-eqb, ne_eqb}
 use Rattle.turn_office.specs.declared.history.Entry.{Entry}
 use Rattle.desk_core.specs.Desks.{Desk, DeskDeck, put_if_named, is_named}
-use Rattle.desk_core.specs.Calls.{Call, Reply}
+use Rattle.desk_core.specs.Joins.Calls.{Call, Reply}
 use Rattle.desk_core.specs.Runs.{History}
 use Rattle.desk_core.specs.Jobs.{Effect, Leaves, effect_if, effect_on, after_effect, since_job}
 use Rattle.desk_core.proofs.JobsTold.{since_of, IsMeant, IsLeaseTold, IsDeckTold, IsUnreached, IsDeskTold, AddsNone, LeasesNone, meant_still, lease_told_still, same_meant, other_meant, deck_told_next}

@@ -3,18 +3,18 @@ use Rattle.std.proofs.Common.{◌≡◌, ◌≤◌, ℕ, List, [], ◌∷◌, le
 use Rattle.std.specs.Prelude.{slice_get}
 use Rattle.std.proofs.lemmas.Bool.{and_parts, leb-true}
 use Rattle.std.proofs.lemmas.List.{length-append}
-use Rattle.desk_core.specs.Causes.{when}
-use Rattle.desk_core.specs.Edits.{Edit}
+use Rattle.desk_core.specs.Joins.Causes.{when}
+use Rattle.desk_core.specs.Joins.Edits.{Edit}
 use Rattle.desk_core.specs.Desks.{Desk, DeskDeck, is_named}
-use Rattle.desk_core.specs.OwnNames.{IsPlaceOf}
-use Rattle.desk_core.specs.Calls.{Reply, Refused, Refusal, OldVersion, Forgotten, NoChange}
+use Rattle.desk_core.specs.Joins.OwnNames.{IsPlaceOf}
+use Rattle.desk_core.specs.Joins.Calls.{Reply, Refused, Refusal, OldVersion, Forgotten, NoChange}
 use Rattle.desk_core.specs.Answers.{Answer, unless}
 use Rattle.desk_core.specs.Changing.{is_batch, most_edits}
 use Rattle.desk_core.specs.Carrying.{batch_since, batch_since_of}
 use Rattle.desk_core.specs.Undoing.{backs_at, against_change, undo, undo_where}
-use Rattle.desk_core.specs.Stored.{backs_from}
+use Rattle.desk_core.specs.Joins.Stored.{backs_from}
 use Rattle.desk_core.specs.declared.past.Back.{Back}
-use Rattle.desk_core.specs.Turns.{MayAnswer}
+use Rattle.desk_core.specs.Joins.Turns.{MayAnswer}
 use Rattle.desk_core.proofs.AnswerLaws.{told, head-clear}
 
 -- there are as many edits that take back as there are of what takes back

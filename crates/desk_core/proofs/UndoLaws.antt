@@ -7,9 +7,9 @@ use Rattle.std.proofs.lemmas.List.{length-set, set-get_or}
 use Rattle.std.proofs.lemmas.List.Edits.{length-insert, length-remove}
 use Rattle.cards.proofs.FaultLaws.{have-places}
 use Rattle.cards.specs.Converging.{HasPlace}
-use Rattle.desk_core.specs.Language.{Card}
-use Rattle.desk_core.specs.Edits.{Edit, Insert, Replace, Remove, EditFault, NoSuchCard, DeckFull, fault_of, edited, is_place}
-use Rattle.desk_core.specs.Causes.{when, first_cause}
+use Rattle.desk_core.specs.Joins.Language.{Card}
+use Rattle.desk_core.specs.Joins.Edits.{Edit, Insert, Replace, Remove, EditFault, NoSuchCard, DeckFull, fault_of, edited, is_place}
+use Rattle.desk_core.specs.Joins.Causes.{when, first_cause}
 use Rattle.desk_core.specs.Past.{undo_of}
 
 insert-removed : {X : Type 0} (xs : List X) (i : ℕ) (d : X) → i < length xs → insert (remove xs i) i (get_or xs i d) ≡ xs

@@ -4,11 +4,11 @@ use Rattle.std.proofs.lemmas.Bool.{ltb-true, ltb-false, false_from_ne_true, cond
 use Rattle.std.proofs.lemmas.List.Sums.{fold-append}
 use Rattle.cards.specs.declared.carrying.Touched.{Touched}
 use Rattle.cards.specs.Carrying.{Whereabouts, seen_before, one_further, one_nearer, in_gap, carried_place, placed, in_front, stands_from, stands_after, carried}
-use Rattle.desk_core.specs.Language.{Card, same_text}
-use Rattle.desk_core.specs.Edits.{Edit, Insert, Replace, Remove, edited, edited_by}
+use Rattle.desk_core.specs.Joins.Language.{Card, same_text}
+use Rattle.desk_core.specs.Joins.Edits.{Edit, Insert, Replace, Remove, edited, edited_by}
 use Rattle.desk_core.specs.Past.{KeptEdit, behind, change_at, backs_of}
 use Rattle.desk_core.specs.Desks.{Desk, DeskDeck, is_named, deck_named, put_if_named}
-use Rattle.desk_core.specs.Calls.{Undo, Carried, Refused, OutOfMemory}
+use Rattle.desk_core.specs.Joins.Calls.{Undo, Carried, Refused, OutOfMemory}
 use Rattle.desk_core.specs.Answers.{Answer}
 use Rattle.desk_core.specs.Changing.{edited_deck}
 use Rattle.desk_core.specs.Changing as changing

@@ -3,7 +3,7 @@ use Rattle.std.proofs.Common.{◌≡◌, inl, inr, ℕ, zero, suc, ◌+◌, ◌�
 use Rattle.std.specs.List.{list_any}
 use Rattle.std.proofs.lemmas.Bool.{cases_Bool}
 use Rattle.desk_core.specs.Desks.{Desk, Lease, greatest_number}
-use Rattle.desk_core.specs.Calls.{Claim, Idle}
+use Rattle.desk_core.specs.Joins.Calls.{Claim, Idle}
 use Rattle.desk_core.specs.Answers.{Answer, answers}
 use Rattle.desk_core.specs.Claiming.{claim, is_behind, is_published}
 use Rattle.desk_core.specs.Steps.{answer}

@@ -1,8 +1,8 @@
 -- Worked histories: results that are not of the deck, and publications that are not of the desk.
 use Rattle.std.proofs.Common.{◌≡◌, ℕ, List, [], ◌∷◌, codes, Some, None, refl}
-use Rattle.desk_core.specs.Language.{Card, Deck}
+use Rattle.desk_core.specs.Joins.Language.{Card, Deck}
 use Rattle.desk_core.specs.Desks.{Publication, new_desk}
-use Rattle.desk_core.specs.Calls.{Call, AddDeck, Claim, DeliverDeck, DeliverLink, FromCards, Reply, Changed, DeckJob, LinkJob, Idle, Stored, Refused, UnknownJob, Foreign}
+use Rattle.desk_core.specs.Joins.Calls.{Call, AddDeck, Claim, DeliverDeck, DeliverLink, FromCards, Reply, Changed, DeckJob, LinkJob, Idle, Stored, Refused, UnknownJob, Foreign}
 use Rattle.desk_core.proofs.Worked.{replies_to, M, deck_m, A, B}
 
 -- a result for version 1 of M, under a lease: the cards that the record and the object are of

@@ -3,12 +3,12 @@ use Rattle.std.specs.Prelude.{ℕ, ◌+◌, not, List, [], ◌∷◌, Option, So
 use Rattle.cards.specs.declared.carrying.MadeEdit.{MadeEdit}
 use Rattle.cards.specs.declared.carrying.Touched.{Touched}
 use Rattle.cards.specs.Carrying.{seen_before, carried}
-use Rattle.desk_core.specs.Language.{Card}
-use Rattle.desk_core.specs.Causes.{when, first_cause}
-use Rattle.desk_core.specs.Edits.{Edit, EditFault, edited_by, first_fault}
+use Rattle.desk_core.specs.Joins.Language.{Card}
+use Rattle.desk_core.specs.Joins.Causes.{when, first_cause}
+use Rattle.desk_core.specs.Joins.Edits.{Edit, EditFault, edited_by, first_fault}
 use Rattle.desk_core.specs.Past.{KeptEdit, backs_of}
 use Rattle.desk_core.specs.Desks.{Desk, DeskDeck, deck_named}
-use Rattle.desk_core.specs.Calls.{Carried, Refused, Refusal, NoDeck, BatchSize, BadEdit, TouchedCard}
+use Rattle.desk_core.specs.Joins.Calls.{Carried, Refused, Refusal, NoDeck, BatchSize, BadEdit, TouchedCard}
 use Rattle.desk_core.specs.Answers.{Answer, answers, unless, against_next}
 use Rattle.desk_core.specs.Changing.{refusal_of, is_batch, edited}
 use Rattle.desk_core.specs.Earlier.{against_since, edits_behind}

@@ -1,8 +1,8 @@
 -- Calls that end a lease: DeliverDeck, DeliverLink, GiveUp (ours).
 use Rattle.std.specs.Prelude.{ℕ, ◌==◌, Bool, true, false, not, ◌&&◌, ◌||◌, List, [], ◌∷◌, find, is_none, Option, Some, None, if◌then◌else◌}
-use Rattle.desk_core.specs.Language.{Card, Deck, same_text}
+use Rattle.desk_core.specs.Joins.Language.{Card, Deck, same_text}
 use Rattle.desk_core.specs.Desks.{Desk, DeskDeck, Kept, Publication, is_leased, is_leased_at, deck_of, decks_of, with_deck}
-use Rattle.desk_core.specs.Calls.{Done, Stored, Cleared, Refused, UnknownJob, Stale, Foreign}
+use Rattle.desk_core.specs.Joins.Calls.{Done, Stored, Cleared, Refused, UnknownJob, Stale, Foreign}
 use Rattle.desk_core.specs.Answers.{Answer, answers}
 
 -- whether cards are the same, one by one

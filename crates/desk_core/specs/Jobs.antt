@@ -1,9 +1,9 @@
 -- Which edits a deck job has to carry, told by the history before it (ours). Histories are read newest first here.
 use Rattle.std.specs.Prelude.{◌≡◌, ◌⊎◌, ⊤, ℕ, ◌==◌, List, [], ◌∷◌, ◌++◌, Option, Some, None, option_map, unwrap_or, if◌then◌else◌}
 use Rattle.std.specs.Option.{option_or}
-use Rattle.desk_core.specs.Language.{same_text}
-use Rattle.desk_core.specs.Edits.{Edit}
-use Rattle.desk_core.specs.Calls.{Call, AddDeck, PutDeck, EditDeck, Batch, EditSince, BatchSince, Undo, Claim, DeliverDeck, GiveUp, Reply, Changed, Carried, DeckJob, LinkJob, Cleared, Refused, Foreign, DeckWork, Start, FromRecord, FromCards}
+use Rattle.desk_core.specs.Joins.Language.{same_text}
+use Rattle.desk_core.specs.Joins.Edits.{Edit}
+use Rattle.desk_core.specs.Joins.Calls.{Call, AddDeck, PutDeck, EditDeck, Batch, EditSince, BatchSince, Undo, Claim, DeliverDeck, GiveUp, Reply, Changed, Carried, DeckJob, LinkJob, Cleared, Refused, Foreign, DeckWork, Start, FromRecord, FromCards}
 use Rattle.desk_core.specs.Runs.{History}
 
 -- the identity that an entry gives to a deck of this name where it adds or puts one: the version that it makes

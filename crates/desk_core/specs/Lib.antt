@@ -1,12 +1,7 @@
-pub mod Language
-pub mod Causes
-pub mod Edits
 pub mod Changes
 pub mod Past
 pub mod Led
 pub mod Desks
-pub mod Held
-pub mod Calls
 pub mod Answers
 pub mod Changing
 pub mod Reading
@@ -21,7 +16,5 @@ pub mod Rounds
 pub mod Runs
 pub mod Jobs
 pub mod Progress
-pub mod Stored
-pub mod OwnNames
-pub mod Turns
-pub mod Delivered
+-- What no promise leads to.
+pub mod Joins

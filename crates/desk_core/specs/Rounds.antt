@@ -1,8 +1,8 @@
 -- Rounds of work, each a claim and the call that ends the job that it gives, where memory is found (ours).
 use Rattle.std.specs.Prelude.{ℕ, zero, suc, ◌+◌, ◌*◌, length, is_none, if◌then◌else◌}
-use Rattle.desk_core.specs.Edits.{first_fault}
+use Rattle.desk_core.specs.Joins.Edits.{first_fault}
 use Rattle.desk_core.specs.Desks.{Desk}
-use Rattle.desk_core.specs.Calls.{Call, Claim, DeliverDeck, DeliverLink, GiveUp, DeckWork, LinkWork, Reply, DeckJob, LinkJob}
+use Rattle.desk_core.specs.Joins.Calls.{Call, Claim, DeliverDeck, DeliverLink, GiveUp, DeckWork, LinkWork, Reply, DeckJob, LinkJob}
 use Rattle.desk_core.specs.Making.{start_cards, done_of}
 use Rattle.desk_core.specs.Steps.{answer}
 

@@ -1,7 +1,7 @@
 -- The step of a desk (ours): a function of the call and the desk, and one free choice.
 use Rattle.std.specs.Prelude.{◌≡◌, ◌⊎◌, Bool, true, false, not, ◌&&◌, IsTrue}
 use Rattle.desk_core.specs.Desks.{Desk}
-use Rattle.desk_core.specs.Calls.{Call, AddDeck, PutDeck, DropDeck, EditDeck, Batch, EditSince, BatchSince, Undo, Changes, CardsAt, Cards, Show, Status, Claim, DeliverDeck, DeliverLink, GiveUp, Reply, Changed, Carried, CardsAre, ChangesAre, CardsBefore, Shown, StatusIs, DeckJob, LinkJob, Refused, OutOfMemory}
+use Rattle.desk_core.specs.Joins.Calls.{Call, AddDeck, PutDeck, DropDeck, EditDeck, Batch, EditSince, BatchSince, Undo, Changes, CardsAt, Cards, Show, Status, Claim, DeliverDeck, DeliverLink, GiveUp, Reply, Changed, Carried, CardsAre, ChangesAre, CardsBefore, Shown, StatusIs, DeckJob, LinkJob, Refused, OutOfMemory}
 use Rattle.desk_core.specs.Answers.{Answer}
 use Rattle.desk_core.specs.Changing.{add_deck, put_deck, drop_deck, edit_deck, batch}
 use Rattle.desk_core.specs.Reading.{cards, show, status}

@@ -1,10 +1,10 @@
 -- A call that takes a change back: Undo (ours).
 use Rattle.std.specs.Prelude.{ℕ, not, nat_le, nat_lt, List, [], ◌∷◌, Option, Some, None}
-use Rattle.desk_core.specs.Causes.{when, first_cause}
-use Rattle.desk_core.specs.Edits.{Edit}
+use Rattle.desk_core.specs.Joins.Causes.{when, first_cause}
+use Rattle.desk_core.specs.Joins.Edits.{Edit}
 use Rattle.desk_core.specs.Past.{change_at, backs_of}
 use Rattle.desk_core.specs.Desks.{Desk, DeskDeck, deck_named}
-use Rattle.desk_core.specs.Calls.{Refused, Refusal, NoDeck, OldVersion, Forgotten, NoChange}
+use Rattle.desk_core.specs.Joins.Calls.{Refused, Refusal, NoDeck, OldVersion, Forgotten, NoChange}
 use Rattle.desk_core.specs.Answers.{Answer, answers, unless}
 use Rattle.desk_core.specs.Changing.{is_batch}
 use Rattle.desk_core.specs.Carrying.{batch_since_of}

@@ -3,7 +3,7 @@ ghost use Rattle.std.specs.Prelude.{◌≡◌, ◌≤◌, ◌<◌, [], ◌∷◌
 ghost use Rattle.std.specs.Option.{ForSome};
 ghost use Rattle.desk_core.specs.Changing.{refusal_of};
 ghost use Rattle.desk_core.specs.Carrying.{carried_since, against_carry, batch_since, edit_since, alone};
-ghost use Rattle.desk_core.specs.Turns.{MayAnswer};
+ghost use Rattle.desk_core.specs.Joins.Turns.{MayAnswer};
 
 use crate::changing::MOST_EDITS;
 use crate::desk::{Desk, against_next};

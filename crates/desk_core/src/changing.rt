@@ -2,11 +2,11 @@
 ghost use Rattle.std.specs.Prelude.{◌≡◌, ◌+◌, ◌<◌, ◌≤◌, [], ◌∷◌, length, is_ok, None, Some, slice_get, remove, IfOk, if◌then◌else◌};
 ghost use Rattle.std.specs.Option.{ForSome};
 ghost use Rattle.desk_core.specs.Desks.{is_named, deck_named};
-ghost use Rattle.desk_core.specs.Edits.{fault_of, first_fault};
+ghost use Rattle.desk_core.specs.Joins.Edits.{fault_of, first_fault};
 ghost use Rattle.desk_core.specs.Answers.{against_next};
 ghost use Rattle.desk_core.specs.Changing.{add_deck, added, accepted, against_add, put_deck, replaced_deck, against_put, drop_deck, against_drop, edit_deck, edited_deck, against_edit, batch, against_batch};
-ghost use Rattle.desk_core.specs.OwnNames.{IsPlaceOf, changed_at};
-ghost use Rattle.desk_core.specs.Turns.{IsAnswer, MayAnswer};
+ghost use Rattle.desk_core.specs.Joins.OwnNames.{IsPlaceOf, changed_at};
+ghost use Rattle.desk_core.specs.Joins.Turns.{IsAnswer, MayAnswer};
 
 use crate::desk::{Desk, against_next};
 use crate::new_deck::NewDeck;

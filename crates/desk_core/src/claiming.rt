@@ -3,11 +3,11 @@ ghost use Rattle.std.specs.Prelude.{◌≡◌, ◌+◌, ◌<◌, false, length, 
 ghost use Rattle.std.specs.List.{list_any};
 ghost use Rattle.std.specs.Option.{ForSome};
 ghost use Rattle.desk_core.specs.Desks.{deck_of, is_leased_at};
-ghost use Rattle.desk_core.specs.Calls.{LinkJob};
+ghost use Rattle.desk_core.specs.Joins.Calls.{LinkJob};
 ghost use Rattle.desk_core.specs.Answers.{against_next};
 ghost use Rattle.desk_core.specs.Claiming.{is_behind, is_free, claim_link, claim, given, deck_work, hand_out_link};
-ghost use Rattle.desk_core.specs.OwnNames.{IsPlaceOf, changed_at};
-ghost use Rattle.desk_core.specs.Turns.{MayAnswer};
+ghost use Rattle.desk_core.specs.Joins.OwnNames.{IsPlaceOf, changed_at};
+ghost use Rattle.desk_core.specs.Joins.Turns.{MayAnswer};
 
 use crate::desk::{Desk, against_next};
 use crate::jobs::{DeckWork, LinkWork};

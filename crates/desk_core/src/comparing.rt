@@ -1,6 +1,6 @@
 //! Names, cards and decks compared by value.
 ghost use Rattle.std.specs.Prelude.{◌≡◌, length, map};
-ghost use Rattle.desk_core.specs.Language.{same_text};
+ghost use Rattle.desk_core.specs.Joins.Language.{same_text};
 ghost use Rattle.desk_core.specs.Desks.{deck_of};
 ghost use Rattle.desk_core.specs.Delivering.{same_cards, same_decks};
 

@@ -12,7 +12,7 @@ pub struct DeckCards {
 
 impl Model for DeckCards {
     ghost use Rattle.std.specs.Prelude.{◌≤◌, List, length};
-    ghost use Rattle.desk_core.specs.Language.{Card};
+    ghost use Rattle.desk_core.specs.Joins.Language.{Card};
 
     ghost Value = { List Card };
 

@@ -3,11 +3,11 @@ ghost use Rattle.std.specs.Prelude.{◌≡◌, ◌<◌, ◌≤◌, [], ◌∷◌
 ghost use Rattle.std.specs.List.{list_any};
 ghost use Rattle.std.specs.Option.{ForSome};
 ghost use Rattle.desk_core.specs.Desks.{is_named, deck_of};
-ghost use Rattle.desk_core.specs.Edits.{fault_of, first_fault};
+ghost use Rattle.desk_core.specs.Joins.Edits.{fault_of, first_fault};
 ghost use Rattle.desk_core.specs.Changing.{edited_deck, replaced_deck};
 ghost use Rattle.desk_core.specs.Claiming.{is_behind, is_free, given, deck_work};
 ghost use Rattle.desk_core.specs.Delivering.{lost, given_back, stored};
-ghost use Rattle.desk_core.specs.OwnNames.{HaveOwnNames, IsPlaceOf, has_lease, with_at};
+ghost use Rattle.desk_core.specs.Joins.OwnNames.{HaveOwnNames, IsPlaceOf, has_lease, with_at};
 
 use crate::held::Held;
 use crate::jobs::DeckWork;
@@ -26,7 +26,7 @@ pub(crate) struct DeckList {
 impl Model for DeckList {
     ghost use Rattle.std.specs.Prelude.{List};
     ghost use Rattle.desk_core.specs.Desks.{DeskDeck};
-    ghost use Rattle.desk_core.specs.OwnNames.{HaveOwnNames};
+    ghost use Rattle.desk_core.specs.Joins.OwnNames.{HaveOwnNames};
 
     ghost Value = { List DeskDeck };
 

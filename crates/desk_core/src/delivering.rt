@@ -2,12 +2,12 @@
 ghost use Rattle.std.specs.Prelude.{◌≡◌, ◌<◌, ◌&&◌, None, length, slice_get};
 ghost use Rattle.std.specs.Option.{ForSome};
 ghost use Rattle.desk_core.specs.Desks.{deck_of};
-ghost use Rattle.desk_core.specs.Delivered.{foreign_at, kept_at, record_at, result_at};
+ghost use Rattle.desk_core.specs.Joins.Delivered.{foreign_at, kept_at, record_at, result_at};
 ghost use Rattle.desk_core.specs.Answers.{answers};
-ghost use Rattle.desk_core.specs.Calls.{Cleared};
+ghost use Rattle.desk_core.specs.Joins.Calls.{Cleared};
 ghost use Rattle.desk_core.specs.Delivering.{lost, same_deck, deliver_deck, deliver_link, take_link, give_up, give_up_of};
-ghost use Rattle.desk_core.specs.OwnNames.{IsPlaceOf, changed_at, has_lease};
-ghost use Rattle.desk_core.specs.Turns.{IsAnswer};
+ghost use Rattle.desk_core.specs.Joins.OwnNames.{IsPlaceOf, changed_at, has_lease};
+ghost use Rattle.desk_core.specs.Joins.Turns.{IsAnswer};
 
 use crate::calls::Done;
 use crate::comparing::same_decks;

@@ -1,7 +1,7 @@
 //! The desk: what it keeps, and where it finds it.
 ghost use Rattle.std.specs.Prelude.{◌≡◌, length, is_some};
 ghost use Rattle.desk_core.specs.Desks.{new_desk_at, is_named, deck_named};
-ghost use Rattle.desk_core.specs.OwnNames.{IsPlaceOf};
+ghost use Rattle.desk_core.specs.Joins.OwnNames.{IsPlaceOf};
 ghost use Rattle.desk_core.specs.Answers.{against_next};
 
 use crate::deck_list::DeckList;

@@ -2,7 +2,7 @@
 ghost use Rattle.std.specs.Prelude.{◌≡◌, ◌<◌, length, slice_get, IfOk};
 ghost use Rattle.desk_core.specs.Earlier.{against_since, edits_behind, changes_of, changes, cards_at_of, cards_at};
 ghost use Rattle.desk_core.specs.Past.{backs_of};
-ghost use Rattle.desk_core.specs.Turns.{MayAnswer};
+ghost use Rattle.desk_core.specs.Joins.Turns.{MayAnswer};
 
 use crate::desk::Desk;
 use crate::listed::Listed;

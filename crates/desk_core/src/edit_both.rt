@@ -1,6 +1,6 @@
 //! An edit of cards that is kept for later too.
 ghost use Rattle.std.specs.Prelude.{◌≡◌, None, [], ◌∷◌, ◌++◌, is_ok, if◌then◌else◌};
-ghost use Rattle.desk_core.specs.Edits.{fault_of, edited};
+ghost use Rattle.desk_core.specs.Joins.Edits.{fault_of, edited};
 
 use cards::{Card, Edit, apply, copied_edits};
 use std::alloc::{AllocError, Global};

@@ -13,7 +13,7 @@ pub struct Held {
 impl Model for Held {
     ghost use Rattle.std.specs.Prelude.{◌≡◌, false};
     ghost use Rattle.desk_core.specs.Desks.{Kept};
-    ghost use Rattle.desk_core.specs.Held.{held};
+    ghost use Rattle.desk_core.specs.Joins.Held.{held};
 
     ghost Value = { Kept };
 

@@ -3,13 +3,13 @@ ghost use Rattle.std.specs.Prelude.{◌≡◌, ℕ, ◌+◌, ◌-◌, ◌≤◌,
 ghost use Rattle.cards.specs.Converging.{edits_in, Converge};
 ghost use Rattle.turn_office.specs.declared.history.Entry.{Entry};
 ghost use Rattle.turn_office.specs.Histories.{Leads};
-ghost use Rattle.desk_core.specs.Language.{Card};
+ghost use Rattle.desk_core.specs.Joins.Language.{Card};
 ghost use Rattle.desk_core.specs.Changes.{Edited};
-ghost use Rattle.desk_core.specs.Edits.{Edit, edited_by};
+ghost use Rattle.desk_core.specs.Joins.Edits.{Edit, edited_by};
 ghost use Rattle.desk_core.specs.Past.{KeptEdit};
 ghost use Rattle.desk_core.specs.Led.{HaveLed};
 ghost use Rattle.desk_core.specs.Desks.{Desk, DeskDeck, Publication, decks_of, deck_named, greatest_number};
-ghost use Rattle.desk_core.specs.Calls.{Call, Refusal, Reply, Show, Shown, Claim, Idle, DeckJob, DeckWork, Refused, EditSince, BatchSince, Undo, Carried, Changes, ChangesAre, CardsAt, CardsBefore};
+ghost use Rattle.desk_core.specs.Joins.Calls.{Call, Refusal, Reply, Show, Shown, Claim, Idle, DeckJob, DeckWork, Refused, EditSince, BatchSince, Undo, Carried, Changes, ChangesAre, CardsAt, CardsBefore};
 ghost use Rattle.desk_core.specs.Steps.{answer, Steps};
 ghost use Rattle.desk_core.specs.Runs.{History, Runs, change_in, decks_at, cards_named, IsBuildOf, IsUnchanged, IsOfItsChanges, IsPublishedAt, IsPublishedFrom};
 ghost use Rattle.desk_core.specs.Jobs.{IsDue, IsPartOf, accepted_edits, handed_edits};

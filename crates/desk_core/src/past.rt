@@ -1,11 +1,11 @@
 //! The changes of a deck that are kept.
 ghost use Rattle.std.specs.Prelude.{◌≡◌, ◌≤◌, ℕ, List, nat_lt, [], ◌∷◌, length, take, drop, position, is_ok, None, IfOk, if◌then◌else◌};
 ghost use Rattle.cards.specs.Counts.{fault_at, count_after};
-ghost use Rattle.desk_core.specs.Edits.{fault_of, first_fault, edited_by};
+ghost use Rattle.desk_core.specs.Joins.Edits.{fault_of, first_fault, edited_by};
 ghost use Rattle.desk_core.specs.Past.{begun_at, with_edits, undo_of, last_version, without_oldest, trimmed, behind, change_at, backs_of};
 ghost use Rattle.desk_core.specs.declared.past.Back.{Back};
 ghost use Rattle.desk_core.specs.Carrying.{made_in};
-ghost use Rattle.desk_core.specs.Stored.{kept_both, made_edits, backs_made, backs_from};
+ghost use Rattle.desk_core.specs.Joins.Stored.{kept_both, made_edits, backs_made, backs_from};
 
 use cards::{Card, DeckName, Edit, MadeEdit, apply, copied_cards};
 use std::alloc::{AllocError, Global};
@@ -47,7 +47,7 @@ impl Model for Past {
     ghost use Rattle.std.specs.Prelude.{◌≡◌, length};
     ghost use Rattle.desk_core.specs.Past as past;
     ghost use Rattle.desk_core.specs.Carrying.{made_in};
-    ghost use Rattle.desk_core.specs.Stored.{past_of};
+    ghost use Rattle.desk_core.specs.Joins.Stored.{past_of};
 
     ghost Value = { past.Past };
 

@@ -2,7 +2,7 @@
 ghost use Rattle.std.specs.Prelude.{◌≡◌, ◌<◌, length, map, slice_get, option_map, IfOk};
 ghost use Rattle.desk_core.specs.Answers.{answers};
 ghost use Rattle.desk_core.specs.Reading.{cards_reply, cards, show, status, row_of, published_version};
-ghost use Rattle.desk_core.specs.Turns.{MayAnswer};
+ghost use Rattle.desk_core.specs.Joins.Turns.{MayAnswer};
 
 use crate::desk::Desk;
 use crate::listed::Listed;

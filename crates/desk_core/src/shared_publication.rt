@@ -14,7 +14,7 @@ pub struct SharedPublication {
 
 impl Model for SharedPublication {
     ghost use Rattle.desk_core.specs.Desks.{Publication};
-    ghost use Rattle.desk_core.specs.Held.{published};
+    ghost use Rattle.desk_core.specs.Joins.Held.{published};
 
     ghost Value = { Publication };
 

@@ -1,16 +1,16 @@
 //! A deck as the desk keeps it.
 ghost use Rattle.std.specs.Prelude.{◌≡◌, ◌≤◌, ◌||◌, length, None, Some, [], ◌∷◌, is_ok, is_some, option_map, Ok, true, IfOk, if◌then◌else◌};
 ghost use Rattle.desk_core.specs.Desks.{is_named, is_leased, deck_of};
-ghost use Rattle.desk_core.specs.Edits.{fault_of, first_fault};
+ghost use Rattle.desk_core.specs.Joins.Edits.{fault_of, first_fault};
 ghost use Rattle.desk_core.specs.Changing.{added_deck, replaced_deck, edited_deck};
 ghost use Rattle.desk_core.specs.Claiming.{is_behind, is_free, given, deck_work};
 ghost use Rattle.desk_core.specs.Delivering.{is_for, same_deck, lost, given_back, stored};
 ghost use Rattle.desk_core.specs.Past.{backs_of};
-ghost use Rattle.desk_core.specs.Causes.{first_cause};
+ghost use Rattle.desk_core.specs.Joins.Causes.{first_cause};
 ghost use Rattle.desk_core.specs.Earlier.{edits_behind};
 ghost use Rattle.desk_core.specs.Carrying.{cards_of, carried_since, bad_edit, against_carried};
 ghost use Rattle.desk_core.specs.Undoing.{backs_at};
-ghost use Rattle.desk_core.specs.Stored.{backs_from, cards_held};
+ghost use Rattle.desk_core.specs.Joins.Stored.{backs_from, cards_held};
 ghost use Rattle.desk_core.specs.Reading.{row_of, state_of};
 
 use crate::calls::Done;
@@ -55,7 +55,7 @@ pub struct StoredDeck {
 
 impl Model for StoredDeck {
     ghost use Rattle.desk_core.specs.Desks.{DeskDeck};
-    ghost use Rattle.desk_core.specs.Stored.{cards_held, stored_deck, IsStored};
+    ghost use Rattle.desk_core.specs.Joins.Stored.{cards_held, stored_deck, IsStored};
 
     ghost Value = { DeskDeck };
 

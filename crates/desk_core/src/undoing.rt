@@ -2,7 +2,7 @@
 ghost use Rattle.std.specs.Prelude.{◌≡◌};
 ghost use Rattle.desk_core.specs.Carrying.{batch_since};
 ghost use Rattle.desk_core.specs.Undoing.{against_change, undo};
-ghost use Rattle.desk_core.specs.Turns.{MayAnswer};
+ghost use Rattle.desk_core.specs.Joins.Turns.{MayAnswer};
 
 use crate::changing::MOST_EDITS;
 use crate::desk::Desk;

@@ -7,10 +7,10 @@ use Rattle.definitions.specs.Edits.{DoAgree, Edited, IsUntouched, Split}
 use Rattle.definitions.specs.Statements.{Statement}
 use Rattle.cards.specs.declared.edits.Edit.{Edit}
 use Rattle.cards.specs.Edits.{edited_by, first_fault}
-use Rattle.deck_assembler.specs.DueCodes.{CodePlan, IsPlanOf, code_due_of}
-use Rattle.deck_assembler.specs.Formers.{known_in}
-use Rattle.deck_assembler.specs.Meetings.{StandApart}
-use Rattle.deck_assembler.specs.Tails.{HasTailIfAny, HasTailWithin}
+use Rattle.deck_assembler.specs.Joins.DueCodes.{CodePlan, IsPlanOf, code_due_of}
+use Rattle.deck_assembler.specs.Joins.Formers.{known_in}
+use Rattle.deck_assembler.specs.Joins.Meetings.{StandApart}
+use Rattle.deck_assembler.specs.Joins.Tails.{HasTailIfAny, HasTailWithin}
 use Rattle.deck_assembler.specs.declared.former.Former.{Former}
 use Rattle.deck_assembler.proofs.AgreementLaws.{untouched-before}
 use Rattle.deck_assembler.proofs.DueCodeCounts.{due-code-weaker, within-due-code}

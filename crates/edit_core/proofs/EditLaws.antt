@@ -13,9 +13,9 @@ use Rattle.cards.specs.declared.edits.Edit.TheVariants.{Insert, Replace, Remove}
 use Rattle.cards.specs.declared.edits.EditFault.{EditFault}
 use Rattle.cards.specs.Edits.{fault_of, edited, edited_by, first_fault}
 use Rattle.cards.proofs.FaultLaws.{applies-in, edited-few, insert-front, replace-front, remove-front}
-use Rattle.deck_assembler.specs.DeckParts.{DeckParts}
-use Rattle.deck_assembler.specs.Formers.{known_in}
-use Rattle.deck_assembler.specs.SizedDecks.{IsSizedDeck}
+use Rattle.deck_assembler.specs.Joins.DeckParts.{DeckParts}
+use Rattle.deck_assembler.specs.Joins.Formers.{known_in}
+use Rattle.deck_assembler.specs.Joins.SizedDecks.{IsSizedDeck}
 use Rattle.deck_assembler.proofs.FrontLaws.{front-still as still}
 use Rattle.edit_core.specs.Edited.{edits_bound, front_of, statement_count, AreDecksOf, IsRecordOf, RisesBehindFront}
 use Rattle.edit_core.specs.Faults.{against, against_all, record_fault}

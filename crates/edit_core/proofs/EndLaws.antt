@@ -11,7 +11,7 @@ use Rattle.cards.specs.Edits.{is_place, fault_of, edited, edited_by, first_fault
 use Rattle.cards.specs.declared.edits.Edit.{Edit}
 use Rattle.cards.specs.declared.edits.Edit.TheVariants.{Insert, Replace, Remove}
 use Rattle.cards.proofs.FaultLaws.{applies-in, edited-few, edited-length, made-in}
-use Rattle.deck_assembler.specs.Agreements.{HaveSameEnd}
+use Rattle.deck_assembler.specs.Joins.Agreements.{HaveSameEnd}
 use Rattle.deck_assembler.proofs.OntoLaws.{drop-more}
 use Rattle.edit_core.specs.Edited.{count_behind, front_of, StandBehind}
 

@@ -15,7 +15,7 @@ use Rattle.definitions.specs.Statements.{Statement}
 use Rattle.definitions.specs.declared.deck_kind.DeckKind.{DeckKind}
 use Rattle.definitions.specs.declared.deck_kind.DeckKind.TheVariants.{Rel, Abs, Periph}
 use Rattle.definitions.specs.declared.number_base.NumberBase.{NumberBase}
-use Rattle.deck_assembler.specs.DueCodes.{one_where}
+use Rattle.deck_assembler.specs.Joins.DueCodes.{one_where}
 use Rattle.deck_assembler.proofs.NeutralLaws.{AreNeutral, neutral-known}
 use Rattle.edit_core.proofs.ReboundJoins.{rebounds}
 

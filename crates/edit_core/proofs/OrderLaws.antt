@@ -9,7 +9,7 @@ use Rattle.cards.proofs.FaultLaws.{applies-in}
 use Rattle.statement_coder.specs.declared.meter.Meter.{Meter}
 use Rattle.edit_core.specs.Edited.{edits_bound, IsRecordOf}
 use Rattle.edit_core.specs.Faults.{against_all, record_fault}
-use Rattle.edit_core.specs.Groups.{IsFirstMade}
+use Rattle.edit_core.specs.Joins.Groups.{IsFirstMade}
 use Rattle.edit_core.specs.Records.{Record}
 use Rattle.edit_core.specs.Sums.{DueForEach, fronts_sum, ends_sum, cards_between, statements_sum, CountsInOrder, RisesWithinSum, RisesWithinSumCode}
 use Rattle.edit_core.proofs.NearLaws.{sum-append, sum-append-code, apply-split}

@@ -8,8 +8,8 @@ use Rattle.definitions.specs.Cards.{Card}
 use Rattle.definitions.specs.DeckKinds.{up_to_end}
 use Rattle.definitions.specs.Statements.{Statement, statements_of}
 use Rattle.definitions.specs.declared.deck_kind.DeckKind.{DeckKind}
-use Rattle.deck_assembler.specs.DeckParts.{DeckPiece, DeckParts, sized_in}
-use Rattle.deck_assembler.specs.SizedDecks.{AreSizedFrom, AreFilled, IsSizedDeck}
+use Rattle.deck_assembler.specs.Joins.DeckParts.{DeckPiece, DeckParts, sized_in}
+use Rattle.deck_assembler.specs.Joins.SizedDecks.{AreSizedFrom, AreFilled, IsSizedDeck}
 use Rattle.deck_assembler.specs.declared.sized_statement.SizedStatement.{SizedStatement}
 use Rattle.edit_core.specs.Records.{piece_counts, ArePieces}
 

@@ -18,7 +18,7 @@ use Rattle.definitions.specs.declared.letter.Letter.{Letter}
 use Rattle.definitions.proofs.TailLaws.{settled_all-append}
 use Rattle.definitions.proofs.TestLaws.{and_left, and_right, or_left, or_right, not_false}
 use Rattle.definitions.proofs.TextLaws.{same_text-true}
-use Rattle.deck_assembler.specs.DueCodes.{one_where}
+use Rattle.deck_assembler.specs.Joins.DueCodes.{one_where}
 use Rattle.deck_assembler.proofs.AgreementLaws.{between}
 
 relocations-both : (a b c : Relocation) → same_relocation a b ≡ true → same_relocation b c ≡ true → same_relocation a c ≡ true

@@ -11,7 +11,7 @@ use Rattle.cards.specs.Edits.{edited, edited_by, fault_of, first_fault}
 use Rattle.cards.specs.declared.edits.Edit.{Edit}
 use Rattle.cards.specs.declared.edits.EditFault.{EditFault}
 use Rattle.cards.proofs.FaultLaws.{applies-in, edited-length}
-use Rattle.deck_assembler.specs.Formers.{known_in}
+use Rattle.deck_assembler.specs.Joins.Formers.{known_in}
 use Rattle.deck_assembler.proofs.CutLaws.{known-cards}
 use Rattle.edit_core.specs.Edited.{front_of, count_behind, AreDecksOf, RisesWithinDue, RisesWithinDueCode, StandBehind, StandUnchanged}
 use Rattle.edit_core.specs.Faults.{against_all, record_fault}

@@ -2,4 +2,5 @@ pub mod Records
 pub mod Faults
 pub mod Edited
 pub mod Sums
-pub mod Groups
+-- What no promise leads to.
+pub mod Joins

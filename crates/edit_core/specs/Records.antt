@@ -1,6 +1,6 @@
 -- What contracts see of the record of a deck (ours).
 use Rattle.std.specs.Prelude.{ℕ, ◌≡◌, ◌≤◌, ◌<◌, ◌-◌, Bool, List, [], ◌∷◌, length, map}
-use Rattle.deck_assembler.specs.DeckParts.{DeckPiece}
+use Rattle.deck_assembler.specs.Joins.DeckParts.{DeckPiece}
 use Rattle.definitions.specs.Cards.{Card}
 
 -- a record: name and cards, whether it is spent, and how many statements each piece has

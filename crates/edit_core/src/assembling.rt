@@ -2,11 +2,11 @@
 ghost use Rattle.std.specs.Prelude.{◌≡◌, ◌≤◌, ◌+◌, length, reverse, IfOk, OnOk};
 ghost use Rattle.definitions.specs.DeckKinds.{kind_of_statements, up_to_end};
 ghost use Rattle.definitions.specs.Statements.{statements_of};
-ghost use Rattle.statement_coder.specs.Meters.{RisesBy};
-ghost use Rattle.deck_assembler.specs.DueCodes.{CodePlan, IsPlanOf, code_due_of};
-ghost use Rattle.deck_assembler.specs.Formers.{IsFormerOf, known_in};
-ghost use Rattle.deck_assembler.specs.SizedDecks.{IsSizedDeck};
-ghost use Rattle.deck_assembler.specs.Tails.{IsEditedOf};
+ghost use Rattle.statement_coder.specs.Joins.Meters.{RisesBy};
+ghost use Rattle.deck_assembler.specs.Joins.DueCodes.{CodePlan, IsPlanOf, code_due_of};
+ghost use Rattle.deck_assembler.specs.Joins.Formers.{IsFormerOf, known_in};
+ghost use Rattle.deck_assembler.specs.Joins.SizedDecks.{IsSizedDeck};
+ghost use Rattle.deck_assembler.specs.Joins.Tails.{IsEditedOf};
 
 use cards::{Card, DeckName};
 use deck_assembler::{EditedDeck, SizedDeck, edited_parts, object_parts};

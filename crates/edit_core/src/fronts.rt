@@ -2,7 +2,7 @@
 ghost use Rattle.std.specs.Prelude.{ℕ, ◌≡◌, ◌≤◌, All, List, None, length};
 ghost use Rattle.definitions.specs.Cards as deck_cards;
 ghost use Rattle.cards.specs.Edits.{edited_by, first_fault};
-ghost use Rattle.deck_assembler.specs.Agreements.{HaveSameEnd};
+ghost use Rattle.deck_assembler.specs.Joins.Agreements.{HaveSameEnd};
 ghost use Rattle.cards.specs.Counts.{count_after};
 ghost use Rattle.edit_core.specs.Edited.{count_behind, front_of, StandBehind};
 

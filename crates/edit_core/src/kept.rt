@@ -5,13 +5,13 @@ ghost use Rattle.std.specs.Option.{ForSome};
 ghost use Rattle.definitions.specs.DeckKinds.{up_to_end};
 ghost use Rattle.definitions.specs.Statements.{statements_of};
 ghost use Rattle.cards.specs.Edits.{edited, edited_by, first_fault};
-ghost use Rattle.statement_coder.specs.Meters.{RisesBy};
-ghost use Rattle.deck_assembler.specs.SizedDecks.{IsSizedDeck};
+ghost use Rattle.statement_coder.specs.Joins.Meters.{RisesBy};
+ghost use Rattle.deck_assembler.specs.Joins.SizedDecks.{IsSizedDeck};
 ghost use Rattle.edit_core.specs.Edited.{edits_bound, statement_count, IsRecordOf, RisesBehindFront, RisesToDue, RisesToDueCode, RisesWithinDue, RisesWithinDueCode};
 ghost use Rattle.edit_core.specs.Faults.{against, against_all};
 ghost use Rattle.edit_core.specs.Records.{ArePieces};
 ghost use Rattle.edit_core.specs.Sums.{cards_between, statements_sum, CountsInOrder, RisesWithinSum, RisesWithinSumCode};
-ghost use Rattle.edit_core.specs.Groups.{IsFirstMade};
+ghost use Rattle.edit_core.specs.Joins.Groups.{IsFirstMade};
 
 use crate::assembling::{edited_object, object_of};
 use crate::faults::{RecordFault, record_fault};
@@ -49,7 +49,7 @@ pub enum FinishFault {
 
 impl Model for Kept {
     ghost use Rattle.std.specs.Prelude.{◌≡◌, ◌≤◌, IfSome, is_none, length};
-    ghost use Rattle.deck_assembler.specs.SizedDecks.{IsSizedDeck};
+    ghost use Rattle.deck_assembler.specs.Joins.SizedDecks.{IsSizedDeck};
     ghost use Rattle.edit_core.specs.Records.{Record, piece_counts};
 
     ghost Value = { Record };

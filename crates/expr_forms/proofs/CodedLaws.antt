@@ -18,7 +18,7 @@ use Rattle.definitions.specs.declared.deck_kind.DeckKind.TheVariants.{Rel, Abs, 
 use Rattle.definitions.specs.Words.{cut}
 use Rattle.definitions.proofs.WordLaws.{pow_positive}
 use Rattle.definitions.proofs.LiteralLaws.{characters_number-below}
-use Rattle.expr_forms.specs.CodedItems.{in_places, is_at_end, filler}
+use Rattle.expr_forms.specs.Joins.CodedItems.{in_places, is_at_end, filler}
 
 abbrev pub code_or_zero : ℕ → ℕ
 code_or_zero c = unwrap_or (display_code_of c) 0

@@ -11,8 +11,8 @@ use Rattle.definitions.specs.CountedItems.{CountedSpan, counted_item_behind, cou
 use Rattle.definitions.specs.Pieces.{Mark, Equals, AtStart, AtEquals, Inside, ByMark, Piece, Plain, mark_of, begun_by_counted_item, pieces_at, pieces_of, subfields_of}
 use Rattle.definitions.specs.Symbols.{Number, scaled, behind_digits, bounded, number_read}
 use Rattle.definitions.specs.declared.number_base.NumberBase.{NumberBase}
-use Rattle.expr_forms.specs.Numbers.{AreDigits}
-use Rattle.expr_forms.specs.Subfields.{is_ended, subfields_left}
+use Rattle.expr_forms.specs.Joins.Numbers.{AreDigits}
+use Rattle.expr_forms.specs.Joins.Subfields.{is_ended, subfields_left}
 use Rattle.expr_forms.proofs.PieceLaws.{is_of_run, pieces_begun, pieces-run}
 
 -- the number of a text, by its digits

@@ -9,8 +9,8 @@ use Rattle.definitions.specs.Symbols.{number_read}
 use Rattle.definitions.specs.Expressions.{Sign, PlusSign, MinusSign, Element, LocationCounter, OriginCounter, Operator, OperatorElement, AnOperator, ElementOf, counter_of, literal_of, onto_pairs, pairs_of}
 use Rattle.definitions.specs.declared.number_base.NumberBase.{NumberBase}
 use Rattle.definitions.proofs.GrammarLaws.{EndsElement, pairs_of-star}
-use Rattle.expr_forms.specs.Elements.{ends_element, signed_literal}
-use Rattle.expr_forms.specs.PiecesFound.{piece_as, spot_behind_piece}
+use Rattle.expr_forms.specs.Joins.Elements.{ends_element, signed_literal}
+use Rattle.expr_forms.specs.Joins.PiecesFound.{piece_as, spot_behind_piece}
 use Rattle.expr_forms.specs.declared.pieces.Piece as codes
 
 -- pieces that begin with this one

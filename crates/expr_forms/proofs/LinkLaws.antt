@@ -3,7 +3,7 @@ use Rattle.std.proofs.Common.{◌≡◌, ℕ, List, [], ◌∷◌, Option, Some,
 use Rattle.definitions.specs.Pieces.{Mark, Comma, Plus, Minus, Star, Slash, Equals, AtStart, Inside, Begun, Piece, IsMark, IsCountedItem, Plain, mark_of, begun_by, spot_behind, left_of, onto_plain, onto_pieces, pieces_at, pieces_of}
 use Rattle.definitions.specs.Expressions.{Operator, Times, Divide, Add, Subtract, OperatorElement, AnOperator, ElementOf, pairs_of}
 use Rattle.definitions.specs.declared.number_base.NumberBase.{NumberBase}
-use Rattle.expr_forms.specs.Links.{operator_marked}
+use Rattle.expr_forms.specs.Joins.Links.{operator_marked}
 
 -- a run is no operator
 run-unlawful : (base : NumberBase) (c : ℕ) (pieces : List Piece) → pairs_of base AnOperator (onto_plain c pieces) ≡ None

@@ -6,9 +6,9 @@ use Rattle.definitions.specs.Expressions.{Element, Operator, Times, Divide, Add,
 use Rattle.definitions.specs.declared.number_base.NumberBase.{NumberBase}
 use Rattle.definitions.proofs.GrammarLaws.{link_of, StartsWithElement, pairs_of-read}
 use Rattle.definitions.proofs.TermLaws.{JoinsTerms, AreFactorLinks, AreJoined, links_in, term_of, IsGrouping, grouped-groups}
-use Rattle.expr_forms.specs.Links.{operator_marked, pairs_behind, links_behind, IsLawful}
-use Rattle.expr_forms.specs.Parsed.{BeginsTerm}
-use Rattle.expr_forms.specs.LoneRegisters.{joins_terms, is_register, begins_term, is_lone, without_lone, links_left_by, has_no_factors, other_terms, terms_left_by}
+use Rattle.expr_forms.specs.Joins.Links.{operator_marked, pairs_behind, links_behind, IsLawful}
+use Rattle.expr_forms.specs.Joins.Parsed.{BeginsTerm}
+use Rattle.expr_forms.specs.Joins.LoneRegisters.{joins_terms, is_register, begins_term, is_lone, without_lone, links_left_by, has_no_factors, other_terms, terms_left_by}
 use Rattle.expr_forms.specs.declared.links.LoneRegisters.{LoneRegisters}
 use Rattle.expr_forms.specs.declared.links.LoneRegisters.TheVariants.{Kept, LeftOut}
 use Rattle.expr_forms.proofs.LinkLaws.{link-operator, link-unlawful}

@@ -5,7 +5,7 @@ use Rattle.std.proofs.lemmas.List.{drop-replicate, length-replicate}
 use Rattle.std.proofs.Math.Seq.{drop-append_seam}
 use Rattle.std.proofs.lemmas.Bool.Decides.{Decides-eqb, Decides-and}
 use Rattle.definitions.specs.Characters.{same_text}
-use Rattle.expr_forms.specs.NamesInline.{IsName}
+use Rattle.expr_forms.specs.Joins.NamesInline.{IsName}
 
 -- what the test of two texts tells
 pub same_text-Decides : (a b : List ℕ) → Decides (same_text a b) (a ≡ b)

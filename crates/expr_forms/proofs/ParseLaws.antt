@@ -7,7 +7,7 @@ use Rattle.definitions.specs.Expressions.{Sign, NoSign, PlusSign, MinusSign, OfN
 use Rattle.definitions.specs.Grammar.{IsElement, operator_of}
 use Rattle.definitions.specs.declared.number_base.NumberBase.{NumberBase}
 use Rattle.definitions.proofs.GrammarLaws.{link_of, AreLinks, pairs_of-read}
-use Rattle.expr_forms.specs.Links.{pairs_behind, links_behind, links_left, IsLawful}
+use Rattle.expr_forms.specs.Joins.Links.{pairs_behind, links_behind, links_left, IsLawful}
 use Rattle.expr_forms.specs.declared.links.Link.{Link}
 
 -- a plus in front

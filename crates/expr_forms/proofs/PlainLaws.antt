@@ -11,9 +11,9 @@ use Rattle.definitions.specs.Grammar.{operator_of}
 use Rattle.definitions.specs.Literals.{literal_in}
 use Rattle.definitions.specs.Matching.{Sum, onto_sum, sum_of}
 use Rattle.definitions.specs.declared.number_base.NumberBase.{NumberBase}
-use Rattle.expr_forms.specs.Links.{links_behind}
-use Rattle.expr_forms.specs.LoneRegisters.{has_terms}
-use Rattle.expr_forms.specs.Parsed.{are_plain, expression_behind, IsPlainSum}
+use Rattle.expr_forms.specs.Joins.Links.{links_behind}
+use Rattle.expr_forms.specs.Joins.LoneRegisters.{has_terms}
+use Rattle.expr_forms.specs.Joins.Parsed.{are_plain, expression_behind, IsPlainSum}
 use Rattle.expr_forms.specs.declared.links.LoneRegisters.TheVariants.{Kept}
 use Rattle.expr_forms.proofs.ElementListLaws.{elements_in-links}
 use Rattle.expr_forms.proofs.LoneLaws.{left-links}

@@ -10,7 +10,7 @@ use Rattle.definitions.specs.Symbols.{greatest}
 use Rattle.definitions.specs.Forms.{is_in_range, in_range, quotient}
 use Rattle.definitions.specs.declared.letter.Letter.{Letter}
 use Rattle.definitions.specs.declared.letter.Letter.TheVariants as letter
-use Rattle.expr_forms.specs.Ranges.{ranged}
+use Rattle.expr_forms.specs.Joins.Ranges.{ranged}
 
 -- a number in range
 pub ranged-in : (number n : ℤ) → SomeIff (Some number) (FitsSigned w64 n) n → unsigned_abs number ≤ greatest → Ok number ≡ ranged n

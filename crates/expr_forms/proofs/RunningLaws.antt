@@ -9,9 +9,9 @@ use Rattle.definitions.specs.Forms.{Relocation, Part, Added, Subtracted, Form, R
 use Rattle.definitions.specs.Expressions.{Operator, Times, Divide, Add, Subtract}
 use Rattle.definitions.specs.declared.letter.Letter.{Letter}
 use Rattle.definitions.specs.declared.letter.Letter.TheVariants as letter
-use Rattle.expr_forms.specs.Ranges.{ranged}
-use Rattle.expr_forms.specs.FormsAs.{relocation_as}
-use Rattle.expr_forms.specs.Running.{base_as, is_other, AreSmall, left_list, part_times, part_relocation}
+use Rattle.expr_forms.specs.Joins.Ranges.{ranged}
+use Rattle.expr_forms.specs.Joins.FormsAs.{relocation_as}
+use Rattle.expr_forms.specs.Joins.Running.{base_as, is_other, AreSmall, left_list, part_times, part_relocation}
 use Rattle.expr_forms.specs.declared.running.Base.{Base}
 
 -- the size of a sum

@@ -5,7 +5,7 @@ use Rattle.std.specs.List.{prefix_len, onto_first}
 use Rattle.definitions.specs.Characters.{equals}
 use Rattle.definitions.specs.CountedItems.{CountedSpan, counted_item_at}
 use Rattle.definitions.specs.Pieces.{Mark, Comma, Plus, Minus, Star, Slash, Equals, Spot, AtStart, AtEquals, Inside, Begun, ByMark, ByCountedItem, ByOther, Piece, IsMark, IsCountedItem, Plain, mark_of, begun_by, begun_by_counted_item, begun_at, spot_behind, left_of, onto_plain, pieces_at, pieces_of, subfields_of}
-use Rattle.expr_forms.specs.Subfields.{ends_subfield, subfield_len, len_to_mark, text_behind, subfields_left}
+use Rattle.expr_forms.specs.Joins.Subfields.{ends_subfield, subfield_len, len_to_mark, text_behind, subfields_left}
 use Rattle.expr_forms.proofs.ItemFrontLaws.{IsWithin, item-front}
 use Rattle.expr_forms.proofs.PieceLaws.{is_of_run, pieces_begun}
 use Rattle.expr_forms.proofs.ParseLaws.{mark_by}

@@ -5,9 +5,9 @@ use Rattle.definitions.specs.Expressions.{Element, Operator, OperatorElement, Te
 use Rattle.definitions.specs.Forms.{Form, Names, Running, element_form, combined_with, product, plus_term, sum_from, closed, value_of, absolute}
 use Rattle.definitions.specs.declared.letter.Letter.{Letter}
 use Rattle.definitions.proofs.TermLaws.{JoinsFactors, JoinsTerms, term_of, onto_grouped-factor, onto_grouped-term}
-use Rattle.expr_forms.specs.Parsed.{BeginsTerm}
-use Rattle.expr_forms.specs.Running.{bases_as, AreSmall}
-use Rattle.expr_forms.specs.Walks.{value_at}
+use Rattle.expr_forms.specs.Joins.Parsed.{BeginsTerm}
+use Rattle.expr_forms.specs.Joins.Running.{bases_as, AreSmall}
+use Rattle.expr_forms.specs.Joins.Walks.{value_at}
 use Rattle.expr_forms.specs.declared.running.Base.{Base}
 
 -- a fault stays the product

@@ -3,8 +3,8 @@ ghost use Rattle.std.specs.Prelude.{◌≡◌, ℤ, ◌*ℤ◌, FitsSigned};
 ghost use Rattle.std.specs.Int.{w64};
 ghost use Rattle.std.specs.Option.{SomeIff};
 ghost use Rattle.definitions.specs.Forms.{is_absolute, in_range, quotient, combined};
-ghost use Rattle.expr_forms.specs.Links.{operator_as};
-ghost use Rattle.expr_forms.specs.Ranges.{ranged};
+ghost use Rattle.expr_forms.specs.Joins.Links.{operator_as};
+ghost use Rattle.expr_forms.specs.Joins.Ranges.{ranged};
 
 use crate::forms::Form;
 use crate::links::Operator;

@@ -3,7 +3,7 @@ ghost use Rattle.std.specs.Prelude.{◌≡◌, ◌≤◌, ◌∷◌, [], length,
 ghost use Rattle.definitions.specs.Pieces.{Slash, Inside, IsMark, Plain, pieces_at, pieces_of, subfields_of};
 ghost use Rattle.definitions.specs.Operands.{vfd_field, all_fields};
 ghost use Rattle.definitions.specs.declared.letter.Letter.TheVariants as letter;
-ghost use Rattle.expr_forms.specs.Readings.{bit_field_as, sized_value};
+ghost use Rattle.expr_forms.specs.Joins.Readings.{bit_field_as, sized_value};
 
 use crate::dis_fields::count_read;
 use crate::expressions::Expr;

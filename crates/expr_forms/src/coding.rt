@@ -9,7 +9,7 @@ ghost use Rattle.definitions.specs.Coding.{coded_in, counted_item_bits, counted_
 ghost use Rattle.definitions.specs.Kinds.{word_bits};
 ghost use Rattle.definitions.specs.Literals.{literal_word};
 ghost use Rattle.definitions.specs.Words.{cut};
-ghost use Rattle.expr_forms.specs.CodedItems.{in_places};
+ghost use Rattle.expr_forms.specs.Joins.CodedItems.{in_places};
 
 use crate::counted_item::CountedItem;
 use definitions::{DeckKind, Letter, display_of};

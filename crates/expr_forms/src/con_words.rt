@@ -3,7 +3,7 @@ ghost use Rattle.std.specs.Prelude.{◌≡◌, ◌≤◌, ◌∷◌, [], length,
 ghost use Rattle.definitions.specs.Pieces.{pieces_of, subfields_of};
 ghost use Rattle.definitions.specs.Operands.{con_word, all_words, plain_of, expression_word};
 ghost use Rattle.definitions.specs.declared.letter.Letter.TheVariants as letter;
-ghost use Rattle.expr_forms.specs.Readings.{datum_as};
+ghost use Rattle.expr_forms.specs.Joins.Readings.{datum_as};
 
 use crate::data_words::Datum;
 use crate::expressions::Expr;

@@ -3,7 +3,7 @@ ghost use Rattle.std.specs.Prelude.{◌≡◌, ◌≤◌, length};
 ghost use Rattle.definitions.specs.CountedItems.{bits_needed};
 ghost use Rattle.definitions.specs.Coding.{words_needed};
 ghost use Rattle.definitions.specs.Kinds.{word_bits};
-ghost use Rattle.expr_forms.specs.CodedItems.{letter_character, item_of};
+ghost use Rattle.expr_forms.specs.Joins.CodedItems.{letter_character, item_of};
 ghost use Rattle.definitions.specs.ItemTexts.{item_as};
 
 use crate::item_letter::ItemLetter;
@@ -24,7 +24,7 @@ pub struct CountedItem<'a> {
 impl<'a> Model for CountedItem<'a> {
     ghost use Rattle.std.specs.Prelude.{◌≤◌, length};
     ghost use Rattle.definitions.specs.CountedItems.{CountedItem};
-    ghost use Rattle.expr_forms.specs.CodedItems.{letter_character};
+    ghost use Rattle.expr_forms.specs.Joins.CodedItems.{letter_character};
 
     ghost Value = { CountedItem };
 

@@ -4,11 +4,11 @@ ghost use Rattle.definitions.specs.Pieces.{Inside, ByMark, IsMark, IsCountedItem
 ghost use Rattle.definitions.specs.Symbols.{number_read};
 ghost use Rattle.definitions.specs.Operands.{CountedItemWords, number_word, data_word, all_words, onto_all};
 ghost use Rattle.definitions.specs.declared.letter.Letter.TheVariants as letter;
-ghost use Rattle.expr_forms.specs.Elements.{sign_as};
-ghost use Rattle.expr_forms.specs.Numbers.{AreDigits};
+ghost use Rattle.expr_forms.specs.Joins.Elements.{sign_as};
+ghost use Rattle.expr_forms.specs.Joins.Numbers.{AreDigits};
 ghost use Rattle.definitions.specs.ItemTexts.{item_as};
-ghost use Rattle.expr_forms.specs.PiecesFound.{mark_as, pieces_in};
-ghost use Rattle.expr_forms.specs.Readings.{datum_as, alone, signed_word};
+ghost use Rattle.expr_forms.specs.Joins.PiecesFound.{mark_as, pieces_in};
+ghost use Rattle.expr_forms.specs.Joins.Readings.{datum_as, alone, signed_word};
 
 use crate::elements::Sign;
 use crate::expressions::Expr;

@@ -5,7 +5,7 @@ ghost use Rattle.std.specs.List.{prefix_len};
 ghost use Rattle.definitions.specs.Characters.{comma};
 ghost use Rattle.definitions.specs.Operands.{TextOperand, BadOperand, count_read, word_characters, dis_operand};
 ghost use Rattle.definitions.specs.declared.letter.Letter.TheVariants as letter;
-ghost use Rattle.expr_forms.specs.Numbers.{number_as};
+ghost use Rattle.expr_forms.specs.Joins.Numbers.{number_as};
 
 use crate::numbers::{Number, number_read};
 use definitions::{DeckKind, Letter, NumberBase};
@@ -27,12 +27,12 @@ pub struct DisText<'a> {
 }
 
 impl<'a> Model for DisText<'a> {
-    ghost use Rattle.expr_forms.specs.TextWords.{TextWords};
+    ghost use Rattle.expr_forms.specs.Joins.TextWords.{TextWords};
 
     ghost Value = { TextWords };
 
     ghost use Rattle.std.specs.Prelude.{◌≤◌};
-    ghost use Rattle.expr_forms.specs.TextWords.{filled_text};
+    ghost use Rattle.expr_forms.specs.Joins.TextWords.{filled_text};
 
     ghost view = { λ d. record { words = d.words; characters = filled_text d.places d.text.now } };
 

@@ -2,8 +2,8 @@
 ghost use Rattle.std.specs.Prelude.{◌≡◌, ◌∷◌, [], IfNone, IfSome};
 ghost use Rattle.definitions.specs.Literals.{literals_in};
 ghost use Rattle.definitions.specs.Agreement.{symbols_in};
-ghost use Rattle.expr_forms.specs.Elements.{literal_as};
-ghost use Rattle.expr_forms.specs.ElementLists.{literals_among, symbols_among};
+ghost use Rattle.expr_forms.specs.Joins.Elements.{literal_as};
+ghost use Rattle.expr_forms.specs.Joins.ElementLists.{literals_among, symbols_among};
 
 use crate::elements::{Element, Literal};
 use crate::expressions::Expr;
@@ -22,7 +22,7 @@ impl<'a> Model for Literals<'a> {
 
     ghost Value = { List Literal };
 
-    ghost use Rattle.expr_forms.specs.ElementLists.{literals_among};
+    ghost use Rattle.expr_forms.specs.Joins.ElementLists.{literals_among};
 
     ghost view = { λ l. literals_among l.links };
 }
@@ -38,7 +38,7 @@ impl<'a> Model for Symbols<'a> {
 
     ghost Value = { List (List ℕ) };
 
-    ghost use Rattle.expr_forms.specs.ElementLists.{symbols_among};
+    ghost use Rattle.expr_forms.specs.Joins.ElementLists.{symbols_among};
 
     ghost view = { λ s. symbols_among s.links };
 }

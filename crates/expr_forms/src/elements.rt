@@ -5,8 +5,8 @@ ghost use Rattle.definitions.specs.Pieces.{Star, Equals, AtEquals, Inside, ByMar
 ghost use Rattle.definitions.specs.Expressions.{Operator, AnOperator, ElementOf, element_of_text, counter_of, literal_of, onto_pairs, pairs_of};
 ghost use Rattle.definitions.specs.Symbols.{number_read};
 ghost use Rattle.definitions.specs.declared.number_base.NumberBase.{NumberBase};
-ghost use Rattle.expr_forms.specs.PiecesFound.{mark_as};
-ghost use Rattle.expr_forms.specs.Elements.{sign_as, element_as, elements_found, ends_element, signed_literal};
+ghost use Rattle.expr_forms.specs.Joins.PiecesFound.{mark_as};
+ghost use Rattle.expr_forms.specs.Joins.Elements.{sign_as, element_as, elements_found, ends_element, signed_literal};
 
 use crate::numbers::{Number, number_read};
 use crate::pieces::{Mark, Piece, piece_at_start, piece_behind_equals};

@@ -5,10 +5,10 @@ ghost use Rattle.definitions.specs.Pieces.{Inside, pieces_at, pieces_of};
 ghost use Rattle.definitions.specs.Expressions.{ElementOf, AnOperator, pairs_of, grouped, with_sign, expression_of};
 ghost use Rattle.definitions.specs.Grammar.{operator_of};
 ghost use Rattle.definitions.specs.declared.number_base.NumberBase.{NumberBase};
-ghost use Rattle.expr_forms.specs.Elements.{sign_as};
-ghost use Rattle.expr_forms.specs.Links.{operator_as};
-ghost use Rattle.expr_forms.specs.LoneRegisters.{other_terms};
-ghost use Rattle.expr_forms.specs.Parsed.{are_plain, links_of, BeginsTerm};
+ghost use Rattle.expr_forms.specs.Joins.Elements.{sign_as};
+ghost use Rattle.expr_forms.specs.Joins.Links.{operator_as};
+ghost use Rattle.expr_forms.specs.Joins.LoneRegisters.{other_terms};
+ghost use Rattle.expr_forms.specs.Joins.Parsed.{are_plain, links_of, BeginsTerm};
 
 use crate::elements::{Element, Sign, next_element};
 use crate::links::{Link, LinkFound, Links, LoneRegisters, Operator, TextLinks, next_link};
@@ -37,9 +37,9 @@ impl<'a> Model for Expr<'a> {
 
     ghost Value = { Expression };
 
-    ghost use Rattle.expr_forms.specs.Elements.{sign_as};
-    ghost use Rattle.expr_forms.specs.Links.{link_made};
-    ghost use Rattle.expr_forms.specs.Parsed.{expression_behind, AreRead};
+    ghost use Rattle.expr_forms.specs.Joins.Elements.{sign_as};
+    ghost use Rattle.expr_forms.specs.Joins.Links.{link_made};
+    ghost use Rattle.expr_forms.specs.Joins.Parsed.{expression_behind, AreRead};
 
     ghost view = { λ e. expression_behind e.base (sign_as e.sign) (link_made e.operator e.element) e.rest.now e.registers };
 

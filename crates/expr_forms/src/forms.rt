@@ -4,8 +4,8 @@ ghost use Rattle.std.specs.Prelude.{◌≡◌, ◌≤◌, length, ℤ, option_ma
 ghost use Rattle.definitions.specs.Characters.{same_text};
 ghost use Rattle.definitions.specs.Forms as definitions;
 ghost use Rattle.definitions.specs.Forms.{same_relocation, absolute, is_absolute};
-ghost use Rattle.expr_forms.specs.Elements.{literal_as};
-ghost use Rattle.expr_forms.specs.FormsAs.{relocation_as, part_as};
+ghost use Rattle.expr_forms.specs.Joins.Elements.{literal_as};
+ghost use Rattle.expr_forms.specs.Joins.FormsAs.{relocation_as, part_as};
 
 use crate::elements::Literal;
 use crate::names::Name;
@@ -54,7 +54,7 @@ impl Model for Form {
 
     ghost Value = { definitions.Form };
 
-    ghost use Rattle.expr_forms.specs.FormsAs.{part_as, part_back, form_back};
+    ghost use Rattle.expr_forms.specs.Joins.FormsAs.{part_as, part_back, form_back};
 
     ghost view = { λ f. record { number = f.number; part = option_map part_as f.part } };
 

@@ -1,7 +1,7 @@
 //! The letter of a counted item, which says where its characters stand and what is beside them.
 ghost use Rattle.std.specs.Prelude.{◌≡◌, ◌==◌, IfSome, IfNone, false, codes, if◌then◌else◌};
 ghost use Rattle.definitions.specs.Characters.{is_among};
-ghost use Rattle.expr_forms.specs.CodedItems.{letter_character, is_at_end, filler};
+ghost use Rattle.expr_forms.specs.Joins.CodedItems.{letter_character, is_at_end, filler};
 
 /// The letter of a counted item (COMPASS 60492600, data items).
 #[derive(Clone, Copy)]

@@ -1,7 +1,7 @@
 //! Expressions that borrow no text, so that they can be kept: those with a short text.
 ghost use Rattle.std.specs.Prelude.{◌≡◌, IfSome};
-ghost use Rattle.expr_forms.specs.Elements.{element_as};
-ghost use Rattle.expr_forms.specs.Kept.{kept_element_as};
+ghost use Rattle.expr_forms.specs.Joins.Elements.{element_as};
+ghost use Rattle.expr_forms.specs.Joins.Kept.{kept_element_as};
 
 use crate::elements::{Element, Literal, Sign};
 use crate::expressions::Expr;
@@ -125,9 +125,9 @@ impl Model for KeptExpr {
 
     ghost Value = { Expression };
 
-    ghost use Rattle.expr_forms.specs.Elements.{sign_as};
-    ghost use Rattle.expr_forms.specs.Kept.{kept_link_as};
-    ghost use Rattle.expr_forms.specs.Parsed.{expression_behind, AreLawful};
+    ghost use Rattle.expr_forms.specs.Joins.Elements.{sign_as};
+    ghost use Rattle.expr_forms.specs.Joins.Kept.{kept_link_as};
+    ghost use Rattle.expr_forms.specs.Joins.Parsed.{expression_behind, AreLawful};
 
     ghost view = { λ e. expression_behind e.base (sign_as e.sign) (kept_link_as e.operator e.first) e.rest e.registers };
 

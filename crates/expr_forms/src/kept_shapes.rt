@@ -1,6 +1,6 @@
 //! Instructions that borrow no text, so that they can be kept.
 ghost use Rattle.std.specs.Prelude.{◌≡◌, IfSome};
-ghost use Rattle.expr_forms.specs.Kept.{field_of, shape_of};
+ghost use Rattle.expr_forms.specs.Joins.Kept.{field_of, shape_of};
 
 use crate::kept_expressions::KeptExpr;
 use crate::shapes::{Field, Shape};

@@ -3,9 +3,9 @@ ghost use Rattle.std.specs.Prelude.{◌≡◌, ◌≤◌, ◌+◌, ◌∷◌, []
 ghost use Rattle.definitions.specs.Pieces.{Inside, mark_of, pieces_at};
 ghost use Rattle.definitions.specs.Expressions.{AnOperator, pairs_of};
 ghost use Rattle.definitions.specs.declared.number_base.NumberBase.{NumberBase};
-ghost use Rattle.expr_forms.specs.Elements.{element_as};
-ghost use Rattle.expr_forms.specs.Links.{operator_as, operator_marked, link_as, links_behind, links_found, IsLawful, ForLink};
-ghost use Rattle.expr_forms.specs.LoneRegisters.{joins_terms, is_register, begins_term, is_lone, without_lone, links_left_by};
+ghost use Rattle.expr_forms.specs.Joins.Elements.{element_as};
+ghost use Rattle.expr_forms.specs.Joins.Links.{operator_as, operator_marked, link_as, links_behind, links_found, IsLawful, ForLink};
+ghost use Rattle.expr_forms.specs.Joins.LoneRegisters.{joins_terms, is_register, begins_term, is_lone, without_lone, links_left_by};
 
 use crate::elements::{Element, next_element};
 use definitions::NumberBase;
@@ -135,7 +135,7 @@ impl<'a> Model for TextLinks<'a> {
 
     ghost Value = { List OperatorElement };
 
-    ghost use Rattle.expr_forms.specs.Links.{links_left, IsLawful};
+    ghost use Rattle.expr_forms.specs.Joins.Links.{links_left, IsLawful};
 
     ghost view = { λ l. links_left l.base l.first l.rest.now };
 
@@ -242,7 +242,7 @@ impl<'a> Model for Links<'a> {
 
     ghost Value = { List OperatorElement };
 
-    ghost use Rattle.expr_forms.specs.LoneRegisters.{links_left_by};
+    ghost use Rattle.expr_forms.specs.Joins.LoneRegisters.{links_left_by};
 
     ghost view = { λ l. links_left_by l.registers l.all };
 }

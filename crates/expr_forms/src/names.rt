@@ -17,7 +17,7 @@ pub struct Name {
 
 impl Model for Name {
     ghost use Rattle.std.specs.Prelude.{ℕ, List, ◌-◌, ◌++◌, length, take, replicate};
-    ghost use Rattle.expr_forms.specs.NamesInline.{IsName, characters_back, len_back};
+    ghost use Rattle.expr_forms.specs.Joins.NamesInline.{IsName, characters_back, len_back};
 
     ghost Value = { List ℕ };
 

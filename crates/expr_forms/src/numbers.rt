@@ -3,7 +3,7 @@ ghost use Rattle.std.specs.Prelude.{◌≡◌, ◌≤◌, ◌*◌, ◌+◌, ◌-
 ghost use Rattle.std.specs.List.{list_all};
 ghost use Rattle.definitions.specs.Numerals.{number_of};
 ghost use Rattle.definitions.specs.Symbols.{scaled, scale_of, behind_digits, bounded, number_read};
-ghost use Rattle.expr_forms.specs.Numbers.{number_as, radix, AreDigits};
+ghost use Rattle.expr_forms.specs.Joins.Numbers.{number_as, radix, AreDigits};
 
 use crate::magnitude::Magnitude;
 use definitions::{NumberBase, digit_count, is_digit};

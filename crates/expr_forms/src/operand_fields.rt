@@ -3,7 +3,7 @@
 ghost use Rattle.std.specs.Prelude.{◌≡◌, ◌≤◌, ◌∷◌, [], length, false, MatchOption, MatchResult};
 ghost use Rattle.std.specs.List.{list_all};
 ghost use Rattle.definitions.specs.Pieces.{pieces_of, subfields_of};
-ghost use Rattle.expr_forms.specs.Operands.{IsSubfield, IsOperand, is_subfield, is_operand};
+ghost use Rattle.expr_forms.specs.Joins.Operands.{IsSubfield, IsOperand, is_subfield, is_operand};
 
 use crate::expressions::Expr;
 use crate::operands::{Operand, Subfield};

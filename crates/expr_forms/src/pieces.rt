@@ -4,7 +4,7 @@ ghost use Rattle.std.specs.Prelude.{◌≡◌, ◌≤◌, ◌<◌, length, slice
 ghost use Rattle.std.specs.List.{prefix_len};
 ghost use Rattle.definitions.specs.CountedItems.{counted_item_at};
 ghost use Rattle.definitions.specs.Pieces.{AtStart, AtEquals, mark_of, pieces_at};
-ghost use Rattle.expr_forms.specs.PiecesFound.{mark_as, pieces_found};
+ghost use Rattle.expr_forms.specs.Joins.PiecesFound.{mark_as, pieces_found};
 
 use definitions::{ItemText, item_at};
 

@@ -7,8 +7,8 @@ ghost use Rattle.definitions.specs.Operands.{plain_of};
 ghost use Rattle.definitions.specs.Pieces.{pieces_of};
 ghost use Rattle.definitions.specs.StatementItems.{whole_term, whole_counted_item};
 ghost use Rattle.definitions.specs.ItemTexts.{item_as};
-ghost use Rattle.expr_forms.specs.Elements.{literal_as, element_as};
-ghost use Rattle.expr_forms.specs.ElementLists.{elements_in, item_alone};
+ghost use Rattle.expr_forms.specs.Joins.Elements.{literal_as, element_as};
+ghost use Rattle.expr_forms.specs.Joins.ElementLists.{elements_in, item_alone};
 
 use crate::elements::{Element, Literal, Sign};
 use crate::expressions::Expr;

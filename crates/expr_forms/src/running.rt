@@ -2,10 +2,10 @@
 ghost use Rattle.std.specs.Prelude.{◌≡◌, ◌≤◌, ◌+◌, ◌+ℤ◌, length, map, unsigned_abs, neg_ℤ, ℕ, option_map, IfSome, IfNone, Ok, ◌∷◌, []};
 ghost use Rattle.std.specs.List.{prefix_len};
 ghost use Rattle.definitions.specs.Forms.{part_of, remaining, plus_relocation, plus_relocations, plus_term, closed, running_part, signed};
-ghost use Rattle.expr_forms.specs.FormsAs.{relocation_as, part_as};
-ghost use Rattle.expr_forms.specs.Links.{operator_as};
-ghost use Rattle.expr_forms.specs.Ranges.{ranged};
-ghost use Rattle.expr_forms.specs.Running.{base_as, bases_as, running_as, is_other, AreSmall, part_times, part_relocation, AddsUp, ForSum, ForFull};
+ghost use Rattle.expr_forms.specs.Joins.FormsAs.{relocation_as, part_as};
+ghost use Rattle.expr_forms.specs.Joins.Links.{operator_as};
+ghost use Rattle.expr_forms.specs.Joins.Ranges.{ranged};
+ghost use Rattle.expr_forms.specs.Joins.Running.{base_as, bases_as, running_as, is_other, AreSmall, part_times, part_relocation, AddsUp, ForSum, ForFull};
 
 use crate::arithmetic::ranged;
 use crate::forms::{Form, Part, Relocation};

@@ -1,6 +1,6 @@
 //! Instructions before any name is known: their octal digits, and the field behind these.
 ghost use Rattle.std.specs.Prelude.{◌≡◌};
-ghost use Rattle.expr_forms.specs.Shapes.{field_bits, shape_bits};
+ghost use Rattle.expr_forms.specs.Joins.Shapes.{field_bits, shape_bits};
 
 use crate::expressions::Expr;
 

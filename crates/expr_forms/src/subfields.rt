@@ -2,9 +2,9 @@
 //! cuts nothing (COMPASS 60492600, subfields and data items).
 ghost use Rattle.std.specs.Prelude.{◌≡◌, ◌≤◌, ◌+◌, ◌∷◌, [], true, length, drop, option_copied, IfNone, IfSome};
 ghost use Rattle.definitions.specs.Pieces.{AtStart, AtEquals, Inside, Plain, pieces_at, pieces_of, subfields_of};
-ghost use Rattle.expr_forms.specs.Numbers.{AreDigits};
-ghost use Rattle.expr_forms.specs.PiecesFound.{pieces_in};
-ghost use Rattle.expr_forms.specs.Subfields.{subfield_len, len_to_mark, text_behind, is_ended, subfields_left};
+ghost use Rattle.expr_forms.specs.Joins.Numbers.{AreDigits};
+ghost use Rattle.expr_forms.specs.Joins.PiecesFound.{pieces_in};
+ghost use Rattle.expr_forms.specs.Joins.Subfields.{subfield_len, len_to_mark, text_behind, is_ended, subfields_left};
 
 use crate::pieces::{Mark, Piece, piece_at_start, run_len};
 use definitions::{digit_count, item_at};
@@ -23,7 +23,7 @@ impl<'a> Model for Subfields<'a> {
 
     ghost Value = { List (List Piece) };
 
-    ghost use Rattle.expr_forms.specs.Subfields.{subfields_left};
+    ghost use Rattle.expr_forms.specs.Joins.Subfields.{subfields_left};
 
     ghost view = { λ s. subfields_left (option_copied s.rest) };
 

@@ -4,11 +4,11 @@ ghost use Rattle.std.specs.Prelude.{◌≡◌, ◌+◌, ◌<◌, ◌≤◌, ◌+
 ghost use Rattle.definitions.specs.Expressions.{ARegister, Add, OperatorElement, Term, grouped};
 ghost use Rattle.definitions.specs.Matching as matching;
 ghost use Rattle.definitions.specs.Matching.{onto_sum, sum_of};
-ghost use Rattle.expr_forms.specs.Elements.{sign_as};
-ghost use Rattle.expr_forms.specs.Links.{operator_as, link_as};
-ghost use Rattle.expr_forms.specs.LoneRegisters.{has_no_factors};
-ghost use Rattle.expr_forms.specs.Registers.{letter_of, register_as};
-ghost use Rattle.expr_forms.specs.Sums.{with_register, AreRegisters, onto_sum_by, onto_sum_link, HasParts, sum_from, IsSum};
+ghost use Rattle.expr_forms.specs.Joins.Elements.{sign_as};
+ghost use Rattle.expr_forms.specs.Joins.Links.{operator_as, link_as};
+ghost use Rattle.expr_forms.specs.Joins.LoneRegisters.{has_no_factors};
+ghost use Rattle.expr_forms.specs.Joins.Registers.{letter_of, register_as};
+ghost use Rattle.expr_forms.specs.Joins.Sums.{with_register, AreRegisters, onto_sum_by, onto_sum_link, HasParts, sum_from, IsSum};
 
 use crate::elements::{Element, Sign};
 use crate::expressions::Expr;

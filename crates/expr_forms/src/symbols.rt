@@ -3,7 +3,7 @@ ghost use Rattle.std.specs.Prelude.{◌≡◌, ◌≤◌, length, option_map, tr
 ghost use Rattle.std.specs.List.{list_all};
 ghost use Rattle.definitions.specs.Characters.{is_symbol_character};
 ghost use Rattle.definitions.specs.Symbols.{register_of, is_register, begins_symbol, is_symbol};
-ghost use Rattle.expr_forms.specs.Registers.{register_as};
+ghost use Rattle.expr_forms.specs.Joins.Registers.{register_as};
 
 use crate::characters::is_symbol_character;
 use crate::register::{Register, RegisterKind};

@@ -4,7 +4,7 @@ ghost use Rattle.std.specs.List.{list_any};
 ghost use Rattle.definitions.specs.Characters.{slash, same_text};
 ghost use Rattle.definitions.specs.Symbols.{is_linked_name, is_nominal, is_block_name};
 ghost use Rattle.definitions.specs.Operands.{is_common_name, common_operand, use_operand};
-ghost use Rattle.expr_forms.specs.Readings.{use_as, local_operand};
+ghost use Rattle.expr_forms.specs.Joins.Readings.{use_as, local_operand};
 
 use crate::characters::is_lone;
 use crate::names::Name;

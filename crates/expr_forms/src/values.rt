@@ -4,11 +4,11 @@ ghost use Rattle.std.specs.Prelude.{◌≡◌, ◌≤◌, ◌+◌, ℕ, List, le
 ghost use Rattle.definitions.specs.Expressions.{OperatorElement};
 ghost use Rattle.definitions.specs.Forms.{number_form, element_form, combined_with, plus_term, closed, value_of};
 ghost use Rattle.definitions.proofs.TermLaws.{JoinsFactors, JoinsTerms};
-ghost use Rattle.expr_forms.specs.Numbers.{number_as};
-ghost use Rattle.expr_forms.specs.Elements.{element_as};
-ghost use Rattle.expr_forms.specs.Links.{operator_as, link_as};
-ghost use Rattle.expr_forms.specs.Running.{bases_as, running_as, AreSmall};
-ghost use Rattle.expr_forms.specs.Walks.{walk_value, WalksOn, ForNext, ForNoRoom};
+ghost use Rattle.expr_forms.specs.Joins.Numbers.{number_as};
+ghost use Rattle.expr_forms.specs.Joins.Elements.{element_as};
+ghost use Rattle.expr_forms.specs.Joins.Links.{operator_as, link_as};
+ghost use Rattle.expr_forms.specs.Joins.Running.{bases_as, running_as, AreSmall};
+ghost use Rattle.expr_forms.specs.Joins.Walks.{walk_value, WalksOn, ForNext, ForNoRoom};
 
 use crate::arithmetic::combined;
 use crate::elements::Element;

@@ -6,12 +6,12 @@ use Rattle.definitions.specs.CentralTable as table
 use Rattle.definitions.specs.CentralTable.{SumRow}
 use Rattle.definitions.specs.Matching.{is_octal_digit, is_operation}
 use Rattle.operations.specs.declared.row.Row.{Row}
-use Rattle.operations.specs.SortedNames.{name_number, has_number}
+use Rattle.operations.specs.Joins.SortedNames.{name_number, has_number}
 use Rattle.operations.proofs.TableLaws.{same_filters, filter-map}
 use Rattle.operations.specs.declared.central.operand_table.TheConstants.{OPERAND_ROWS}
 use Rattle.operations.specs.declared.central.sum_table.TheConstants.{SUM_ROWS}
-use Rattle.operations.specs.OperationNames.{name_of, padded, rows_with, rows_named}
-use Rattle.operations.specs.CentralTables.{operand_row, sum_row, padded_row, padded_sum_row, operand_rows_of, sum_rows_of, is_some_of}
+use Rattle.operations.specs.Joins.OperationNames.{name_of, padded, rows_with, rows_named}
+use Rattle.operations.specs.Joins.CentralTables.{operand_row, sum_row, padded_row, padded_sum_row, operand_rows_of, sum_rows_of, is_some_of}
 use Rattle.operations.proofs.OperationLaws.{is_shaped, operation-two, operation-three, operation-other, operation-long, operation-short, operation-none}
 
 -- tests that agree on all elements keep the same

@@ -5,7 +5,7 @@ use Rattle.std.proofs.lemmas.Bool.{and_parts, ltb-true, lt-ltb}
 use Rattle.std.proofs.Math.Nat.{mul-le-mul_right, pow-le-pow_right, pow-suc}
 use Rattle.definitions.specs.Characters.{is_among}
 use Rattle.definitions.specs.Matching.{RegisterDigits, octal_number, code_digits, digit_in}
-use Rattle.operations.specs.LawfulCodes.{sevens, are_octal}
+use Rattle.operations.specs.Joins.LawfulCodes.{sevens, are_octal}
 
 -- so many octal digits are a number below this power
 octal_number-bound : (digits : List ℕ) (value : ℕ) → are_octal digits ≡ true → octal_number value digits + 1 ≤ (value + 1) * 8 ^ length digits

@@ -3,7 +3,7 @@ use Rattle.std.proofs.Common.{◌≡◌, ℕ, ◌+◌, ◌*◌, ◌^◌, ◌<◌
 use Rattle.std.proofs.Math.Nat.{pow-le-pow_right}
 use Rattle.definitions.specs.Characters.{is_among}
 use Rattle.definitions.specs.Matching.{RegisterDigits, digit_in, code_digits}
-use Rattle.operations.specs.CodeTexts.{shortened}
+use Rattle.operations.specs.Joins.CodeTexts.{shortened}
 
 -- a digit more
 code_digits-digit : (ijk : RegisterDigits) (c : ℕ) (cs : List ℕ) → is_among c (codes "Kn") ≡ false → code_digits ijk (c ∷ cs) ≡ digit_in ijk c ∷ code_digits ijk cs

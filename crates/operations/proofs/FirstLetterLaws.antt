@@ -5,8 +5,8 @@ use Rattle.std.proofs.lemmas.Bool.{and_parts, eqb-true}
 use Rattle.definitions.specs.CentralTable as table
 use Rattle.definitions.specs.CentralTable.{SumRow, sum_rows, central_rows}
 use Rattle.definitions.specs.Matching.{no_ijk, is_ijk, matched, is_operation}
-use Rattle.operations.specs.CentralTables.{operand_rows_of, sum_rows_of, padded_row, padded_sum_row}
-use Rattle.operations.specs.FirstLetters.{begins_sum}
+use Rattle.operations.specs.Joins.CentralTables.{operand_rows_of, sum_rows_of, padded_row, padded_sum_row}
+use Rattle.operations.specs.Joins.FirstLetters.{begins_sum}
 use Rattle.operations.proofs.OperationLaws.{is_found, is_operation-found, matched-letter, is_not}
 
 -- a name that begins with a letter which stands for no register, J or S exactly where that is asked

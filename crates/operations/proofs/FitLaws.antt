@@ -6,10 +6,10 @@ use Rattle.definitions.specs.Pieces.{Piece, pieces_of}
 use Rattle.definitions.specs.Expressions.{expression_of}
 use Rattle.definitions.specs.Matching.{OfK, OfN, Match, matched, plain_text, plain_field, with_field, subfield_matched, subfields_matched}
 use Rattle.definitions.specs.declared.number_base.NumberBase.{NumberBase}
-use Rattle.expr_forms.specs.Operands.{IsOperand}
+use Rattle.expr_forms.specs.Joins.Operands.{IsOperand}
 use Rattle.expr_forms.specs.declared.operands.Subfield.{Subfield}
 use Rattle.expr_forms.specs.declared.operands.Operand.TheVariants as operand
-use Rattle.operations.specs.PatternTexts.{is_text_pattern}
+use Rattle.operations.specs.Joins.PatternTexts.{is_text_pattern}
 use Rattle.operations.proofs.OperationLaws.{is_not}
 use Rattle.operations.proofs.PatternTextLaws.{matched-text}
 

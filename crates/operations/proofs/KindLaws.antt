@@ -7,7 +7,7 @@ use Rattle.definitions.specs.Operations.{pseudo_instructions, pseudo_among, is_n
 use Rattle.definitions.specs.DeckKinds.{kind_made, kind_of}
 use Rattle.definitions.specs.declared.deck_kind.DeckKind.{DeckKind}
 use Rattle.definitions.specs.declared.deck_kind.DeckKind.TheVariants.{Rel}
-use Rattle.operations.specs.KindsFound.{or_kind, kind_found}
+use Rattle.operations.specs.Joins.KindsFound.{or_kind, kind_found}
 
 -- the kind that is found, or else that of later statements
 abbrev behind : Option DeckKind → List Fields → DeckKind

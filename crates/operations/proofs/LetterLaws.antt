@@ -9,7 +9,7 @@ use Rattle.std.proofs.lemmas.Grind.{flat_map-append}
 use Rattle.definitions.specs.Characters.{is_among}
 use Rattle.definitions.specs.Letters.{letter_text, texts, in_order}
 use Rattle.definitions.specs.declared.letter.Letter.{Letter}
-use Rattle.operations.specs.LetterBits.{is_flagged, flagged}
+use Rattle.operations.specs.Joins.LetterBits.{is_flagged, flagged}
 
 or_true : (b : Bool) → (b || true) ≡ true
 or_true true = refl

@@ -7,8 +7,8 @@ use Rattle.definitions.specs.Characters.{is_digit, equals}
 use Rattle.definitions.specs.CountedItems.{CountedSpan, counted_item_at}
 use Rattle.definitions.specs.Pieces.{Mark, Comma, Plus, Minus, Star, Slash, Equals, AtStart, AtEquals, Inside, Begun, ByMark, ByCountedItem, Piece, IsMark, IsCountedItem, Plain, mark_of, begun_by, begun_by_counted_item, spot_behind, left_of, onto_plain, onto_pieces, pieces_at, pieces_of}
 use Rattle.definitions.specs.Matching.{RegisterDigits, is_ijk, with_ijk, is_octal_digit, matched, plain_text}
-use Rattle.operations.specs.RegisterPieces.{mark_character, is_of_run}
-use Rattle.operations.specs.PatternTexts.{begins_apart, is_apart, is_text_pattern}
+use Rattle.operations.specs.Joins.RegisterPieces.{mark_character, is_of_run}
+use Rattle.operations.specs.Joins.PatternTexts.{begins_apart, is_apart, is_text_pattern}
 use Rattle.operations.proofs.OperationLaws.{matched-letter, is_not}
 use Rattle.operations.proofs.RegisterPieceLaws.{plain_text-mark, no_digit}
 

@@ -10,12 +10,12 @@ use Rattle.definitions.specs.Operands.{PeripheralOperand, just_one, one_or_two}
 use Rattle.definitions.specs.PeripheralTable.{PeripheralRow, peripheral_rows, peripheral_row, row_among}
 use Rattle.definitions.proofs.TextLaws.{same_text-true}
 use Rattle.operations.specs.declared.row.Row.{Row}
-use Rattle.operations.specs.SortedNames.{name_number, has_number}
+use Rattle.operations.specs.Joins.SortedNames.{name_number, has_number}
 use Rattle.operations.proofs.TableLaws.{same_filters, filter-map, eqb-name_number}
 use Rattle.operations.specs.declared.peripheral.table.TheConstants.{ROWS}
 use Rattle.operations.specs.declared.peripheral.code.Code.{Code}
-use Rattle.operations.specs.PeripheralCodes.{row_as, found_row}
-use Rattle.operations.specs.PeripheralTables.{rows_as, rows_with, first_code}
+use Rattle.operations.specs.Joins.PeripheralCodes.{row_as, found_row}
+use Rattle.operations.specs.Joins.PeripheralTables.{rows_as, rows_with, first_code}
 
 abbrev number_of : PeripheralRow → ℕ
 number_of row = name_number row.operation

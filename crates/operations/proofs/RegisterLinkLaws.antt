@@ -9,8 +9,8 @@ use Rattle.definitions.specs.Symbols.{Register, register_of, is_symbol, Number, 
 use Rattle.definitions.specs.Expressions.{Sign, NoSign, PlusSign, MinusSign, OfCountedItem, Element, ANumber, ACountedItem, ASymbol, ARegister, LocationCounter, OriginCounter, ALiteral, Operator, Times, Divide, Add, Subtract, OperatorElement, AnOperator, ElementOf, onto_pairs, pairs_of, element_of_number, element_of_name, element_of_text, counter_of, literal_of}
 use Rattle.definitions.specs.Matching.{RegisterDigits, is_ijk, with_ijk, is_octal_digit, matched, plain_text}
 use Rattle.definitions.specs.declared.number_base.NumberBase.{NumberBase}
-use Rattle.operations.specs.RegisterPieces.{pieces_fit, is_of_run, begins_with_run, is_run, is_sum_of_registers, are_of_field, is_letter_of, is_operator, is_behind_register}
-use Rattle.operations.specs.RegisterLinks.{operator_character, register_digit, with_digit, links_fit, read_links_fit}
+use Rattle.operations.specs.Joins.RegisterPieces.{pieces_fit, is_of_run, begins_with_run, is_run, is_sum_of_registers, are_of_field, is_letter_of, is_operator, is_behind_register}
+use Rattle.operations.specs.Joins.RegisterLinks.{operator_character, register_digit, with_digit, links_fit, read_links_fit}
 use Rattle.operations.proofs.OperationLaws.{is_not}
 use Rattle.operations.proofs.RegisterPieceLaws.{IsLetter, letter_of, letter_no_mark, cond_same, registers_fit, pattern_fits}
 

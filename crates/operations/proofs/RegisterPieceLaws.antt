@@ -9,8 +9,8 @@ use Rattle.definitions.specs.Pieces.{Mark, Comma, Plus, Minus, Star, Slash, Equa
 use Rattle.definitions.specs.Matching.{RegisterDigits, is_ijk, with_ijk, is_octal_digit, matched, plain_text}
 use Rattle.operations.specs.declared.central.patterns.OperandPattern.{OperandPattern}
 use Rattle.operations.specs.declared.central.patterns.OperandPattern.TheVariants as pattern
-use Rattle.operations.specs.CodeTexts.{operand_text}
-use Rattle.operations.specs.RegisterPieces.{is_pattern_part, mark_character, pieces_fit, is_of_run, begins_with_run, is_run, are_of_field, is_letter_of, is_operator, is_behind_register, is_sum_of_registers, is_register_pattern}
+use Rattle.operations.specs.Joins.CodeTexts.{operand_text}
+use Rattle.operations.specs.Joins.RegisterPieces.{is_pattern_part, mark_character, pieces_fit, is_of_run, begins_with_run, is_run, are_of_field, is_letter_of, is_operator, is_behind_register, is_sum_of_registers, is_register_pattern}
 use Rattle.operations.proofs.OperationLaws.{matched-letter, is_not}
 
 -- a place of a digit takes an octal digit

@@ -12,8 +12,8 @@ use Rattle.operations.specs.declared.row.Row.{Row}
 use Rattle.operations.specs.declared.central.code.Code.{Code}
 use Rattle.operations.specs.declared.central.code.OperandForm.{OperandForm}
 use Rattle.operations.specs.declared.central.code.SumForm.{SumForm}
-use Rattle.operations.specs.CentralTables.{operand_row, code_row, sum_row, padded_row, padded_sum_row, ignoring_rows_of, operand_rows_of, sum_rows_of}
-use Rattle.operations.specs.Fits.{named_digits, row_fit_with, sum_fit_with}
+use Rattle.operations.specs.Joins.CentralTables.{operand_row, code_row, sum_row, padded_row, padded_sum_row, ignoring_rows_of, operand_rows_of, sum_rows_of}
+use Rattle.operations.specs.Joins.Fits.{named_digits, row_fit_with, sum_fit_with}
 use Rattle.operations.proofs.OperationLaws.{is_shaped, is_found, is_operation-found, no_more, matched-letter, is_not, operation-none, operation-short}
 
 both_ways : true ≡ false → ⊥

@@ -9,10 +9,10 @@ use Rattle.definitions.specs.Operands as operand
 use Rattle.definitions.specs.Operands.{plain_of, by_form, peripheral_operand}
 use Rattle.definitions.specs.declared.number_base.NumberBase.{NumberBase}
 use Rattle.expr_forms.specs.declared.shapes.Shape.{Shape}
-use Rattle.expr_forms.specs.Shapes.{HasForm}
+use Rattle.expr_forms.specs.Joins.Shapes.{HasForm}
 use Rattle.operations.specs.declared.peripheral.code.Code.{Code}
-use Rattle.operations.specs.PeripheralCodes.{row_as, form_as, found_row}
-use Rattle.operations.specs.PeripheralShapes.{IsFieldOf, IsFound, is_ignored, is_ignoring}
+use Rattle.operations.specs.Joins.PeripheralCodes.{row_as, form_as, found_row}
+use Rattle.operations.specs.Joins.PeripheralShapes.{IsFieldOf, IsFound, is_ignored, is_ignoring}
 
 -- the digits of a row, and its field
 is_found-operand : (shape : Shape) (row : PeripheralRow) (found : operand.Operand) → shape.digits ≡ row.code → shape.digit_count ≡ 2 →

@@ -7,7 +7,7 @@ use Rattle.std.proofs.lemmas.List.{take-take}
 use Rattle.std.proofs.lemmas.List.Folds.{length-prefix_len}
 use Rattle.std.proofs.lemmas.List.Sums.{prefix_len_passes}
 use Rattle.operations.specs.declared.row.Row.{Row}
-use Rattle.operations.specs.SortedNames.{name_number, has_number, is_below, is_sorted_from, has_at_most}
+use Rattle.operations.specs.Joins.SortedNames.{name_number, has_number, is_below, is_sorted_from, has_at_most}
 
 abbrev pub number_in : {F : Type 0} → Row F → ℕ
 number_in row = name_number row.name

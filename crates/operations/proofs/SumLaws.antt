@@ -8,17 +8,17 @@ use Rattle.definitions.specs.Pieces.{Piece}
 use Rattle.definitions.specs.CentralTable as table
 use Rattle.definitions.specs.declared.number_base.NumberBase.{NumberBase}
 use Rattle.operations.specs.declared.row.Row.{Row}
-use Rattle.expr_forms.specs.Operands.{IsOperand}
+use Rattle.expr_forms.specs.Joins.Operands.{IsOperand}
 use Rattle.expr_forms.specs.declared.operands.Subfield.{Subfield}
 use Rattle.expr_forms.specs.declared.operands.Operand.TheVariants as operand
 use Rattle.operations.specs.declared.central.code.SumForm.{SumForm}
-use Rattle.operations.specs.CentralTables.{sum_row, sum_rows_of, is_some_of}
-use Rattle.operations.specs.Fits.{named_digits}
+use Rattle.operations.specs.Joins.CentralTables.{sum_row, sum_rows_of, is_some_of}
+use Rattle.operations.specs.Joins.Fits.{named_digits}
 use Rattle.operations.proofs.RowLaws.{sum-fits}
 use Rattle.operations.specs.declared.central.patterns.SumPattern.{SumPattern}
 use Rattle.operations.specs.declared.central.patterns.SumPattern.TheVariants as registers
-use Rattle.operations.specs.CodeTexts.{registers_text}
-use Rattle.operations.specs.Fits.{form_fit}
+use Rattle.operations.specs.Joins.CodeTexts.{registers_text}
+use Rattle.operations.specs.Joins.Fits.{form_fit}
 use Rattle.operations.proofs.RegisterPieceLaws.{cond_same}
 
 -- a text that is longer than a pattern does not fit it

@@ -4,7 +4,7 @@ use Rattle.std.specs.List.{list_all, list_any}
 use Rattle.std.proofs.lemmas.Bool.{and_parts}
 use Rattle.std.proofs.lemmas.Bool.Decides.{eqb_tells}
 use Rattle.definitions.specs.Characters.{same_text}
-use Rattle.operations.specs.SortedNames.{name_number}
+use Rattle.operations.specs.Joins.SortedNames.{name_number}
 
 -- whether a number is among numbers
 abbrev pub is_in : List ℕ → ℕ → Bool

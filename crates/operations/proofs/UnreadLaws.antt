@@ -11,9 +11,9 @@ use Rattle.definitions.specs.Expressions.{Sign, NoSign, MinusSign, Add, Subtract
 use Rattle.definitions.specs.CentralTable.{Row, central_rows, ignoring_rows, sum_rows}
 use Rattle.definitions.specs.Matching.{RegisterDigits, no_ijk, is_octal_digit, with_ijk, matched, is_operation, OfK, OfN, Match, plain_text, plain_field, with_field, subfield_matched, subfields_matched, with_registers, matched_instruction, Instruction, ignoring_fit, row_fit, sum_fit, sum_read, single, sum_rows_for, first_fit, central_of}
 use Rattle.definitions.specs.declared.number_base.NumberBase.{NumberBase}
-use Rattle.expr_forms.specs.Operands.{is_subfield, is_operand}
-use Rattle.operations.specs.RegisterPieces.{pieces_fit, is_of_run, begins_with_run, is_run, are_of_field, is_sum_of_registers, is_register_pattern, is_pattern_part}
-use Rattle.operations.specs.RegisterLinks.{read_links_fit}
+use Rattle.expr_forms.specs.Joins.Operands.{is_subfield, is_operand}
+use Rattle.operations.specs.Joins.RegisterPieces.{pieces_fit, is_of_run, begins_with_run, is_run, are_of_field, is_sum_of_registers, is_register_pattern, is_pattern_part}
+use Rattle.operations.specs.Joins.RegisterLinks.{read_links_fit}
 use Rattle.operations.proofs.OperationLaws.{is_not}
 use Rattle.operations.proofs.RegisterPieceLaws.{pattern_fits}
 use Rattle.operations.proofs.RegisterLinkLaws.{registers_fit-links, minus_fit-links}

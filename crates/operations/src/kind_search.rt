@@ -3,8 +3,8 @@
 ghost use Rattle.std.specs.Prelude.{◌≡◌, ◌∷◌, [], List, reverse, is_some, None, option_map};
 ghost use Rattle.definitions.specs.Fields.{Fields};
 ghost use Rattle.definitions.specs.DeckKinds.{kind_of};
-ghost use Rattle.operations.specs.KindsFound.{kind_made_by, kind_found};
-ghost use Rattle.operations.specs.OperationsAs.{operation_as};
+ghost use Rattle.operations.specs.Joins.KindsFound.{kind_made_by, kind_found};
+ghost use Rattle.operations.specs.Joins.OperationsAs.{operation_as};
 
 use crate::operation::Operation;
 use crate::pseudo_table::pseudo_instruction;

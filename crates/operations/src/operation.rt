@@ -2,7 +2,7 @@
 //! pseudo-instructions).
 ghost use Rattle.std.specs.Prelude.{◌≡◌, Some};
 ghost use Rattle.definitions.specs.Operations.{is_neutral, is_instruction, is_data, is_reserving, is_machine, has_place, is_labelled};
-ghost use Rattle.operations.specs.OperationsAs.{operation_as};
+ghost use Rattle.operations.specs.Joins.OperationsAs.{operation_as};
 
 use definitions::DeckKind;
 

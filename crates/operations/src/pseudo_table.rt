@@ -1,7 +1,7 @@
 //! The pseudo-instructions by name (COMPASS 60492600, pseudo-instructions).
 ghost use Rattle.std.specs.Prelude.{◌≡◌, option_map};
 ghost use Rattle.definitions.specs.Operations.{pseudo_among, pseudo_instructions};
-ghost use Rattle.operations.specs.OperationsAs.{operation_as};
+ghost use Rattle.operations.specs.Joins.OperationsAs.{operation_as};
 
 use crate::operation::Operation;
 use definitions::DeckKind;

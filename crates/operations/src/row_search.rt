@@ -2,7 +2,7 @@
 ghost use Rattle.std.specs.Prelude.{◌≡◌, ◌<◌, ◌≤◌, ◌^◌, IsTrue, filter, length};
 ghost use Rattle.std.specs.Bool.{OnTrue};
 ghost use Rattle.std.specs.List.{prefix_len};
-ghost use Rattle.operations.specs.SortedNames.{has_number, name_number, is_below, is_sorted, has_at_most};
+ghost use Rattle.operations.specs.Joins.SortedNames.{has_number, name_number, is_below, is_sorted, has_at_most};
 
 use crate::row::Row;
 

@@ -19,12 +19,12 @@ use Rattle.definitions.specs.Settled.{Settled}
 use Rattle.definitions.specs.Settling.{settled_all}
 use Rattle.definitions.specs.StatementItems.{Context}
 use Rattle.definitions.specs.Statements.{Statement, statements_of}
-use Rattle.deck_objects.specs.CodedLines.{AreShown}
-use Rattle.deck_objects.specs.PartsOf.{ArePartsOf}
+use Rattle.deck_objects.specs.Joins.CodedLines.{AreShown}
+use Rattle.deck_objects.specs.Joins.PartsOf.{ArePartsOf}
 use Rattle.deck_objects.specs.declared.lines.Line.{Line}
 use Rattle.deck_objects.specs.declared.object.ObjectParts.{ObjectParts}
 use Rattle.session_line.specs.Errors.{Flag, deck_errors, errors_where, flag_of, flags_of, flag_text, shown_flag, shows_deck}
-use Rattle.session_line.specs.FlagWalks.{flags_in, flags_text}
+use Rattle.session_line.specs.Joins.FlagWalks.{flags_in, flags_text}
 use Rattle.session_line.specs.Replies.{line_of, text_of_lines}
 use Rattle.session_line.specs.declared.errors.ErrorsView.{ErrorsView}
 

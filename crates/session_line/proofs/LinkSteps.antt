@@ -5,7 +5,7 @@ use Rattle.std.proofs.lemmas.Bool.{false≢true}
 use Rattle.std.proofs.lemmas.List.{length-drop}
 use Rattle.definitions.specs.Characters.{line_feed}
 use Rattle.session_line.specs.Errors.{lines_in, onto_line, shows_line}
-use Rattle.session_line.specs.FlagWalks.{line_len, shown_text}
+use Rattle.session_line.specs.Joins.FlagWalks.{line_len, shown_text}
 use Rattle.session_line.specs.Replies.{line_of, text_of_lines}
 use Rattle.session_line.specs.declared.errors.ErrorsView.{ErrorsView}
 

@@ -10,15 +10,15 @@ use Rattle.desk_core.specs.Carrying.{carried_since, accept_carried, edit_since_o
 use Rattle.desk_core.specs.Undoing.{backs_at, against_change, undo_where}
 use Rattle.cards.specs.declared.carrying.Touched.{Touched}
 use Rattle.desk_core.specs.Earlier.{against_since, edits_behind, changes_of, cards_at_of}
-use Rattle.desk_core.specs.Edits.{Edit}
-use Rattle.desk_core.specs.Language.{Card}
+use Rattle.desk_core.specs.Joins.Edits.{Edit}
+use Rattle.desk_core.specs.Joins.Language.{Card}
 use Rattle.desk_core.specs.Steps.{Steps, answer}
 use Rattle.desk_core.specs.declared.calls.Call.{Call}
 use Rattle.desk_core.specs.declared.calls.Call.TheVariants as call
 use Rattle.desk_core.specs.declared.replies.Reply.{Reply}
 use Rattle.desk_core.specs.declared.replies.Reply.TheVariants.{ChangesAre, CardsBefore, Refused}
 use Rattle.desk_core.specs.declared.replies.Refusal.{Refusal}
-use Rattle.session_line.specs.Kinds.{is_session_call, is_change, is_carried, is_changes, is_cards, is_cards_before, is_publication, fits_call}
+use Rattle.session_line.specs.Joins.Kinds.{is_session_call, is_change, is_carried, is_changes, is_cards, is_cards_before, is_publication, fits_call}
 
 -- a change is accepted or refused
 unless-change : (cause : Option Refusal) (desk changed : Desk) → is_change (unless cause desk (accepted changed)).reply ≡ true

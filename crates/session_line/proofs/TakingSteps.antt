@@ -14,7 +14,7 @@ use Rattle.session_line.specs.declared.reading.Stop.{Stop}
 use Rattle.session_line.specs.declared.tasks.Task.{Task}
 use Rattle.session_line.specs.Tasks.{item_in_front, items_from, lines_due, task_by}
 use Rattle.session_line.specs.Taking.{TakesLines, BreaksOff, Stops, IsTaskFor, TakesTask}
-use Rattle.session_line.specs.LineItems.{IsRead, item_behind, TakesItems, StopsWithin}
+use Rattle.session_line.specs.Joins.LineItems.{IsRead, item_behind, TakesItems, StopsWithin}
 
 -- nothing is taken
 pub TakesLines-none : (a : Option (List ℕ)) → TakesLines a a []

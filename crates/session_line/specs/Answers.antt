@@ -3,7 +3,7 @@ use Rattle.std.specs.Prelude.{ℕ, ◌≡◌, ◌+◌, ◌≤◌, ◌⊎◌, ⊤
 use Rattle.definitions.specs.Cards.{Card}
 use Rattle.definitions.specs.DeckInput.{Deck}
 use Rattle.deck_linker.specs.Publishing.{listing_named, map_of}
-use Rattle.desk_core.specs.Language.{listing_of, image_of}
+use Rattle.desk_core.specs.Joins.Language.{listing_of, image_of}
 use Rattle.desk_core.specs.Desks.{Publication}
 use Rattle.desk_core.specs.declared.replies.Reply.{Reply}
 use Rattle.desk_core.specs.declared.replies.Row.{Row}

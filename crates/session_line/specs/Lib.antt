@@ -11,12 +11,9 @@ pub mod Refusals
 pub mod FileLines
 pub mod Greetings
 pub mod Replies
-pub mod FlagWalks
-pub mod ChangeWalks
 pub mod Tasks
 pub mod Rights
 pub mod Taking
-pub mod LineItems
 pub mod Reasons
 pub mod Answers
 pub mod FileTasks
@@ -25,4 +22,5 @@ pub mod SavingDecks
 pub mod SavingAll
 pub mod Executing
 pub mod Serving
-pub mod Kinds
+-- What no promise leads to.
+pub mod Joins

@@ -1,8 +1,8 @@
 //! The changes of a deck, as bytes to a writer: a line each, and one for each of their edits.
 ghost use Rattle.std.specs.Prelude.{◌≡◌, ◌≤◌, ◌+◌, ◌*◌, ◌++◌, length, IfErr, IfOk};
-ghost use Rattle.text_ports.specs.Sending.{Sends, count_after_sending};
+ghost use Rattle.text_ports.specs.Joins.Sending.{Sends, count_after_sending};
 ghost use Rattle.session_line.specs.ChangeLines.{change_line, change_lines};
-ghost use Rattle.session_line.specs.ChangeWalks.{edits_text, lines_of_one};
+ghost use Rattle.session_line.specs.Joins.ChangeWalks.{edits_text, lines_of_one};
 ghost use Rattle.session_line.specs.Replies.{line_of, text_of_lines};
 
 use crate::change_lines::{change_line, edit_line, split_change};

@@ -4,7 +4,7 @@ ghost use Rattle.desk_core.specs.Desks.{Desk};
 ghost use Rattle.desk_core.specs.Steps.{Steps};
 ghost use Rattle.desk_core.specs.declared.calls.Call.{Call};
 ghost use Rattle.desk_core.specs.declared.replies.Reply.{Reply};
-ghost use Rattle.session_line.specs.Kinds.{fits_call, is_session_call};
+ghost use Rattle.session_line.specs.Joins.Kinds.{fits_call, is_session_call};
 
 /// A desk answers each call that a session makes by the reply that the call asks for, a change, cards, a
 /// publication or a status, or by a refusal; and never by another, by a job or by the end of one.

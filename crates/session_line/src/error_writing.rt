@@ -1,9 +1,9 @@
 //! What is flagged in a publication, as bytes to a writer: a line each.
 ghost use Rattle.std.specs.Prelude.{◌≡◌, ◌≤◌, ◌<◌, ◌+◌, ◌*◌, ◌^◌, ◌++◌, All, codes, filter, flat_map, length, IfErr, IfOk};
 ghost use Rattle.deck_objects.specs.declared.lines.Line.{Line};
-ghost use Rattle.text_ports.specs.Sending.{Sends, count_after_sending};
+ghost use Rattle.text_ports.specs.Joins.Sending.{Sends, count_after_sending};
 ghost use Rattle.session_line.specs.Errors.{error_lines, errors_where, flag_of, flag_text, lines_in, shows_line};
-ghost use Rattle.session_line.specs.FlagWalks.{flags_in, flags_text, shown_text};
+ghost use Rattle.session_line.specs.Joins.FlagWalks.{flags_in, flags_text, shown_text};
 ghost use Rattle.session_line.specs.Replies.{line_of, text_of_lines};
 
 use crate::errors::{ErrorsView, shows_deck, shows_line, split_cards, split_line};

@@ -2,7 +2,7 @@
 ghost use Rattle.std.specs.Prelude.{◌≡◌, ◌≤◌, ◌+◌, ◌*◌, ◌∷◌, cond, filter, flat_map, length, take, drop};
 ghost use Rattle.definitions.specs.DeckInput.{Deck};
 ghost use Rattle.session_line.specs.Errors.{deck_errors, error_lines, errors_where, flag_of, has_deck, is_link, lines_in, link_deck, shows_any, shows_deck, shows_line};
-ghost use Rattle.session_line.specs.FlagWalks.{flags_in, line_len};
+ghost use Rattle.session_line.specs.Joins.FlagWalks.{flags_in, line_len};
 
 use crate::views::begins_with;
 use crate::words::{behind_blank, behind_word, from_blank, to_blank};

@@ -1,7 +1,7 @@
 //! What the lines behind a first one are, line by line: the edits of a batch, or the cards of a put.
 ghost use Rattle.std.specs.Prelude.{◌≡◌, List, [], ◌∷◌, ◌++◌, Result, Ok, length};
 ghost use Rattle.session_line.specs.declared.refusals.Refusal.{Refusal as Reason};
-ghost use Rattle.session_line.specs.LineItems.{IsRead, item_behind};
+ghost use Rattle.session_line.specs.Joins.LineItems.{IsRead, item_behind};
 
 use crate::edits::read_put_line;
 use crate::{Refusal, read_batch_line};

@@ -1,6 +1,6 @@
 //! Rows of replies as bytes to a writer, a line each.
 ghost use Rattle.std.specs.Prelude.{◌≡◌, ◌≤◌, ◌+◌, ◌*◌, ◌++◌, length, flat_map, IfErr};
-ghost use Rattle.text_ports.specs.Sending.{Sends, count_after_sending};
+ghost use Rattle.text_ports.specs.Joins.Sending.{Sends, count_after_sending};
 
 use crate::reply_line::ReplyLine;
 use std::io::Write;

@@ -3,7 +3,7 @@ ghost use Rattle.std.specs.Prelude.{◌≡◌, IfErr, IfOk, OnOk};
 ghost use Rattle.text_ports.specs.Lines.{ReadsLine};
 ghost use Rattle.text_ports.specs.declared.lines.LineIs.TheVariants.{Line};
 ghost use Rattle.session_line.specs.Taking.{BreaksOff, Stops, TakesTask, count_after_reading};
-ghost use Rattle.session_line.specs.LineItems.{StopsWithin, TakesItems};
+ghost use Rattle.session_line.specs.Joins.LineItems.{StopsWithin, TakesItems};
 
 use crate::line_items::{ItemsRead, LineItem};
 use crate::read_command;

@@ -2,7 +2,7 @@
 ghost use Rattle.std.specs.Prelude.{◌≡◌, ◌≤◌, ◌*◌, ◌++◌, length, IfErr};
 ghost use Rattle.session_line.specs.Greetings.{service_text};
 ghost use Rattle.session_line.specs.Replies.{line_of, sessions_text};
-ghost use Rattle.text_ports.specs.Sending.{Sends, count_after_sending};
+ghost use Rattle.text_ports.specs.Joins.Sending.{Sends, count_after_sending};
 
 use crate::greetings::Connected;
 use crate::line_writing::{ReplyRow, write_behind};

@@ -5,7 +5,7 @@ ghost use Rattle.cards.specs.declared.edits.Edit.{Edit as CardEdit};
 ghost use Rattle.session_line.specs.declared.refusals.Refusal.{Refusal as Reason};
 ghost use Rattle.session_line.specs.Tasks.{batch_call, batch_named, cards_of, edit_call, edits_of, is_put, lines_behind, lines_due, nobody, put_named, task_by, task_of_command};
 ghost use Rattle.session_line.specs.Taking.{IsTaskFor};
-ghost use Rattle.session_line.specs.LineItems.{IsRead, is_lacking};
+ghost use Rattle.session_line.specs.Joins.LineItems.{IsRead, is_lacking};
 
 use crate::errors::ErrorsView;
 use crate::line_items::ItemsRead;

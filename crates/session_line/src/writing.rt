@@ -2,7 +2,7 @@
 ghost use Rattle.std.specs.Prelude.{◌≡◌, ◌≤◌, ◌<◌, ◌+◌, ◌*◌, ◌^◌, ◌++◌, length, flat_map, IfOk, IfErr};
 ghost use Rattle.session_line.specs.Replies.{line_of, published_text, numbers_text, body_text, text_of_reply, IsWithinLimits};
 ghost use Rattle.session_line.specs.Views.{numbers_of};
-ghost use Rattle.text_ports.specs.Sending.{Sends, count_after_sending};
+ghost use Rattle.text_ports.specs.Joins.Sending.{Sends, count_after_sending};
 
 use crate::change_writing::write_changes;
 use crate::error_writing::write_errors;

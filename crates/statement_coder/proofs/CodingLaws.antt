@@ -11,12 +11,12 @@ use Rattle.definitions.specs.StatementItems.{Context}
 use Rattle.definitions.specs.Statements.{Statement}
 use Rattle.definitions.specs.declared.deck_kind.DeckKind.{DeckKind}
 use Rattle.definitions.specs.declared.letter.Letter.{Letter}
-use Rattle.statement_coder.specs.Items.{AreSeen}
-use Rattle.operations.specs.OperationsAs.{operation_as}
-use Rattle.statement_coder.specs.ReadOperands.{IsReadOperand}
-use Rattle.statement_coder.specs.Readings.{IsReading, IsWhole}
-use Rattle.statement_coder.specs.Sizings.{IsCodable}
-use Rattle.statement_coder.specs.StatementsRead.{IsRead}
+use Rattle.statement_coder.specs.Joins.Items.{AreSeen}
+use Rattle.operations.specs.Joins.OperationsAs.{operation_as}
+use Rattle.statement_coder.specs.Joins.ReadOperands.{IsReadOperand}
+use Rattle.statement_coder.specs.Joins.Readings.{IsReading, IsWhole}
+use Rattle.statement_coder.specs.Joins.Sizings.{IsCodable}
+use Rattle.statement_coder.specs.Joins.StatementsRead.{IsRead}
 use Rattle.statement_coder.specs.declared.read_operands.ReadOperand as operands
 use Rattle.statement_coder.specs.declared.readings.Reading.{Reading}
 use Rattle.statement_coder.specs.declared.readings.Reading.TheVariants as reading

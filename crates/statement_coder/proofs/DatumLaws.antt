@@ -13,9 +13,9 @@ use Rattle.definitions.specs.Words.{cut}
 use Rattle.definitions.specs.declared.deck_kind.DeckKind.{DeckKind}
 use Rattle.definitions.specs.declared.deck_kind.DeckKind.TheVariants.{Rel, Abs, Periph}
 use Rattle.definitions.proofs.LiteralLaws.{characters_number-below}
-use Rattle.expr_forms.specs.CodedItems.{in_places}
+use Rattle.expr_forms.specs.Joins.CodedItems.{in_places}
 use Rattle.expr_forms.proofs.CodedLaws.{counted_item_bits-whole, length-in_places, word_bits-characters, words_needed-room}
-use Rattle.statement_coder.specs.WordItems.{known_words, in_words}
+use Rattle.statement_coder.specs.Joins.WordItems.{known_words, in_words}
 use Rattle.statement_coder.proofs.WidthLaws.{width-number_item, width-expression_item}
 use Rattle.statement_coder.proofs.WordItemLaws.{in_words-narrow, in_words-known}
 

@@ -8,7 +8,7 @@ use Rattle.definitions.specs.Settled.{Definition, defined_in}
 use Rattle.definitions.specs.Settling.{View, external, is_known, letter_where, external_letters}
 use Rattle.definitions.specs.declared.letter.Letter.{Letter}
 use Rattle.definitions.specs.declared.letter.Letter.TheVariants as letter
-use Rattle.statement_coder.specs.Externals.{has_unlawful, is_listed, has_known}
+use Rattle.statement_coder.specs.Joins.Externals.{has_unlawful, is_listed, has_known}
 
 -- whether one of these names is defined so far
 abbrev any_defined : List (Option (List ℕ)) → List Definition → Bool

@@ -11,7 +11,7 @@ use Rattle.definitions.specs.StatementItems.{Item, Content, Known, Linked, known
 use Rattle.definitions.specs.Words.{Linking, content_bits, width_of, joined, cut}
 use Rattle.definitions.specs.declared.deck_kind.DeckKind.{DeckKind}
 use Rattle.definitions.specs.declared.letter.Letter.{Letter}
-use Rattle.statement_coder.specs.WordItems.{is_several, known_words, words_of, in_words, listed_fields}
+use Rattle.statement_coder.specs.Joins.WordItems.{is_several, known_words, words_of, in_words, listed_fields}
 use Rattle.statement_coder.proofs.ListLaws.{length-cut}
 
 pub width-append : (xs ys : List Item) → width_of (xs ++ ys) ≡ width_of xs + width_of ys

@@ -8,7 +8,7 @@ use Rattle.definitions.specs.Operands.{Datum, data_word, number_word, all_words,
 use Rattle.definitions.specs.Pieces.{Piece, Plain, IsMark, IsCountedItem, Plus, Minus}
 use Rattle.definitions.specs.Symbols.{Number, number_read, is_linked_name}
 use Rattle.definitions.specs.declared.number_base.NumberBase.{NumberBase}
-use Rattle.statement_coder.specs.Readings.{IsLawfulName}
+use Rattle.statement_coder.specs.Joins.Readings.{IsLawfulName}
 
 -- the literals of what may be there
 abbrev literals_of : Option Datum → List Literal

@@ -3,8 +3,8 @@ use Rattle.std.proofs.Common.{◌≡◌, ℕ, zero, suc, ◌+◌, ◌/◌, ◌%�
 use Rattle.std.proofs.lemmas.List.{take_all, take-take, length-take, map_more}
 use Rattle.definitions.specs.StatementItems.{Item, known}
 use Rattle.definitions.specs.Words.{cut}
-use Rattle.statement_coder.specs.WordItems.{known_words}
-use Rattle.statement_coder.specs.CodedItems.{IsKept}
+use Rattle.statement_coder.specs.Joins.WordItems.{known_words}
+use Rattle.statement_coder.specs.Joins.CodedItems.{IsKept}
 use Rattle.statement_coder.specs.declared.items.Item as code
 
 -- a list keeps itself

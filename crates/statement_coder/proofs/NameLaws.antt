@@ -2,8 +2,8 @@
 use Rattle.std.proofs.Common.{◌≡◌, ◌∙◌, ℕ, List, [], ◌++◌, Option, Some, None, refl, ap, sym, append_assoc, append-nil}
 use Rattle.definitions.specs.Letters.{in_order}
 use Rattle.definitions.specs.declared.letter.Letter.{Letter}
-use Rattle.statement_coder.specs.Items as fields
-use Rattle.statement_coder.specs.LettersAs as told
+use Rattle.statement_coder.specs.Joins.Items as fields
+use Rattle.statement_coder.specs.Joins.LettersAs as told
 
 -- the text of those so far; with those that are left they are all
 pub record Gathered (text : List ℕ) (left all : List Letter) : Type 0 where

@@ -6,8 +6,8 @@ use Rattle.definitions.specs.Expressions.{Expression, expression_of, is_plain}
 use Rattle.definitions.specs.PeripheralTable.{PeripheralForm, Ignored, Short, ShortJump, Shift, Wide, Long, PeripheralRow}
 use Rattle.definitions.specs.Operands.{BadOperand, plain_expression, plain_of, one_or_two, just_one, by_form, peripheral_operand}
 use Rattle.definitions.specs.declared.number_base.NumberBase.{NumberBase}
-use Rattle.expr_forms.specs.Operands.{is_subfield, is_operand}
-use Rattle.operations.specs.PeripheralShapes.{is_ignored, is_ignoring}
+use Rattle.expr_forms.specs.Joins.Operands.{is_subfield, is_operand}
+use Rattle.operations.specs.Joins.PeripheralShapes.{is_ignored, is_ignoring}
 
 -- more than one value
 just_one-two : (row : PeripheralRow) (x y : Option Expression) (rest : List (Option Expression)) → just_one row (x ∷ y ∷ rest) ≡ BadOperand

@@ -8,9 +8,9 @@ use Rattle.definitions.specs.Settled.{ReadStatement, read_of}
 use Rattle.definitions.specs.Settling.{View, Seen, settled_from}
 use Rattle.definitions.specs.declared.deck_kind.DeckKind.{DeckKind}
 use Rattle.definitions.specs.declared.number_base.NumberBase.{NumberBase}
-use Rattle.operations.specs.OperationsAs.{operation_as}
-use Rattle.statement_coder.specs.Sizings.{read_as, settled_read, IsSizing}
-use Rattle.statement_coder.specs.StatementsRead.{IsRead}
+use Rattle.operations.specs.Joins.OperationsAs.{operation_as}
+use Rattle.statement_coder.specs.Joins.Sizings.{read_as, settled_read, IsSizing}
+use Rattle.statement_coder.specs.Joins.StatementsRead.{IsRead}
 use Rattle.statement_coder.specs.declared.statement.Statement as statements
 use Rattle.statement_coder.specs.declared.sizing.Sizing.{Sizing}
 

@@ -3,7 +3,7 @@ use Rattle.std.proofs.Common.{◌≡◌, ℕ, List, [], ◌∷◌, ◌++◌, Boo
 use Rattle.std.proofs.lemmas.List.Folds.{list_any-append}
 use Rattle.definitions.specs.Blocks.{is_named}
 use Rattle.definitions.specs.Characters.{same_text}
-use Rattle.statement_coder.specs.Externals.{any_seen, is_listed}
+use Rattle.statement_coder.specs.Joins.Externals.{any_seen, is_listed}
 
 pub or_nothing : (b : Bool) → (b || false) ≡ b
 or_nothing true = refl

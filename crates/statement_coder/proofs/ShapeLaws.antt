@@ -8,10 +8,10 @@ use Rattle.definitions.specs.PeripheralTable.{PeripheralForm, PeripheralRow}
 use Rattle.definitions.specs.Operands.{CentralOperand, PeripheralOperand}
 use Rattle.definitions.specs.Settled.{Settled}
 use Rattle.definitions.specs.StatementItems.{Item, Context, known, peripheral_items, operand_items}
-use Rattle.expr_forms.specs.Shapes.{field_as, instruction_with, HasForm}
+use Rattle.expr_forms.specs.Joins.Shapes.{field_as, instruction_with, HasForm}
 use Rattle.expr_forms.specs.declared.shapes.Field.{Field}
 use Rattle.expr_forms.specs.declared.shapes.Field.TheVariants as field
-use Rattle.statement_coder.specs.FieldItems.{items_behind}
+use Rattle.statement_coder.specs.Joins.FieldItems.{items_behind}
 
 -- behind the digits of a peripheral instruction
 pub items_behind-form : (context : Context) (statement : Settled) (f : Field) (form : PeripheralForm) (values : List Expression) → HasForm f form values →

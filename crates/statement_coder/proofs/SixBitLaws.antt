@@ -9,7 +9,7 @@ use Rattle.definitions.specs.StatementItems.{Context, known, is_short, short_ite
 use Rattle.definitions.specs.declared.letter.Letter.{Letter}
 use Rattle.definitions.proofs.LiteralLaws.{characters_number-below}
 use Rattle.std.proofs.Common.{leb-true}
-use Rattle.expr_forms.specs.CodedItems.{in_places, is_at_end}
+use Rattle.expr_forms.specs.Joins.CodedItems.{in_places, is_at_end}
 use Rattle.expr_forms.proofs.CodedLaws.{length-in_places, counted_item_bits-at_end, counted_item_bits-in_front}
 
 -- the bits of an item of one character

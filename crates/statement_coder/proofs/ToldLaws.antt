@@ -13,11 +13,11 @@ use Rattle.definitions.specs.declared.deck_kind.DeckKind.{DeckKind}
 use Rattle.definitions.specs.declared.letter.Letter.{Letter}
 use Rattle.definitions.proofs.LiteralLaws.{characters_number-below}
 use Rattle.expr_forms.proofs.CodedLaws.{word_bits-characters}
-use Rattle.statement_coder.specs.Items.{item_as}
+use Rattle.statement_coder.specs.Joins.Items.{item_as}
 use Rattle.statement_coder.specs.declared.items.Item as code
-use Rattle.statement_coder.specs.CodedItems.{IsKept, AreListed, AreTold}
-use Rattle.statement_coder.specs.FieldLetters.{field_letters}
-use Rattle.statement_coder.specs.WordItems.{is_several, known_words, words_of, in_words, listed_fields}
+use Rattle.statement_coder.specs.Joins.CodedItems.{IsKept, AreListed, AreTold}
+use Rattle.statement_coder.specs.Joins.FieldLetters.{field_letters}
+use Rattle.statement_coder.specs.Joins.WordItems.{is_several, known_words, words_of, in_words, listed_fields}
 use Rattle.statement_coder.specs.declared.coded.CodedItems.{CodedItems}
 use Rattle.statement_coder.specs.declared.coded.CodedItems.TheVariants as items
 use Rattle.statement_coder.specs.declared.sizing.Sizing.{Sizing}

@@ -7,7 +7,7 @@ use Rattle.std.proofs.Math.Nat.{mod-eq_of_lt}
 use Rattle.definitions.specs.StatementItems.{Item, Content, Known, Linked, known}
 use Rattle.definitions.specs.Words.{cut}
 use Rattle.definitions.specs.declared.letter.Letter.{Letter}
-use Rattle.statement_coder.specs.WordItems.{is_several, known_words, words_of, in_words}
+use Rattle.statement_coder.specs.Joins.WordItems.{is_several, known_words, words_of, in_words}
 
 -- bits that fill no more than a word are not several words
 narrow_test : (word width bits : ℕ) (b : Bool) → nat_lt word width ≡ b → b ≡ false → is_several word width bits ≡ false

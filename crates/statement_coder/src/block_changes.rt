@@ -2,15 +2,15 @@
 //! ABS, PERIPH, ENTRY, EXT).
 ghost use Rattle.std.specs.Prelude.{◌≡◌, not};
 ghost use Rattle.definitions.specs.Operations as op;
-ghost use Rattle.expr_forms.specs.Readings.{use_as};
+ghost use Rattle.expr_forms.specs.Joins.Readings.{use_as};
 ghost use Rattle.definitions.specs.Operands as operands;
 ghost use Rattle.definitions.specs.Blocks.{change_of, is_accepted};
 ghost use Rattle.definitions.specs.Settling.{is_refused};
 ghost use Rattle.definitions.specs.States.{names_of_blocks};
-ghost use Rattle.operations.specs.OperationsAs.{operation_as};
-ghost use Rattle.use_blocks.specs.Changes.{IsAccepted};
-ghost use Rattle.use_blocks.specs.EffectsAs.{change_as};
-ghost use Rattle.statement_coder.specs.Readings.{IsReading};
+ghost use Rattle.operations.specs.Joins.OperationsAs.{operation_as};
+ghost use Rattle.use_blocks.specs.Joins.Changes.{IsAccepted};
+ghost use Rattle.use_blocks.specs.Joins.EffectsAs.{change_as};
+ghost use Rattle.statement_coder.specs.Joins.Readings.{IsReading};
 
 use crate::readings::Reading;
 use definitions::DeckKind;

@@ -4,10 +4,10 @@ ghost use Rattle.definitions.specs.Kinds.{word_bits};
 ghost use Rattle.definitions.specs.Operands.{WordsOperand, BitsOperand};
 ghost use Rattle.definitions.specs.Settled.{Settled};
 ghost use Rattle.definitions.specs.StatementItems.{datum_item, operand_items};
-ghost use Rattle.expr_forms.specs.Readings.{datum_as};
-ghost use Rattle.statement_coder.specs.Items.{AreSeen, deck_with, item_as};
-ghost use Rattle.statement_coder.specs.CodedItems.{IsKept};
-ghost use Rattle.statement_coder.specs.WordItems.{in_words};
+ghost use Rattle.expr_forms.specs.Joins.Readings.{datum_as};
+ghost use Rattle.statement_coder.specs.Joins.Items.{AreSeen, deck_with, item_as};
+ghost use Rattle.statement_coder.specs.Joins.CodedItems.{IsKept};
+ghost use Rattle.statement_coder.specs.Joins.WordItems.{in_words};
 
 use crate::listing::{known_word, push, push_item};
 use crate::{BlockBases, Item, bit_field_item, expression_item, number_item, zeros_to_word};

@@ -4,9 +4,9 @@ ghost use Rattle.definitions.specs.Forms as forms;
 ghost use Rattle.definitions.specs.Operations as op;
 ghost use Rattle.definitions.specs.Operands as operands;
 ghost use Rattle.definitions.specs.Settling.{View, first_definition, definitions_of};
-ghost use Rattle.operations.specs.OperationsAs.{operation_as};
-ghost use Rattle.statement_coder.specs.Readings.{IsReading};
-ghost use Rattle.statement_coder.specs.Definitions.{has_names, defined_by, IsOfExt};
+ghost use Rattle.operations.specs.Joins.OperationsAs.{operation_as};
+ghost use Rattle.statement_coder.specs.Joins.Readings.{IsReading};
+ghost use Rattle.statement_coder.specs.Joins.Definitions.{has_names, defined_by, IsOfExt};
 
 use crate::readings::Reading;
 use definitions::DeckKind;

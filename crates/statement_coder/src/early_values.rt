@@ -4,7 +4,7 @@ ghost use Rattle.std.specs.Prelude.{◌≡◌};
 ghost use Rattle.definitions.specs.Operands as definitions;
 ghost use Rattle.definitions.specs.EarlyValues.{early_names, early_value, equated};
 ghost use Rattle.definitions.specs.Settling.{View};
-ghost use Rattle.statement_coder.specs.Readings.{IsReading};
+ghost use Rattle.statement_coder.specs.Joins.Readings.{IsReading};
 
 use crate::readings::Reading;
 use definitions::Letter;

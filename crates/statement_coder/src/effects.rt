@@ -9,10 +9,10 @@ ghost use Rattle.definitions.specs.States.{effect_of};
 ghost use Rattle.definitions.specs.Statements as statements;
 ghost use Rattle.definitions.specs.declared.deck_kind.DeckKind as kinds;
 ghost use Rattle.definitions.specs.declared.number_base.NumberBase as bases;
-ghost use Rattle.use_blocks.specs.EffectsAs.{effect_as};
-ghost use Rattle.statement_coder.specs.KeptSizings.{usual_as};
-ghost use Rattle.statement_coder.specs.Sizings.{IsSizing};
-ghost use Rattle.statement_coder.specs.StatementsRead.{IsRead};
+ghost use Rattle.use_blocks.specs.Joins.EffectsAs.{effect_as};
+ghost use Rattle.statement_coder.specs.Joins.KeptSizings.{usual_as};
+ghost use Rattle.statement_coder.specs.Joins.Sizings.{IsSizing};
+ghost use Rattle.statement_coder.specs.Joins.StatementsRead.{IsRead};
 
 use crate::sizing::Sizing;
 use crate::statement::Statement;

@@ -7,10 +7,10 @@ ghost use Rattle.definitions.specs.Operands as operands;
 ghost use Rattle.definitions.specs.Operations as op;
 ghost use Rattle.definitions.specs.Settled.{Settled, defined};
 ghost use Rattle.definitions.specs.declared.deck_kind.DeckKind.TheVariants as kinds;
-ghost use Rattle.expr_forms.specs.FormsAs.{part_as};
-ghost use Rattle.operations.specs.OperationsAs.{operation_as};
-ghost use Rattle.statement_coder.specs.LettersAs.{letters_as};
-ghost use Rattle.statement_coder.specs.Readings.{IsReading};
+ghost use Rattle.expr_forms.specs.Joins.FormsAs.{part_as};
+ghost use Rattle.operations.specs.Joins.OperationsAs.{operation_as};
+ghost use Rattle.statement_coder.specs.Joins.LettersAs.{letters_as};
+ghost use Rattle.statement_coder.specs.Joins.Readings.{IsReading};
 
 use crate::final_names::FinalSymbols;
 use crate::readings::Reading;

@@ -3,7 +3,7 @@ ghost use Rattle.std.specs.Prelude.{◌≡◌, ◌||◌, [], true, false};
 ghost use Rattle.definitions.specs.Blocks.{is_named};
 ghost use Rattle.definitions.specs.Letters.{in_order};
 ghost use Rattle.definitions.specs.Settling.{letter_where, external_letters};
-ghost use Rattle.statement_coder.specs.Externals.{any_seen, has_unlawful, is_listed, has_known};
+ghost use Rattle.statement_coder.specs.Joins.Externals.{any_seen, has_unlawful, is_listed, has_known};
 
 use crate::early_values::EarlySymbols;
 use crate::seen_names::SeenNames;

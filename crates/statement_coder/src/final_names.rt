@@ -5,7 +5,7 @@ ghost use Rattle.definitions.specs.Expressions as expressions;
 ghost use Rattle.definitions.specs.Forms as forms;
 ghost use Rattle.definitions.specs.Settling.{View};
 ghost use Rattle.definitions.specs.declared.letter.Letter as marks;
-ghost use Rattle.expr_forms.specs.Elements.{literal_as};
+ghost use Rattle.expr_forms.specs.Joins.Elements.{literal_as};
 
 use crate::kept_sizing::KeptSizing;
 use definitions::Letter;

@@ -7,9 +7,9 @@ ghost use Rattle.definitions.specs.PeripheralTable.{PeripheralRow};
 ghost use Rattle.definitions.specs.Operands.{CentralOperand, PeripheralOperand};
 ghost use Rattle.definitions.specs.Settled.{Settled};
 ghost use Rattle.definitions.specs.StatementItems.{known, operand_items, second_value};
-ghost use Rattle.expr_forms.specs.Shapes.{instruction_as, long_values, IsPeripheral};
-ghost use Rattle.statement_coder.specs.FieldItems.{items_behind};
-ghost use Rattle.statement_coder.specs.Items.{item_as, items_as, deck_with, AreSeen};
+ghost use Rattle.expr_forms.specs.Joins.Shapes.{instruction_as, long_values, IsPeripheral};
+ghost use Rattle.statement_coder.specs.Joins.FieldItems.{items_behind};
+ghost use Rattle.statement_coder.specs.Joins.Items.{item_as, items_as, deck_with, AreSeen};
 
 use crate::items::{Item, known};
 use crate::numbers::BlockBases;

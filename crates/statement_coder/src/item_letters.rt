@@ -1,9 +1,9 @@
 //! The letters that flag fields.
 ghost use Rattle.std.specs.Prelude.{◌≡◌, map};
 ghost use Rattle.definitions.specs.Letters.{in_order};
-ghost use Rattle.statement_coder.specs.Items.{item_as, items_as, option_items};
-ghost use Rattle.statement_coder.specs.FieldLetters.{field_letters};
-ghost use Rattle.statement_coder.specs.LettersAs.{letters_as};
+ghost use Rattle.statement_coder.specs.Joins.Items.{item_as, items_as, option_items};
+ghost use Rattle.statement_coder.specs.Joins.FieldLetters.{field_letters};
+ghost use Rattle.statement_coder.specs.Joins.LettersAs.{letters_as};
 
 use crate::size_letters::with_letter;
 use crate::{InstructionItems, Item};

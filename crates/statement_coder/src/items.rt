@@ -4,9 +4,9 @@ ghost use Rattle.std.specs.Prelude.{◌≡◌, ◌≤◌, ◌<◌, ◌^◌};
 ghost use Rattle.definitions.specs.Kinds.{word_bits};
 ghost use Rattle.definitions.specs.Literals.{signed_number};
 ghost use Rattle.definitions.specs.StatementItems.{known, faulty, known_if, number_item, zeros_to_word};
-ghost use Rattle.expr_forms.specs.Elements.{sign_as};
-ghost use Rattle.expr_forms.specs.Numbers.{number_as};
-ghost use Rattle.statement_coder.specs.Items.{item_as};
+ghost use Rattle.expr_forms.specs.Joins.Elements.{sign_as};
+ghost use Rattle.expr_forms.specs.Joins.Numbers.{number_as};
+ghost use Rattle.statement_coder.specs.Joins.Items.{item_as};
 
 use definitions::{DeckKind, Letter};
 use expr_forms::{Form, Number, Sign, coded_in};

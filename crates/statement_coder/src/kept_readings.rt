@@ -1,8 +1,8 @@
 //! What is kept of a statement's operand, so that coding does not read it again.
 ghost use Rattle.std.specs.Prelude.{◌≡◌, true, Some};
 ghost use Rattle.definitions.specs.Operands as operands;
-ghost use Rattle.statement_coder.specs.KeptReadings.{IsKeptReading, is_kept_always, reading_of};
-ghost use Rattle.statement_coder.specs.Readings.{IsReading};
+ghost use Rattle.statement_coder.specs.Joins.KeptReadings.{IsKeptReading, is_kept_always, reading_of};
+ghost use Rattle.statement_coder.specs.Joins.Readings.{IsReading};
 
 use crate::readings::Reading;
 use expr_forms::{KeptBits, KeptData, KeptExpr, KeptShape, UseField};

@@ -8,13 +8,13 @@ ghost use Rattle.definitions.specs.States.{effect_of};
 ghost use Rattle.definitions.specs.Statements as statements;
 ghost use Rattle.definitions.specs.declared.deck_kind.DeckKind as kinds;
 ghost use Rattle.definitions.specs.declared.number_base.NumberBase as bases;
-ghost use Rattle.use_blocks.specs.EffectsAs.{effect_as};
+ghost use Rattle.use_blocks.specs.Joins.EffectsAs.{effect_as};
 ghost use Rattle.use_blocks.specs.declared.effects.BlockChange.TheVariants as changes;
 ghost use Rattle.use_blocks.specs.declared.effects.LocationSetting.TheVariants as settings;
 ghost use Rattle.statement_coder.specs.declared.definitions_made.Defines.TheVariants as made;
-ghost use Rattle.statement_coder.specs.Sizings.{IsSizing};
-ghost use Rattle.statement_coder.specs.StatementsRead.{IsRead};
-ghost use Rattle.statement_coder.specs.KeptSizings.{counter_of, defined_as, recounted, usual_as, IsTaken, IsUnmoved, IsUsual};
+ghost use Rattle.statement_coder.specs.Joins.Sizings.{IsSizing};
+ghost use Rattle.statement_coder.specs.Joins.StatementsRead.{IsRead};
+ghost use Rattle.statement_coder.specs.Joins.KeptSizings.{counter_of, defined_as, recounted, usual_as, IsTaken, IsUnmoved, IsUsual};
 
 use crate::definitions_made::Defines;
 use crate::same_forms::is_same_form;
@@ -233,7 +233,7 @@ impl Model for KeptSizing {
 
     ghost Value = { sizings.Sizing };
 
-    ghost use Rattle.statement_coder.specs.KeptSizings.{held_as};
+    ghost use Rattle.statement_coder.specs.Joins.KeptSizings.{held_as};
 
     ghost view = { λ k. held_as k.held };
 }

@@ -4,7 +4,7 @@ ghost use Rattle.definitions.specs.Operands.{Operand};
 ghost use Rattle.definitions.specs.StatementItems.{Item};
 ghost use Rattle.definitions.specs.Words.{Linking, width_of, joined};
 ghost use Rattle.definitions.specs.declared.deck_kind.DeckKind.{DeckKind};
-ghost use Rattle.statement_coder.specs.WordItems.{listed_fields};
+ghost use Rattle.statement_coder.specs.Joins.WordItems.{listed_fields};
 
 /// Fields as a list tells them have the width of the fields, and are the same bits, whatever the
 /// link makes of forms.

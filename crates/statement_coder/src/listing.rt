@@ -7,9 +7,9 @@ ghost use Rattle.definitions.specs.Forms.{characters_number};
 ghost use Rattle.definitions.specs.Kinds.{word_bits};
 ghost use Rattle.definitions.specs.StatementItems.{known};
 ghost use Rattle.definitions.specs.Words.{cut};
-ghost use Rattle.statement_coder.specs.Items.{item_as};
-ghost use Rattle.statement_coder.specs.CodedItems.{IsKept};
-ghost use Rattle.statement_coder.specs.WordItems.{known_words};
+ghost use Rattle.statement_coder.specs.Joins.Items.{item_as};
+ghost use Rattle.statement_coder.specs.Joins.CodedItems.{IsKept};
+ghost use Rattle.statement_coder.specs.Joins.WordItems.{known_words};
 
 use crate::{Content, Item};
 use definitions::{DeckKind, display_of};

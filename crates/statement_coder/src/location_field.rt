@@ -4,8 +4,8 @@ ghost use Rattle.std.specs.Prelude.{◌≡◌, Option, option_map, is_some};
 ghost use Rattle.definitions.specs.Forms as forms;
 ghost use Rattle.definitions.specs.Agreement.{own_symbols, defines_location};
 ghost use Rattle.definitions.specs.Settling.{letter_where, is_plain_location, location_letters};
-ghost use Rattle.operations.specs.OperationsAs.{operation_as};
-ghost use Rattle.statement_coder.specs.LettersAs.{letters_as};
+ghost use Rattle.operations.specs.Joins.OperationsAs.{operation_as};
+ghost use Rattle.statement_coder.specs.Joins.LettersAs.{letters_as};
 
 use crate::placing::is_no_minus;
 use definitions::{DeckKind, Letter, is_same_text};

@@ -6,9 +6,9 @@ ghost use Rattle.definitions.specs.Coding.{coded_in};
 ghost use Rattle.definitions.specs.Lengths.{BlockRow, base_in};
 ghost use Rattle.definitions.specs.StatementItems.{number_in};
 ghost use Rattle.definitions.specs.declared.deck_kind.DeckKind.{DeckKind};
-ghost use Rattle.expr_forms.specs.FormsAs.{part_as, relocation_as};
-ghost use Rattle.statement_coder.specs.Items.{deck_with};
-ghost use Rattle.statement_coder.specs.Numbers.{relocation_number, part_number};
+ghost use Rattle.expr_forms.specs.Joins.FormsAs.{part_as, relocation_as};
+ghost use Rattle.statement_coder.specs.Joins.Items.{deck_with};
+ghost use Rattle.statement_coder.specs.Joins.Numbers.{relocation_number, part_number};
 
 use expr_forms::{Form, Name, Part, Relocation, coded_in};
 

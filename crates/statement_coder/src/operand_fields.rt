@@ -7,11 +7,11 @@ ghost use Rattle.definitions.specs.Settled.{Settled};
 ghost use Rattle.definitions.specs.StatementItems as definitions;
 ghost use Rattle.definitions.specs.StatementItems.{operand_items};
 ghost use Rattle.definitions.specs.declared.deck_kind.DeckKind as kinds;
-ghost use Rattle.statement_coder.specs.Items.{AreSeen, deck_with};
+ghost use Rattle.statement_coder.specs.Joins.Items.{AreSeen, deck_with};
 ghost use Rattle.statement_coder.specs.declared.items.Item as fields;
-ghost use Rattle.statement_coder.specs.CodedItems.{AreTold, IsKept, is_zeros};
-ghost use Rattle.statement_coder.specs.FieldLetters.{field_letters};
-ghost use Rattle.statement_coder.specs.Readings.{IsReading, IsWhole, is_listed};
+ghost use Rattle.statement_coder.specs.Joins.CodedItems.{AreTold, IsKept, is_zeros};
+ghost use Rattle.statement_coder.specs.Joins.FieldLetters.{field_letters};
+ghost use Rattle.statement_coder.specs.Joins.Readings.{IsReading, IsWhole, is_listed};
 ghost use Rattle.statement_coder.specs.declared.sizing.Sizing as sizings;
 
 use crate::coded::CodedItems;

@@ -4,10 +4,10 @@ ghost use Rattle.std.specs.Option.{option_map};
 ghost use Rattle.definitions.specs.Operands.{operand_of};
 ghost use Rattle.definitions.specs.Operations.{is_data};
 ghost use Rattle.definitions.specs.Settled.{Settled};
-ghost use Rattle.operations.specs.OperationsAs.{operation_as};
-ghost use Rattle.statement_coder.specs.KeptReadings.{IsKeptReading, reading_of};
-ghost use Rattle.statement_coder.specs.ReadOperands.{IsReadOperand};
-ghost use Rattle.statement_coder.specs.Readings.{IsReading, IsLawful, is_listed};
+ghost use Rattle.operations.specs.Joins.OperationsAs.{operation_as};
+ghost use Rattle.statement_coder.specs.Joins.KeptReadings.{IsKeptReading, reading_of};
+ghost use Rattle.statement_coder.specs.Joins.ReadOperands.{IsReadOperand};
+ghost use Rattle.statement_coder.specs.Joins.Readings.{IsReading, IsLawful, is_listed};
 
 use crate::kept_readings::KeptReading;
 use crate::read_operands::ReadOperand;

@@ -7,9 +7,9 @@ ghost use Rattle.definitions.specs.Settled.{Unchanged};
 ghost use Rattle.definitions.specs.Operands as operands;
 ghost use Rattle.definitions.specs.Sizes.{size_of};
 ghost use Rattle.definitions.specs.EarlyValues.{in_words, reserved, is_in_block, is_origin_form, origin_word, is_location_part, location_value, stays_with, origin_outcome, location_outcome, reserved_outcome, letter_of, outcome_of_value, outcome_of_size, outcome_of};
-ghost use Rattle.operations.specs.OperationsAs.{operation_as};
-ghost use Rattle.statement_coder.specs.Outcomes.{outcome_as};
-ghost use Rattle.expr_forms.specs.FormsAs.{part_as, relocation_as};
+ghost use Rattle.operations.specs.Joins.OperationsAs.{operation_as};
+ghost use Rattle.statement_coder.specs.Joins.Outcomes.{outcome_as};
+ghost use Rattle.expr_forms.specs.Joins.FormsAs.{part_as, relocation_as};
 
 use definitions::{DeckKind, Letter, is_same_text};
 use expr_forms::{Form, Name, Part, Relocation};

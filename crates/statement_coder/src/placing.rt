@@ -6,7 +6,7 @@ ghost use Rattle.definitions.specs.Kinds.{units};
 ghost use Rattle.definitions.specs.Operands as operands;
 ghost use Rattle.definitions.specs.Places.{is_bad, is_long, is_no_minus, has_minus, is_upper, to_word, past_last_parcel, is_at_word, least_place};
 ghost use Rattle.definitions.specs.Settling.{place_of};
-ghost use Rattle.operations.specs.OperationsAs.{operation_as};
+ghost use Rattle.operations.specs.Joins.OperationsAs.{operation_as};
 
 use definitions::{DeckKind, is_same_text};
 use expr_forms::is_symbol;

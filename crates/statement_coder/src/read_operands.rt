@@ -1,6 +1,6 @@
 //! What coding takes of a statement: its operation and its operand.
 ghost use Rattle.std.proofs.Props.{props};
-ghost use Rattle.statement_coder.specs.Readings.{IsWhole};
+ghost use Rattle.statement_coder.specs.Joins.Readings.{IsWhole};
 
 use crate::readings::Reading;
 use definitions::DeckKind;

@@ -7,8 +7,8 @@ ghost use Rattle.definitions.specs.Operands.{operand_of, central_operand, periph
 ghost use Rattle.definitions.specs.Matching.{central_of};
 ghost use Rattle.definitions.specs.Kinds.{allows_literals};
 ghost use Rattle.definitions.specs.Operations.{is_data};
-ghost use Rattle.operations.specs.OperationsAs.{operation_as};
-ghost use Rattle.statement_coder.specs.Readings.{IsReading, IsLawful, is_listed};
+ghost use Rattle.operations.specs.Joins.OperationsAs.{operation_as};
+ghost use Rattle.statement_coder.specs.Joins.Readings.{IsReading, IsLawful, is_listed};
 
 use definitions::{DeckKind, NumberBase};
 use expr_forms::{

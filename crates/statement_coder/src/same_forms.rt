@@ -1,7 +1,7 @@
 //! Whether two forms are the same (ours).
 ghost use Rattle.std.specs.Prelude.{◌≡◌, option_map};
 ghost use Rattle.std.specs.Bool.{Decides};
-ghost use Rattle.expr_forms.specs.FormsAs.{relocation_as, part_as};
+ghost use Rattle.expr_forms.specs.Joins.FormsAs.{relocation_as, part_as};
 
 use expr_forms::{Form, Part, Relocation};
 

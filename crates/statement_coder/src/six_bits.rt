@@ -8,7 +8,7 @@ ghost use Rattle.definitions.specs.Settled.{Settled};
 ghost use Rattle.definitions.specs.StatementItems as definitions;
 ghost use Rattle.definitions.specs.StatementItems.{counted_item_value, small_value, whole_counted_item, count_of, shift_of, short_item, is_short, number_in, displacement_of};
 ghost use Rattle.definitions.specs.declared.deck_kind.DeckKind.{DeckKind};
-ghost use Rattle.statement_coder.specs.Items.{item_as, deck_with, AreSeen};
+ghost use Rattle.statement_coder.specs.Joins.Items.{item_as, deck_with, AreSeen};
 
 use crate::items::{Item, faulty, known};
 use crate::numbers::{BlockBases, number_in};

@@ -9,9 +9,9 @@ ghost use Rattle.definitions.specs.Places.{is_bad};
 ghost use Rattle.definitions.specs.declared.deck_kind.DeckKind.TheVariants as kinds;
 ghost use Rattle.definitions.specs.declared.letter.Letter as marks;
 ghost use Rattle.definitions.specs.declared.letter.Letter.TheVariants as letter;
-ghost use Rattle.operations.specs.OperationsAs.{operation_as};
-ghost use Rattle.statement_coder.specs.LettersAs.{letters_as};
-ghost use Rattle.statement_coder.specs.Readings.{IsReading};
+ghost use Rattle.operations.specs.Joins.OperationsAs.{operation_as};
+ghost use Rattle.statement_coder.specs.Joins.LettersAs.{letters_as};
+ghost use Rattle.statement_coder.specs.Joins.Readings.{IsReading};
 
 use crate::block_changes::is_refused;
 use crate::early_values::EarlySymbols;

@@ -9,12 +9,12 @@ ghost use Rattle.definitions.specs.Places.{asks_upper, asks_after};
 ghost use Rattle.definitions.specs.Settling.{is_run, settled_from};
 ghost use Rattle.definitions.specs.States.{seen_from};
 ghost use Rattle.definitions.specs.declared.deck_kind.DeckKind as kinds;
-ghost use Rattle.operations.specs.OperationsAs.{operation_as};
-ghost use Rattle.use_blocks.specs.Changes.{IsAccepted, block_now};
-ghost use Rattle.use_blocks.specs.EffectsAs.{change_as, setting_as};
-ghost use Rattle.statement_coder.specs.Readings.{IsReading};
-ghost use Rattle.statement_coder.specs.StatementsRead.{IsRead};
-ghost use Rattle.statement_coder.specs.Sizings.{read_as, settled_read, IsSizing};
+ghost use Rattle.operations.specs.Joins.OperationsAs.{operation_as};
+ghost use Rattle.use_blocks.specs.Joins.Changes.{IsAccepted, block_now};
+ghost use Rattle.use_blocks.specs.Joins.EffectsAs.{change_as, setting_as};
+ghost use Rattle.statement_coder.specs.Joins.Readings.{IsReading};
+ghost use Rattle.statement_coder.specs.Joins.StatementsRead.{IsRead};
+ghost use Rattle.statement_coder.specs.Joins.Sizings.{read_as, settled_read, IsSizing};
 
 use crate::block_changes::change_of;
 use crate::definitions_made::definition_made;

@@ -5,10 +5,10 @@ ghost use Rattle.definitions.specs.Operands as operands;
 ghost use Rattle.definitions.specs.Kinds.{units, word_bits};
 ghost use Rattle.definitions.specs.Sizes.{data_words, datum_words, bits_of, size_of};
 ghost use Rattle.definitions.specs.Places.{is_bad, is_long};
-ghost use Rattle.operations.specs.OperationsAs.{operation_as};
+ghost use Rattle.operations.specs.Joins.OperationsAs.{operation_as};
 ghost use Rattle.definitions.specs.declared.deck_kind.DeckKind as kinds;
-ghost use Rattle.expr_forms.specs.Readings.{datum_as};
-ghost use Rattle.statement_coder.specs.Readings.{IsReading, IsInstruction};
+ghost use Rattle.expr_forms.specs.Joins.Readings.{datum_as};
+ghost use Rattle.statement_coder.specs.Joins.Readings.{IsReading, IsInstruction};
 
 use crate::readings::Reading;
 use definitions::DeckKind;

@@ -3,8 +3,8 @@ ghost use Rattle.std.specs.Prelude.{◌≡◌, ◌≤◌, length};
 ghost use Rattle.definitions.specs.Fields.{fields_of};
 ghost use Rattle.definitions.specs.Operations.{is_instruction_name, operation_of};
 ghost use Rattle.definitions.specs.Statements.{is_stray};
-ghost use Rattle.operations.specs.OperationsAs.{operation_as};
-ghost use Rattle.statement_coder.specs.StatementsRead.{IsRead};
+ghost use Rattle.operations.specs.Joins.OperationsAs.{operation_as};
+ghost use Rattle.statement_coder.specs.Joins.StatementsRead.{IsRead};
 
 use crate::statement::Statement;
 use cards::{Card, StatementRoom, fields};

@@ -2,7 +2,7 @@
 ghost use Rattle.std.specs.Prelude.{◌≡◌, ◌≤◌, ℕ, List, option_map};
 ghost use Rattle.definitions.specs.Settled.{Settled};
 ghost use Rattle.definitions.specs.StatementItems.{linked_item, value_item, expression_item, vfd_value};
-ghost use Rattle.statement_coder.specs.Items.{item_as, deck_with, AreSeen};
+ghost use Rattle.statement_coder.specs.Joins.Items.{item_as, deck_with, AreSeen};
 
 use crate::items::{Content, Item, faulty, known, known_if};
 use crate::numbers::{BlockBases, number_coded, number_in};

@@ -1,4 +1,4 @@
 pub mod Lines
 pub mod Faults
-pub mod Sending
-pub mod FaultyPorts
+-- What no promise leads to.
+pub mod Joins

@@ -18,7 +18,7 @@ use Rattle.turn_office.specs.declared.views.Stage.{Stage}
 use Rattle.turn_office.specs.declared.views.Stage.TheVariants.{Idle, Waits, Serves}
 use Rattle.turn_office.specs.Histories.{entry, Continues}
 use Rattle.turn_office.specs.Rule.{Kept, Fits, IsStage, NobodyServes, Standing, chair, view, staged, at_rest, tickets_of, times, drew, looked, gave, learned, rang, CanEnd, HasEnded, HasLearned}
-use Rattle.turn_office.specs.Told.{Told, opened, ended}
+use Rattle.turn_office.specs.Joins.Told.{Told, opened, ended}
 use Rattle.turn_office.proofs.Sums.{sum_set, sum_same, sum_two, sum_le, found_inside, each_set, each_more}
 use Rattle.turn_office.proofs.Stages.{ticket_or, idle_serves_not, waiting_serves_not, nobody_before, no_ticket}
 use Rattle.turn_office.proofs.Longer.{continues_here, continues_after, silent_between, of_seats_after, leads_after}

@@ -5,7 +5,7 @@ use Rattle.atomic_table.specs.declared.shared.Seat.{Seat}
 use Rattle.turn_office.specs.declared.views.Chair.{Chair}
 use Rattle.turn_office.specs.declared.views.View.{View}
 use Rattle.turn_office.specs.declared.rule.Opening.{Opening}
-use Rattle.turn_office.specs.Bells.{most_seats}
+use Rattle.turn_office.specs.Joins.Bells.{most_seats}
 use Rattle.turn_office.specs.Rule.{IsFloor, at_rest, chair, seen_of}
 use Rattle.turn_office.specs.Seats.{OfficeFacts, SeatFacts}
 

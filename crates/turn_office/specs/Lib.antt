@@ -1,6 +1,6 @@
 pub mod Histories
-pub mod Told
-pub mod Bells
 pub mod Rule
 pub mod Seats
 pub mod Boards
+-- What no promise leads to.
+pub mod Joins

@@ -11,8 +11,8 @@ use Rattle.turn_office.specs.declared.views.View.{View}
 use Rattle.turn_office.specs.declared.views.Stage.{Stage}
 use Rattle.turn_office.specs.declared.views.Stage.TheVariants.{Idle, Waits, Serves}
 use Rattle.turn_office.specs.Histories.{Leads, IsLegal, IsOfSeats, Continues, Answers}
-use Rattle.turn_office.specs.Told.{Told}
-use Rattle.turn_office.specs.Bells.{most_seats}
+use Rattle.turn_office.specs.Joins.Told.{Told}
+use Rattle.turn_office.specs.Joins.Bells.{most_seats}
 use Rattle.turn_office.specs.declared.bells.TheConstants.{WORDS}
 
 -- a number of the office, and the history that was seen under it

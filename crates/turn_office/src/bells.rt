@@ -3,7 +3,7 @@
 //! contract of `bell_of` says; and a bell is watched before the look after which its watcher sleeps,
 //! since only `watch` makes a `Watched`, only its `look` a `Missed`, and nothing but that can sleep.
 ghost use Rattle.std.specs.Prelude.{◌≡◌, ℕ, ◌%◌, ◌^◌, MatchResult};
-ghost use Rattle.turn_office.specs.Bells.{AreOutTogether, IsBell, bell_of};
+ghost use Rattle.turn_office.specs.Joins.Bells.{AreOutTogether, IsBell, bell_of};
 ghost use Rattle.turn_office.specs.Boards.{IsPlaceOf, IsSamePlace};
 ghost use Rattle.turn_office.specs.Rule.{HasTurn, IsFloor, WaitsFor};
 

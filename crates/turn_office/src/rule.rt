@@ -3,7 +3,7 @@
 //! 2^64; the other 64 are bells, which those who wait sleep on and the rule says nothing of. Slot 0
 //! has the object while nobody has the turn.
 ghost use Rattle.std.specs.Prelude.{ℕ, Option, Some, None};
-ghost use Rattle.turn_office.specs.Told.{Told};
+ghost use Rattle.turn_office.specs.Joins.Told.{Told};
 
 use crate::sequential::Sequential;
 use crate::views::View;

@@ -3,7 +3,7 @@ ghost use Rattle.std.specs.Prelude.{◌≡◌, ◌≤◌, [], ◌∷◌, length,
 ghost use Rattle.turn_office.specs.declared.views.Stage.TheVariants.{Idle};
 ghost use Rattle.turn_office.specs.Boards.{IsPlaceOf, IsSamePlace};
 ghost use Rattle.turn_office.specs.Rule.{CanEnd, HasDrawn, HasEnded, HasLearned, HasTurn, WaitsFor, seen_of};
-ghost use Rattle.turn_office.specs.Told.{opened, ended};
+ghost use Rattle.turn_office.specs.Joins.Told.{opened, ended};
 
 use crate::bells::{ring, watch};
 use crate::rule::{Draw, Floor, Give, Learn, Look, Place, Said};

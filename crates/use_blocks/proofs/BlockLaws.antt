@@ -10,7 +10,7 @@ use Rattle.definitions.specs.Characters.{same_text}
 use Rattle.definitions.specs.Blocks.{nominal, is_named}
 use Rattle.definitions.specs.States.{UsedBlock, Effect, fresh_block, block_named, or_position, counting_behind, block_behind, names_of_blocks}
 use Rattle.definitions.proofs.TextLaws.{same_text-refl, same_text-true, same_text_tells}
-use Rattle.use_blocks.specs.StateInside.{block_at, name_at, AreDistinct, is_other}
+use Rattle.use_blocks.specs.Joins.StateInside.{block_at, name_at, AreDistinct, is_other}
 
 -- one of two tests that is not true
 front_false : (b c : Bool) → (b || c) ≡ false → b ≡ false

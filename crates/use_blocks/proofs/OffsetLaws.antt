@@ -10,7 +10,7 @@ use Rattle.std.specs.declared.cmp.Ordering.TheVariants.{Less, Equal, Greater}
 use Rattle.std.proofs.lemmas.Bool.{cases_order}
 use Rattle.std.proofs.lemmas.Bool.Decides.{eqb_tells, leb_tells}
 use Rattle.definitions.specs.Literals.{most_literals, offset_of, with_word}
-use Rattle.use_blocks.specs.Offsets.{HasOffsets, is_word}
+use Rattle.use_blocks.specs.Joins.Offsets.{HasOffsets, is_word}
 
 -- what stands behind others is found where they have none
 pub push-other : {X : Type 0} (t : X → Bool) (i : ℕ) (xs : List X) (x : X) → t x ≡ false → position_from t i (xs ++ x ∷ []) ≡ position_from t i xs

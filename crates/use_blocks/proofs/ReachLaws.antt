@@ -9,7 +9,7 @@ use Rattle.definitions.specs.Settled.{BlockChange, NoChange, Opens, Closes}
 use Rattle.definitions.specs.Lengths.{BlockLength}
 use Rattle.definitions.specs.States.{Effect, lengths_behind, lengths_advanced}
 use Rattle.definitions.proofs.TextLaws.{same_text_tells}
-use Rattle.use_blocks.specs.BlockLengths.{AreDistinct, block_names, has_name, opened_by, reaching}
+use Rattle.use_blocks.specs.Joins.BlockLengths.{AreDistinct, block_names, has_name, opened_by, reaching}
 
 -- a block of this name, and so many words
 abbrev block_of : List ℕ → ℕ → BlockLength

@@ -13,8 +13,8 @@ use Rattle.definitions.specs.Settled.{BlockChange, NoChange, Opens, Closes}
 use Rattle.definitions.specs.Blocks.{nominal, block_in_use, is_named, is_accepted}
 use Rattle.definitions.specs.States.{UsedBlock, BlockState, Effect, fresh_block, block_named, block_behind, blocks_behind, names_behind, names_of_blocks, advanced}
 use Rattle.definitions.specs.declared.number_base.NumberBase.{NumberBase}
-use Rattle.use_blocks.specs.Changes.{changed, written}
-use Rattle.use_blocks.specs.StateInside.{block_at, name_at, opened_names, latest, AreDistinct, AreBelow, is_other, IsState}
+use Rattle.use_blocks.specs.Joins.Changes.{changed, written}
+use Rattle.use_blocks.specs.Joins.StateInside.{block_at, name_at, opened_names, latest, AreDistinct, AreBelow, is_other, IsState}
 use Rattle.use_blocks.proofs.BlockLaws.{is_named-at, found-name, found-none, name_at-block, name_at-once, block_named-at, is_named-apart, block_behind-apart, names-behind, behind-at, distinct-pushed}
 
 -- a stack that is not empty is those below the latest, and the latest

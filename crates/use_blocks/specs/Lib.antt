@@ -1,5 +1,2 @@
-pub mod BlockLengths
-pub mod EffectsAs
-pub mod StateInside
-pub mod Changes
-pub mod Offsets
+-- What no promise leads to.
+pub mod Joins

@@ -3,8 +3,8 @@ ghost use Rattle.std.specs.Prelude.{◌≡◌, ◌==◌, ◌<◌, ◌++◌, ◌�
 ghost use Rattle.std.specs.Bool.{Decides};
 ghost use Rattle.std.specs.List.{prefix_len};
 ghost use Rattle.definitions.specs.States.{fresh_block, block_behind};
-ghost use Rattle.use_blocks.specs.EffectsAs.{effect_as};
-ghost use Rattle.use_blocks.specs.StateInside.{block_at, latest, is_other, HasRoom};
+ghost use Rattle.use_blocks.specs.Joins.EffectsAs.{effect_as};
+ghost use Rattle.use_blocks.specs.Joins.StateInside.{block_at, latest, is_other, HasRoom};
 
 use crate::effects::Effect;
 use crate::used_block::UsedBlock;

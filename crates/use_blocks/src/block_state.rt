@@ -7,9 +7,9 @@ ghost use Rattle.definitions.specs.DeckKinds.{or_number_base};
 ghost use Rattle.definitions.specs.Settled.{Opens, Closes};
 ghost use Rattle.definitions.specs.Counters.{counters_at};
 ghost use Rattle.definitions.specs.States.{state_after, names_of_blocks, advanced};
-ghost use Rattle.use_blocks.specs.EffectsAs.{change_as, effect_as};
-ghost use Rattle.use_blocks.specs.StateInside.{block_at};
-ghost use Rattle.use_blocks.specs.Changes.{IsAccepted, block_now, opens, written, changed};
+ghost use Rattle.use_blocks.specs.Joins.EffectsAs.{change_as, effect_as};
+ghost use Rattle.use_blocks.specs.Joins.StateInside.{block_at};
+ghost use Rattle.use_blocks.specs.Joins.Changes.{IsAccepted, block_now, opens, written, changed};
 
 use crate::block_list::{
     index_in_use, index_of, is_same_list, is_same_stack, open, reserve, write,
@@ -42,7 +42,7 @@ impl Model for BlockState {
 
     ghost Value = { states.BlockState };
 
-    ghost use Rattle.use_blocks.specs.StateInside.{opened_names, IsState};
+    ghost use Rattle.use_blocks.specs.Joins.StateInside.{opened_names, IsState};
 
     ghost view = { λ s. record { open_names = opened_names (names_of_blocks s.blocks.items) s.stack.items; blocks = s.blocks.items; number_base = s.number_base; neutral = s.neutral } };
 

@@ -5,9 +5,9 @@ ghost use Rattle.std.specs.Option.{option_map};
 ghost use Rattle.definitions.specs.Blocks.{block_in_use, is_accepted};
 ghost use Rattle.definitions.specs.States as states;
 ghost use Rattle.definitions.specs.States.{names_of_blocks, advanced, lengths_advanced};
-ghost use Rattle.use_blocks.specs.BlockLengths.{block_names, has_name, opened_by};
-ghost use Rattle.use_blocks.specs.Changes.{IsAccepted};
-ghost use Rattle.use_blocks.specs.EffectsAs.{change_as, effect_as};
+ghost use Rattle.use_blocks.specs.Joins.BlockLengths.{block_names, has_name, opened_by};
+ghost use Rattle.use_blocks.specs.Joins.Changes.{IsAccepted};
+ghost use Rattle.use_blocks.specs.Joins.EffectsAs.{change_as, effect_as};
 
 use crate::block_state::BlockState;
 use crate::effects::{BlockChange, Effect};

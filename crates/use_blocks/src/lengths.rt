@@ -7,7 +7,7 @@ ghost use Rattle.definitions.specs.Lengths.{lengths_of};
 ghost use Rattle.definitions.specs.Settled.{Opens};
 ghost use Rattle.definitions.specs.States.{Effect, state_after, names_of_blocks, lengths_advanced, lengths_behind};
 ghost use Rattle.definitions.specs.declared.deck_kind.DeckKind.{DeckKind};
-ghost use Rattle.use_blocks.specs.BlockLengths.{block_names, has_name, opened_by, reaching};
+ghost use Rattle.use_blocks.specs.Joins.BlockLengths.{block_names, has_name, opened_by, reaching};
 
 use expr_forms::Name;
 use std::alloc::{AllocError, Global};
@@ -63,7 +63,7 @@ pub struct Lengths {
 impl Model for Lengths {
     ghost use Rattle.std.specs.Prelude.{List, ◌≤◌, length};
     ghost use Rattle.definitions.specs.Lengths.{BlockLength};
-    ghost use Rattle.use_blocks.specs.BlockLengths.{AreDistinct, block_names};
+    ghost use Rattle.use_blocks.specs.Joins.BlockLengths.{AreDistinct, block_names};
 
     ghost Value = { List BlockLength };
 

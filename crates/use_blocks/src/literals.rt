@@ -20,7 +20,7 @@ pub struct Literals {
 
 impl Model for Literals {
     ghost use Rattle.std.specs.Prelude.{ℕ, List, ◌≤◌, length};
-    ghost use Rattle.use_blocks.specs.Offsets.{HasOffsets};
+    ghost use Rattle.use_blocks.specs.Joins.Offsets.{HasOffsets};
 
     ghost Value = { List ℕ };
 

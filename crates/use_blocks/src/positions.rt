@@ -4,7 +4,7 @@ ghost use Rattle.std.specs.Prelude.{◌≡◌, ◌≤◌, IsTrue, option_map};
 ghost use Rattle.std.specs.Bool.{Decides};
 ghost use Rattle.definitions.specs.Forms.{is_in_range};
 ghost use Rattle.definitions.specs.Places.{no_position};
-ghost use Rattle.expr_forms.specs.FormsAs.{relocation_as, part_as};
+ghost use Rattle.expr_forms.specs.Joins.FormsAs.{relocation_as, part_as};
 
 use expr_forms::{Form, Name, Part, Relocation};
 use std::marker::Model;

@@ -2,7 +2,7 @@
 ghost use Rattle.std.specs.Prelude.{◌≡◌};
 ghost use Rattle.std.specs.Bool.{Decides};
 ghost use Rattle.definitions.specs.States.{fresh_block, block_behind, or_position, counting_behind};
-ghost use Rattle.use_blocks.specs.EffectsAs.{effect_as, setting_as};
+ghost use Rattle.use_blocks.specs.Joins.EffectsAs.{effect_as, setting_as};
 
 use crate::effects::{Effect, LocationSetting};
 use crate::positions::{Counting, Position, is_same_name};

@@ -1,8 +1,8 @@
 //! Putting a field into a run: bits join the open parcel, and a parcel that is whole joins the spans.
 ghost use Rattle.std.specs.Prelude.{◌≡◌, ◌+◌, ◌*◌, ◌^◌, ◌<◌, ◌≤◌, ◌++◌, ◌∷◌, [], List, IfOk, OnErr};
 ghost use Rattle.definitions.specs.Kinds.{unit_bits};
-ghost use Rattle.deck_listing.specs.Packing.{moved};
-ghost use Rattle.deck_listing.specs.Spans.{IsOpen, IsField, IsPut, IsSplit, run_of};
+ghost use Rattle.deck_listing.specs.Joins.Packing.{moved};
+ghost use Rattle.deck_listing.specs.Joins.Spans.{IsOpen, IsField, IsPut, IsSplit, run_of};
 ghost use Rattle.deck_listing.specs.declared.packing.spans.Span.{Span};
 
 use crate::packing::spans::{OpenParcel, Span};

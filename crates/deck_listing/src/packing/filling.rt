@@ -1,7 +1,7 @@
 //! The words of several runs: where two have a word, it is the later run's.
 ghost use Rattle.std.specs.Prelude.{IfOk};
-ghost use Rattle.deck_listing.specs.Spans.{DoRunsRise, parcels_in_runs};
-ghost use Rattle.deck_listing.specs.Filling.{IsFilled, latest_value};
+ghost use Rattle.deck_listing.specs.Joins.Spans.{DoRunsRise, parcels_in_runs};
+ghost use Rattle.deck_listing.specs.Joins.Filling.{IsFilled, latest_value};
 
 use crate::packing::gathering::run_words;
 use crate::packing::merging::merged;

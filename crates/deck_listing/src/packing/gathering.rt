@@ -3,9 +3,9 @@ ghost use Rattle.std.specs.Prelude.{◌≡◌, ℕ, ◌+◌, ◌-◌, ◌*◌, �
 ghost use Rattle.definitions.specs.Kinds.{units, unit_bits};
 ghost use Rattle.definitions.specs.Words.{Parcel, filling_of, word_of_parcels};
 ghost use Rattle.definitions.specs.declared.deck_kind.DeckKind.{DeckKind};
-ghost use Rattle.deck_listing.specs.Packing.{parcel_at};
-ghost use Rattle.deck_listing.specs.Spans.{RiseWithin, places, parcels_in, span_parcels};
-ghost use Rattle.deck_listing.specs.Filling.{AreZeroWords, IsFilled, IsOpenWord, IsGathered, value_in, word_made, zero_parcels};
+ghost use Rattle.deck_listing.specs.Joins.Packing.{parcel_at};
+ghost use Rattle.deck_listing.specs.Joins.Spans.{RiseWithin, places, parcels_in, span_parcels};
+ghost use Rattle.deck_listing.specs.Joins.Filling.{AreZeroWords, IsFilled, IsOpenWord, IsGathered, value_in, word_made, zero_parcels};
 
 use crate::packing::spans::Span;
 use crate::packing::word_spans::WordSpan;

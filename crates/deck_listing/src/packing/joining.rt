@@ -1,7 +1,7 @@
 //! Equal words one behind the other as one span.
 ghost use Rattle.std.specs.Prelude.{◌≡◌, ◌+◌, ◌^◌, ◌≤◌, IfOk, IfSome};
-ghost use Rattle.deck_listing.specs.Filling.{DoSpansRise, as_stored};
-ghost use Rattle.deck_listing.specs.Joining.{AreJoined};
+ghost use Rattle.deck_listing.specs.Joins.Filling.{DoSpansRise, as_stored};
+ghost use Rattle.deck_listing.specs.Joins.Joining.{AreJoined};
 
 use crate::packing::word_spans::WordSpan;
 use std::alloc::{AllocError, Global};

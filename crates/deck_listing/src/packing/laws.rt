@@ -6,7 +6,7 @@ ghost use Rattle.definitions.specs.Words.{Coded, Linking, parcels_of, runs_of, w
 ghost use Rattle.definitions.specs.Operations.{is_instruction};
 ghost use Rattle.definitions.specs.Kinds.{unit_bits};
 ghost use Rattle.definitions.specs.declared.deck_kind.DeckKind.{DeckKind};
-ghost use Rattle.deck_listing.specs.Packing.{DoItemsFit, OpenRun, Packed, end_bit, moved, put_bits, put_items, runs_in};
+ghost use Rattle.deck_listing.specs.Joins.Packing.{DoItemsFit, OpenRun, Packed, end_bit, moved, put_bits, put_items, runs_in};
 
 /// Bits behind bits are put as one number, so a wide field may be put in pieces; and a field that
 /// begins where the last one ended needs no move.

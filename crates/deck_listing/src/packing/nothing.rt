@@ -1,7 +1,7 @@
 //! Whether anything lies in runs.
 ghost use Rattle.std.specs.Prelude.{◌≡◌};
 ghost use Rattle.std.specs.List.{list_any};
-ghost use Rattle.deck_listing.specs.Spans.{has_parcel, lies_in};
+ghost use Rattle.deck_listing.specs.Joins.Spans.{has_parcel, lies_in};
 
 use crate::packing::spans::Span;
 

@@ -3,9 +3,9 @@ ghost use Rattle.std.specs.Prelude.{◌≡◌, ◌≢◌, ◌+◌, ◌*◌, ◌^
 ghost use Rattle.definitions.specs.Kinds.{units, unit_bits, word_bits};
 ghost use Rattle.definitions.specs.Kinds.{most_words};
 ghost use Rattle.definitions.specs.Words.{stored, words_in};
-ghost use Rattle.deck_listing.specs.Packing.{MayBegin, empty_run, end_bit, most_bits, moved, put_bits, runs_in};
-ghost use Rattle.deck_listing.specs.Spans.{IsField};
-ghost use Rattle.deck_listing.specs.Filling.{DoSpansRise, as_stored};
+ghost use Rattle.deck_listing.specs.Joins.Packing.{MayBegin, empty_run, end_bit, most_bits, moved, put_bits, runs_in};
+ghost use Rattle.deck_listing.specs.Joins.Spans.{IsField};
+ghost use Rattle.deck_listing.specs.Joins.Filling.{DoSpansRise, as_stored};
 
 use crate::packing::fields::{Field, moved_to, parcel_bits, put_field};
 use crate::packing::filling::runs_words;
@@ -35,11 +35,11 @@ pub struct Words {
 
 impl Model for Words {
     ghost use Rattle.std.specs.Prelude.{reverse};
-    ghost use Rattle.deck_listing.specs.Packing.{Packed};
+    ghost use Rattle.deck_listing.specs.Joins.Packing.{Packed};
 
     ghost Value = { Packed };
 
-    ghost use Rattle.deck_listing.specs.Spans.{IsKept, parcels_in_runs, run_of};
+    ghost use Rattle.deck_listing.specs.Joins.Spans.{IsKept, parcels_in_runs, run_of};
 
     ghost view = { λ w. record { kind = w.kind; run = run_of w.run.items w.next; earlier = reverse (parcels_in_runs w.earlier.items) } };
 

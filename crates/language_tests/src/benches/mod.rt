@@ -33,17 +33,7 @@ where
 /// Measures the records of the deck in a file, or what a word alone names.
 pub fn measure<R>(rt: &R, word: &str, file: Option<&String>) -> io::Result<()>
 where
-    R: AllocGlobal
-        + Files
-        + Threads
-        + Wait
-        + Sync
-        + Send
-        + Drop
-        + Clone
-        + Clock
-        + CpuClock
-        + Print,
+    R: AllocGlobal + Files + Threads + Wait + Sync + Send + Drop + Clone + Clock + CpuClock + Print,
 {
     match file {
         Some(path) => records::measure(rt, path.as_str()),

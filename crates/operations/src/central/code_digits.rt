@@ -1,8 +1,8 @@
 //! The shape of a code: its digits, its parcels and its field.
 ghost use Rattle.std.specs.Prelude.{◌≡◌, ◌≤◌, length};
 ghost use Rattle.definitions.specs.Matching.{code_digits, octal_number};
-ghost use Rattle.operations.specs.CodeTexts.{code_text};
-ghost use Rattle.operations.specs.RegistersFound.{digits_as};
+ghost use Rattle.operations.specs.Joins.CodeTexts.{code_text};
+ghost use Rattle.operations.specs.Joins.RegistersFound.{digits_as};
 
 use crate::central::code::Code;
 use crate::central::digits::{Digits, digits_of};

@@ -2,7 +2,7 @@
 ghost use Rattle.std.specs.Prelude.{◌≡◌, ◌≤◌, ◌<◌, length, codes};
 ghost use Rattle.definitions.specs.Characters.{is_among};
 ghost use Rattle.definitions.specs.Matching.{digit_in, code_digits, octal_number};
-ghost use Rattle.operations.specs.RegistersFound.{digits_as};
+ghost use Rattle.operations.specs.Joins.RegistersFound.{digits_as};
 
 use crate::central::registers_found::RegistersFound;
 

@@ -1,6 +1,6 @@
 //! What an operand gives while it is matched with a row.
 ghost use Rattle.std.specs.Prelude.{IsTrue};
-ghost use Rattle.operations.specs.LawfulCodes.{is_lawful};
+ghost use Rattle.operations.specs.Joins.LawfulCodes.{is_lawful};
 
 use crate::central::code::Code;
 use crate::central::registers_found::RegistersFound;

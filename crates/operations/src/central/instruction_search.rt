@@ -7,11 +7,11 @@ ghost use Rattle.definitions.specs.Operations.{is_central};
 ghost use Rattle.definitions.specs.Matching.{is_operation, ignoring_fit, rows_for, first_fit, central_of};
 ghost use Rattle.definitions.specs.declared.number_base.NumberBase.{NumberBase};
 ghost use Rattle.definitions.specs.declared.letter.Letter.TheVariants as letters;
-ghost use Rattle.expr_forms.specs.Operands.{IsOperand};
-ghost use Rattle.expr_forms.specs.Shapes.{instruction_as};
-ghost use Rattle.operations.specs.CentralTables.{operand_row, sum_row, operand_rows_of, sum_rows_of, is_some_of};
-ghost use Rattle.operations.specs.LawfulCodes.{has_lawful_code, has_lawful_codes};
-ghost use Rattle.operations.specs.Found.{shape_as};
+ghost use Rattle.expr_forms.specs.Joins.Operands.{IsOperand};
+ghost use Rattle.expr_forms.specs.Joins.Shapes.{instruction_as};
+ghost use Rattle.operations.specs.Joins.CentralTables.{operand_row, sum_row, operand_rows_of, sum_rows_of, is_some_of};
+ghost use Rattle.operations.specs.Joins.LawfulCodes.{has_lawful_code, has_lawful_codes};
+ghost use Rattle.operations.specs.Joins.Found.{shape_as};
 
 use crate::Row;
 use crate::central::central_fits::central_fit;

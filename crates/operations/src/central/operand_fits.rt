@@ -4,11 +4,11 @@ ghost use Rattle.std.specs.List.{slice_split};
 ghost use Rattle.definitions.specs.Pieces.{Piece};
 ghost use Rattle.definitions.specs.Matching.{NoField, subfield_matched, subfields_matched};
 ghost use Rattle.definitions.specs.declared.number_base.NumberBase.{NumberBase};
-ghost use Rattle.expr_forms.specs.Operands.{IsSubfield, IsOperand};
-ghost use Rattle.operations.specs.RegistersFound.{digits_as};
-ghost use Rattle.operations.specs.CodeTexts.{operand_text};
-ghost use Rattle.operations.specs.Parts.{part_text, is_part, parts_as};
-ghost use Rattle.operations.specs.Found.{found_as, next_found};
+ghost use Rattle.expr_forms.specs.Joins.Operands.{IsSubfield, IsOperand};
+ghost use Rattle.operations.specs.Joins.RegistersFound.{digits_as};
+ghost use Rattle.operations.specs.Joins.CodeTexts.{operand_text};
+ghost use Rattle.operations.specs.Joins.Parts.{part_text, is_part, parts_as};
+ghost use Rattle.operations.specs.Joins.Found.{found_as, next_found};
 
 use crate::central::found::{CentralField, Found};
 use crate::central::parts::{Part, Parts};

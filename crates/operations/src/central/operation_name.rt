@@ -1,7 +1,7 @@
 //! The name under which a table has an operation: its two letters, and i in place of a digit.
 ghost use Rattle.std.specs.Prelude.{◌≡◌, IsTrue};
-ghost use Rattle.operations.specs.SortedNames.{is_sorted, has_at_most};
-ghost use Rattle.operations.specs.OperationNames.{name_of, rows_named};
+ghost use Rattle.operations.specs.Joins.SortedNames.{is_sorted, has_at_most};
+ghost use Rattle.operations.specs.Joins.OperationNames.{name_of, rows_named};
 
 use crate::{Row, RowPlace, rows_near};
 

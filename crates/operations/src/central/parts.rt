@@ -1,8 +1,8 @@
 //! The patterns as texts, part by part.
 ghost use Rattle.std.specs.Prelude.{◌≡◌, ◌==◌};
 ghost use Rattle.std.specs.List.{slice_split};
-ghost use Rattle.operations.specs.CodeTexts.{operand_text, registers_text};
-ghost use Rattle.operations.specs.Parts.{parts_as, AreParts};
+ghost use Rattle.operations.specs.Joins.CodeTexts.{operand_text, registers_text};
+ghost use Rattle.operations.specs.Joins.Parts.{parts_as, AreParts};
 
 use crate::central::patterns::{OperandPattern, SumPattern};
 

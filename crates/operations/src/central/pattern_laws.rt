@@ -6,9 +6,9 @@ ghost use Rattle.definitions.specs.Pieces.{Minus, IsMark, Piece};
 ghost use Rattle.definitions.specs.Expressions.{Add, Subtract, ElementOf, pairs_of};
 ghost use Rattle.definitions.specs.Matching.{RegisterDigits, matched, plain_text};
 ghost use Rattle.operations.specs.declared.central.patterns.OperandPattern.{OperandPattern};
-ghost use Rattle.operations.specs.CodeTexts.{operand_text};
-ghost use Rattle.operations.specs.RegisterPieces.{pieces_fit, are_of_field, is_sum_of_registers, is_register_pattern, is_pattern_part};
-ghost use Rattle.operations.specs.RegisterLinks.{read_links_fit};
+ghost use Rattle.operations.specs.Joins.CodeTexts.{operand_text};
+ghost use Rattle.operations.specs.Joins.RegisterPieces.{pieces_fit, are_of_field, is_sum_of_registers, is_register_pattern, is_pattern_part};
+ghost use Rattle.operations.specs.Joins.RegisterLinks.{read_links_fit};
 ghost use Rattle.definitions.specs.declared.number_base.NumberBase.{NumberBase};
 
 /// The text of a subfield fits a pattern of registers exactly where its pieces do; and each part of

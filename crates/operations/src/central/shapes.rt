@@ -1,11 +1,11 @@
 //! The instruction of a code, with what was found in its operand.
 ghost use Rattle.std.specs.Prelude.{◌≡◌, ◌≤◌, Some, IsTrue, is_some, IfSome};
 ghost use Rattle.definitions.specs.Matching.{instruction_of};
-ghost use Rattle.expr_forms.specs.Shapes.{field_as, instruction_as};
-ghost use Rattle.operations.specs.CodeTexts.{code_text, code_text_or_none};
-ghost use Rattle.operations.specs.LawfulCodes.{is_lawful, is_lawful_or_none};
-ghost use Rattle.operations.specs.Found.{central_field_as, found_as, fitted_as};
-ghost use Rattle.operations.specs.Fits.{code_fit};
+ghost use Rattle.expr_forms.specs.Joins.Shapes.{field_as, instruction_as};
+ghost use Rattle.operations.specs.Joins.CodeTexts.{code_text, code_text_or_none};
+ghost use Rattle.operations.specs.Joins.LawfulCodes.{is_lawful, is_lawful_or_none};
+ghost use Rattle.operations.specs.Joins.Found.{central_field_as, found_as, fitted_as};
+ghost use Rattle.operations.specs.Joins.Fits.{code_fit};
 
 use crate::central::code::Code;
 use crate::central::found::{CentralField, Fitted, Found};

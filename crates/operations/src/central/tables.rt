@@ -4,9 +4,9 @@ ghost use Rattle.std.specs.List.{list_all, list_any};
 ghost use Rattle.definitions.specs.CentralTable as table;
 ghost use Rattle.definitions.specs.Matching.{is_operation};
 ghost use Rattle.definitions.specs.Operations.{is_central};
-ghost use Rattle.operations.specs.CentralTables.{code_row, operand_row, sum_row, ignoring_rows_of, operand_rows_of, sum_rows_of, is_some_of};
-ghost use Rattle.operations.specs.FirstLetters.{begins_sum};
-ghost use Rattle.operations.specs.LawfulCodes.{is_lawful_row, has_lawful_code, has_lawful_codes};
+ghost use Rattle.operations.specs.Joins.CentralTables.{code_row, operand_row, sum_row, ignoring_rows_of, operand_rows_of, sum_rows_of, is_some_of};
+ghost use Rattle.operations.specs.Joins.FirstLetters.{begins_sum};
+ghost use Rattle.operations.specs.Joins.LawfulCodes.{is_lawful_row, has_lawful_code, has_lawful_codes};
 
 use crate::Row;
 use crate::central::code::{Code, OperandForm, SumForm};

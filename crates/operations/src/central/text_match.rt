@@ -1,8 +1,8 @@
 //! Texts against patterns of registers, and the digits that they have.
 ghost use Rattle.std.specs.Prelude.{◌≡◌, ◌<◌, ◌∷◌, ℕ, List, option_map};
 ghost use Rattle.definitions.specs.Matching.{is_ijk, is_octal_digit, matched, with_ijk};
-ghost use Rattle.operations.specs.RegistersFound.{digits_as};
-ghost use Rattle.operations.specs.Fits.{matched_behind, named_digits};
+ghost use Rattle.operations.specs.Joins.RegistersFound.{digits_as};
+ghost use Rattle.operations.specs.Joins.Fits.{matched_behind, named_digits};
 
 use crate::central::registers_found::RegistersFound;
 

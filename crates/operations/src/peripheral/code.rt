@@ -5,7 +5,7 @@ ghost use Rattle.definitions.specs.Expressions.{Expression};
 ghost use Rattle.definitions.specs.PeripheralTable.{PeripheralRow};
 ghost use Rattle.definitions.specs.Operands.{PeripheralOperand, BadOperand, by_form};
 ghost use Rattle.definitions.specs.Sizes.{form_units};
-ghost use Rattle.operations.specs.PeripheralCodes.{form_as, values_read};
+ghost use Rattle.operations.specs.Joins.PeripheralCodes.{form_as, values_read};
 
 /// What stands behind the two digits of an operation (6600 reference 60100000, peripheral
 /// instructions).

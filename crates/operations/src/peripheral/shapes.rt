@@ -7,9 +7,9 @@ ghost use Rattle.definitions.specs.PeripheralTable as form;
 ghost use Rattle.definitions.specs.PeripheralTable.{PeripheralRow, peripheral_row};
 ghost use Rattle.definitions.specs.Operands.{BadOperand, plain_of, one_or_two, by_form, peripheral_operand};
 ghost use Rattle.definitions.specs.declared.number_base.NumberBase.{NumberBase};
-ghost use Rattle.expr_forms.specs.Operands.{IsSubfield, IsOperand};
-ghost use Rattle.operations.specs.PeripheralCodes.{form_as};
-ghost use Rattle.operations.specs.PeripheralShapes.{IsFound, IsFieldOf, fault_of, is_ignoring, only_value};
+ghost use Rattle.expr_forms.specs.Joins.Operands.{IsSubfield, IsOperand};
+ghost use Rattle.operations.specs.Joins.PeripheralCodes.{form_as};
+ghost use Rattle.operations.specs.Joins.PeripheralShapes.{IsFound, IsFieldOf, fault_of, is_ignoring, only_value};
 
 use crate::peripheral::code::Form;
 use crate::peripheral::table::row_of;

@@ -2,8 +2,8 @@
 ghost use Rattle.std.specs.Prelude.{◌≡◌};
 ghost use Rattle.definitions.specs.PeripheralTable.{peripheral_row};
 ghost use Rattle.definitions.specs.Operations.{is_peripheral};
-ghost use Rattle.operations.specs.PeripheralCodes.{found_row};
-ghost use Rattle.operations.specs.PeripheralTables.{first_code};
+ghost use Rattle.operations.specs.Joins.PeripheralCodes.{found_row};
+ghost use Rattle.operations.specs.Joins.PeripheralTables.{first_code};
 
 use crate::peripheral::code::{Code, Form};
 use crate::{Row, rows_of};

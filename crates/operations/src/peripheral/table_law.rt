@@ -1,7 +1,7 @@
 //! What holds of the table.
 ghost use Rattle.std.specs.Prelude.{◌≡◌, ℕ};
 ghost use Rattle.definitions.specs.PeripheralTable.{peripheral_rows};
-ghost use Rattle.operations.specs.PeripheralTables.{rows_as, rows_with};
+ghost use Rattle.operations.specs.Joins.PeripheralTables.{rows_as, rows_with};
 
 use crate::peripheral::table::ROWS;
 

@@ -1,5 +1,5 @@
 use Rattle.std.proofs.Common.{◌≡◌, drop}
-use Rattle.asm_main.specs.Chains.{is_open_behind}
+use Rattle.asm_main.specs.Joins.Chains.{is_open_behind}
 use Rattle.asm_main.proofs.chained.is_open_behind.Given as goal
 
 abbrev pub invariant-loop-byte : goal.invariant-loop-byte

@@ -1,5 +1,5 @@
 use Rattle.std.proofs.Common.{◌≡◌, drop}
-use Rattle.asm_main.specs.Chains.{ends_behind}
+use Rattle.asm_main.specs.Joins.Chains.{ends_behind}
 use Rattle.asm_main.proofs.chained.lines_behind.Given as goal
 
 abbrev pub invariant-loop-byte : goal.invariant-loop-byte

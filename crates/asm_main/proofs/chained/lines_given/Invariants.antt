@@ -1,5 +1,5 @@
 use Rattle.std.proofs.Common.{◌≡◌, drop}
-use Rattle.asm_main.specs.Chains.{lines_given}
+use Rattle.asm_main.specs.Joins.Chains.{lines_given}
 use Rattle.asm_main.proofs.chained.lines_given.Given as goal
 
 abbrev pub invariant-loop-part : goal.invariant-loop-part

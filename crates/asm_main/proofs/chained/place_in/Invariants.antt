@@ -1,5 +1,5 @@
 use Rattle.std.proofs.Common.{◌≡◌, drop}
-use Rattle.asm_main.specs.Chains.{place_in}
+use Rattle.asm_main.specs.Joins.Chains.{place_in}
 use Rattle.asm_main.proofs.chained.place_in.Given as goal
 
 abbrev pub invariant-loop-number : goal.invariant-loop-number

@@ -3,8 +3,8 @@ use Rattle.text_ports.proofs.SendSteps.{IsPart}
 use Rattle.definitions.specs.Build.{image_of}
 use Rattle.definitions.specs.DeckInput.{Deck}
 use Rattle.deck_linker.proofs.ListedLaws.{part-behind-all}
-use Rattle.asm_main.specs.Outputs.{front_to, text_to, text_where}
-use Rattle.asm_main.specs.Ways.{decks_of}
+use Rattle.asm_main.specs.Joins.Outputs.{front_to, text_to, text_where}
+use Rattle.asm_main.specs.Joins.Ways.{decks_of}
 use Rattle.asm_main.specs.declared.texts.Chosen.{Chosen}
 use Rattle.asm_main.proofs.texts.write_chosen.Goals as goal
 

@@ -6,7 +6,7 @@ use Rattle.cards.specs.declared.edits.Edit.{Edit}
 use Rattle.cards.specs.declared.edits.Edit.TheVariants.{Remove}
 use Rattle.cards.specs.declared.carrying.Touched.{Touched}
 use Rattle.cards.specs.Carrying.{seen_before}
-use Rattle.cards.specs.CarrySteps.{carried_to}
+use Rattle.cards.specs.Joins.CarrySteps.{carried_to}
 use Rattle.cards.proofs.CarrySteps.{carries-on, carries-none, near-more}
 use Rattle.cards.proofs.carrying.carried_places.Goals as goal
 

@@ -1,6 +1,6 @@
 use Rattle.std.proofs.Common.{◌≡◌, length}
 use Rattle.cards.specs.Carrying.{seen_before, carried}
-use Rattle.cards.specs.CarrySteps.{AreNear}
+use Rattle.cards.specs.Joins.CarrySteps.{AreNear}
 use Rattle.cards.proofs.CarrySteps.{so_far}
 use Rattle.cards.proofs.carrying.carried_places.Given as goal
 

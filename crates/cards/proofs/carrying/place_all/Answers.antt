@@ -2,7 +2,7 @@ use Rattle.std.proofs.Common.{ℕ, ◌≡◌, ◌+◌, ◌∙◌, suc, List, tak
 use Rattle.std.proofs.lemmas.List.{get_or_default}
 use Rattle.cards.specs.declared.edits.Edit.{Edit}
 use Rattle.cards.specs.Carrying.{placed}
-use Rattle.cards.specs.CarrySteps.{placed_all}
+use Rattle.cards.specs.Joins.CarrySteps.{placed_all}
 use Rattle.cards.proofs.CarrySteps.{placed-none, moved-more}
 use Rattle.cards.proofs.carrying.place_all.Goals as goal
 

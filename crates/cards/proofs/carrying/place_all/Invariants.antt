@@ -1,5 +1,5 @@
 use Rattle.std.proofs.Common.{◌≡◌, take}
-use Rattle.cards.specs.CarrySteps.{placed_all}
+use Rattle.cards.specs.Joins.CarrySteps.{placed_all}
 use Rattle.cards.proofs.carrying.place_all.Given as goal
 
 abbrev pub invariant-loop-count : goal.invariant-loop-count

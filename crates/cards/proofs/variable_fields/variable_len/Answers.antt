@@ -1,4 +1,4 @@
-use Rattle.cards.specs.Readings.{extent_at}
+use Rattle.cards.specs.Joins.Readings.{extent_at}
 use Rattle.cards.proofs.ReadingLaws.{extent-next}
 use Rattle.cards.proofs.variable_fields.variable_len.Goals as goal
 

@@ -1,6 +1,6 @@
 use Rattle.std.proofs.Common.{◌≡◌, ◌+◌, length, drop}
 use Rattle.definitions.specs.Pieces.{AtStart, field_at}
-use Rattle.cards.specs.Readings.{extent_at}
+use Rattle.cards.specs.Joins.Readings.{extent_at}
 use Rattle.cards.proofs.variable_fields.variable_len.Given as goal
 
 -- the characters so far, and those behind them that belong to the field, are the field

@@ -3,12 +3,12 @@ use Rattle.std.proofs.lemmas.Result.{on_ok_weaker}
 use Rattle.definitions.specs.Entries.{entries_by}
 use Rattle.definitions.specs.Operations as op
 use Rattle.definitions.specs.Settling.{settle}
-use Rattle.statement_coder.specs.Readings.{IsReading}
+use Rattle.statement_coder.specs.Joins.Readings.{IsReading}
 use Rattle.definitions.specs.Operands.{operand_of}
-use Rattle.operations.specs.OperationsAs.{operation_as}
-use Rattle.deck_assembler.specs.FirstSymbols.{symbol_in}
-use Rattle.deck_assembler.specs.SharedNames.{enters}
-use Rattle.deck_assembler.specs.Walks.{whole_of, all_settled}
+use Rattle.operations.specs.Joins.OperationsAs.{operation_as}
+use Rattle.deck_assembler.specs.Joins.FirstSymbols.{symbol_in}
+use Rattle.deck_assembler.specs.Joins.SharedNames.{enters}
+use Rattle.deck_assembler.specs.Joins.Walks.{whole_of, all_settled}
 use Rattle.deck_assembler.proofs.WalkLaws.{settle-codable, enters-step}
 use Rattle.deck_assembler.proofs.deck_names.enter.Goals as goal
 

@@ -1,9 +1,9 @@
 use Rattle.std.proofs.Common.{List, sym, subst}
-use Rattle.deck_assembler.specs.DeckParts.{DeckPiece, sized_in}
-use Rattle.deck_assembler.specs.Walks.{whole_of}
-use Rattle.deck_assembler.specs.DeckWalks.{IsListing}
-use Rattle.deck_assembler.specs.DueCodes.{IsWalkedDue}
-use Rattle.deck_assembler.specs.FormerLines.{IsWalkedBeside}
+use Rattle.deck_assembler.specs.Joins.DeckParts.{DeckPiece, sized_in}
+use Rattle.deck_assembler.specs.Joins.Walks.{whole_of}
+use Rattle.deck_assembler.specs.Joins.DeckWalks.{IsListing}
+use Rattle.deck_assembler.specs.Joins.DueCodes.{IsWalkedDue}
+use Rattle.deck_assembler.specs.Joins.FormerLines.{IsWalkedBeside}
 use Rattle.deck_assembler.proofs.DueCodeLaws.{due-begins}
 use Rattle.deck_assembler.proofs.DeckWalkLaws.{walk-listing, walk-noted}
 use Rattle.deck_assembler.proofs.deck_walk.walk.Goals as goal

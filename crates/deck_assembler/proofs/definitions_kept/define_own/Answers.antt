@@ -5,7 +5,7 @@ use Rattle.definitions.specs.Operands as operands
 use Rattle.definitions.specs.Settling.{View}
 use Rattle.statement_coder.specs.declared.definitions_made.Defines as made
 use Rattle.statement_coder.specs.declared.definitions_made.Defines.TheVariants as defines
-use Rattle.deck_assembler.specs.FirstSymbols.{symbol_in, with_defined}
+use Rattle.deck_assembler.specs.Joins.FirstSymbols.{symbol_in, with_defined}
 use Rattle.deck_assembler.proofs.DefinitionLaws.{or_form-none}
 use Rattle.deck_assembler.proofs.definitions_kept.define_own.Goals as goal
 

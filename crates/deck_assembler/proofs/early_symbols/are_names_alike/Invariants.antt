@@ -1,6 +1,6 @@
 use Rattle.std.proofs.Common.{length}
 use Rattle.definitions.specs.Agreement.{Agree, lawful_names}
-use Rattle.deck_assembler.specs.FirstSymbols.{symbol_in}
+use Rattle.deck_assembler.specs.Joins.FirstSymbols.{symbol_in}
 use Rattle.deck_assembler.proofs.early_symbols.are_names_alike.Given as goal
 
 -- all names are alike where those that are left are, and those that are left where all are

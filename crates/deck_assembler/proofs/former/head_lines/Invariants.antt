@@ -1,6 +1,6 @@
 use Rattle.std.proofs.Common.{◌≡◌, ◌≤◌, ◌++◌, List, length, take, drop}
 use Rattle.deck_objects.specs.declared.lines.Line.{Line}
-use Rattle.deck_assembler.specs.Heads.{AreHeadLines, cards_of_lines}
+use Rattle.deck_assembler.specs.Joins.Heads.{AreHeadLines, cards_of_lines}
 use Rattle.deck_assembler.proofs.former.head_lines.Given as goal
 
 -- what goes on with the lines that are left goes on with those that were taken

@@ -1,5 +1,5 @@
 use Rattle.std.proofs.Common.{◌≡◌, drop}
-use Rattle.deck_assembler.specs.TailLines.{lines_behind}
+use Rattle.deck_assembler.specs.Joins.TailLines.{lines_behind}
 use Rattle.deck_assembler.proofs.former.lines_behind.Given as goal
 
 -- so many cards are left of the first ones

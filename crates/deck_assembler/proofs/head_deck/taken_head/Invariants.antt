@@ -1,7 +1,7 @@
 use Rattle.std.proofs.Common.{◌≡◌, ◌++◌, List, length}
-use Rattle.deck_assembler.specs.Agreements.{left}
-use Rattle.deck_assembler.specs.Heads.{AreHead}
-use Rattle.deck_assembler.specs.Meetings.{cards_of}
+use Rattle.deck_assembler.specs.Joins.Agreements.{left}
+use Rattle.deck_assembler.specs.Joins.Heads.{AreHead}
+use Rattle.deck_assembler.specs.Joins.Meetings.{cards_of}
 use Rattle.deck_assembler.specs.declared.sized_statement.SizedStatement.{SizedStatement}
 use Rattle.deck_assembler.proofs.head_deck.taken_head.Given as goal
 

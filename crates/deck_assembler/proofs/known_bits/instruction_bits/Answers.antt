@@ -1,6 +1,6 @@
 use Rattle.std.proofs.Common.{[], ◌∷◌}
 use Rattle.std.proofs.lemmas.Option.{IfSome_then}
-use Rattle.statement_coder.specs.Items.{item_as, option_items}
+use Rattle.statement_coder.specs.Joins.Items.{item_as, option_items}
 use Rattle.deck_assembler.proofs.known_bits.instruction_bits.Goals as goal
 
 pub returns : goal.returns

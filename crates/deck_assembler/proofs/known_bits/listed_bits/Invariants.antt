@@ -1,6 +1,6 @@
 use Rattle.std.proofs.Common.{take, map}
-use Rattle.statement_coder.specs.Items.{item_as}
-use Rattle.deck_assembler.specs.KeptFields.{AreTogether}
+use Rattle.statement_coder.specs.Joins.Items.{item_as}
+use Rattle.deck_assembler.specs.Joins.KeptFields.{AreTogether}
 use Rattle.deck_assembler.proofs.known_bits.listed_bits.Given as goal
 
 abbrev pub invariant-loop-item : goal.invariant-loop-item

@@ -3,11 +3,11 @@ use Rattle.definitions.specs.Letters.{in_order, letters_of}
 use Rattle.definitions.specs.Settled.{defined}
 use Rattle.definitions.specs.Settling.{View, settle, settled_all}
 use Rattle.definitions.specs.StatementItems.{items_of}
-use Rattle.statement_coder.specs.Items.{deck_with}
-use Rattle.statement_coder.specs.CodedItems.{AreTold, stores_zeros}
+use Rattle.statement_coder.specs.Joins.Items.{deck_with}
+use Rattle.statement_coder.specs.Joins.CodedItems.{AreTold, stores_zeros}
 use Rattle.definitions.proofs.FillLaws.{settle-fill}
-use Rattle.deck_assembler.specs.KeptFields.{IsTold}
-use Rattle.deck_assembler.specs.Walks.{context_in, whole_of, all_settled}
+use Rattle.deck_assembler.specs.Joins.KeptFields.{IsTold}
+use Rattle.deck_assembler.specs.Joins.Walks.{context_in, whole_of, all_settled}
 use Rattle.deck_assembler.proofs.ShortLaws.{settle-short}
 use Rattle.deck_assembler.proofs.line_coder.statement_line.Goals as goal
 

@@ -1,6 +1,6 @@
 use Rattle.std.proofs.Common.{subst}
 use Rattle.std.proofs.lemmas.Result.{on_ok_weaker}
-use Rattle.statement_coder.specs.CodedItems.{AreTold}
+use Rattle.statement_coder.specs.Joins.CodedItems.{AreTold}
 use Rattle.statement_coder.specs.declared.coded.CodedItems.{CodedItems}
 use Rattle.deck_assembler.proofs.line_fields.line_fields.Goals as goal
 

@@ -1,6 +1,6 @@
 use Rattle.std.proofs.Common.{◌∙◌, ap, sym, flat_map}
 use Rattle.definitions.specs.Literals.{datum_literals, with_literals}
-use Rattle.expr_forms.specs.Readings.{datum_as}
+use Rattle.expr_forms.specs.Joins.Readings.{datum_as}
 use Rattle.deck_assembler.proofs.LiteralSteps.{with_literals-append}
 use Rattle.deck_assembler.proofs.literal_words.add_con.Goals as goal
 

@@ -1,6 +1,6 @@
 use Rattle.std.proofs.Common.{◌≡◌, length, flat_map}
 use Rattle.definitions.specs.Literals.{with_literals}
-use Rattle.deck_assembler.specs.LiteralsRead.{bit_literals}
+use Rattle.deck_assembler.specs.Joins.LiteralsRead.{bit_literals}
 use Rattle.deck_assembler.proofs.literal_words.add_fields.Given as goal
 
 -- the literals of the fields that are left make the words of all

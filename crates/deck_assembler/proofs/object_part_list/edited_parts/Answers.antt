@@ -1,7 +1,7 @@
 use Rattle.std.proofs.Common.{◌∙◌, [], length, reverse, refl, ap, sym, subst, arith}
-use Rattle.deck_assembler.specs.DueCodes.{IsDueBeside}
-use Rattle.deck_assembler.specs.FormerLines.{AreChosen, IsBeside}
-use Rattle.deck_assembler.specs.Formers.{known_in}
+use Rattle.deck_assembler.specs.Joins.DueCodes.{IsDueBeside}
+use Rattle.deck_assembler.specs.Joins.FormerLines.{AreChosen, IsBeside}
+use Rattle.deck_assembler.specs.Joins.Formers.{known_in}
 use Rattle.deck_assembler.proofs.FormerLaws.{begin-beside, begin-due}
 use Rattle.deck_assembler.proofs.object_part_list.edited_parts.Goals as goal
 

@@ -5,11 +5,11 @@ use Rattle.definitions.specs.DeckKinds.{up_to_end, behind_end}
 use Rattle.definitions.specs.Lengths.{rows_of}
 use Rattle.definitions.specs.Statements.{statements_of}
 use Rattle.deck_objects.specs.declared.object.ObjectParts.{ObjectParts}
-use Rattle.deck_assembler.specs.DeckParts.{sized_in}
-use Rattle.deck_assembler.specs.DueCodes.{IsDueBeside}
+use Rattle.deck_assembler.specs.Joins.DeckParts.{sized_in}
+use Rattle.deck_assembler.specs.Joins.DueCodes.{IsDueBeside}
 use Rattle.deck_assembler.specs.declared.former_lines.FormerLines.{FormerLines}
 use Rattle.deck_assembler.proofs.DueCodeCounts.{due-of-deck}
-use Rattle.deck_assembler.specs.Walks.{Whole, IsWhole}
+use Rattle.deck_assembler.specs.Joins.Walks.{Whole, IsWhole}
 use Rattle.deck_assembler.proofs.FormerLaws.{chosen-beside}
 use Rattle.deck_assembler.proofs.PartLaws.{AreMade, parts-of}
 use Rattle.deck_assembler.proofs.PieceCounts.{sized-length}

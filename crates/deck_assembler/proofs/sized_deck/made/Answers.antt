@@ -1,10 +1,10 @@
 -- What is kept of a deck is what its cards make.
 use Rattle.std.proofs.Common.{◌∙◌, All, List, length, sym, ap, arith, subst}
-use Rattle.cards.specs.Spans.{IsSpan}
+use Rattle.cards.specs.Joins.Spans.{IsSpan}
 use Rattle.definitions.specs.DeckKinds.{up_to_end, kind_of_statements}
 use Rattle.definitions.specs.Statements.{Statement}
-use Rattle.deck_assembler.specs.OldDecks.{StandsInFront}
-use Rattle.deck_assembler.specs.Tails.{HasTailIfAny, HasTailWithin}
+use Rattle.deck_assembler.specs.Joins.OldDecks.{StandsInFront}
+use Rattle.deck_assembler.specs.Joins.Tails.{HasTailIfAny, HasTailWithin}
 use Rattle.deck_assembler.proofs.DeckLaws.{all-statements, all-numbered, all-behind, deck-made, counts_of}
 use Rattle.deck_assembler.proofs.FrontLaws.{front-in, stands-still}
 use Rattle.deck_assembler.proofs.sized_deck.made.Goals as goal

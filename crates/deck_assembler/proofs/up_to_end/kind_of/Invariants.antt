@@ -1,6 +1,6 @@
 use Rattle.std.proofs.Common.{◌≡◌}
-use Rattle.operations.specs.KindsFound.{kind_found}
-use Rattle.deck_assembler.specs.FirstStatements.{first_statements, fields_in}
+use Rattle.operations.specs.Joins.KindsFound.{kind_found}
+use Rattle.deck_assembler.specs.Joins.FirstStatements.{first_statements, fields_in}
 use Rattle.deck_assembler.proofs.up_to_end.kind_of.Given as goal
 
 -- the kind that the statements so far make

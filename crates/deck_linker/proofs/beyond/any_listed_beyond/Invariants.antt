@@ -1,7 +1,7 @@
 -- None of the lines so far does.
 use Rattle.std.proofs.Common.{◌≡◌, drop}
 use Rattle.std.specs.List.{list_any}
-use Rattle.deck_linker.specs.Beyond.{listed_beyond}
+use Rattle.deck_linker.specs.Joins.Beyond.{listed_beyond}
 use Rattle.deck_linker.proofs.beyond.any_listed_beyond.Given as goal
 
 abbrev pub invariant-loop-line : goal.invariant-loop-line

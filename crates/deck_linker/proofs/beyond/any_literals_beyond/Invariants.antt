@@ -1,7 +1,7 @@
 -- None of the blocks so far is.
 use Rattle.std.proofs.Common.{◌≡◌, drop}
 use Rattle.std.specs.List.{list_any}
-use Rattle.deck_linker.specs.Beyond.{literals_row_beyond}
+use Rattle.deck_linker.specs.Joins.Beyond.{literals_row_beyond}
 use Rattle.deck_linker.proofs.beyond.any_literals_beyond.Given as goal
 
 abbrev pub invariant-loop-row : goal.invariant-loop-row

@@ -1,6 +1,6 @@
 -- None of the rows so far is.
 use Rattle.std.proofs.Common.{◌≡◌, drop}
-use Rattle.deck_linker.specs.CommonWords.{has_common}
+use Rattle.deck_linker.specs.Joins.CommonWords.{has_common}
 use Rattle.deck_linker.proofs.common_words.has_common.Given as goal
 
 abbrev pub invariant-loop-row : goal.invariant-loop-row

@@ -1,4 +1,4 @@
-use Rattle.deck_linker.specs.CommonWords.{AreNone}
+use Rattle.deck_linker.specs.Joins.CommonWords.{AreNone}
 use Rattle.deck_linker.proofs.common_words.no_words.Given as goal
 
 abbrev pub invariant-loop : goal.invariant-loop

@@ -7,10 +7,10 @@ use Rattle.definitions.specs.Lengths.{BlockRow}
 use Rattle.definitions.specs.Link.{linking_of}
 use Rattle.definitions.specs.Objects.{Object}
 use Rattle.definitions.specs.declared.deck_kind.DeckKind.{DeckKind}
-use Rattle.deck_objects.specs.CodedLines.{AreCoded}
-use Rattle.deck_listing.specs.BlockWords.{AreBlockWords, AreWordsOf}
-use Rattle.deck_listing.specs.Walking.{DoNamesDiffer}
-use Rattle.deck_linker.specs.CommonWords.{has_row}
+use Rattle.deck_objects.specs.Joins.CodedLines.{AreCoded}
+use Rattle.deck_listing.specs.Joins.BlockWords.{AreBlockWords, AreWordsOf}
+use Rattle.deck_listing.specs.Joins.Walking.{DoNamesDiffer}
+use Rattle.deck_linker.specs.Joins.CommonWords.{has_row}
 use Rattle.deck_linker.proofs.CommonSteps.{StoresNowhere, deck-none, deck-rows}
 use Rattle.deck_linker.proofs.ElsewhereLaws.{stored-nowhere}
 use Rattle.deck_linker.proofs.common_words.put_deck.Goals as goal

@@ -1,7 +1,7 @@
 use Rattle.std.proofs.Common.{◌+◌, ◌<◌, length, subst, take, arith}
 use Rattle.std.proofs.lemmas.List.{take_all}
 use Rattle.definitions.specs.Image.{common_words}
-use Rattle.deck_linker.specs.CommonWords.{AreMade, over_deck}
+use Rattle.deck_linker.specs.Joins.CommonWords.{AreMade, over_deck}
 use Rattle.deck_linker.proofs.CommonSteps.{decks-more, made-both, made-none, made-same}
 use Rattle.deck_linker.proofs.common_words.put_decks.Goals as goal
 

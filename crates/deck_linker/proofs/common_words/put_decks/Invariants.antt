@@ -1,6 +1,6 @@
 use Rattle.std.proofs.Common.{take}
 use Rattle.definitions.specs.Image.{common_words}
-use Rattle.deck_linker.specs.CommonWords.{AreMade}
+use Rattle.deck_linker.specs.Joins.CommonWords.{AreMade}
 use Rattle.deck_linker.proofs.common_words.put_decks.Given as goal
 
 abbrev pub invariant-loop-based : goal.invariant-loop-based

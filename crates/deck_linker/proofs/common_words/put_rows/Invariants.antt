@@ -1,5 +1,5 @@
 use Rattle.std.proofs.Common.{take}
-use Rattle.deck_linker.specs.CommonWords.{AreMade, over_rows}
+use Rattle.deck_linker.specs.Joins.CommonWords.{AreMade, over_rows}
 use Rattle.deck_linker.proofs.common_words.put_rows.Given as goal
 
 abbrev pub invariant-loop-index : goal.invariant-loop-index

@@ -1,7 +1,7 @@
 use Rattle.std.proofs.Common.{◌∙◌, ap, length, subst}
 use Rattle.deck_linker.proofs.CommonSteps.{all-made, none-rise}
 use Rattle.definitions.specs.Image.{common_words}
-use Rattle.deck_linker.specs.CommonWords.{AreMade}
+use Rattle.deck_linker.specs.Joins.CommonWords.{AreMade}
 use Rattle.deck_linker.proofs.common_words.words_of_commons.Goals as goal
 
 pub put_decks-requires-clause-lists : goal.put_decks-requires-clause-lists

@@ -1,8 +1,8 @@
 use Rattle.std.proofs.Common.{ℕ, ◌≡◌, List, ℤ, Option, None, sym, ap, ◌∙◌}
 use Rattle.std.specs.BTreeMap.{get}
 use Rattle.definitions.specs.Link.{or_value}
-use Rattle.deck_linker.specs.NameKeys.{name_order}
-use Rattle.deck_linker.specs.Placing.{entry_alone}
+use Rattle.deck_linker.specs.Joins.NameKeys.{name_order}
+use Rattle.deck_linker.specs.Joins.Placing.{entry_alone}
 use Rattle.deck_linker.proofs.EntryLaws.{entered-new, entered-again, none-is}
 use Rattle.deck_linker.proofs.entry_table.enter.Goals as goal
 

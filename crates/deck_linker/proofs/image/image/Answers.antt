@@ -2,9 +2,9 @@ use Rattle.std.proofs.Common.{◌≡◌, ◌∙◌, ◌++◌, List, ℕ, ap}
 use Rattle.std.specs.Prelude.{flat_map}
 use Rattle.std.proofs.lemmas.Result.{IfOk-weaker}
 use Rattle.definitions.specs.Image.{image_text}
-use Rattle.deck_listing.specs.Sheets.{room_of, text_of}
-use Rattle.deck_linker.specs.InPieces.{end_text}
-use Rattle.deck_linker.specs.Sections.{deck_section}
+use Rattle.deck_listing.specs.Joins.Sheets.{room_of, text_of}
+use Rattle.deck_linker.specs.Joins.InPieces.{end_text}
+use Rattle.deck_linker.specs.Joins.Sections.{deck_section}
 use Rattle.deck_linker.proofs.ImageLaws.{two-put}
 use Rattle.deck_linker.proofs.image.image.Goals as goal
 

@@ -1,7 +1,7 @@
 -- The sections so far, and those of the decks that are left.
 use Rattle.std.proofs.Common.{◌≡◌, ◌++◌, drop}
 use Rattle.std.specs.Prelude.{flat_map}
-use Rattle.deck_linker.specs.Sections.{deck_section}
+use Rattle.deck_linker.specs.Joins.Sections.{deck_section}
 use Rattle.deck_linker.proofs.image.push_decks.Given as goal
 
 abbrev pub invariant-loop-based : goal.invariant-loop-based

@@ -4,8 +4,8 @@ use Rattle.std.proofs.lemmas.List.{set-get_or}
 use Rattle.definitions.specs.DeckInput.{Deck}
 use Rattle.definitions.specs.Link.{Based}
 use Rattle.definitions.specs.Objects.{object_of}
-use Rattle.deck_linker.specs.Sections.{deck_section}
-use Rattle.deck_linker.specs.UnfitLines.{AreKnownToFit}
+use Rattle.deck_linker.specs.Joins.Sections.{deck_section}
+use Rattle.deck_linker.specs.Joins.UnfitLines.{AreKnownToFit}
 use Rattle.deck_linker.proofs.KnownFitLaws.{known-more}
 use Rattle.deck_linker.proofs.LineLaws.{text-step}
 use Rattle.deck_linker.proofs.TakenLaws.{same-at}

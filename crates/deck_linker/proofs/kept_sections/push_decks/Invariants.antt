@@ -2,8 +2,8 @@
 -- them; the objects are as they were.
 use Rattle.std.proofs.Common.{◌≡◌, ◌++◌, drop, length}
 use Rattle.std.specs.Prelude.{flat_map}
-use Rattle.deck_linker.specs.Sections.{deck_section}
-use Rattle.deck_linker.specs.UnfitLines.{AreKnownToFit}
+use Rattle.deck_linker.specs.Joins.Sections.{deck_section}
+use Rattle.deck_linker.specs.Joins.UnfitLines.{AreKnownToFit}
 use Rattle.deck_linker.proofs.kept_sections.push_decks.Given as goal
 
 abbrev pub invariant-loop-index : goal.invariant-loop-index

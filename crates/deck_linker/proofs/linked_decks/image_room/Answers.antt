@@ -1,7 +1,7 @@
 use Rattle.std.proofs.Common.{List, subst}
 use Rattle.definitions.specs.Link.{Based}
-use Rattle.deck_linker.specs.InPieces.{DoFit}
-use Rattle.deck_linker.specs.Sections.{deck_section}
+use Rattle.deck_linker.specs.Joins.InPieces.{DoFit}
+use Rattle.deck_linker.specs.Joins.Sections.{deck_section}
 use Rattle.deck_linker.proofs.InPieceLaws.{fit-weaker}
 use Rattle.deck_linker.proofs.linked_decks.image_room.Goals as goal
 

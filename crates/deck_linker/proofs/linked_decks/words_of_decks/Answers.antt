@@ -2,7 +2,7 @@ use Rattle.std.proofs.Common.{◌∷◌, [], ap, sym, subst, take, ◌∙◌, �
 use Rattle.std.specs.List.{AllZip}
 use Rattle.std.proofs.lemmas.List.{take_all, take_more}
 use Rattle.deck_listing.proofs.BlockSteps.{zip-more}
-use Rattle.deck_linker.specs.InPieces.{AreDeckWords}
+use Rattle.deck_linker.specs.Joins.InPieces.{AreDeckWords}
 use Rattle.deck_linker.proofs.linked_decks.words_of_decks.Goals as goal
 
 pub loop-based-preserved : goal.loop-based-preserved

@@ -1,6 +1,6 @@
 use Rattle.std.proofs.Common.{take}
 use Rattle.std.specs.List.{AllZip}
-use Rattle.deck_linker.specs.InPieces.{AreDeckWords}
+use Rattle.deck_linker.specs.Joins.InPieces.{AreDeckWords}
 use Rattle.deck_linker.proofs.linked_decks.words_of_decks.Given as goal
 
 abbrev pub invariant-loop-based : goal.invariant-loop-based

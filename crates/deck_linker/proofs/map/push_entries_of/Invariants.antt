@@ -1,6 +1,6 @@
 -- The lines so far, and those of the decks that are left.
 use Rattle.std.proofs.Common.{◌≡◌, ◌++◌, drop}
-use Rattle.deck_linker.specs.MapLines.{entries_of_decks}
+use Rattle.deck_linker.specs.Joins.MapLines.{entries_of_decks}
 use Rattle.deck_linker.proofs.map.push_entries_of.Given as goal
 
 abbrev pub invariant-loop-based : goal.invariant-loop-based

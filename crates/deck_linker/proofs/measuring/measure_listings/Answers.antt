@@ -1,6 +1,6 @@
 use Rattle.std.proofs.Common.{◌∙◌, ap, arith, subst, length, length-append, refl}
 use Rattle.definitions.specs.DeckInput.{Deck}
-use Rattle.deck_linker.specs.InPieces.{DoFit, deck_text}
+use Rattle.deck_linker.specs.Joins.InPieces.{DoFit, deck_text}
 use Rattle.std.proofs.lemmas.List.{take_all}
 use Rattle.deck_linker.proofs.InPieceLaws.{fit-more}
 use Rattle.deck_linker.proofs.ListedLaws.{count-split}

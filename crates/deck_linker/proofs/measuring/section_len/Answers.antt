@@ -3,9 +3,9 @@ use Rattle.std.proofs.lemmas.Result.{IfOk-weaker}
 use Rattle.std.proofs.lemmas.Slice.Zip.{AllZip-long}
 use Rattle.definitions.specs.Link.{linking_of}
 use Rattle.deck_listing.proofs.SheetSteps.{grown}
-use Rattle.deck_listing.specs.BlockWords.{AreWordsOf}
-use Rattle.deck_listing.specs.Sheets.{room_of, text_of}
-use Rattle.deck_linker.specs.Sections.{deck_section}
+use Rattle.deck_listing.specs.Joins.BlockWords.{AreWordsOf}
+use Rattle.deck_listing.specs.Joins.Sheets.{room_of, text_of}
+use Rattle.deck_linker.specs.Joins.Sections.{deck_section}
 use Rattle.deck_linker.proofs.measuring.section_len.Goals as goal
 
 pub push_deck-requires : goal.push_deck-requires

@@ -2,8 +2,8 @@ use Rattle.std.proofs.Common.{List, ◌+◌, ◌++◌, ℕ, subst}
 use Rattle.std.specs.Prelude.{flat_map}
 use Rattle.definitions.specs.Link.{Based}
 use Rattle.text_ports.proofs.SendSteps.{IsPart}
-use Rattle.deck_linker.specs.InPieces.{end_text}
-use Rattle.deck_linker.specs.Sections.{deck_section}
+use Rattle.deck_linker.specs.Joins.InPieces.{end_text}
+use Rattle.deck_linker.specs.Joins.Sections.{deck_section}
 use Rattle.deck_linker.proofs.InPieceLaws.{clear-again, clear-text}
 use Rattle.deck_linker.proofs.ListedLaws.{part-behind-all}
 use Rattle.deck_linker.proofs.sending.send_image.Goals as goal

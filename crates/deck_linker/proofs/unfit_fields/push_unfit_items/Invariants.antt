@@ -2,9 +2,9 @@
 use Rattle.std.proofs.Common.{◌≡◌, ◌+◌, ◌*◌, ◌≤◌, drop}
 use Rattle.std.specs.Prelude.{map}
 use Rattle.definitions.specs.Link.{address_lines, unfit_words}
-use Rattle.statement_coder.specs.Items.{item_as}
-use Rattle.deck_objects.specs.LineItems.{AreShort}
-use Rattle.deck_linker.specs.Lines.{with_lines}
+use Rattle.statement_coder.specs.Joins.Items.{item_as}
+use Rattle.deck_objects.specs.Joins.LineItems.{AreShort}
+use Rattle.deck_linker.specs.Joins.Lines.{with_lines}
 use Rattle.deck_linker.proofs.unfit_fields.push_unfit_items.Given as goal
 
 abbrev pub invariant-loop-item : goal.invariant-loop-item

@@ -1,5 +1,5 @@
 use Rattle.std.proofs.Common.{refl}
-use Rattle.deck_linker.specs.UnfitLines.{unfit_of, unfit_lines}
+use Rattle.deck_linker.specs.Joins.UnfitLines.{unfit_of, unfit_lines}
 use Rattle.deck_objects.specs.declared.lines.Line.{Line}
 use Rattle.deck_linker.proofs.LineLaws.{lines-step}
 use Rattle.deck_linker.proofs.UnfitLaws.{kept-step}

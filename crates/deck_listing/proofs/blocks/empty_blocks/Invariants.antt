@@ -1,4 +1,4 @@
-use Rattle.deck_listing.specs.Walking.{AreEmpty}
+use Rattle.deck_listing.specs.Joins.Walking.{AreEmpty}
 use Rattle.deck_listing.proofs.blocks.empty_blocks.Given as goal
 
 abbrev pub invariant-loop : goal.invariant-loop

@@ -2,7 +2,7 @@ use Rattle.std.proofs.Common.{◌∷◌, [], Some, ap, sym, subst, take, ◌∙�
 use Rattle.std.specs.List.{AllZip}
 use Rattle.std.proofs.lemmas.List.{take_all, take_more}
 use Rattle.std.proofs.lemmas.Option.{slice_get-get_or}
-use Rattle.deck_listing.specs.BlockWords.{IsFilledWith}
+use Rattle.deck_listing.specs.Joins.BlockWords.{IsFilledWith}
 use Rattle.deck_listing.proofs.BlockSteps.{zip-more}
 use Rattle.deck_listing.proofs.blocks.filled_blocks.Goals as goal
 

@@ -1,6 +1,6 @@
 use Rattle.std.proofs.Common.{take}
 use Rattle.std.specs.List.{AllZip}
-use Rattle.deck_listing.specs.BlockWords.{IsFilledWith}
+use Rattle.deck_listing.specs.Joins.BlockWords.{IsFilledWith}
 use Rattle.deck_listing.proofs.blocks.filled_blocks.Given as goal
 
 abbrev pub invariant-loop-words : goal.invariant-loop-words

@@ -3,8 +3,8 @@ use Rattle.std.proofs.lemmas.Result.{IfOk-weaker}
 use Rattle.std.proofs.lemmas.Slice.Zip.{AllZip-long}
 use Rattle.definitions.specs.Objects.{object_of}
 use Rattle.definitions.proofs.BlockLaws.{object-blocks}
-use Rattle.deck_listing.specs.BlockWords.{AreWordsOf}
-use Rattle.deck_listing.specs.Walking.{DoNamesDiffer}
+use Rattle.deck_listing.specs.Joins.BlockWords.{AreWordsOf}
+use Rattle.deck_listing.specs.Joins.Walking.{DoNamesDiffer}
 use Rattle.deck_listing.proofs.blocks.words_of_blocks.Goals as goal
 
 pub words_of_parts-requires-clause-names : goal.words_of_parts-requires-clause-names

@@ -1,9 +1,9 @@
 use Rattle.std.proofs.Common.{List, ap, length, sym, subst}
 use Rattle.std.specs.List.{AllZip}
 use Rattle.std.proofs.lemmas.Result.{IfOk-weaker}
-use Rattle.deck_listing.specs.Packing.{Packed}
-use Rattle.deck_listing.specs.BlockWords.{AreWhole, AreWordsOf, IsFilledWith}
-use Rattle.deck_listing.specs.Walking.{AreEmpty}
+use Rattle.deck_listing.specs.Joins.Packing.{Packed}
+use Rattle.deck_listing.specs.Joins.BlockWords.{AreWhole, AreWordsOf, IsFilledWith}
+use Rattle.deck_listing.specs.Joins.Walking.{AreEmpty}
 use Rattle.deck_listing.proofs.BlockSteps.{filled-words, runs-whole}
 use Rattle.deck_listing.proofs.blocks.words_of_parts.Goals as goal
 

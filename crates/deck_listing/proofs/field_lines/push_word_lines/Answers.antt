@@ -1,7 +1,7 @@
 use Rattle.std.proofs.Common.{◌≡◌, ◌<◌, ◌≤◌, ◌∷◌, ◌∙◌, ap, map, ◌++◌}
 use Rattle.definitions.specs.Kinds.{word_bits}
-use Rattle.statement_coder.specs.Items.{item_as}
-use Rattle.deck_listing.specs.WordLines.{DoFillWords}
+use Rattle.statement_coder.specs.Joins.Items.{item_as}
+use Rattle.deck_listing.specs.Joins.WordLines.{DoFillWords}
 use Rattle.deck_listing.proofs.WordLaws.{filled-full, filled-field, text-full, lines_ahead-more}
 use Rattle.deck_listing.proofs.field_lines.push_word_lines.Goals as goal
 

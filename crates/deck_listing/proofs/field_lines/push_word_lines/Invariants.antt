@@ -2,8 +2,8 @@ use Rattle.std.proofs.Common.{◌≡◌, ◌+◌, ◌*◌, ◌/◌, ◌++◌, le
 use Rattle.definitions.specs.Kinds.{word_bits}
 use Rattle.definitions.specs.Listing.{unlinked}
 use Rattle.definitions.specs.Words.{cut, joined, width_of}
-use Rattle.statement_coder.specs.Items.{item_as}
-use Rattle.deck_listing.specs.WordLines.{DoFillWords, lines_ahead, word_lines}
+use Rattle.statement_coder.specs.Joins.Items.{item_as}
+use Rattle.deck_listing.specs.Joins.WordLines.{DoFillWords, lines_ahead, word_lines}
 use Rattle.deck_listing.proofs.field_lines.push_word_lines.Given as goal
 
 -- the lines so far, and those that the bits that wait and the fields that are left have, are the lines of all

@@ -2,9 +2,9 @@ use Rattle.std.proofs.Common.{◌≡◌, ◌<◌, List, [], ◌∷◌, length, m
 use Rattle.definitions.specs.Kinds.{unit_bits}
 use Rattle.definitions.specs.StatementItems.{Item}
 use Rattle.definitions.specs.declared.deck_kind.DeckKind.{DeckKind}
-use Rattle.statement_coder.specs.Items.{item_as}
-use Rattle.deck_listing.specs.Packing.{most_bits}
-use Rattle.deck_listing.specs.Putting.{ArePut}
+use Rattle.statement_coder.specs.Joins.Items.{item_as}
+use Rattle.deck_listing.specs.Joins.Packing.{most_bits}
+use Rattle.deck_listing.specs.Joins.Putting.{ArePut}
 use Rattle.deck_listing.proofs.FieldSteps.{field_short, fields_more, fields_within, width_more, most_small}
 use Rattle.deck_listing.proofs.PutSteps.{put_more}
 use Rattle.deck_listing.proofs.fields.put_fields.Goals as goal

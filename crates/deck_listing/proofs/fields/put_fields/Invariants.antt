@@ -1,8 +1,8 @@
 use Rattle.std.proofs.Common.{◌≡◌, ◌+◌, map, take}
 use Rattle.definitions.specs.Kinds.{unit_bits}
 use Rattle.definitions.specs.Words.{width_of}
-use Rattle.statement_coder.specs.Items.{item_as}
-use Rattle.deck_listing.specs.Putting.{ArePut}
+use Rattle.statement_coder.specs.Joins.Items.{item_as}
+use Rattle.deck_listing.specs.Joins.Putting.{ArePut}
 use Rattle.deck_listing.proofs.fields.put_fields.Given as goal
 
 abbrev pub invariant-loop-item : goal.invariant-loop-item

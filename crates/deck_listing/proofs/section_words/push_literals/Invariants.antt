@@ -1,5 +1,5 @@
 use Rattle.std.proofs.Common.{◌≡◌, ◌+◌, ◌++◌, drop}
-use Rattle.deck_listing.specs.ImageWordLines.{literal_lines}
+use Rattle.deck_listing.specs.Joins.ImageWordLines.{literal_lines}
 use Rattle.deck_listing.proofs.section_words.push_literals.Given as goal
 
 -- the lines so far and those of the literals that are left are those of all

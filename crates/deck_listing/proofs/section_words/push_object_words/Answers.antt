@@ -1,8 +1,8 @@
 use Rattle.std.proofs.Common.{◌++◌, ◌∙◌, List, ap, length, subst, sym}
 use Rattle.std.specs.List.{AllZip}
 use Rattle.definitions.specs.Lengths.{BlockRow}
-use Rattle.deck_listing.specs.BlockWords.{AreWordsOf}
-use Rattle.deck_listing.specs.ImageWordLines.{lines_of, rows_words}
+use Rattle.deck_listing.specs.Joins.BlockWords.{AreWordsOf}
+use Rattle.deck_listing.specs.Joins.ImageWordLines.{lines_of, rows_words}
 use Rattle.deck_listing.proofs.ImageLineSteps.{all_rows}
 use Rattle.deck_listing.proofs.section_words.push_object_words.Goals as goal
 

@@ -1,5 +1,5 @@
 use Rattle.std.proofs.Common.{◌≡◌, ◌+◌, ◌-◌, ◌++◌}
-use Rattle.deck_listing.specs.ImageWordLines.{span_lines}
+use Rattle.deck_listing.specs.Joins.ImageWordLines.{span_lines}
 use Rattle.deck_listing.proofs.section_words.push_span.Given as goal
 
 abbrev pub invariant-loop-index : goal.invariant-loop-index

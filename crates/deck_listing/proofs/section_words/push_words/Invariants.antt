@@ -1,5 +1,5 @@
 use Rattle.std.proofs.Common.{◌≡◌, ◌++◌, take}
-use Rattle.deck_listing.specs.ImageWordLines.{block_lines}
+use Rattle.deck_listing.specs.Joins.ImageWordLines.{block_lines}
 use Rattle.deck_listing.proofs.section_words.push_words.Given as goal
 
 abbrev pub invariant-loop-span : goal.invariant-loop-span

@@ -2,9 +2,9 @@ use Rattle.std.proofs.Common.{◌≡◌, ◌∙◌, List, ℕ, ap, sym, subst, r
 use Rattle.std.proofs.lemmas.Result.{IfOk-weaker}
 use Rattle.definitions.specs.Image.{image_alone}
 use Rattle.definitions.specs.Objects.{object_of}
-use Rattle.deck_listing.specs.BlockWords.{AreBlockWords}
+use Rattle.deck_listing.specs.Joins.BlockWords.{AreBlockWords}
 use Rattle.deck_listing.proofs.AloneSteps.{alone-linked, nothing, placed}
-use Rattle.deck_listing.specs.Sheets.{room_of, text_of}
+use Rattle.deck_listing.specs.Joins.Sheets.{room_of, text_of}
 use Rattle.deck_listing.proofs.SheetSteps.{grown}
 use Rattle.deck_listing.proofs.sections.image.Goals as goal
 

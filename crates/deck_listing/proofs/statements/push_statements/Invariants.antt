@@ -1,5 +1,5 @@
 use Rattle.std.proofs.Common.{◌≡◌, ◌+◌, ◌++◌, drop, length}
-use Rattle.deck_listing.specs.ListedParts.{lines_text}
+use Rattle.deck_listing.specs.Joins.ListedParts.{lines_text}
 use Rattle.deck_listing.proofs.statements.push_statements.Given as goal
 
 -- the text so far and that of the statements that are left is that of all

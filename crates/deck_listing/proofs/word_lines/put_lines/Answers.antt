@@ -1,8 +1,8 @@
 use Rattle.std.proofs.Common.{◌≡◌, ℕ, ◌+◌, ◌<◌, List, ◌∷◌, drop, get_or, length, Vec, ap, sym, subst, ◌∙◌, arith}
 use Rattle.std.proofs.lemmas.List.{drop_more}
-use Rattle.deck_listing.specs.Packing.{Packed}
+use Rattle.deck_listing.specs.Joins.Packing.{Packed}
 use Rattle.deck_objects.specs.declared.lines.Line.{Line}
-use Rattle.deck_listing.specs.Walking.{AreWalked}
+use Rattle.deck_listing.specs.Joins.Walking.{AreWalked}
 use Rattle.deck_listing.proofs.WalkSteps.{walked-first, walked-next, walked-on, walked-past}
 use Rattle.deck_listing.proofs.word_lines.put_lines.Goals as goal
 use Rattle.deck_listing.proofs.word_lines.put_lines.Goals.{in-Some+in_ok-put_coded, in_default}

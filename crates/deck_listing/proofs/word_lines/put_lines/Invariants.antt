@@ -1,8 +1,8 @@
 use Rattle.std.proofs.Common.{List, drop}
 use Rattle.definitions.specs.Cards.{Card}
 use Rattle.definitions.specs.Objects.{Object}
-use Rattle.deck_objects.specs.PartsOf.{ArePartsOf}
-use Rattle.deck_listing.specs.Walking.{AreWalked}
+use Rattle.deck_objects.specs.Joins.PartsOf.{ArePartsOf}
+use Rattle.deck_listing.specs.Joins.Walking.{AreWalked}
 use Rattle.deck_listing.proofs.word_lines.put_lines.Given as goal
 
 abbrev pub invariant-loop-line : goal.invariant-loop-line

@@ -1,5 +1,5 @@
 use Rattle.std.proofs.Common.{◌≡◌, arith}
-use Rattle.deck_workers.specs.Settling.{SettlesOn}
+use Rattle.deck_workers.specs.Joins.Settling.{SettlesOn}
 use Rattle.deck_workers.specs.declared.settling.Settled.TheVariants.{Turns}
 use Rattle.deck_workers.proofs.Turns.{not-yet, once-more, settles-used, settles-ended}
 use Rattle.deck_workers.proofs.Unchanged.{settles-keep}

@@ -1,9 +1,9 @@
 use Rattle.std.proofs.Common.{◌≡◌, ◌∙◌, ◌-◌, length, drop, List, ap, sym, subst, arith}
 use Rattle.std.specs.Prelude.{IfOk}
-use Rattle.desk_core.specs.Edits.{Edit}
+use Rattle.desk_core.specs.Joins.Edits.{Edit}
 use Rattle.desk_core.specs.declared.past.Back.{Back}
 use Rattle.desk_core.specs.Past.{KeptEdit, behind, backs_of}
-use Rattle.desk_core.specs.Stored.{kept_both, backs_from}
+use Rattle.desk_core.specs.Joins.Stored.{kept_both, backs_from}
 use Rattle.desk_core.proofs.PastSteps.{kept-drop, backs-kept, drop-same}
 use Rattle.desk_core.proofs.past.backs_behind.Goals as goal
 

@@ -1,6 +1,6 @@
 use Rattle.std.proofs.Common.{◌≡◌, ◌-◌, None, drop, length}
-use Rattle.desk_core.specs.Edits.{first_fault, edited_by}
-use Rattle.desk_core.specs.Stored.{backs_from}
+use Rattle.desk_core.specs.Joins.Edits.{first_fault, edited_by}
+use Rattle.desk_core.specs.Joins.Stored.{backs_from}
 use Rattle.desk_core.proofs.past.count_back.Given as goal
 
 abbrev pub invariant-loop-gone : goal.invariant-loop-gone

@@ -1,7 +1,7 @@
 -- One edit more is made, and what takes it back is kept.
 use Rattle.std.proofs.Common.{ℕ, List, [], ◌∷◌, ◌++◌, ap, ap₂, ◌∙◌}
-use Rattle.desk_core.specs.Language.{Card}
-use Rattle.desk_core.specs.Edits.{Edit}
+use Rattle.desk_core.specs.Joins.Language.{Card}
+use Rattle.desk_core.specs.Joins.Edits.{Edit}
 use Rattle.desk_core.specs.Past.{undo_of}
 use Rattle.desk_core.specs.declared.past.Back.{Back}
 use Rattle.desk_core.proofs.CopySteps.{one-more}

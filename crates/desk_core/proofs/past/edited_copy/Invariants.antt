@@ -1,6 +1,6 @@
 use Rattle.std.proofs.Common.{◌≡◌, ◌++◌, None, drop}
-use Rattle.desk_core.specs.Edits.{first_fault, edited_by}
-use Rattle.desk_core.specs.Stored.{backs_made}
+use Rattle.desk_core.specs.Joins.Edits.{first_fault, edited_by}
+use Rattle.desk_core.specs.Joins.Stored.{backs_made}
 use Rattle.desk_core.proofs.past.edited_copy.Given as goal
 
 abbrev pub invariant-loop-edit : goal.invariant-loop-edit

@@ -1,5 +1,5 @@
 use Rattle.std.proofs.Common.{◌≡◌, ◌++◌, drop}
-use Rattle.desk_core.specs.Stored.{kept_both}
+use Rattle.desk_core.specs.Joins.Stored.{kept_both}
 use Rattle.desk_core.proofs.past.kept_edits.Given as goal
 
 abbrev pub invariant-loop-place : goal.invariant-loop-place

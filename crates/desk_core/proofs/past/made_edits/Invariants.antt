@@ -1,5 +1,5 @@
 use Rattle.std.proofs.Common.{◌≡◌, take}
-use Rattle.desk_core.specs.Stored.{made_edits}
+use Rattle.desk_core.specs.Joins.Stored.{made_edits}
 use Rattle.desk_core.proofs.past.made_edits.Given as goal
 
 abbrev pub invariant-loop-edit : goal.invariant-loop-edit

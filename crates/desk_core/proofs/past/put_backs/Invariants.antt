@@ -1,5 +1,5 @@
 use Rattle.std.proofs.Common.{◌≡◌, ◌-◌, length, take, drop}
-use Rattle.desk_core.specs.Stored.{backs_from}
+use Rattle.desk_core.specs.Joins.Stored.{backs_from}
 use Rattle.desk_core.proofs.past.put_backs.Given as goal
 
 abbrev pub invariant-loop-count : goal.invariant-loop-count

@@ -3,9 +3,9 @@ use Rattle.definitions.specs.Cards.{Card}
 use Rattle.definitions.specs.DeckInput.{Deck}
 use Rattle.definitions.specs.DeckKinds.{kind_of_statements}
 use Rattle.definitions.specs.Objects.{object_of}
-use Rattle.deck_objects.specs.PartsOf.{ArePartsOf}
-use Rattle.deck_assembler.specs.DueCodes.{IsPlanOf, code_due_of}
-use Rattle.deck_assembler.specs.Formers.{known_in}
+use Rattle.deck_objects.specs.Joins.PartsOf.{ArePartsOf}
+use Rattle.deck_assembler.specs.Joins.DueCodes.{IsPlanOf, code_due_of}
+use Rattle.deck_assembler.specs.Joins.Formers.{known_in}
 use Rattle.edit_core.proofs.assembling.edited_object.Goals as goal
 
 pub new-requires : goal.new-requires

@@ -2,7 +2,7 @@ use Rattle.std.proofs.Common.{List, subst}
 use Rattle.definitions.specs.Cards.{Card}
 use Rattle.definitions.specs.DeckInput.{Deck}
 use Rattle.definitions.specs.Objects.{object_of}
-use Rattle.deck_objects.specs.PartsOf.{ArePartsOf}
+use Rattle.deck_objects.specs.Joins.PartsOf.{ArePartsOf}
 use Rattle.edit_core.proofs.assembling.object_of.Goals as goal
 
 pub new-requires : goal.new-requires

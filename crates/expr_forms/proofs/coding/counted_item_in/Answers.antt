@@ -1,7 +1,7 @@
 use Rattle.std.proofs.Common.{◌≡◌, ◌≤◌, ◌*◌, ◌/◌, ◌∙◌, sym, ap, Some, arith}
 use Rattle.std.proofs.Math.Nat.{mod-eq_of_lt}
 use Rattle.definitions.specs.CountedItems.{bits_needed}
-use Rattle.expr_forms.specs.CodedItems.{in_places}
+use Rattle.expr_forms.specs.Joins.CodedItems.{in_places}
 use Rattle.expr_forms.proofs.CodedLaws.{counted_item_in-at_end, counted_item_in-in_front, shifted-small}
 use Rattle.expr_forms.proofs.coding.counted_item_in.Goals as goal
 

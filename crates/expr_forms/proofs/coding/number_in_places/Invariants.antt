@@ -1,6 +1,6 @@
 use Rattle.std.proofs.Common.{◌≡◌, ◌-◌, take, drop}
 use Rattle.definitions.specs.Forms.{characters_number}
-use Rattle.expr_forms.specs.CodedItems.{in_places}
+use Rattle.expr_forms.specs.Joins.CodedItems.{in_places}
 use Rattle.expr_forms.proofs.coding.number_in_places.Given as goal
 
 -- the number of the characters so far

@@ -1,5 +1,5 @@
 use Rattle.std.proofs.Common.{◌≡◌, length}
-use Rattle.expr_forms.specs.ElementLists.{literals_among}
+use Rattle.expr_forms.specs.Joins.ElementLists.{literals_among}
 use Rattle.expr_forms.proofs.element_lists.next_literal.Given as goal
 
 -- among what was taken there is no literal

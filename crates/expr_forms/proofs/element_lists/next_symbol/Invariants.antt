@@ -1,5 +1,5 @@
 use Rattle.std.proofs.Common.{◌≡◌, length}
-use Rattle.expr_forms.specs.ElementLists.{symbols_among}
+use Rattle.expr_forms.specs.Joins.ElementLists.{symbols_among}
 use Rattle.expr_forms.proofs.element_lists.next_symbol.Given as goal
 
 -- among what was taken there is no symbol

@@ -1,7 +1,7 @@
 use Rattle.std.proofs.Common.{◌∙◌, ◌∷◌, ap}
 use Rattle.definitions.specs.Pieces.{Equals, ByMark, IsMark, spot_behind, pieces_at, pieces_of}
 use Rattle.definitions.specs.Expressions.{ElementOf, pairs_of}
-use Rattle.expr_forms.specs.PiecesFound.{mark_as}
+use Rattle.expr_forms.specs.Joins.PiecesFound.{mark_as}
 use Rattle.expr_forms.specs.declared.pieces.Mark.{Mark}
 use Rattle.expr_forms.proofs.ElementLaws.{literal-plus, literal-minus}
 use Rattle.expr_forms.proofs.elements.behind_equals_mark.Goals as goal

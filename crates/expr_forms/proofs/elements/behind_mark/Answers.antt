@@ -1,7 +1,7 @@
 use Rattle.std.proofs.Common.{◌∙◌, ◌∷◌, ap}
 use Rattle.definitions.specs.Pieces.{ByMark, IsMark, spot_behind, pieces_at}
 use Rattle.definitions.specs.Expressions.{ElementOf, pairs_of}
-use Rattle.expr_forms.specs.PiecesFound.{mark_as}
+use Rattle.expr_forms.specs.Joins.PiecesFound.{mark_as}
 use Rattle.expr_forms.specs.declared.pieces.Mark.{Mark}
 use Rattle.expr_forms.proofs.elements.behind_mark.Goals as goal
 

@@ -1,5 +1,5 @@
 use Rattle.std.proofs.Common.{◌≡◌, length}
-use Rattle.expr_forms.specs.LoneRegisters.{without_lone}
+use Rattle.expr_forms.specs.Joins.LoneRegisters.{without_lone}
 use Rattle.expr_forms.proofs.links.next_other.Given as goal
 
 -- what was taken are terms of one register

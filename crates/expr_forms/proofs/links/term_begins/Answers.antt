@@ -1,5 +1,5 @@
 use Rattle.std.proofs.Common.{◌∙◌, sym}
-use Rattle.expr_forms.specs.Links.{operator_as}
+use Rattle.expr_forms.specs.Joins.Links.{operator_as}
 use Rattle.expr_forms.proofs.LoneLaws.{text-begins, text-begun}
 use Rattle.expr_forms.proofs.links.term_begins.Goals as goal
 

@@ -1,6 +1,6 @@
 use Rattle.std.proofs.Common.{◌≡◌, ◌^◌, min, take}
 use Rattle.definitions.specs.Numerals.{number_of}
-use Rattle.expr_forms.specs.Numbers.{radix}
+use Rattle.expr_forms.specs.Joins.Numbers.{radix}
 use Rattle.expr_forms.proofs.numbers.capped_number.Given as goal
 
 abbrev pub invariant-loop-digit : goal.invariant-loop-digit

@@ -1,7 +1,7 @@
 use Rattle.std.proofs.Common.{◌≡◌, length}
 use Rattle.std.specs.List.{list_all}
 use Rattle.definitions.specs.Expressions.{is_allowed}
-use Rattle.expr_forms.specs.ElementLists.{elements_in}
+use Rattle.expr_forms.specs.Joins.ElementLists.{elements_in}
 use Rattle.expr_forms.proofs.plain.are_allowed.Given as goal
 
 -- all are allowed where those that are left are

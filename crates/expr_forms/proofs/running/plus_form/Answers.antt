@@ -4,9 +4,9 @@ use Rattle.std.specs.Int.{w64}
 use Rattle.std.proofs.lemmas.Int.{to_z-of_z}
 use Rattle.definitions.specs.Forms.{Running}
 use Rattle.definitions.specs.declared.letter.Letter.{Letter}
-use Rattle.expr_forms.specs.FormsAs.{part_as}
-use Rattle.expr_forms.specs.Links.{operator_as}
-use Rattle.expr_forms.specs.Running.{bases_as, running_as, AreSmall}
+use Rattle.expr_forms.specs.Joins.FormsAs.{part_as}
+use Rattle.expr_forms.specs.Joins.Links.{operator_as}
+use Rattle.expr_forms.specs.Joins.Running.{bases_as, running_as, AreSmall}
 use Rattle.expr_forms.proofs.RunningLaws.{add-term, add-fault, AreSmall-part}
 use Rattle.expr_forms.proofs.running.plus_form.Goals as goal
 

@@ -1,7 +1,7 @@
 use Rattle.std.proofs.Common.{◌≡◌, ◌++◌, drop}
 use Rattle.std.specs.Prelude.{map}
 use Rattle.definitions.specs.Forms.{remaining}
-use Rattle.expr_forms.specs.Running.{base_as, left_list}
+use Rattle.expr_forms.specs.Joins.Running.{base_as, left_list}
 use Rattle.expr_forms.proofs.running.remaining_part.Given as goal
 
 -- what is left so far, and of the bases behind

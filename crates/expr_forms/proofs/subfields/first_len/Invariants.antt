@@ -1,6 +1,6 @@
 use Rattle.std.proofs.Common.{◌≡◌, ◌≤◌, ◌+◌, length}
 use Rattle.definitions.specs.Pieces.{AtStart}
-use Rattle.expr_forms.specs.Subfields.{subfield_len}
+use Rattle.expr_forms.specs.Joins.Subfields.{subfield_len}
 use Rattle.expr_forms.proofs.subfields.first_len.Given as goal
 
 -- what was read, and how long the subfield is from there on, is the whole subfield

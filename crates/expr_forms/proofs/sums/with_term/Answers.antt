@@ -1,8 +1,8 @@
 use Rattle.std.proofs.Common.{◌∙◌, ap, sym, refl}
 use Rattle.definitions.proofs.TermLaws.{term_of}
-use Rattle.expr_forms.specs.Elements.{element_as}
-use Rattle.expr_forms.specs.Links.{operator_as}
-use Rattle.expr_forms.specs.Registers.{register_as}
+use Rattle.expr_forms.specs.Joins.Elements.{element_as}
+use Rattle.expr_forms.specs.Joins.Links.{operator_as}
+use Rattle.expr_forms.specs.Joins.Registers.{register_as}
 use Rattle.expr_forms.proofs.SumLaws.{lone-alone}
 use Rattle.expr_forms.proofs.sums.with_term.Goals as goal
 

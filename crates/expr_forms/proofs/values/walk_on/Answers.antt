@@ -1,7 +1,7 @@
 use Rattle.std.proofs.Common.{◌+◌, ◌-◌, ◌∙◌, List, length, ap, sym, arith}
 use Rattle.definitions.specs.Expressions.{OperatorElement}
-use Rattle.expr_forms.specs.Running.{bases_as}
-use Rattle.expr_forms.specs.Walks.{walk_value}
+use Rattle.expr_forms.specs.Joins.Running.{bases_as}
+use Rattle.expr_forms.specs.Joins.Walks.{walk_value}
 use Rattle.expr_forms.proofs.RunningLaws.{AreSmall-le}
 use Rattle.expr_forms.proofs.values.walk_on.Goals as goal
 

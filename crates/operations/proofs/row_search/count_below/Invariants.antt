@@ -1,6 +1,6 @@
 use Rattle.std.proofs.Common.{◌-◌, ◌≤◌, length}
 use Rattle.std.specs.List.{prefix_len}
-use Rattle.operations.specs.SortedNames.{is_below}
+use Rattle.operations.specs.Joins.SortedNames.{is_below}
 use Rattle.operations.proofs.row_search.count_below.Given as goal
 
 -- the rows below the number end between the two places

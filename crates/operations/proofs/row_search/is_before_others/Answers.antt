@@ -2,7 +2,7 @@ use Rattle.std.proofs.Common.{◌≡◌, ◌≤◌, false, get_or, leb, ltb, ap,
 use Rattle.std.specs.List.{prefix_len}
 use Rattle.std.proofs.lemmas.Bool.{OnTrue_from, leb-true, le-ltb}
 use Rattle.std.proofs.lemmas.List.Sums.{prefix_len-le-length}
-use Rattle.operations.specs.SortedNames.{is_below}
+use Rattle.operations.specs.Joins.SortedNames.{is_below}
 use Rattle.operations.proofs.SortedLaws.{above_from}
 use Rattle.operations.proofs.row_search.is_before_others.Goals as goal
 

@@ -1,7 +1,7 @@
 use Rattle.std.proofs.Common.{◌≡◌, ◌≤◌, ◌-◌, true, get_or, ltb, ap, sym, ◌∙◌, arith}
 use Rattle.std.specs.List.{prefix_len}
 use Rattle.std.proofs.lemmas.Bool.{OnTrue_from}
-use Rattle.operations.specs.SortedNames.{is_below}
+use Rattle.operations.specs.Joins.SortedNames.{is_below}
 use Rattle.operations.proofs.SortedLaws.{below_to}
 use Rattle.operations.proofs.row_search.is_behind_less.Goals as goal
 

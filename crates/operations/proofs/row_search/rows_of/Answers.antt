@@ -1,7 +1,7 @@
 use Rattle.std.proofs.Common.{◌+◌, drop, ◌≤◌, length, min, sym, ◌∙◌, arith}
 use Rattle.std.specs.List.{prefix_len}
 use Rattle.std.proofs.lemmas.List.Sums.{prefix_len-le-length}
-use Rattle.operations.specs.SortedNames.{name_number, is_below}
+use Rattle.operations.specs.Joins.SortedNames.{name_number, is_below}
 use Rattle.operations.proofs.SortedLaws.{sorted_drop, sorted_take, filter-between, count-few, taken-window}
 use Rattle.operations.proofs.row_search.rows_of.Goals as goal
 

@@ -1,5 +1,5 @@
 use Rattle.std.proofs.Common.{◌≡◌, ◌+◌, drop}
-use Rattle.session_line.specs.ChangeWalks.{run_len}
+use Rattle.session_line.specs.Joins.ChangeWalks.{run_len}
 use Rattle.session_line.proofs.change_lines.run_len.Given as goal
 
 -- all so far made this version

@@ -1,6 +1,6 @@
 use Rattle.std.proofs.Common.{◌≡◌, ◌≤◌, ◌*◌, length, take}
 use Rattle.std.specs.Io.KnownBytes.{Appends}
-use Rattle.session_line.specs.ChangeWalks.{edits_text}
+use Rattle.session_line.specs.Joins.ChangeWalks.{edits_text}
 use Rattle.session_line.proofs.change_writing.write_edits.Given as goal
 
 -- exactly the lines of the edits so far went out, and the writer has not failed

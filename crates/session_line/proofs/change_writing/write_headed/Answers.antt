@@ -1,6 +1,6 @@
 use Rattle.std.proofs.Common.{ℕ, List, subst, ◌∙◌}
 use Rattle.session_line.specs.ChangeLines.{change_line}
-use Rattle.session_line.specs.ChangeWalks.{edits_text}
+use Rattle.session_line.specs.Joins.ChangeWalks.{edits_text}
 use Rattle.session_line.specs.Replies.{line_of}
 use Rattle.text_ports.proofs.SendSteps.{IsPart, part-first, part-second}
 use Rattle.std.specs.Prelude.{length}

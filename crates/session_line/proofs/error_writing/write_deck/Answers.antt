@@ -1,7 +1,7 @@
 use Rattle.std.proofs.Common.{ℕ, List, ◌≡◌, ◌≤◌, length, subst, sym}
 use Rattle.std.specs.Prelude.{All, IfOk}
 use Rattle.deck_objects.specs.declared.lines.Line.{Line}
-use Rattle.text_ports.specs.Sending.{Sends}
+use Rattle.text_ports.specs.Joins.Sending.{Sends}
 use Rattle.session_line.proofs.FlagSteps.{deck-letters, deck-text}
 use Rattle.session_line.proofs.error_writing.write_deck.Goals as goal
 

@@ -1,7 +1,7 @@
 use Rattle.std.proofs.Common.{◌+◌, List, length, drop, arith, ap, ◌∙◌}
 use Rattle.definitions.specs.Cards.{Card}
 use Rattle.session_line.specs.Errors.{flag_of}
-use Rattle.session_line.specs.FlagWalks.{flags_in}
+use Rattle.session_line.specs.Joins.FlagWalks.{flags_in}
 use Rattle.session_line.proofs.FlagSteps.{count-next}
 use Rattle.session_line.proofs.errors.flag_count.Goals as goal
 

@@ -1,5 +1,5 @@
 use Rattle.std.proofs.Common.{◌≡◌, ◌≤◌, ◌+◌, drop, length}
-use Rattle.session_line.specs.FlagWalks.{flags_in}
+use Rattle.session_line.specs.Joins.FlagWalks.{flags_in}
 use Rattle.session_line.proofs.errors.flag_count.Given as goal
 
 -- those so far, and those among the statements that are left, are all

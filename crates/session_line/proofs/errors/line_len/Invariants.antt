@@ -1,5 +1,5 @@
 use Rattle.std.proofs.Common.{◌≡◌, ◌+◌, length}
-use Rattle.session_line.specs.FlagWalks.{line_len}
+use Rattle.session_line.specs.Joins.FlagWalks.{line_len}
 use Rattle.session_line.proofs.errors.line_len.Given as goal
 
 -- the characters so far, and those of the first line in the text that is left, are all

@@ -1,5 +1,5 @@
 use Rattle.std.proofs.Common.{Bool, cond, arith, refl, ap, ◌∙◌}
-use Rattle.session_line.specs.FlagWalks.{line_len}
+use Rattle.session_line.specs.Joins.FlagWalks.{line_len}
 use Rattle.session_line.proofs.LinkSteps.{behind-shorter, count-line, lines-next, some-left}
 use Rattle.session_line.proofs.errors.link_count.Goals as goal
 

@@ -1,5 +1,5 @@
 use Rattle.std.proofs.Common.{◌≡◌}
-use Rattle.session_line.specs.LineItems.{TakesItems}
+use Rattle.session_line.specs.Joins.LineItems.{TakesItems}
 use Rattle.session_line.proofs.reading.read_items.Given as goal
 
 -- so many lines are taken and read, and the reader has not failed

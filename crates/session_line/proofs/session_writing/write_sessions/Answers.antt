@@ -1,6 +1,6 @@
 use Rattle.std.proofs.Common.{ℕ, List, ◌++◌, subst, ◌∙◌}
 use Rattle.session_line.specs.Replies.{sessions_text}
-use Rattle.text_ports.specs.Sending.{Sends}
+use Rattle.text_ports.specs.Joins.Sending.{Sends}
 use Rattle.session_line.proofs.session_writing.write_sessions.Goals as goal
 
 pub returns-clause-sends : goal.returns-clause-sends

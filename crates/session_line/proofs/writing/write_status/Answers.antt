@@ -1,5 +1,5 @@
 use Rattle.std.proofs.Common.{ℕ, List, ◌++◌, flat_map, subst, ◌∙◌}
-use Rattle.text_ports.specs.Sending.{Sends}
+use Rattle.text_ports.specs.Joins.Sending.{Sends}
 use Rattle.session_line.proofs.writing.write_status.Goals as goal
 
 pub returns-clause-sends : goal.returns-clause-sends

@@ -1,7 +1,7 @@
 use Rattle.std.proofs.Common.{◌≤◌, ◌<◌, ◌+◌, map, arith}
 use Rattle.std.proofs.lemmas.Nat.{mod_below}
-use Rattle.expr_forms.specs.Readings.{bit_field_as}
-use Rattle.statement_coder.specs.Items.{deck_with, item_as}
+use Rattle.expr_forms.specs.Joins.Readings.{bit_field_as}
+use Rattle.statement_coder.specs.Joins.Items.{deck_with, item_as}
 use Rattle.statement_coder.proofs.ListLaws.{kept-trans}
 use Rattle.statement_coder.proofs.DatumLaws.{word_bits-some, word_bits-few}
 use Rattle.statement_coder.proofs.BitLaws.{one_field_more}

@@ -4,9 +4,9 @@ use Rattle.definitions.specs.CountedItems.{CountedItem}
 use Rattle.definitions.specs.Kinds.{word_bits}
 use Rattle.definitions.specs.Operands.{Datum, CountedItemWords}
 use Rattle.definitions.specs.StatementItems.{Item, datum_item, expression_item}
-use Rattle.expr_forms.specs.Readings.{datum_as}
-use Rattle.statement_coder.specs.Items.{deck_with, item_as}
-use Rattle.statement_coder.specs.WordItems.{in_words}
+use Rattle.expr_forms.specs.Joins.Readings.{datum_as}
+use Rattle.statement_coder.specs.Joins.Items.{deck_with, item_as}
+use Rattle.statement_coder.specs.Joins.WordItems.{in_words}
 use Rattle.statement_coder.proofs.DatumLaws.{item-words, expression-word}
 use Rattle.statement_coder.proofs.data_items.push_datum.Goals as goal
 

@@ -1,5 +1,5 @@
 -- No operation but EXT defines names.
-use Rattle.operations.specs.OperationsAs.{operation_as}
+use Rattle.operations.specs.Joins.OperationsAs.{operation_as}
 use Rattle.statement_coder.proofs.definitions_made.definition_made.Goals as goal
 
 pub returns-in-Equ-clause-externals : goal.returns-in-Equ-clause-externals

@@ -4,7 +4,7 @@ use Rattle.definitions.specs.Letters.{in_order, name_fault, entry_letters}
 use Rattle.definitions.specs.Operands.{NamesOperand}
 use Rattle.definitions.specs.Operations as op
 use Rattle.definitions.specs.declared.deck_kind.DeckKind.TheVariants as kinds
-use Rattle.statement_coder.specs.Readings.{IsReading}
+use Rattle.statement_coder.specs.Joins.Readings.{IsReading}
 use Rattle.statement_coder.proofs.entry_letters.operand_letters.Goals as goal
 
 pub returns-in-Names-clause-relocatable : goal.returns-in-Names-clause-relocatable

@@ -1,5 +1,5 @@
 use Rattle.std.proofs.Common.{ℕ, List, ◌||◌, Bool, ap, ◌∙◌}
-use Rattle.statement_coder.specs.Externals.{any_seen, has_known}
+use Rattle.statement_coder.specs.Joins.Externals.{any_seen, has_known}
 use Rattle.statement_coder.proofs.SeenLaws.{none-seen, or_nothing}
 use Rattle.statement_coder.proofs.externals.has_known.Goals as goal
 

@@ -1,5 +1,5 @@
 use Rattle.std.proofs.Common.{◌≡◌, ◌||◌, length}
-use Rattle.statement_coder.specs.Externals.{any_seen, has_known}
+use Rattle.statement_coder.specs.Joins.Externals.{any_seen, has_known}
 use Rattle.statement_coder.proofs.externals.has_known.Given as goal
 
 -- each name before those that are left is new, and stands once

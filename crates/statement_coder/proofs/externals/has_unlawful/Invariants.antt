@@ -1,5 +1,5 @@
 use Rattle.std.proofs.Common.{◌≡◌, length}
-use Rattle.statement_coder.specs.Externals.{has_unlawful}
+use Rattle.statement_coder.specs.Joins.Externals.{has_unlawful}
 use Rattle.statement_coder.proofs.externals.has_unlawful.Given as goal
 
 -- no name before those that are left is unlawful

@@ -1,6 +1,6 @@
 use Rattle.std.proofs.Common.{◌≡◌, ℕ, ◌++◌, ◌∷◌, ◌||◌, List, [], Option, Bool, true, false, not, sym, ap, ◌∙◌}
 use Rattle.std.specs.Prelude.{if◌then◌else◌}
-use Rattle.statement_coder.specs.Externals.{any_seen, is_listed}
+use Rattle.statement_coder.specs.Joins.Externals.{any_seen, is_listed}
 use Rattle.statement_coder.proofs.SeenLaws.{seen-pushed}
 use Rattle.statement_coder.proofs.externals.is_again.Goals as goal
 

@@ -1,5 +1,5 @@
 use Rattle.std.proofs.Common.{◌≡◌, length}
-use Rattle.statement_coder.specs.Externals.{is_listed}
+use Rattle.statement_coder.specs.Joins.Externals.{is_listed}
 use Rattle.statement_coder.proofs.externals.is_listed.Given as goal
 
 -- no name before those that are left is the one sought

@@ -3,9 +3,9 @@ use Rattle.std.proofs.lemmas.List.Concat.{flat_map-append}
 use Rattle.definitions.specs.Letters.{in_order}
 use Rattle.definitions.specs.StatementItems.{Item}
 use Rattle.definitions.specs.declared.letter.Letter.{Letter}
-use Rattle.statement_coder.specs.Items.{option_items}
-use Rattle.statement_coder.specs.FieldLetters.{field_letters}
-use Rattle.statement_coder.specs.LettersAs.{letters_as}
+use Rattle.statement_coder.specs.Joins.Items.{option_items}
+use Rattle.statement_coder.specs.Joins.FieldLetters.{field_letters}
+use Rattle.statement_coder.specs.Joins.LettersAs.{letters_as}
 use Rattle.statement_coder.proofs.NameLaws.{same_letters}
 use Rattle.statement_coder.proofs.item_letters.instruction_letters.Goals as goal
 

@@ -4,8 +4,8 @@ use Rattle.definitions.specs.Coding.{counted_item_bits, words_needed}
 use Rattle.definitions.specs.Kinds.{word_bits}
 use Rattle.definitions.specs.StatementItems.{known}
 use Rattle.definitions.specs.Words.{cut}
-use Rattle.statement_coder.specs.Items.{item_as}
-use Rattle.statement_coder.specs.WordItems.{known_words}
+use Rattle.statement_coder.specs.Joins.Items.{item_as}
+use Rattle.statement_coder.specs.Joins.WordItems.{known_words}
 use Rattle.statement_coder.proofs.ListLaws.{kept-trans, words_more, length-cut}
 use Rattle.statement_coder.proofs.listing.push_item.Goals as goal
 

@@ -2,10 +2,10 @@ use Rattle.std.proofs.Common.{◌≡◌, ◌∙◌, ◌*◌, ◌/◌, ◌++◌, 
 use Rattle.definitions.specs.Kinds.{word_bits}
 use Rattle.definitions.specs.Operands.{Operand, Datum, BitField, WordsOperand, BitsOperand, TextOperand}
 use Rattle.definitions.specs.StatementItems.{Item, operand_items}
-use Rattle.statement_coder.specs.Items.{deck_with, item_as}
-use Rattle.statement_coder.specs.CodedItems.{AreTold}
-use Rattle.statement_coder.specs.Readings.{IsReading, IsWhole}
-use Rattle.statement_coder.specs.WordItems.{in_words}
+use Rattle.statement_coder.specs.Joins.Items.{deck_with, item_as}
+use Rattle.statement_coder.specs.Joins.CodedItems.{AreTold}
+use Rattle.statement_coder.specs.Joins.Readings.{IsReading, IsWhole}
+use Rattle.statement_coder.specs.Joins.WordItems.{in_words}
 use Rattle.statement_coder.proofs.ToldLaws.{listed_told, text-words}
 use Rattle.statement_coder.proofs.operand_fields.operand_fields.Goals as goal
 

@@ -1,4 +1,4 @@
-use Rattle.expr_forms.specs.FormsAs.{relocation_as}
+use Rattle.expr_forms.specs.Joins.FormsAs.{relocation_as}
 use Rattle.use_blocks.proofs.SameLaws.{same_relocation-Decides}
 use Rattle.statement_coder.proofs.same_forms.is_same_relocation.Goals as goal
 

@@ -5,8 +5,8 @@ use Rattle.definitions.specs.Settling.{letter_where, location_letters, is_refuse
 use Rattle.definitions.specs.States.{names_of_blocks}
 use Rattle.definitions.specs.declared.letter.Letter.{Letter}
 use Rattle.definitions.specs.declared.letter.Letter.TheVariants as letter
-use Rattle.operations.specs.OperationsAs.{operation_as}
-use Rattle.statement_coder.specs.LettersAs.{letters_as}
+use Rattle.operations.specs.Joins.OperationsAs.{operation_as}
+use Rattle.statement_coder.specs.Joins.LettersAs.{letters_as}
 use Rattle.statement_coder.proofs.size_letters.size_letters.Goals as goal
 
 pub returns : goal.returns

@@ -1,8 +1,8 @@
 use Rattle.std.proofs.Common.{sym, subst}
 use Rattle.definitions.specs.States.{seen_from}
 use Rattle.definitions.specs.Operands.{operand_of}
-use Rattle.operations.specs.OperationsAs.{operation_as}
-use Rattle.statement_coder.specs.Readings.{IsReading}
+use Rattle.operations.specs.Joins.OperationsAs.{operation_as}
+use Rattle.statement_coder.specs.Joins.Readings.{IsReading}
 use Rattle.statement_coder.proofs.ReadLaws.{settled-sizing}
 use Rattle.statement_coder.proofs.sized.size.Goals as goal
 

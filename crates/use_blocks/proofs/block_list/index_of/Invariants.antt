@@ -1,6 +1,6 @@
 use Rattle.std.proofs.Common.{◌≡◌, ◌+◌, drop}
 use Rattle.std.specs.List.{prefix_len}
-use Rattle.use_blocks.specs.StateInside.{is_other}
+use Rattle.use_blocks.specs.Joins.StateInside.{is_other}
 use Rattle.use_blocks.proofs.block_list.index_of.Given as goal
 
 -- the blocks so far, and those behind them that have other names, are all that have

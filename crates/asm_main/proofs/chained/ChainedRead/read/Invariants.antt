@@ -1,6 +1,6 @@
 use Rattle.std.proofs.Common.{[], vec_len, ◌-◌}
 use Rattle.std.specs.Io.KnownBytes.{Consumes}
-use Rattle.asm_main.specs.Chains.{left_of}
+use Rattle.asm_main.specs.Joins.Chains.{left_of}
 use Rattle.asm_main.proofs.chained.ChainedRead.read.Given as goal
 
 -- nothing was given so far

@@ -1,7 +1,7 @@
 use Rattle.std.proofs.Common.{◌∙◌, List, ap}
 use Rattle.definitions.specs.Cards.{Card}
 use Rattle.deck_objects.specs.declared.lines.Line.{Line}
-use Rattle.asm_main.specs.Flags.{flags_in}
+use Rattle.asm_main.specs.Joins.Flags.{flags_in}
 use Rattle.asm_main.proofs.flags.Flags.new.Goals as goal
 
 pub returns : goal.returns

@@ -1,5 +1,5 @@
 use Rattle.std.proofs.Common.{◌≡◌, length}
-use Rattle.asm_main.specs.Flags.{flags_in}
+use Rattle.asm_main.specs.Joins.Flags.{flags_in}
 use Rattle.asm_main.proofs.flags.Flags.next.Given as goal
 
 abbrev pub invariant-loop-shown : goal.invariant-loop-shown

@@ -2,9 +2,9 @@ use Rattle.std.proofs.Common.{◌≡◌, ℕ, List, [], ◌∷◌, ◌++◌, len
 use Rattle.std.proofs.lemmas.List.{take_at}
 use Rattle.definitions.specs.Cards.{padded}
 use Rattle.definitions.specs.Fields.{fields_of}
-use Rattle.cards.specs.CardParts.{parts_as}
-use Rattle.cards.specs.Columns.{IsPadded}
-use Rattle.cards.specs.FieldParts.{fields_at}
+use Rattle.cards.specs.Joins.CardParts.{parts_as}
+use Rattle.cards.specs.Joins.Columns.{IsPadded}
+use Rattle.cards.specs.Joins.FieldParts.{fields_at}
 use Rattle.cards.proofs.ColumnSteps.{IsPadded-copied, padded-shorter}
 use Rattle.cards.proofs.card.Card.of_columns.Goals as goal
 

@@ -2,7 +2,7 @@ use Rattle.std.proofs.Common.{◌∙◌, ◌≤◌, List, Some, map, reverse, le
 use Rattle.definitions.specs.Objects.{Shown, coded_of, shown_of}
 use Rattle.definitions.specs.Settling.{settle, settled_all}
 use Rattle.use_blocks.proofs.SizeLaws.{rows-few}
-use Rattle.deck_assembler.specs.Walks.{AreLinedAs, context_in, whole_of}
+use Rattle.deck_assembler.specs.Joins.Walks.{AreLinedAs, context_in, whole_of}
 use Rattle.deck_assembler.specs.declared.deck_lines.DeckLines.{DeckLines}
 use Rattle.deck_assembler.proofs.WalkLaws.{block-named, lined-step, reverse-step, stood-step}
 use Rattle.deck_assembler.proofs.deck_lines.DeckLines.copy.Goals as goal

@@ -3,9 +3,9 @@ use Rattle.std.proofs.lemmas.Result.{on_ok_weaker}
 use Rattle.definitions.specs.Settled.{Settled}
 use Rattle.definitions.specs.Settling.{settle, settled_all}
 use Rattle.definitions.specs.StatementItems.{Context}
-use Rattle.deck_assembler.specs.FormerLines.{WasLine, WasLineIfAny}
-use Rattle.deck_assembler.specs.Rebindings.{AreBindings}
-use Rattle.deck_assembler.specs.Walks.{context_in, whole_of}
+use Rattle.deck_assembler.specs.Joins.FormerLines.{WasLine, WasLineIfAny}
+use Rattle.deck_assembler.specs.Joins.Rebindings.{AreBindings}
+use Rattle.deck_assembler.specs.Joins.Walks.{context_in, whole_of}
 use Rattle.deck_assembler.specs.declared.former_lines.FormerLine.{FormerLine}
 use Rattle.deck_assembler.proofs.FormerLaws.{still-letters, still-coded}
 use Rattle.deck_assembler.proofs.deck_lines.DeckLines.put.Goals as goal

@@ -1,7 +1,7 @@
 use Rattle.std.proofs.Common.{true≢false, sym, ◌∙◌}
 use Rattle.std.proofs.lemmas.Result.{on_ok_weaker}
 use Rattle.definitions.specs.Settling.{settled_all}
-use Rattle.deck_assembler.specs.Walks.{whole_of}
+use Rattle.deck_assembler.specs.Joins.Walks.{whole_of}
 use Rattle.deck_assembler.proofs.deck_names.DeckNames.note.Goals as goal
 
 pub returns-then-not-self : goal.returns-then-not-self

@@ -2,9 +2,9 @@ use Rattle.std.proofs.Common.{◌≡◌, ◌∙◌, ℕ, List, Option, ap, ap₂
 use Rattle.std.specs.Prelude.{IfSome}
 use Rattle.definitions.specs.Settled.{defined}
 use Rattle.definitions.specs.Settling.{settle, settled_all}
-use Rattle.statement_coder.specs.Definitions.{defined_by}
-use Rattle.deck_assembler.specs.FirstSymbols.{symbol_in, with_symbol}
-use Rattle.deck_assembler.specs.SharedNames.{enters, is_ext}
+use Rattle.statement_coder.specs.Joins.Definitions.{defined_by}
+use Rattle.deck_assembler.specs.Joins.FirstSymbols.{symbol_in, with_symbol}
+use Rattle.deck_assembler.specs.Joins.SharedNames.{enters, is_ext}
 use Rattle.deck_assembler.proofs.WalkLaws.{silent-noted, symbol-noted, unlisted-noted}
 use Rattle.deck_assembler.proofs.deck_names.DeckNames.note_kept.Goals as goal
 

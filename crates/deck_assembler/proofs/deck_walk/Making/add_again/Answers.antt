@@ -2,12 +2,12 @@ use Rattle.std.proofs.Common.{◌∙◌, List, subst}
 use Rattle.definitions.specs.Cards.{Card}
 use Rattle.definitions.specs.Settling.{settle, settled_all}
 use Rattle.definitions.specs.declared.deck_kind.DeckKind.{DeckKind}
-use Rattle.statement_coder.specs.StatementsRead.{IsRead}
+use Rattle.statement_coder.specs.Joins.StatementsRead.{IsRead}
 use Rattle.statement_coder.proofs.CodingLaws.{read_again}
 use Rattle.definitions.specs.Operands.{operand_of}
-use Rattle.operations.specs.OperationsAs.{operation_as}
-use Rattle.statement_coder.specs.Readings.{IsReading}
-use Rattle.deck_assembler.specs.Walks.{whole_of}
+use Rattle.operations.specs.Joins.OperationsAs.{operation_as}
+use Rattle.statement_coder.specs.Joins.Readings.{IsReading}
+use Rattle.deck_assembler.specs.Joins.Walks.{whole_of}
 use Rattle.deck_assembler.proofs.FormerLaws.{beside-step}
 use Rattle.deck_assembler.proofs.ResultLaws.{on_ok_both}
 use Rattle.deck_assembler.proofs.WalkLaws.{settle-codable, stood-step}

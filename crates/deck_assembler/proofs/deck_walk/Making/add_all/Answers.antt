@@ -1,8 +1,8 @@
 use Rattle.std.proofs.Common.{◌∙◌, ◌+◌, List, ◌++◌, drop, refl, subst, arith}
-use Rattle.deck_assembler.specs.FormerLines.{IsWalkedBeside}
-use Rattle.deck_assembler.specs.Walks.{whole_of}
+use Rattle.deck_assembler.specs.Joins.FormerLines.{IsWalkedBeside}
+use Rattle.deck_assembler.specs.Joins.Walks.{whole_of}
 use Rattle.deck_assembler.specs.declared.sized_statement.SizedStatement.{SizedStatement}
-use Rattle.deck_assembler.specs.DueCodes.{IsWalkedDue}
+use Rattle.deck_assembler.specs.Joins.DueCodes.{IsWalkedDue}
 use Rattle.deck_assembler.proofs.DueCodeLaws.{due-all, due-step}
 use Rattle.deck_assembler.proofs.WalkLaws.{stood-step}
 use Rattle.deck_assembler.proofs.FormerLaws.{none-left, item-split, all-dropped}

@@ -1,9 +1,9 @@
 use Rattle.std.proofs.Common.{◌∙◌, ◌+◌, List, [], ◌++◌, length, drop, ap, sym, subst, arith}
-use Rattle.deck_assembler.specs.DeckParts.{DeckPiece, sized_in}
-use Rattle.deck_assembler.specs.FormerLines.{IsWalkedBeside}
-use Rattle.deck_assembler.specs.Walks.{whole_of}
+use Rattle.deck_assembler.specs.Joins.DeckParts.{DeckPiece, sized_in}
+use Rattle.deck_assembler.specs.Joins.FormerLines.{IsWalkedBeside}
+use Rattle.deck_assembler.specs.Joins.Walks.{whole_of}
 use Rattle.deck_assembler.specs.declared.sized_statement.SizedStatement.{SizedStatement}
-use Rattle.deck_assembler.specs.DueCodes.{IsWalkedDue}
+use Rattle.deck_assembler.specs.Joins.DueCodes.{IsWalkedDue}
 use Rattle.deck_assembler.proofs.DueCodeLaws.{due-all}
 use Rattle.deck_assembler.proofs.FormerLaws.{item-split, all-dropped}
 use Rattle.deck_assembler.proofs.PieceCounts.{pieces-within, pieces-more}

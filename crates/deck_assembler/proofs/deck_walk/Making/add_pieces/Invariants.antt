@@ -1,10 +1,10 @@
 use Rattle.std.proofs.Common.{◌≡◌, ℕ, ◌≤◌, ◌+◌, List, take, drop, length}
 use Rattle.definitions.specs.Statements.{Statement}
-use Rattle.statement_coder.specs.Meters.{RisesBy}
-use Rattle.deck_assembler.specs.DeckParts.{sized_in}
-use Rattle.deck_assembler.specs.Walks.{IsWhole, whole_of}
-use Rattle.deck_assembler.specs.DueCodes.{CodePlan, IsPlanned, IsWalkedDue}
-use Rattle.deck_assembler.specs.FormerLines.{IsBare, IsWalkedBeside}
+use Rattle.statement_coder.specs.Joins.Meters.{RisesBy}
+use Rattle.deck_assembler.specs.Joins.DeckParts.{sized_in}
+use Rattle.deck_assembler.specs.Joins.Walks.{IsWhole, whole_of}
+use Rattle.deck_assembler.specs.Joins.DueCodes.{CodePlan, IsPlanned, IsWalkedDue}
+use Rattle.deck_assembler.specs.Joins.FormerLines.{IsBare, IsWalkedBeside}
 use Rattle.deck_assembler.proofs.deck_walk.Making.add_pieces.Given as goal
 
 -- the statements of the pieces so far are behind, each coded once at most

@@ -1,10 +1,10 @@
 use Rattle.std.proofs.Common.{◌∙◌, ◌∷◌, sym, subst}
 use Rattle.std.proofs.lemmas.Result.{on_ok_weaker}
-use Rattle.deck_assembler.specs.FormerLines.{IsWalkedBeside}
+use Rattle.deck_assembler.specs.Joins.FormerLines.{IsWalkedBeside}
 use Rattle.deck_assembler.specs.declared.deck_names.DeckNames.{DeckNames}
 use Rattle.deck_assembler.specs.declared.deck_walk.Making.{Making}
 use Rattle.definitions.specs.Settling.{settle, settled_all}
-use Rattle.deck_assembler.specs.Walks.{whole_of}
+use Rattle.deck_assembler.specs.Joins.Walks.{whole_of}
 use Rattle.deck_assembler.proofs.FormerLaws.{beside-step}
 use Rattle.deck_assembler.proofs.ResultLaws.{on_ok_both}
 use Rattle.deck_assembler.proofs.WalkLaws.{stood-step}

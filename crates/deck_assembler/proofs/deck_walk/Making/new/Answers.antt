@@ -1,6 +1,6 @@
 use Rattle.std.proofs.Common.{◌∙◌, ap}
-use Rattle.deck_assembler.specs.SharedNames.{have_ext}
-use Rattle.deck_assembler.specs.Walks.{whole_of}
+use Rattle.deck_assembler.specs.Joins.SharedNames.{have_ext}
+use Rattle.deck_assembler.specs.Joins.Walks.{whole_of}
 use Rattle.deck_assembler.proofs.FormerLaws.{beside-begin}
 use Rattle.deck_assembler.proofs.deck_walk.Making.new.Goals as goal
 

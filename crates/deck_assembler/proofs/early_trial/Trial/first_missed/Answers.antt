@@ -1,8 +1,8 @@
 -- A piece more.
 use Rattle.std.proofs.Common.{◌≡◌, ◌∙◌, ◌+◌, ◌∷◌, ◌++◌, List, drop, refl, sym, ap, subst, arith, true≢false}
 use Rattle.std.proofs.lemmas.List.{drop_more, drop_all}
-use Rattle.deck_assembler.specs.Agreements.{AreAlike, AreTried}
-use Rattle.deck_assembler.specs.DeckParts.{DeckPiece, sized_in}
+use Rattle.deck_assembler.specs.Joins.Agreements.{AreAlike, AreTried}
+use Rattle.deck_assembler.specs.Joins.DeckParts.{DeckPiece, sized_in}
 use Rattle.deck_assembler.specs.declared.sized_statement.SizedStatement.{SizedStatement}
 use Rattle.deck_assembler.proofs.AlikeLaws.{pieces-next}
 use Rattle.deck_assembler.proofs.TrialLaws.{tried-more}

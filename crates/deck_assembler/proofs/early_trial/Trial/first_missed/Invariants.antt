@@ -1,6 +1,6 @@
 use Rattle.std.proofs.Common.{List, ◌++◌, drop}
-use Rattle.deck_assembler.specs.Agreements.{AreAlike, AreTried}
-use Rattle.deck_assembler.specs.DeckParts.{sized_in}
+use Rattle.deck_assembler.specs.Joins.Agreements.{AreAlike, AreTried}
+use Rattle.deck_assembler.specs.Joins.DeckParts.{sized_in}
 use Rattle.deck_assembler.specs.declared.sized_statement.SizedStatement.{SizedStatement}
 use Rattle.deck_assembler.proofs.early_trial.Trial.first_missed.Given as goal
 

@@ -2,11 +2,11 @@
 use Rattle.std.proofs.Common.{◌∙◌, List, true≢false, sym, subst}
 use Rattle.definitions.specs.Cards.{Card}
 use Rattle.definitions.specs.Settling.{settle, settled_all}
-use Rattle.operations.specs.OperationsAs.{operation_as}
-use Rattle.statement_coder.specs.Readings.{IsReading}
-use Rattle.statement_coder.specs.StatementsRead.{IsRead}
-use Rattle.deck_assembler.specs.Agreements.{AreExternalsAlike}
-use Rattle.deck_assembler.specs.FirstSymbols.{symbol_in}
+use Rattle.operations.specs.Joins.OperationsAs.{operation_as}
+use Rattle.statement_coder.specs.Joins.Readings.{IsReading}
+use Rattle.statement_coder.specs.Joins.StatementsRead.{IsRead}
+use Rattle.deck_assembler.specs.Joins.Agreements.{AreExternalsAlike}
+use Rattle.deck_assembler.specs.Joins.FirstSymbols.{symbol_in}
 use Rattle.deck_assembler.proofs.AlikeLaws.{alike-parts, operand-of, own-of}
 use Rattle.deck_assembler.proofs.SizerSteps.{settled-operand}
 use Rattle.deck_assembler.proofs.TrialLaws.{both-alike}

@@ -1,7 +1,7 @@
 -- A statement more.
 use Rattle.std.proofs.Common.{◌≡◌, ◌∙◌, ◌+◌, ◌∷◌, ◌++◌, List, drop, refl, sym, ap, subst, arith}
 use Rattle.std.proofs.lemmas.List.{drop_more, drop_all}
-use Rattle.deck_assembler.specs.Agreements.{AreAlike}
+use Rattle.deck_assembler.specs.Joins.Agreements.{AreAlike}
 use Rattle.deck_assembler.specs.declared.early_trial.Trial.{Trial}
 use Rattle.deck_assembler.specs.declared.sized_statement.SizedStatement.{SizedStatement}
 use Rattle.deck_assembler.proofs.AlikeLaws.{alike-step}

@@ -1,8 +1,8 @@
 use Rattle.std.proofs.Common.{◌≡◌, List, length}
 use Rattle.definitions.specs.Entries.{with_entries}
 use Rattle.definitions.specs.Settled.{Settled, defined}
-use Rattle.deck_assembler.specs.FirstSymbols.{symbol_in}
-use Rattle.deck_assembler.specs.SharedNames.{AreSeen}
+use Rattle.deck_assembler.specs.Joins.FirstSymbols.{symbol_in}
+use Rattle.deck_assembler.specs.Joins.SharedNames.{AreSeen}
 use Rattle.deck_assembler.proofs.entry_names.EntryNames.enter_all.Given as goal
 
 -- the names that are left make of the entries so far what all make

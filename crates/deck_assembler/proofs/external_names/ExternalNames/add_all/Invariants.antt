@@ -1,6 +1,6 @@
 use Rattle.std.proofs.Common.{◌≡◌, true, false, length}
-use Rattle.deck_assembler.specs.FirstSymbols.{symbol_in, with_externals}
-use Rattle.deck_assembler.specs.SharedNames.{with_new}
+use Rattle.deck_assembler.specs.Joins.FirstSymbols.{symbol_in, with_externals}
+use Rattle.deck_assembler.specs.Joins.SharedNames.{with_new}
 use Rattle.deck_assembler.proofs.external_names.ExternalNames.add_all.Given as goal
 
 -- the names that are left make of what is defined so far what all make

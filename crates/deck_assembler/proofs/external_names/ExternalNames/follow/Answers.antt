@@ -7,17 +7,17 @@ use Rattle.definitions.specs.Settling.{number_base_of, settle}
 use Rattle.definitions.specs.Statements.{Statement}
 use Rattle.definitions.specs.declared.deck_kind.DeckKind.{DeckKind}
 use Rattle.definitions.specs.declared.number_base.NumberBase.{NumberBase}
-use Rattle.operations.specs.OperationsAs.{operation_as}
-use Rattle.statement_coder.specs.Definitions.{defined_by}
-use Rattle.statement_coder.specs.Readings.{IsReading}
-use Rattle.statement_coder.specs.Sizings.{IsCodable}
-use Rattle.statement_coder.specs.StatementsRead.{IsRead}
+use Rattle.operations.specs.Joins.OperationsAs.{operation_as}
+use Rattle.statement_coder.specs.Joins.Definitions.{defined_by}
+use Rattle.statement_coder.specs.Joins.Readings.{IsReading}
+use Rattle.statement_coder.specs.Joins.Sizings.{IsCodable}
+use Rattle.statement_coder.specs.Joins.StatementsRead.{IsRead}
 use Rattle.statement_coder.specs.declared.sizing.Sizing.{Sizing}
 use Rattle.statement_coder.specs.declared.statement.Statement as code
 use Rattle.statement_coder.proofs.CodingLaws.{codable}
 use Rattle.deck_assembler.proofs.DefinitionLaws.{lawful-shape}
-use Rattle.deck_assembler.specs.FirstSymbols.{symbol_in, with_symbol}
-use Rattle.deck_assembler.specs.SharedNames.{is_ext}
+use Rattle.deck_assembler.specs.Joins.FirstSymbols.{symbol_in, with_symbol}
+use Rattle.deck_assembler.specs.Joins.SharedNames.{is_ext}
 use Rattle.deck_assembler.proofs.ResultLaws.{on_ok_both}
 use Rattle.deck_assembler.proofs.ExternalLaws.{ext-followed, absolute-followed, nothing-followed, symbol-followed, names-followed}
 use Rattle.deck_assembler.proofs.external_names.ExternalNames.follow.Goals as goal

@@ -1,5 +1,5 @@
 use Rattle.std.proofs.Common.{◌∷◌, [], ◌++◌, ap}
-use Rattle.statement_coder.specs.Items.{content_as, item_as}
+use Rattle.statement_coder.specs.Joins.Items.{content_as, item_as}
 use Rattle.deck_assembler.proofs.KnownLaws.{together-behind, together-same}
 use Rattle.deck_assembler.proofs.known_bits.KnownBits.with.Goals as goal
 

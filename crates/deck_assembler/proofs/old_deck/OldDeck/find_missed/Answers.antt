@@ -4,10 +4,10 @@ use Rattle.definitions.specs.Cards.{Card}
 use Rattle.definitions.specs.Forms.{Form}
 use Rattle.definitions.specs.declared.deck_kind.DeckKind.{DeckKind}
 use Rattle.std.specs.Prelude.{ℕ}
-use Rattle.deck_assembler.specs.Agreements.{left, AreAlikeFrom}
-use Rattle.deck_assembler.specs.DeckParts.{sized_in}
-use Rattle.deck_assembler.specs.FirstSymbols.{symbol_in}
-use Rattle.deck_assembler.specs.SizedDecks.{AreSizedFrom}
+use Rattle.deck_assembler.specs.Joins.Agreements.{left, AreAlikeFrom}
+use Rattle.deck_assembler.specs.Joins.DeckParts.{sized_in}
+use Rattle.deck_assembler.specs.Joins.FirstSymbols.{symbol_in}
+use Rattle.deck_assembler.specs.Joins.SizedDecks.{AreSizedFrom}
 use Rattle.deck_assembler.specs.declared.sized_statement.SizedStatement.{SizedStatement}
 use Rattle.deck_assembler.proofs.AlikeLaws.{pieces-left, sized_in-append, trial-agrees}
 use Rattle.deck_assembler.proofs.old_deck.OldDeck.find_missed.Goals as goal

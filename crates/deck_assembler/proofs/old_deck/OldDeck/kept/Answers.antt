@@ -1,8 +1,8 @@
 -- What is kept at each stage.
 use Rattle.std.proofs.lemmas.Result.{on_ok_weaker, IfOk-weaker}
 use Rattle.std.proofs.Common.{refl, sym, subst}
-use Rattle.deck_assembler.specs.Meetings.{WillAgreeAt}
-use Rattle.deck_assembler.specs.OldDecks.{IsAtStage}
+use Rattle.deck_assembler.specs.Joins.Meetings.{WillAgreeAt}
+use Rattle.deck_assembler.specs.Joins.OldDecks.{IsAtStage}
 use Rattle.deck_assembler.proofs.MeetLaws.{found-weaker, some-weaker, goes-on}
 use Rattle.deck_assembler.proofs.old_deck.OldDeck.kept.Goals as goal
 

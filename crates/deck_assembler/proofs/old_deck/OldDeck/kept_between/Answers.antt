@@ -3,12 +3,12 @@ use Rattle.std.proofs.Common.{◌≡◌, ◌∙◌, ◌-◌, ◌<◌, ◌≤◌,
 use Rattle.std.specs.Prelude.{map}
 use Rattle.std.proofs.lemmas.Bool.{cases_lt}
 use Rattle.std.proofs.lemmas.List.{length-drop}
-use Rattle.cards.specs.Spans.{statement_at}
+use Rattle.cards.specs.Joins.Spans.{statement_at}
 use Rattle.definitions.specs.Statements.{Statement}
-use Rattle.deck_assembler.specs.Agreements.{left, HaveSameEnd}
-use Rattle.deck_assembler.specs.Meetings.{IsCutAlike, WillAgreeAt}
-use Rattle.deck_assembler.specs.OldDecks.{IsAtStage}
-use Rattle.deck_assembler.specs.Sizers.{stood}
+use Rattle.deck_assembler.specs.Joins.Agreements.{left, HaveSameEnd}
+use Rattle.deck_assembler.specs.Joins.Meetings.{IsCutAlike, WillAgreeAt}
+use Rattle.deck_assembler.specs.Joins.OldDecks.{IsAtStage}
+use Rattle.deck_assembler.specs.Joins.Sizers.{stood}
 use Rattle.deck_assembler.specs.declared.old_deck.Stage.TheVariants as stages
 use Rattle.deck_assembler.specs.declared.sized_statement.SizedStatement.{SizedStatement}
 use Rattle.deck_assembler.proofs.DueLaws.{meet-cut, meet-still, meeting-ahead, meeting-left, met-here}

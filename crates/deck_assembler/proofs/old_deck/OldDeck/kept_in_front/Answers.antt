@@ -1,11 +1,11 @@
 -- A statement that ends before the edited card stays; with another the front is left.
 use Rattle.std.proofs.Common.{◌∷◌, ◌∙◌, ◌+◌, ◌≤◌, List, true≢false, refl, sym, ap, arith, subst}
-use Rattle.cards.specs.Spans.{statement_at}
+use Rattle.cards.specs.Joins.Spans.{statement_at}
 use Rattle.definitions.specs.Statements.{Statement}
-use Rattle.deck_assembler.specs.Agreements.{left, HasFront}
-use Rattle.deck_assembler.specs.Meetings.{WillAgreeAt}
-use Rattle.deck_assembler.specs.OldDecks.{IsAtStage, IsInFront}
-use Rattle.deck_assembler.specs.Sizers.{ahead}
+use Rattle.deck_assembler.specs.Joins.Agreements.{left, HasFront}
+use Rattle.deck_assembler.specs.Joins.Meetings.{WillAgreeAt}
+use Rattle.deck_assembler.specs.Joins.OldDecks.{IsAtStage, IsInFront}
+use Rattle.deck_assembler.specs.Joins.Sizers.{ahead}
 use Rattle.deck_assembler.specs.declared.old_deck.OldDeck.{OldDeck}
 use Rattle.deck_assembler.specs.declared.old_deck.Stage.TheVariants as stages
 use Rattle.deck_assembler.proofs.DueLaws.{front-due, front-left-over, meet-later, short-behind, short-same, time-in-front}

@@ -1,10 +1,10 @@
 -- Where all that is left stays, so does the next statement, and all behind it.
 use Rattle.std.proofs.Common.{◌∷◌, ◌∙◌, List, length, length-take-le, refl, sym, ap, subst}
-use Rattle.cards.specs.Spans.{statement_at}
+use Rattle.cards.specs.Joins.Spans.{statement_at}
 use Rattle.definitions.specs.Statements.{Statement}
-use Rattle.deck_assembler.specs.Meetings.{WillAgreeAt}
-use Rattle.deck_assembler.specs.OldDecks.{IsAtStage}
-use Rattle.deck_assembler.specs.Sizers.{ahead}
+use Rattle.deck_assembler.specs.Joins.Meetings.{WillAgreeAt}
+use Rattle.deck_assembler.specs.Joins.OldDecks.{IsAtStage}
+use Rattle.deck_assembler.specs.Joins.Sizers.{ahead}
 use Rattle.deck_assembler.specs.declared.old_deck.Stage.TheVariants as stages
 use Rattle.deck_assembler.proofs.DueLaws.{IsNextAlike, next-cut, next-same, next-some}
 use Rattle.deck_assembler.proofs.MeetLaws.{goes-on, soon-next, tail-next}

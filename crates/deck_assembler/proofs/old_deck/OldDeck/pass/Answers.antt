@@ -2,11 +2,11 @@
 use Rattle.std.proofs.Common.{◌≤◌, ◌∙◌, List, length, take, drop, refl, sym, ap, subst}
 use Rattle.definitions.specs.Cards.{Card}
 use Rattle.definitions.specs.Settling.{number_base_of, settle, settled_all}
-use Rattle.statement_coder.specs.Readings.{IsReading}
-use Rattle.statement_coder.specs.StatementsRead.{IsRead}
-use Rattle.use_blocks.specs.Changes.{IsAccepted}
-use Rattle.use_blocks.specs.EffectsAs.{change_as, effect_as}
-use Rattle.deck_assembler.specs.FirstSymbols.{symbol_in, with_defined}
+use Rattle.statement_coder.specs.Joins.Readings.{IsReading}
+use Rattle.statement_coder.specs.Joins.StatementsRead.{IsRead}
+use Rattle.use_blocks.specs.Joins.Changes.{IsAccepted}
+use Rattle.use_blocks.specs.Joins.EffectsAs.{change_as, effect_as}
+use Rattle.deck_assembler.specs.Joins.FirstSymbols.{symbol_in, with_defined}
 use Rattle.deck_assembler.proofs.DefinitionLaws.{lawful-shape}
 use Rattle.deck_assembler.proofs.OldLaws.{next-of, front-step}
 use Rattle.deck_assembler.proofs.SizerSteps.{settled-operand, state-accepted}

@@ -1,8 +1,8 @@
 use Rattle.std.proofs.Common.{◌≡◌, length}
 use Rattle.std.specs.List.{list_any}
 use Rattle.definitions.specs.Expressions.{elements_of}
-use Rattle.expr_forms.specs.ElementLists.{elements_in}
-use Rattle.deck_assembler.specs.Rebindings.{differs}
+use Rattle.expr_forms.specs.Joins.ElementLists.{elements_in}
+use Rattle.deck_assembler.specs.Joins.Rebindings.{differs}
 use Rattle.deck_assembler.proofs.rebinding.Rebinding.expression_differs.Given as goal
 
 -- the elements that are left tell what all tell

@@ -9,11 +9,11 @@ use Rattle.definitions.specs.Settling.{View, settled_all}
 use Rattle.definitions.specs.Statements.{Statement}
 use Rattle.definitions.specs.declared.deck_kind.DeckKind.{DeckKind}
 use Rattle.definitions.specs.declared.deck_kind.DeckKind.{DeckKind}
-use Rattle.deck_assembler.specs.FirstStatements.{all_statements}
-use Rattle.deck_assembler.specs.FirstSymbols.{symbol_in}
-use Rattle.deck_assembler.specs.Formers.{known_in}
-use Rattle.deck_assembler.specs.Meetings.{StandApart, WillAgreeAt}
-use Rattle.deck_assembler.specs.Tails.{HasTailIfAny, HasTailWithin}
+use Rattle.deck_assembler.specs.Joins.FirstStatements.{all_statements}
+use Rattle.deck_assembler.specs.Joins.FirstSymbols.{symbol_in}
+use Rattle.deck_assembler.specs.Joins.Formers.{known_in}
+use Rattle.deck_assembler.specs.Joins.Meetings.{StandApart, WillAgreeAt}
+use Rattle.deck_assembler.specs.Joins.Tails.{HasTailIfAny, HasTailWithin}
 use Rattle.deck_assembler.proofs.AgreementLaws.{begins-due, untouched-before}
 use Rattle.deck_assembler.proofs.DeckLaws.{all-statements}
 use Rattle.deck_assembler.proofs.FrontLaws.{front-stands, front-still}

@@ -1,6 +1,6 @@
 -- Of no deck nothing is kept.
 use Rattle.std.proofs.Common.{[], refl, sym, subst}
-use Rattle.deck_assembler.specs.OldDecks.{IsAtStage}
+use Rattle.deck_assembler.specs.Joins.OldDecks.{IsAtStage}
 use Rattle.deck_assembler.proofs.sized_deck.SizedDeck.new.Goals as goal
 
 pub made-requires-clause-old_deck : goal.made-requires-clause-old_deck

@@ -4,12 +4,12 @@ use Rattle.std.specs.Prelude.{reverse}
 use Rattle.definitions.specs.Operands.{operand_of}
 use Rattle.definitions.specs.Settling.{number_base_of, settle, settled_all}
 use Rattle.definitions.specs.States.{advanced}
-use Rattle.operations.specs.OperationsAs.{operation_as}
-use Rattle.use_blocks.specs.EffectsAs.{effect_as}
-use Rattle.deck_assembler.specs.FirstSymbols.{symbol_in}
-use Rattle.deck_assembler.specs.PieceSteps.{with_statement}
-use Rattle.use_blocks.specs.BlockLengths.{block_names}
-use Rattle.deck_assembler.specs.Sizers.{IsNoted}
+use Rattle.operations.specs.Joins.OperationsAs.{operation_as}
+use Rattle.use_blocks.specs.Joins.EffectsAs.{effect_as}
+use Rattle.deck_assembler.specs.Joins.FirstSymbols.{symbol_in}
+use Rattle.deck_assembler.specs.Joins.PieceSteps.{with_statement}
+use Rattle.use_blocks.specs.Joins.BlockLengths.{block_names}
+use Rattle.deck_assembler.specs.Joins.Sizers.{IsNoted}
 use Rattle.deck_assembler.proofs.SizerSteps.{sizer-step}
 use Rattle.deck_assembler.proofs.sizer.Sizer.keep.Goals as goal
 

@@ -1,6 +1,6 @@
 -- What was kept of an operand tells what its reading would.
 use Rattle.std.proofs.Common.{◌∙◌}
-use Rattle.deck_assembler.specs.FirstSymbols.{symbol_in}
+use Rattle.deck_assembler.specs.Joins.FirstSymbols.{symbol_in}
 use Rattle.deck_assembler.proofs.ToldOperands.{told-defined}
 use Rattle.deck_assembler.proofs.sizer.Sizer.note_told.Goals as goal
 

@@ -2,9 +2,9 @@
 use Rattle.std.proofs.Common.{ℕ, inr, true≢false, ap, sym, subst, ◌∙◌}
 use Rattle.std.specs.Prelude.{Option, IfSome, is_some}
 use Rattle.deck_assembler.proofs.ResultLaws.{on_ok_any, on_ok_one}
-use Rattle.cards.specs.Spans.{statement_at}
-use Rattle.deck_assembler.specs.OldDecks.{IsThatOf}
-use Rattle.deck_assembler.specs.Sizers.{stood, ahead, IsNext}
+use Rattle.cards.specs.Joins.Spans.{statement_at}
+use Rattle.deck_assembler.specs.Joins.OldDecks.{IsThatOf}
+use Rattle.deck_assembler.specs.Joins.Sizers.{stood, ahead, IsNext}
 use Rattle.deck_assembler.specs.declared.sized_statement.SizedStatement.{SizedStatement}
 use Rattle.deck_assembler.proofs.SizerSteps.{sized-accepted}
 use Rattle.deck_assembler.proofs.sizer.Sizer.take_next.Goals as goal

@@ -1,6 +1,6 @@
 use Rattle.std.proofs.Common.{subst}
-use Rattle.cards.specs.Spans.{statement_at}
-use Rattle.statement_coder.specs.StatementsRead.{IsRead}
+use Rattle.cards.specs.Joins.Spans.{statement_at}
+use Rattle.statement_coder.specs.Joins.StatementsRead.{IsRead}
 use Rattle.deck_assembler.proofs.sizer.Sizer.take_span.Goals as goal
 
 pub returns-clause-taken : goal.returns-clause-taken

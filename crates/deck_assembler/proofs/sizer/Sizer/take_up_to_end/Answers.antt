@@ -3,10 +3,10 @@ use Rattle.std.proofs.Common.{◌≡◌, ◌+◌, suc, List, get_or, length, sym
 use Rattle.cards.specs.declared.statement_list.Span.{Span}
 use Rattle.definitions.specs.DeckKinds.{has_end, up_to_end}
 use Rattle.definitions.specs.Statements.{Statement}
-use Rattle.deck_assembler.specs.FirstStatements.{first_statements, IsEnding}
-use Rattle.deck_assembler.specs.OldDecks.{IsKeptOn, IsOnSpan}
-use Rattle.deck_assembler.specs.Sizers.{IsSizer}
-use Rattle.deck_assembler.specs.Meetings.{WillAgree}
+use Rattle.deck_assembler.specs.Joins.FirstStatements.{first_statements, IsEnding}
+use Rattle.deck_assembler.specs.Joins.OldDecks.{IsKeptOn, IsOnSpan}
+use Rattle.deck_assembler.specs.Joins.Sizers.{IsSizer}
+use Rattle.deck_assembler.specs.Joins.Meetings.{WillAgree}
 use Rattle.deck_assembler.proofs.DueLaws.{due-bound, next-known}
 use Rattle.deck_assembler.proofs.EndLaws.{length-first, first-step, next-at, few-sized, ending-here, open-step, ending-none, ending-length, few-all}
 use Rattle.deck_assembler.proofs.FrontLaws.{front-bound, front-end, front-more, goes-at, stands-few}

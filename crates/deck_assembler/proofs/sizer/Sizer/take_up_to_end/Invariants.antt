@@ -2,11 +2,11 @@ use Rattle.std.proofs.Common.{ℕ, ◌≡◌, length, ◌+◌, ◌≤◌, List, 
 use Rattle.definitions.specs.Cards.{Card}
 use Rattle.definitions.specs.DeckKinds.{has_end, up_to_end}
 use Rattle.definitions.specs.Statements.{Statement}
-use Rattle.statement_coder.specs.Meters.{RisesBy}
-use Rattle.deck_assembler.specs.FirstStatements.{first_statements, all_statements}
-use Rattle.deck_assembler.specs.Meetings.{IsBounded, WillAgree}
-use Rattle.deck_assembler.specs.OldDecks.{IsKeptOn, StandsInFront}
-use Rattle.deck_assembler.specs.Sizers.{IsSizer}
+use Rattle.statement_coder.specs.Joins.Meters.{RisesBy}
+use Rattle.deck_assembler.specs.Joins.FirstStatements.{first_statements, all_statements}
+use Rattle.deck_assembler.specs.Joins.Meetings.{IsBounded, WillAgree}
+use Rattle.deck_assembler.specs.Joins.OldDecks.{IsKeptOn, StandsInFront}
+use Rattle.deck_assembler.specs.Joins.Sizers.{IsSizer}
 use Rattle.deck_assembler.specs.declared.old_deck.Stage.TheVariants as stages
 use Rattle.deck_assembler.proofs.FrontLaws.{IsFrontTaken}
 use Rattle.deck_assembler.proofs.sizer.Sizer.take_up_to_end.Given as goal

@@ -1,7 +1,7 @@
 -- A name keeps its first value.
 use Rattle.std.proofs.Common.{◌∙◌, ap, arith}
 use Rattle.std.proofs.lemmas.Result.{on_ok_weaker}
-use Rattle.deck_assembler.specs.FirstSymbols.{symbol_in, with_symbol}
+use Rattle.deck_assembler.specs.Joins.FirstSymbols.{symbol_in, with_symbol}
 use Rattle.deck_assembler.proofs.SymbolLaws.{symbol_in-kept}
 use Rattle.deck_assembler.proofs.symbol_table.SymbolTable.define.Goals as goal
 

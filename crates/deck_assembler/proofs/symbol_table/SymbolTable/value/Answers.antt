@@ -1,6 +1,6 @@
 -- A name is found by its number.
 use Rattle.std.proofs.Common.{◌∙◌, ap, arith}
-use Rattle.deck_assembler.specs.FirstSymbols.{symbol_in}
+use Rattle.deck_assembler.specs.Joins.FirstSymbols.{symbol_in}
 use Rattle.deck_assembler.proofs.SymbolLaws.{lookup-ordered, symbol_in-some}
 use Rattle.deck_assembler.proofs.symbol_table.SymbolTable.value.Goals as goal
 

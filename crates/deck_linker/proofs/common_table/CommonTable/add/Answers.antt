@@ -5,8 +5,8 @@ use Rattle.std.specs.BTreeMap.{get}
 use Rattle.std.specs.Ordering.{eq_by_cmp}
 use Rattle.definitions.specs.Lengths.{BlockLength}
 use Rattle.definitions.specs.Link.{with_common}
-use Rattle.deck_linker.specs.CommonPlaces.{HasPlaces, length_at, widened}
-use Rattle.deck_linker.specs.NameKeys.{name_order}
+use Rattle.deck_linker.specs.Joins.CommonPlaces.{HasPlaces, length_at, widened}
+use Rattle.deck_linker.specs.Joins.NameKeys.{name_order}
 use Rattle.deck_linker.proofs.CommonPlaceLaws.{common-absent, common-there, place-inside, places-new, places-widened}
 use Rattle.deck_linker.proofs.common_table.CommonTable.add.Goals as goal
 

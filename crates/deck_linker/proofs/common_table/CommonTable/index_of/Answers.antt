@@ -3,8 +3,8 @@ use Rattle.std.specs.Prelude.{position}
 use Rattle.std.specs.BTreeMap.{get}
 use Rattle.std.proofs.lemmas.Iterator.Adapters.{position_from-zero}
 use Rattle.definitions.specs.Characters.{same_text}
-use Rattle.deck_linker.specs.NameKeys.{name_order}
-use Rattle.deck_linker.specs.Placing.{names_of_lengths}
+use Rattle.deck_linker.specs.Joins.NameKeys.{name_order}
+use Rattle.deck_linker.specs.Joins.Placing.{names_of_lengths}
 use Rattle.deck_linker.proofs.common_table.CommonTable.index_of.Goals as goal
 
 pub returns : goal.returns

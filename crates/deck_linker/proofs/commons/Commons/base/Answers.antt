@@ -1,6 +1,6 @@
 use Rattle.std.proofs.Common.{◌∙◌, List, sym, ap}
 use Rattle.definitions.specs.Link.{Common, common_base}
-use Rattle.deck_linker.specs.Placing.{base_at, names_of_lengths}
+use Rattle.deck_linker.specs.Joins.Placing.{base_at, names_of_lengths}
 use Rattle.deck_linker.proofs.TableLaws.{base-found, base-missing}
 use Rattle.deck_linker.proofs.commons.Commons.base.Goals as goal
 

@@ -1,5 +1,5 @@
 use Rattle.std.proofs.Common.{◌∙◌, ap}
-use Rattle.deck_linker.specs.Placing.{names_of_commons}
+use Rattle.deck_linker.specs.Joins.Placing.{names_of_commons}
 use Rattle.deck_linker.proofs.PlaceLaws.{names-commons}
 use Rattle.deck_linker.proofs.commons.Commons.new.Goals as goal
 

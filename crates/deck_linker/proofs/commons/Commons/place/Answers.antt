@@ -3,8 +3,8 @@ use Rattle.std.specs.List.{position_from}
 use Rattle.std.proofs.lemmas.Iterator.Adapters.{position_from-zero}
 use Rattle.definitions.specs.Characters.{same_text}
 use Rattle.definitions.specs.Link.{Common}
-use Rattle.deck_linker.specs.CommonWords.{common_place}
-use Rattle.deck_linker.specs.Placing.{names_of_lengths}
+use Rattle.deck_linker.specs.Joins.CommonWords.{common_place}
+use Rattle.deck_linker.specs.Joins.Placing.{names_of_lengths}
 use Rattle.deck_linker.proofs.commons.Commons.place.Goals as goal
 
 pub returns : goal.returns

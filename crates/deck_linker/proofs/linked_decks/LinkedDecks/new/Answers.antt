@@ -6,9 +6,9 @@ use Rattle.definitions.specs.DeckInput.{Deck}
 use Rattle.definitions.specs.Link.{Based, Layout, layout_of, link_lines}
 use Rattle.definitions.specs.Map.{map_text}
 use Rattle.definitions.specs.Objects.{object_of}
-use Rattle.deck_linker.specs.InPieces.{AreDeckWords, DoFit, deck_text, end_text}
+use Rattle.deck_linker.specs.Joins.InPieces.{AreDeckWords, DoFit, deck_text, end_text}
 use Rattle.deck_linker.specs.Publishing.{listings}
-use Rattle.deck_linker.specs.Sections.{deck_section}
+use Rattle.deck_linker.specs.Joins.Sections.{deck_section}
 use Rattle.deck_linker.proofs.InPieceLaws.{linked-parts}
 use Rattle.deck_linker.proofs.linked_decks.LinkedDecks.new.Goals as goal
 

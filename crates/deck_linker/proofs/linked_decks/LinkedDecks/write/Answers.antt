@@ -2,10 +2,10 @@ use Rattle.std.proofs.Common.{◌++◌, ◌∙◌, ℕ, List, ap, ap₂, arith, 
 use Rattle.std.specs.Prelude.{flat_map}
 use Rattle.definitions.specs.Build.{build_of}
 use Rattle.definitions.specs.DeckInput.{Deck}
-use Rattle.text_ports.specs.Sending.{Sends}
-use Rattle.deck_linker.specs.InPieces.{end_text}
+use Rattle.text_ports.specs.Joins.Sending.{Sends}
+use Rattle.deck_linker.specs.Joins.InPieces.{end_text}
 use Rattle.deck_linker.specs.Publishing.{listings}
-use Rattle.deck_linker.specs.Sections.{deck_section}
+use Rattle.deck_linker.specs.Joins.Sections.{deck_section}
 use Rattle.deck_linker.proofs.InPieceLaws.{parts-long, parts-whole}
 use Rattle.deck_linker.proofs.linked_decks.LinkedDecks.write.Goals as goal
 

@@ -1,5 +1,5 @@
 use Rattle.std.proofs.Common.{◌≡◌, drop}
-use Rattle.deck_linker.specs.Names.{with_entries}
+use Rattle.deck_linker.specs.Joins.Names.{with_entries}
 use Rattle.deck_linker.proofs.name_set.NameSet.add_entries.Given as goal
 
 abbrev pub invariant-loop-entry : goal.invariant-loop-entry

@@ -2,7 +2,7 @@ use Rattle.std.proofs.Common.{◌∙◌, ap}
 use Rattle.std.specs.List.{list_any}
 use Rattle.std.specs.Ordering.{is_eq}
 use Rattle.definitions.specs.Blocks.{is_named}
-use Rattle.deck_linker.specs.NameKeys.{name_order}
+use Rattle.deck_linker.specs.Joins.NameKeys.{name_order}
 use Rattle.deck_linker.proofs.NameLaws.{named-ordered}
 use Rattle.deck_linker.proofs.name_set.NameSet.contains.Goals as goal
 

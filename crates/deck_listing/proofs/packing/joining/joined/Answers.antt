@@ -1,6 +1,6 @@
 use Rattle.std.proofs.Common.{◌<◌, List, length, arith, get_or, subst}
 use Rattle.std.proofs.lemmas.List.{drop_more}
-use Rattle.deck_listing.specs.Joining.{IsJoining}
+use Rattle.deck_listing.specs.Joins.Joining.{IsJoining}
 use Rattle.deck_listing.specs.declared.packing.word_spans.WordSpan.{WordSpan}
 use Rattle.deck_listing.proofs.JoinLaws.{joining-next, joining-order, joining-same}
 use Rattle.deck_listing.proofs.packing.joining.joined.Goals as goal

@@ -1,5 +1,5 @@
 use Rattle.std.proofs.Common.{drop}
-use Rattle.deck_listing.specs.Joining.{IsJoining}
+use Rattle.deck_listing.specs.Joins.Joining.{IsJoining}
 use Rattle.deck_listing.proofs.packing.joining.joined.Given as goal
 
 abbrev pub invariant-loop-span : goal.invariant-loop-span

@@ -1,6 +1,6 @@
 use Rattle.std.proofs.Common.{◌<◌, ◌≡◌, [], List, drop, length, arith, get_or, subst}
 use Rattle.std.proofs.lemmas.List.{drop_more, drop_all}
-use Rattle.deck_listing.specs.Filling.{IsMerging}
+use Rattle.deck_listing.specs.Joins.Filling.{IsMerging}
 use Rattle.deck_listing.specs.declared.packing.word_spans.WordSpan.{WordSpan}
 use Rattle.deck_listing.proofs.MergeLaws.{merging_all, merging_more}
 use Rattle.deck_listing.proofs.RiseLaws.{first_ends}

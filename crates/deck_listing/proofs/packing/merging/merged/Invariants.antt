@@ -1,5 +1,5 @@
 use Rattle.std.proofs.Common.{drop}
-use Rattle.deck_listing.specs.Filling.{IsMerging}
+use Rattle.deck_listing.specs.Joins.Filling.{IsMerging}
 use Rattle.deck_listing.proofs.packing.merging.merged.Given as goal
 
 abbrev pub invariant-loop-next : goal.invariant-loop-next

@@ -1,5 +1,5 @@
 use Rattle.std.proofs.Common.{◌-◌, drop, length}
-use Rattle.deck_listing.specs.Filling.{IsTaking}
+use Rattle.deck_listing.specs.Joins.Filling.{IsTaking}
 use Rattle.deck_listing.proofs.packing.merging.push_between.Given as goal
 
 abbrev pub invariant-loop-ahead : goal.invariant-loop-ahead

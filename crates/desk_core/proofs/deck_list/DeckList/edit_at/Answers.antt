@@ -1,7 +1,7 @@
 use Rattle.std.proofs.Common.{◌∙◌, [], ◌∷◌, List, ap, refl, arith, length, is_ok, cond}
 use Rattle.desk_core.specs.Desks.{DeskDeck}
 use Rattle.desk_core.specs.Changing.{edited_deck}
-use Rattle.desk_core.specs.OwnNames.{with_at}
+use Rattle.desk_core.specs.Joins.OwnNames.{with_at}
 use Rattle.desk_core.proofs.PlaceLaws.{formed-if}
 use Rattle.desk_core.proofs.deck_list.DeckList.edit_at.Goals as goal
 

@@ -1,7 +1,7 @@
 use Rattle.std.proofs.Common.{◌∙◌, List, ap, refl, arith, length}
 use Rattle.desk_core.specs.Desks.{DeskDeck}
 use Rattle.desk_core.specs.Delivering.{lost}
-use Rattle.desk_core.specs.OwnNames.{with_at}
+use Rattle.desk_core.specs.Joins.OwnNames.{with_at}
 use Rattle.desk_core.proofs.PlaceLaws.{formed-at}
 use Rattle.desk_core.proofs.deck_list.DeckList.lose_at.Goals as goal
 

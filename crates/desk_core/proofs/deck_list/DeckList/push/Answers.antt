@@ -1,6 +1,6 @@
 use Rattle.std.proofs.Common.{◌∙◌, List, ap, sym, subst, find}
 use Rattle.desk_core.specs.Desks.{DeskDeck, is_named}
-use Rattle.desk_core.specs.OwnNames.{HaveOwnNames}
+use Rattle.desk_core.specs.Joins.OwnNames.{HaveOwnNames}
 use Rattle.desk_core.proofs.PlaceLaws.{own-added}
 use Rattle.desk_core.proofs.deck_list.DeckList.push.Goals as goal
 

@@ -1,7 +1,7 @@
 use Rattle.std.proofs.Common.{◌∙◌, ℕ, Option, inl, ap, subst, sym}
 use Rattle.desk_core.specs.Desks.{is_named}
-use Rattle.desk_core.specs.OwnNames.{IsPlaceOf}
-use Rattle.desk_core.specs.Calls.{Changed}
+use Rattle.desk_core.specs.Joins.OwnNames.{IsPlaceOf}
+use Rattle.desk_core.specs.Joins.Calls.{Changed}
 use Rattle.desk_core.proofs.ChangeDone.{batch-done}
 use Rattle.desk_core.proofs.desk.Desk.batch.Goals as goal
 

@@ -1,10 +1,10 @@
 use Rattle.std.proofs.Common.{◌≡◌, ◌∙◌, ℕ, List, Option, inl, ap₂, sym, subst}
-use Rattle.desk_core.specs.Edits.{Edit}
+use Rattle.desk_core.specs.Joins.Edits.{Edit}
 use Rattle.desk_core.specs.Desks.{Desk, is_named}
-use Rattle.desk_core.specs.OwnNames.{IsPlaceOf}
+use Rattle.desk_core.specs.Joins.OwnNames.{IsPlaceOf}
 use Rattle.desk_core.specs.Carrying.{batch_since}
-use Rattle.desk_core.specs.Turns.{MayAnswer}
-use Rattle.desk_core.specs.Calls.{Carried, Refused, OutOfMemory}
+use Rattle.desk_core.specs.Joins.Turns.{MayAnswer}
+use Rattle.desk_core.specs.Joins.Calls.{Carried, Refused, OutOfMemory}
 use Rattle.desk_core.proofs.CarryDone.{batch-refused, batch-done, batch-starved, carried-applies}
 use Rattle.desk_core.proofs.desk.Desk.batch_of.Goals as goal
 

@@ -1,10 +1,10 @@
 use Rattle.std.proofs.Common.{◌≡◌, ℕ, Option, true, subst, sym}
 use Rattle.std.specs.List.{list_any}
 use Rattle.desk_core.specs.Desks.{Desk}
-use Rattle.desk_core.specs.Calls.{DeckJob, Refused, OutOfMemory}
+use Rattle.desk_core.specs.Joins.Calls.{DeckJob, Refused, OutOfMemory}
 use Rattle.desk_core.specs.Claiming.{is_behind, is_free, claim}
-use Rattle.desk_core.specs.OwnNames.{IsPlaceOf}
-use Rattle.desk_core.specs.Turns.{MayAnswer}
+use Rattle.desk_core.specs.Joins.OwnNames.{IsPlaceOf}
+use Rattle.desk_core.specs.Joins.Turns.{MayAnswer}
 use Rattle.desk_core.proofs.ClaimDone.{claim-told, claim-lacking, claim-done}
 use Rattle.desk_core.proofs.desk.Desk.claim.Goals as goal
 

@@ -1,11 +1,11 @@
 use Rattle.std.proofs.Common.{◌≡◌, ◌∙◌, ℕ, Option, None, inl, ap, subst, sym}
 use Rattle.std.specs.Prelude.{slice_get}
-use Rattle.desk_core.specs.Language.{Deck}
+use Rattle.desk_core.specs.Joins.Language.{Deck}
 use Rattle.desk_core.specs.Desks.{is_named}
-use Rattle.desk_core.specs.OwnNames.{IsPlaceOf}
-use Rattle.desk_core.specs.Calls.{Changed}
+use Rattle.desk_core.specs.Joins.OwnNames.{IsPlaceOf}
+use Rattle.desk_core.specs.Joins.Calls.{Changed}
 use Rattle.desk_core.specs.Changing.{against_put, put_deck}
-use Rattle.desk_core.specs.Turns.{MayAnswer}
+use Rattle.desk_core.specs.Joins.Turns.{MayAnswer}
 use Rattle.desk_core.proofs.ChangeDone.{put-done}
 use Rattle.desk_core.proofs.desk.Desk.put_deck.Goals as goal
 

@@ -2,7 +2,7 @@ use Rattle.std.proofs.Common.{◌≡◌, ◌≤◌, ◌∙◌, ℕ, List, length
 use Rattle.cards.specs.declared.carrying.MadeEdit.{MadeEdit}
 use Rattle.desk_core.specs.declared.past.Back.{Back}
 use Rattle.desk_core.specs.Past.{Past, KeptEdit, last_version, without_oldest}
-use Rattle.desk_core.specs.Stored.{past_of, kept_both}
+use Rattle.desk_core.specs.Joins.Stored.{past_of, kept_both}
 use Rattle.desk_core.proofs.PastSteps.{kept-length, kept-drop}
 use Rattle.desk_core.proofs.past.Past.forget.Goals as goal
 

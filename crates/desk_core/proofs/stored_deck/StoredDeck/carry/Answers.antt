@@ -1,8 +1,8 @@
 use Rattle.std.proofs.Common.{rules, ◌≡◌, ◌∙◌, ◌≤◌, List, length, None, ap, sym, subst}
-use Rattle.desk_core.specs.Language.{Card}
+use Rattle.desk_core.specs.Joins.Language.{Card}
 use Rattle.desk_core.specs.Desks.{DeskDeck}
-use Rattle.desk_core.specs.Edits.{first_fault, edited_by}
-use Rattle.desk_core.specs.Stored.{cards_held}
+use Rattle.desk_core.specs.Joins.Edits.{first_fault, edited_by}
+use Rattle.desk_core.specs.Joins.Stored.{cards_held}
 use Rattle.desk_core.specs.Past.{backs_of, behind}
 use Rattle.desk_core.proofs.CardCounts.{edited_by-few}
 use Rattle.desk_core.proofs.PastLaws.{past-behind, backs-apply}

@@ -1,9 +1,9 @@
 use Rattle.std.proofs.Common.{rules, subst, sym, ap, ◌∙◌, ◌≡◌, ◌≤◌, [], ◌∷◌, List, length, None}
 use Rattle.cards.proofs.FaultLaws.{edited-few}
-use Rattle.desk_core.specs.Language.{Card}
+use Rattle.desk_core.specs.Joins.Language.{Card}
 use Rattle.desk_core.specs.Desks.{DeskDeck}
-use Rattle.desk_core.specs.Edits.{edited, fault_of}
-use Rattle.desk_core.specs.Stored.{cards_held}
+use Rattle.desk_core.specs.Joins.Edits.{edited, fault_of}
+use Rattle.desk_core.specs.Joins.Stored.{cards_held}
 use Rattle.desk_core.specs.Past.{Past, past_after}
 use Rattle.desk_core.specs.Led.{IsPastOf}
 use Rattle.desk_core.proofs.PastLaws.{past-more, one-applies}

@@ -1,13 +1,13 @@
 use Rattle.std.proofs.Common.{rules, subst, sym, ap, ap₂, ◌∙◌, ◌≡◌, ◌≤◌, Bool, false, cond, ◌||◌, is_some, ◌++◌, List, length, None}
 use Rattle.cards.specs.declared.carrying.MadeEdit.{MadeEdit}
-use Rattle.desk_core.specs.Language.{Card}
+use Rattle.desk_core.specs.Joins.Language.{Card}
 use Rattle.desk_core.specs.Desks.{DeskDeck}
-use Rattle.desk_core.specs.Edits.{Edit, first_fault, edited_by}
+use Rattle.desk_core.specs.Joins.Edits.{Edit, first_fault, edited_by}
 use Rattle.desk_core.specs.declared.past.Back.{Back}
 use Rattle.desk_core.specs.Past.{Past, KeptEdit, with_edits, trimmed, kept_edits, past_after}
 use Rattle.desk_core.specs.Led.{IsPastOf}
 use Rattle.desk_core.specs.Changing.{edited_deck, waiting_after}
-use Rattle.desk_core.specs.Stored.{backs_made, cards_held, kept_both}
+use Rattle.desk_core.specs.Joins.Stored.{backs_made, cards_held, kept_both}
 use Rattle.desk_core.proofs.CardCounts.{edited_by-few}
 use Rattle.desk_core.proofs.PastSteps.{kept-batch, batch-length}
 use Rattle.desk_core.proofs.PastLaws.{past-more}

@@ -4,10 +4,10 @@ use Rattle.cards.specs.Edits.{edited_by, first_fault}
 use Rattle.definitions.specs.Cards.{Card}
 use Rattle.definitions.specs.DeckInput.{Deck}
 use Rattle.definitions.specs.DeckKinds.{kind_of_statements}
-use Rattle.deck_assembler.specs.Agreements.{HaveSameEnd}
-use Rattle.deck_assembler.specs.Formers.{IsFormerOf, known_in}
-use Rattle.deck_assembler.specs.SizedDecks.{IsSizedDeck}
-use Rattle.deck_assembler.specs.Tails.{HasTailIfAny}
+use Rattle.deck_assembler.specs.Joins.Agreements.{HaveSameEnd}
+use Rattle.deck_assembler.specs.Joins.Formers.{IsFormerOf, known_in}
+use Rattle.deck_assembler.specs.Joins.SizedDecks.{IsSizedDeck}
+use Rattle.deck_assembler.specs.Joins.Tails.{HasTailIfAny}
 use Rattle.edit_core.specs.Edited.{RisesBehindFront, RisesToDue, RisesToDueCode}
 use Rattle.edit_core.specs.Records.{Record}
 use Rattle.edit_core.proofs.DueLaws.{are-taken, due-code-object, due-code-still, due-edited, due-still}

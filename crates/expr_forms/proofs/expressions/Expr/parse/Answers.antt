@@ -4,9 +4,9 @@ use Rattle.definitions.specs.Expressions.{Operator, with_sign}
 use Rattle.definitions.specs.Grammar.{operator_of}
 use Rattle.definitions.proofs.GrammarLaws.{link_of}
 use Rattle.definitions.proofs.TermLaws.{JoinsTerms}
-use Rattle.expr_forms.specs.Elements.{sign_as, element_as}
-use Rattle.expr_forms.specs.Links.{link_made, pairs_behind}
-use Rattle.expr_forms.specs.Parsed.{are_plain, expression_behind}
+use Rattle.expr_forms.specs.Joins.Elements.{sign_as, element_as}
+use Rattle.expr_forms.specs.Joins.Links.{link_made, pairs_behind}
+use Rattle.expr_forms.specs.Joins.Parsed.{are_plain, expression_behind}
 use Rattle.expr_forms.specs.declared.links.LoneRegisters.TheVariants.{Kept}
 use Rattle.expr_forms.proofs.ParseLaws.{parsed, refused}
 use Rattle.expr_forms.proofs.PlainLaws.{joins-sign, read-plain, told-some, told-plain, told-none}

@@ -1,6 +1,6 @@
 use Rattle.std.proofs.Common.{◌∙◌, sym}
-use Rattle.expr_forms.specs.Elements.{element_as}
-use Rattle.expr_forms.specs.Links.{operator_as, pairs_behind}
+use Rattle.expr_forms.specs.Joins.Elements.{element_as}
+use Rattle.expr_forms.specs.Joins.Links.{operator_as, pairs_behind}
 use Rattle.expr_forms.proofs.ParseLaws.{links_left-next, lawful-onto_pairs}
 use Rattle.expr_forms.proofs.links.TextLinks.next.Goals as goal
 

@@ -1,6 +1,6 @@
 use Rattle.std.proofs.Common.{◌∙◌, ap, sym}
 use Rattle.std.specs.Prelude.{option_copied}
-use Rattle.expr_forms.specs.Subfields.{subfields_left}
+use Rattle.expr_forms.specs.Joins.Subfields.{subfields_left}
 use Rattle.expr_forms.proofs.SubfieldLaws.{field-cut}
 use Rattle.expr_forms.proofs.subfields.Subfields.next.Goals as goal
 

@@ -5,12 +5,12 @@ use Rattle.definitions.specs.Pieces.{Piece}
 use Rattle.definitions.specs.Matching.{first_fit}
 use Rattle.definitions.specs.declared.number_base.NumberBase.{NumberBase}
 use Rattle.operations.specs.declared.row.Row.{Row}
-use Rattle.expr_forms.specs.Operands.{IsOperand}
+use Rattle.expr_forms.specs.Joins.Operands.{IsOperand}
 use Rattle.operations.specs.declared.central.code.OperandForm.{OperandForm}
-use Rattle.operations.specs.RegistersFound.{digits_as}
-use Rattle.operations.specs.CentralTables.{operand_row}
-use Rattle.operations.specs.LawfulCodes.{has_lawful_code}
-use Rattle.operations.specs.Fits.{row_fit_with}
+use Rattle.operations.specs.Joins.RegistersFound.{digits_as}
+use Rattle.operations.specs.Joins.CentralTables.{operand_row}
+use Rattle.operations.specs.Joins.LawfulCodes.{has_lawful_code}
+use Rattle.operations.specs.Joins.Fits.{row_fit_with}
 use Rattle.operations.proofs.central.central_fits.first_fit.Given as goal
 
 -- no row before those that are left fits

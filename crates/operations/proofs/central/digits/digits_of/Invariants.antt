@@ -1,6 +1,6 @@
 use Rattle.std.proofs.Common.{◌≡◌, ◌+◌, ◌*◌, ◌^◌, ◌≤◌, length, drop}
 use Rattle.definitions.specs.Matching.{code_digits, octal_number}
-use Rattle.operations.specs.RegistersFound.{digits_as}
+use Rattle.operations.specs.Joins.RegistersFound.{digits_as}
 use Rattle.operations.proofs.central.digits.digits_of.Given as goal
 
 -- the number so far, and the digits behind it, make the number of all

@@ -4,9 +4,9 @@ use Rattle.std.specs.List.{list_any}
 use Rattle.definitions.specs.CentralTable as table
 use Rattle.definitions.specs.Matching.{is_operation}
 use Rattle.definitions.specs.declared.letter.Letter.TheVariants as letters
-use Rattle.expr_forms.specs.Shapes.{instruction_as}
-use Rattle.operations.specs.CentralTables.{operand_row, sum_row, padded_row, padded_sum_row}
-use Rattle.operations.specs.Found.{fitted_as}
+use Rattle.expr_forms.specs.Joins.Shapes.{instruction_as}
+use Rattle.operations.specs.Joins.CentralTables.{operand_row, sum_row, padded_row, padded_sum_row}
+use Rattle.operations.specs.Joins.Found.{fitted_as}
 use Rattle.operations.proofs.CentralLaws.{any_row}
 use Rattle.operations.proofs.SearchLaws.{by_sum, by_central}
 use Rattle.operations.proofs.central.instruction_search.fit.Goals as goal

@@ -1,8 +1,8 @@
 use Rattle.std.proofs.Common.{Some, subst, ap, ◌∙◌}
 use Rattle.definitions.specs.Matching.{NoField, Match, subfields_matched}
-use Rattle.expr_forms.specs.Operands.{IsOperand}
-use Rattle.operations.specs.RegistersFound.{digits_as}
-use Rattle.operations.specs.Parts.{part_text}
+use Rattle.expr_forms.specs.Joins.Operands.{IsOperand}
+use Rattle.operations.specs.Joins.RegistersFound.{digits_as}
+use Rattle.operations.specs.Joins.Parts.{part_text}
 use Rattle.operations.proofs.FitLaws.{three_of_two}
 use Rattle.operations.proofs.central.operand_fits.operand_fit.Goals as goal
 

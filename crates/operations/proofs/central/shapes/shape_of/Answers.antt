@@ -2,9 +2,9 @@ use Rattle.std.proofs.Common.{◌≤◌, ◌<◌, ◌^◌, length, sym, subst, a
 use Rattle.std.specs.Prelude.{nat_le}
 use Rattle.std.proofs.lemmas.Bool.{and_parts}
 use Rattle.definitions.specs.Matching.{octal_number, code_digits}
-use Rattle.operations.specs.CodeTexts.{code_text}
-use Rattle.operations.specs.RegistersFound.{digits_as}
-use Rattle.operations.specs.LawfulCodes.{sevens, are_octal}
+use Rattle.operations.specs.Joins.CodeTexts.{code_text}
+use Rattle.operations.specs.Joins.RegistersFound.{digits_as}
+use Rattle.operations.specs.Joins.LawfulCodes.{sevens, are_octal}
 use Rattle.operations.proofs.CodeLaws.{AreOctal, number-room}
 use Rattle.operations.proofs.central.shapes.shape_of.Goals as goal
 

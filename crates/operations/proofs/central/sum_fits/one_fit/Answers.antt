@@ -1,8 +1,8 @@
 use Rattle.std.proofs.Common.{Some, ap, sym, ◌∙◌}
 use Rattle.definitions.specs.Matching.{Sum, first_fit, sum_of}
-use Rattle.expr_forms.specs.Sums.{sum_from}
-use Rattle.operations.specs.RegistersFound.{digits_as}
-use Rattle.operations.specs.Found.{fitted_as}
+use Rattle.expr_forms.specs.Joins.Sums.{sum_from}
+use Rattle.operations.specs.Joins.RegistersFound.{digits_as}
+use Rattle.operations.specs.Joins.Found.{fitted_as}
 use Rattle.operations.proofs.RowLaws.{sum-fits}
 use Rattle.operations.proofs.SumLaws.{no_rows-fit}
 use Rattle.operations.proofs.central.sum_fits.one_fit.Goals as goal

@@ -1,6 +1,6 @@
 use Rattle.std.proofs.Common.{subst}
-use Rattle.expr_forms.specs.Sums.{AreRegisters}
-use Rattle.operations.specs.RegistersFound.{digits_as}
+use Rattle.expr_forms.specs.Joins.Sums.{AreRegisters}
+use Rattle.operations.specs.Joins.RegistersFound.{digits_as}
 use Rattle.operations.proofs.SumLaws.{too_many-fit}
 use Rattle.operations.proofs.central.sum_fits.registers_fit.Goals as goal
 

@@ -1,7 +1,7 @@
 use Rattle.std.proofs.Common.{map, ap, refl, sym, ◌∙◌}
 use Rattle.std.specs.List.{list_all}
-use Rattle.operations.specs.CentralTables.{operand_row}
-use Rattle.operations.specs.LawfulCodes.{has_lawful_code}
+use Rattle.operations.specs.Joins.CentralTables.{operand_row}
+use Rattle.operations.specs.Joins.LawfulCodes.{has_lawful_code}
 use Rattle.operations.specs.declared.central.operand_table.TheConstants.{OPERAND_ROWS}
 use Rattle.operations.proofs.CentralLaws.{operand_rows-named, all-named}
 use Rattle.operations.proofs.FirstLetterLaws.{no_other}

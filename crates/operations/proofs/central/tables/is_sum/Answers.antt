@@ -1,7 +1,7 @@
 use Rattle.std.proofs.Common.{◌∙◌}
 use Rattle.definitions.specs.CentralTable as table
 use Rattle.definitions.specs.Matching.{is_operation}
-use Rattle.operations.specs.CentralTables.{sum_row, padded_sum_row}
+use Rattle.operations.specs.Joins.CentralTables.{sum_row, padded_sum_row}
 use Rattle.operations.proofs.CentralLaws.{any_row}
 use Rattle.operations.proofs.central.tables.is_sum.Goals as goal
 

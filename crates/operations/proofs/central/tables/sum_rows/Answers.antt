@@ -1,7 +1,7 @@
 use Rattle.std.proofs.Common.{map, ap, refl, sym, ◌∙◌}
 use Rattle.std.specs.List.{list_all}
-use Rattle.operations.specs.CentralTables.{sum_row}
-use Rattle.operations.specs.LawfulCodes.{has_lawful_codes}
+use Rattle.operations.specs.Joins.CentralTables.{sum_row}
+use Rattle.operations.specs.Joins.LawfulCodes.{has_lawful_codes}
 use Rattle.operations.specs.declared.central.sum_table.TheConstants.{SUM_ROWS}
 use Rattle.operations.proofs.CentralLaws.{sum_rows-named, all-named}
 use Rattle.operations.proofs.FirstLetterLaws.{no_sum}

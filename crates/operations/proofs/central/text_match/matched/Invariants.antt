@@ -1,6 +1,6 @@
 use Rattle.std.proofs.Common.{◌≡◌, length}
 use Rattle.definitions.specs.Matching.{matched}
-use Rattle.operations.specs.RegistersFound.{digits_as}
+use Rattle.operations.specs.Joins.RegistersFound.{digits_as}
 use Rattle.operations.proofs.central.text_match.matched.Given as goal
 
 -- what is left fits what is left of the pattern where the whole fits the whole

@@ -1,5 +1,5 @@
 use Rattle.std.proofs.Common.{◌≡◌, ◌++◌, ◌+◌, ◌≤◌, length}
-use Rattle.operations.specs.LetterBits.{among, flagged}
+use Rattle.operations.specs.Joins.LetterBits.{among, flagged}
 use Rattle.operations.proofs.letters.Letters.text.Given as goal
 
 -- the letters so far, and those of the rest

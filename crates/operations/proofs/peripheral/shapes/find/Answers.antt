@@ -1,7 +1,7 @@
 use Rattle.std.proofs.Common.{◌∙◌, Some, map, false, refl, sym, ap, subst}
 use Rattle.definitions.specs.Operands.{plain_of, by_form}
-use Rattle.operations.specs.PeripheralCodes.{row_as, found_row}
-use Rattle.operations.specs.PeripheralShapes.{IsFieldOf}
+use Rattle.operations.specs.Joins.PeripheralCodes.{row_as, found_row}
+use Rattle.operations.specs.Joins.PeripheralShapes.{IsFieldOf}
 use Rattle.operations.proofs.ShapeLaws.{is_found}
 use Rattle.operations.proofs.peripheral.shapes.find.Goals as goal
 

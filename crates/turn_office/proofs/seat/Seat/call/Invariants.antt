@@ -1,5 +1,5 @@
 use Rattle.std.proofs.Common.{Some}
-use Rattle.turn_office.specs.Told.{ended}
+use Rattle.turn_office.specs.Joins.Told.{ended}
 use Rattle.turn_office.proofs.seat.Seat.call.Given as goal
 
 -- the end of the turn is told the opening, the call and the reply

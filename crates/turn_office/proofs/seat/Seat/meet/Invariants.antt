@@ -1,5 +1,5 @@
 use Rattle.std.proofs.Common.{Some}
-use Rattle.turn_office.specs.Told.{opened}
+use Rattle.turn_office.specs.Joins.Told.{opened}
 use Rattle.turn_office.proofs.seat.Seat.meet.Given as goal
 
 -- the look at the history is told the opening

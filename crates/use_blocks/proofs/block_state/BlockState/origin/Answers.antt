@@ -1,4 +1,4 @@
-use Rattle.use_blocks.specs.Changes.{block_now}
+use Rattle.use_blocks.specs.Joins.Changes.{block_now}
 use Rattle.use_blocks.proofs.block_state.BlockState.origin.Goals as goal
 
 pub returns : goal.returns

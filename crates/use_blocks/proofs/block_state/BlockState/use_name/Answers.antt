@@ -3,7 +3,7 @@ use Rattle.std.specs.Prelude.{nat_lt}
 use Rattle.std.specs.List.{prefix_len}
 use Rattle.std.proofs.lemmas.Bool.{lt-ltb, le-ltb}
 use Rattle.definitions.specs.States.{UsedBlock}
-use Rattle.use_blocks.specs.StateInside.{is_other}
+use Rattle.use_blocks.specs.Joins.StateInside.{is_other}
 use Rattle.use_blocks.proofs.StackLaws.{accepted-index}
 use Rattle.use_blocks.proofs.block_state.BlockState.use_name.Goals as goal
 

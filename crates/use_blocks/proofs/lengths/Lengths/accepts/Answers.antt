@@ -1,7 +1,7 @@
 use Rattle.std.proofs.Common.{◌≡◌, true, false, List, length, ap, sym, ◌∙◌}
 use Rattle.definitions.specs.Blocks.{is_accepted}
 use Rattle.definitions.specs.Lengths.{BlockLength}
-use Rattle.use_blocks.specs.BlockLengths.{block_names, has_name}
+use Rattle.use_blocks.specs.Joins.BlockLengths.{block_names, has_name}
 use Rattle.use_blocks.proofs.ReachLaws.{accepted-old, accepted-new}
 use Rattle.use_blocks.proofs.lengths.Lengths.accepts.Goals as goal
 

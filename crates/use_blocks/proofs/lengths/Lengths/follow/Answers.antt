@@ -2,8 +2,8 @@ use Rattle.std.proofs.Common.{◌≡◌, ◌∙◌, ℕ, List, Some, ap, sym, re
 use Rattle.std.specs.Prelude.{slice_get}
 use Rattle.definitions.specs.Blocks.{block_in_use}
 use Rattle.definitions.specs.States.{lengths_advanced}
-use Rattle.use_blocks.specs.BlockLengths.{block_names}
-use Rattle.use_blocks.specs.EffectsAs.{effect_as}
+use Rattle.use_blocks.specs.Joins.BlockLengths.{block_names}
+use Rattle.use_blocks.specs.Joins.EffectsAs.{effect_as}
 use Rattle.use_blocks.proofs.NameLaws.{length-at, names-advanced}
 use Rattle.use_blocks.proofs.lengths.Lengths.follow.Goals as goal
 

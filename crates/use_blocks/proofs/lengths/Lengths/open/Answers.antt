@@ -1,7 +1,7 @@
 use Rattle.std.proofs.Common.{◌≡◌, ◌≤◌, true, false, List, [], ◌∷◌, ◌++◌, length, ap, sym, ◌∙◌, subst, length-append, arith}
 use Rattle.definitions.specs.Blocks.{is_named, is_accepted}
 use Rattle.definitions.specs.Lengths.{BlockLength}
-use Rattle.use_blocks.specs.BlockLengths.{AreDistinct, block_names, has_name}
+use Rattle.use_blocks.specs.Joins.BlockLengths.{AreDistinct, block_names, has_name}
 use Rattle.use_blocks.proofs.ReachLaws.{is_named_blocks, distinct-opened, accepted-few, opened-new, opened-old}
 use Rattle.use_blocks.proofs.lengths.Lengths.open.Goals as goal
 

@@ -1,7 +1,7 @@
 use Rattle.std.proofs.Common.{◌≡◌, ◌<◌, ◌≤◌, Some, List, max, ap, sym, ◌∙◌, subst, length, length-set}
 use Rattle.std.specs.Prelude.{slice_get, slice_set, map}
 use Rattle.definitions.specs.Lengths.{BlockLength}
-use Rattle.use_blocks.specs.BlockLengths.{AreDistinct, reaching}
+use Rattle.use_blocks.specs.Joins.BlockLengths.{AreDistinct, reaching}
 use Rattle.use_blocks.proofs.ReachLaws.{names-set, reached-at, at_place, found_at}
 use Rattle.use_blocks.proofs.lengths.Lengths.reach.Goals as goal
 

@@ -5,7 +5,7 @@ use Rattle.std.specs.Result.{OnErr}
 use Rattle.std.specs.Ordering.{nat_cmp}
 use Rattle.std.specs.BTreeMap.{get}
 use Rattle.definitions.specs.Literals.{with_word}
-use Rattle.use_blocks.specs.Offsets.{HasOffsets, is_word}
+use Rattle.use_blocks.specs.Joins.Offsets.{HasOffsets, is_word}
 use Rattle.use_blocks.proofs.OffsetLaws.{offsets-new, with-full, with-new, with-none, with-there}
 use Rattle.use_blocks.proofs.literals.Literals.add.Goals as goal
 use Rattle.use_blocks.proofs.literals.Literals.add.Goals.{then-offset-ge-MOST_LITERALS-via-then-offset-ge-MOST_LITERALS, then-offset-ge-MOST_LITERALS-via-else-offset-ge-MOST_LITERALS+then-contains_key}

@@ -1,7 +1,7 @@
 use Rattle.std.proofs.Common.{arith, ◌≡◌, ◌+◌, ◌-◌, ◌/◌, List, ◌++◌, ap, ◌∙◌, subst, replicate}
 use Rattle.definitions.specs.Kinds.{units}
 use Rattle.definitions.specs.Words.{Parcel, parcels_from}
-use Rattle.deck_listing.specs.Filling.{IsGathered}
+use Rattle.deck_listing.specs.Joins.Filling.{IsGathered}
 use Rattle.deck_listing.proofs.GatherSteps.{span_more}
 use Rattle.deck_listing.proofs.packing.gathering.Gathered.add_parcels.Goals as goal
 

@@ -1,6 +1,6 @@
 use Rattle.std.proofs.Common.{◌≡◌, List, [], ◌∷◌, reverse, sym, subst}
-use Rattle.deck_listing.specs.Packing.{empty_run}
-use Rattle.deck_listing.specs.Spans.{IsKept, parcels_in_runs, run_of}
+use Rattle.deck_listing.specs.Joins.Packing.{empty_run}
+use Rattle.deck_listing.specs.Joins.Spans.{IsKept, parcels_in_runs, run_of}
 use Rattle.deck_listing.specs.declared.packing.spans.Span.{Span}
 use Rattle.deck_listing.proofs.PutLaws.{empty_kept}
 use Rattle.deck_listing.proofs.PackedLaws.{block, begun_kept, begun_view}

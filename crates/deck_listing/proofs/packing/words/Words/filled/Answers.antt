@@ -1,6 +1,6 @@
 use Rattle.std.proofs.Common.{List, ◌^◌, ◌∙◌, ap, sym, subst}
-use Rattle.deck_listing.specs.Spans.{RiseWithin, places, parcels_in, parcels_in_runs}
-use Rattle.deck_listing.specs.Filling.{DoSpansRise, as_stored}
+use Rattle.deck_listing.specs.Joins.Spans.{RiseWithin, places, parcels_in, parcels_in_runs}
+use Rattle.deck_listing.specs.Joins.Filling.{DoSpansRise, as_stored}
 use Rattle.deck_listing.specs.declared.packing.spans.Span.{Span}
 use Rattle.deck_listing.specs.declared.packing.word_spans.WordSpan.{WordSpan}
 use Rattle.deck_listing.proofs.MergeLaws.{if_ok}

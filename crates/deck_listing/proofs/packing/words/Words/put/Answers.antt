@@ -1,5 +1,5 @@
 use Rattle.std.proofs.Common.{◌+◌, reverse}
-use Rattle.deck_listing.specs.Spans.{parcels_in_runs, run_of}
+use Rattle.deck_listing.specs.Joins.Spans.{parcels_in_runs, run_of}
 use Rattle.deck_listing.proofs.PutLaws.{put_kept}
 use Rattle.deck_listing.proofs.PackedLaws.{most_kept, put_moved}
 use Rattle.deck_listing.proofs.packing.words.Words.put.Goals as goal

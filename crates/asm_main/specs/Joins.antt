@@ -1,0 +1,8 @@
+-- What inner functions promise, so that the proofs of the outer ones join: no promise of the documents leads here.
+pub mod CardRoles
+pub mod Chains
+pub mod Outputs
+pub mod FaultWords
+pub mod Flags
+pub mod Filters
+pub mod Ways

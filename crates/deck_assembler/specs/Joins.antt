@@ -1,0 +1,36 @@
+-- What inner functions promise, so that the proofs of the outer ones join: no promise of the documents leads here.
+-- What a record keeps of a deck, as contracts see it.
+pub mod DeckParts
+pub mod SymbolKeys
+pub mod FirstSymbols
+-- What makes it the deck's.
+pub mod SizedDecks
+-- One statement more, and the statements up to END.
+pub mod LiteralsRead
+pub mod PieceSteps
+pub mod Sizers
+pub mod Agreements
+pub mod Tails
+pub mod OldDecks
+-- Where an old deck and an edited one are found to agree.
+pub mod Meetings
+pub mod FirstStatements
+-- What stays in a deck of another kind.
+pub mod Heads
+-- The fields of a statement, as a line keeps them.
+pub mod KeptFields
+-- Entries and externals.
+pub mod SharedNames
+-- One statement after another.
+pub mod Walks
+pub mod DeckWalks
+-- What a statement reads in two decks.
+pub mod Rebindings
+-- A line taken over into another object.
+pub mod CopiedFields
+-- The lines of the object before an edit.
+pub mod TailLines
+pub mod FormerLines
+pub mod Formers
+-- How many statements of an edited deck are coded.
+pub mod DueCodes

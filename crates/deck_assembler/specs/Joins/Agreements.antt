@@ -1,0 +1,124 @@
+-- Where an edited deck agrees again with the one before it, so that all that is left stays as it was sized.
+use Rattle.std.specs.Prelude.{ℕ, ◌≡◌, ◌≤◌, ◌-◌, ⊤, ◌++◌, Bool, true, false, List, [], ◌∷◌, Option, drop, length, reverse}
+use Rattle.definitions.specs.Cards.{Card}
+use Rattle.definitions.specs.Forms.{Form}
+use Rattle.definitions.specs.Operands.{Operand, NamesOperand}
+use Rattle.definitions.specs.Settled.{ReadStatement, defined}
+use Rattle.definitions.specs.Settling.{View, settle, settled_all}
+use Rattle.definitions.specs.Statements.{Statement, cards_in}
+use Rattle.definitions.specs.States.{state_after}
+use Rattle.definitions.specs.Agreement.{Agree, early_symbols, lawful_names}
+use Rattle.definitions.specs.declared.deck_kind.DeckKind.{DeckKind}
+use Rattle.statement_coder.specs.declared.definitions_made.Defines as code
+use Rattle.statement_coder.specs.declared.definitions_made.Defines.TheVariants as defines
+use Rattle.deck_assembler.specs.Joins.DeckParts.{sized_in}
+use Rattle.deck_assembler.specs.Joins.FirstSymbols.{symbol_in}
+use Rattle.deck_assembler.specs.Joins.Formers.{known_in}
+use Rattle.deck_assembler.specs.Joins.SizedDecks.{IsSizedStatement, AreSizedFrom}
+use Rattle.deck_assembler.specs.declared.early_trial.Trial.{Trial}
+use Rattle.deck_assembler.specs.declared.old_deck.OldDeck.{OldDeck}
+use Rattle.deck_assembler.specs.declared.sized_statement.SizedStatement.{SizedStatement}
+
+-- whether names are defined as externals
+abbrev pub is_externals : code.Defines → Bool
+is_externals defines.Externals = true
+is_externals what = false
+
+-- two views agree on names that are defined as externals
+abbrev pub AreNamesAlike : View → View → List (Option (List ℕ)) → code.Defines → Type 0
+AreNamesAlike v w names defines.Externals = Agree v w (lawful_names names)
+AreNamesAlike v w names what = ⊤
+
+-- two views agree on the names that an EXT defines
+abbrev pub AreExternalsAlike : View → View → Operand → code.Defines → Type 0
+AreExternalsAlike v w (NamesOperand names) what = AreNamesAlike v w names what
+AreExternalsAlike v w operand what = ⊤
+
+-- two views agree on all that a statement that was sized defines or reads early
+pub record IsAlike (v w : View) (read : ReadStatement) (what : code.Defines) : Type 0 where
+  pub early : Agree v w (early_symbols read)
+  pub externals : AreExternalsAlike v w read.operand what
+
+-- two views agree on all that statements in order define or read early, which are sized behind these
+abbrev pub AreAlikeFrom : DeckKind → View → View → List Statement → List SizedStatement → List Statement → Type 0
+AreAlikeFrom kind v w earlier [] statements = ⊤
+AreAlikeFrom kind v w earlier (sized ∷ later) [] = ⊤
+AreAlikeFrom kind v w earlier (sized ∷ later) (statement ∷ statements) =
+    IsAlike v w (settle kind (settled_all kind earlier) statement).read sized.sizing.defines × AreAlikeFrom kind v w (statement ∷ earlier) later statements
+
+-- statements in order were sized behind some others, and two views agree on all of them
+pub record StandAlike (kind : DeckKind) (ahead : List Card) (v w : View) (sized : List SizedStatement) : Type 0 where
+  pub earlier : List Statement
+  pub stood : ℕ
+  pub statements : List Statement
+  pub behind : List ℕ
+  pub others : List Statement
+  pub are : AreSizedFrom kind earlier stood ahead sized statements behind others
+  pub alike : AreAlikeFrom kind v w earlier sized statements
+
+-- the two tables of a trial agree on all of these statements, which are the next ones
+abbrev pub AreAlike : Trial → List SizedStatement → Type 0
+AreAlike trial sized = StandAlike trial.kind trial.ahead.now (symbol_in trial.first.now) (symbol_in trial.second.now) sized
+
+-- the two tables of a trial agree on a statement that is the next one
+abbrev pub IsNextAlike : Trial → SizedStatement → Type 0
+IsNextAlike trial sized =
+    (earlier : List Statement) (stood : ℕ) (given : Statement) → IsSizedStatement trial.kind earlier stood trial.ahead.now sized given →
+    IsAlike (symbol_in trial.first.now) (symbol_in trial.second.now) (settle trial.kind (settled_all trial.kind earlier) given).read sized.sizing.defines
+
+-- the statements that a trial has passed agree, where those that are left do
+abbrev pub AreTried : Trial → Trial → List SizedStatement → List SizedStatement → Type 0
+AreTried before trial all left =
+    (earlier : List Statement) (stood : ℕ) (statements : List Statement) (behind : List ℕ) (others : List Statement) →
+    AreSizedFrom before.kind earlier stood before.ahead.now all statements behind others →
+    ((earlier' : List Statement) (stood' : ℕ) (statements' : List Statement) → AreSizedFrom trial.kind earlier' stood' trial.ahead.now left statements' behind others →
+    AreAlikeFrom trial.kind (symbol_in trial.first.now) (symbol_in trial.second.now) earlier' left statements') →
+    AreAlikeFrom before.kind (symbol_in before.first.now) (symbol_in before.second.now) earlier all statements
+
+-- the statements of a deck that are left
+abbrev pub left : OldDeck → List SizedStatement
+left deck = deck.statements.items ++ sized_in deck.pieces.items
+
+-- the statements in front of those that are left: they make the state and the symbols, and those left are sized behind them
+pub record HasFront (cards : List Card) (sized : List SizedStatement) (deck : OldDeck) : Type 0 where
+  pub front : List Statement
+  pub later : List Statement
+  pub behind : List ℕ
+  pub others : List Statement
+  pub stood : ℕ
+  pub within : stood ≤ length cards
+  pub place : stood ≡ length (cards_in front)
+  pub all : reverse later ++ front ≡ known_in cards
+  pub ahead : deck.ahead.now ≡ drop stood cards
+  pub rest : AreSizedFrom deck.kind front stood (drop stood cards) sized later behind others
+  pub state : deck.state ≡ state_after (settled_all deck.kind front)
+  pub symbols : symbol_in deck.symbols ≡ (λ name. defined name (settled_all deck.kind front))
+
+-- the last so many cards of two decks are the same
+abbrev pub HaveSameEnd : ℕ → List Card → List Card → Type 0
+HaveSameEnd count old cards = drop (length old - count) old ≡ drop (length cards - count) cards
+
+-- the same deck
+pub record IsOfSameDeck (old new : OldDeck) : Type 0 where
+  pub kind : new.kind ≡ old.kind
+  pub before : new.before ≡ old.before
+  pub behind : new.behind ≡ old.behind
+
+-- the same deck at the same place, and the same is in front
+pub record IsSameFront (old new : OldDeck) : Type 0 where
+  pub deck : IsOfSameDeck old new
+  pub ahead : new.ahead.now ≡ old.ahead.now
+  pub state : new.state ≡ old.state
+  pub symbols : new.symbols ≡ old.symbols
+  pub stage : new.stage ≡ old.stage
+
+-- all that is left stands behind some statements, and agrees with these symbols
+abbrev pub DoesAgree : OldDeck → List (ℕ × Form) → Type 0
+DoesAgree deck symbols = StandAlike deck.kind deck.ahead.now (symbol_in deck.symbols) (symbol_in symbols) (left deck)
+
+-- all that is left defines and reads early what it did, under these symbols
+abbrev pub IsAgreeing : OldDeck → List (ℕ × Form) → Type 0
+IsAgreeing deck symbols =
+    (earlier : List Statement) (stood : ℕ) (statements : List Statement) (behind : List ℕ) (others : List Statement) →
+    AreSizedFrom deck.kind earlier stood deck.ahead.now (left deck) statements behind others →
+    AreAlikeFrom deck.kind (symbol_in deck.symbols) (symbol_in symbols) earlier (left deck) statements

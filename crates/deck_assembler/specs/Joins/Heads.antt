@@ -1,0 +1,113 @@
+-- The neutral statements in front of an edited card, which stay in a deck of another kind but for their two counters.
+use Rattle.std.specs.Prelude.{ℕ, ◌≡◌, ⊤, ◌+◌, ◌≤◌, true, List, [], ◌∷◌, Some, None, take, length}
+use Rattle.std.specs.List.{AllByRecursion}
+use Rattle.definitions.specs.Blocks.{nominal}
+use Rattle.definitions.specs.Cards.{Card}
+use Rattle.definitions.specs.Counters.{counters_at}
+use Rattle.definitions.specs.DeckKinds.{kind_of_statements}
+use Rattle.definitions.specs.Edits.{Edited, IsUntouched}
+use Rattle.definitions.specs.Forms.{Form}
+use Rattle.definitions.specs.Operations.{is_neutral}
+use Rattle.definitions.specs.Statements.{Statement}
+use Rattle.definitions.specs.declared.deck_kind.DeckKind.{DeckKind}
+use Rattle.operations.specs.Joins.OperationsAs.{operation_as}
+use Rattle.deck_objects.specs.declared.lines.CodedLine.{CodedLine}
+use Rattle.deck_objects.specs.declared.lines.Line.{Line}
+use Rattle.deck_assembler.specs.Joins.Agreements.{left}
+use Rattle.deck_assembler.specs.Joins.DeckParts.{DeckPiece, sized_in}
+use Rattle.deck_assembler.specs.Joins.Formers.{known_in}
+use Rattle.deck_assembler.specs.Joins.Meetings.{cards_of, IsShort}
+use Rattle.deck_assembler.specs.Joins.OldDecks.{IsKeptOn, StandsInFront}
+use Rattle.deck_assembler.specs.declared.old_deck.OldCards.{OldCards}
+use Rattle.deck_assembler.specs.declared.old_deck.OldDeck.{OldDeck}
+use Rattle.deck_assembler.specs.declared.old_deck.Stage.TheVariants as stages
+use Rattle.deck_assembler.specs.declared.sized_statement.SizedStatement.{SizedStatement}
+
+-- both counters of a neutral statement, in front of which stand neutral ones alone
+abbrev pub counter_of : DeckKind → Form
+counter_of kind = (counters_at kind nominal 0 None).origin
+
+-- a statement that was sized, with this value of both counters
+pub record IsRecounted (counter : Form) (sized made : SizedStatement) : Type 0 where
+  pub cards : made.cards ≡ sized.cards
+  pub operation : made.operation ≡ sized.operation
+  pub label : made.label ≡ sized.label
+  pub kept : made.kept ≡ sized.kept
+  pub bare : made.is_bare ≡ sized.is_bare
+  pub block : made.sizing.block ≡ sized.sizing.block
+  pub change : made.sizing.change ≡ sized.sizing.change
+  pub is_placed : made.sizing.is_placed ≡ sized.sizing.is_placed
+  pub place : made.sizing.place ≡ sized.sizing.place
+  pub end : made.sizing.end ≡ sized.sizing.end
+  pub asks : made.sizing.asks ≡ sized.sizing.asks
+  pub begins_run : made.sizing.begins_run ≡ sized.sizing.begins_run
+  pub setting : made.sizing.setting ≡ sized.sizing.setting
+  pub location : made.sizing.location ≡ counter
+  pub origin : made.sizing.origin ≡ counter
+  pub defines : made.sizing.defines ≡ sized.sizing.defines
+  pub letters : made.sizing.letters ≡ sized.sizing.letters
+  pub number_base : made.sizing.number_base ≡ sized.sizing.number_base
+
+-- a statement behind so many cards is neutral, and ends within so many
+pub record IsOfHead (before stood : ℕ) (sized : SizedStatement) : Type 0 where
+  pub neutral : is_neutral (Some (operation_as sized.operation)) ≡ true
+  pub within : stood + sized.cards ≤ before
+
+-- the first statements in order, as far as they are neutral and end within so many cards, with this value of both counters
+abbrev pub AreHead : Form → ℕ → ℕ → List SizedStatement → List SizedStatement → Type 0
+AreHead counter before stood [] [] = ⊤
+AreHead counter before stood [] (made ∷ more) = ⊥
+AreHead counter before stood (sized ∷ left) [] = IsOfHead before stood sized → ⊥
+AreHead counter before stood (sized ∷ left) (made ∷ more) = IsOfHead before stood sized × (IsRecounted counter sized made × AreHead counter before (stood + sized.cards) left more)
+
+-- they are all of an old deck that stays in front
+pub record IsHeadDeck (kind : DeckKind) (before : ℕ) (cards : List Card) (sized : List SizedStatement) (deck : OldDeck) : Type 0 where
+  pub kind_is : deck.kind ≡ kind
+  pub head : AreHead (counter_of kind) before 0 sized (left deck)
+  pub before_is : deck.before ≡ cards_of (left deck)
+  pub ahead : cards_of (left deck) ≤ length cards → deck.ahead.now ≡ take (cards_of (left deck)) cards
+  pub behind : deck.behind ≡ 0
+  pub stage : deck.stage ≡ stages.Front
+
+-- all of an old deck, which stays as far as it stands in front
+pub record IsOldDeck (kind : DeckKind) (old : OldCards) (pieces : List DeckPiece) (deck : OldDeck) : Type 0 where
+  pub kind_is : deck.kind ≡ kind
+  pub ahead : deck.ahead.now ≡ old.cards.now
+  pub all : left deck ≡ sized_in pieces
+  pub begun : deck.statements.items ≡ []
+  pub pieces_are : deck.pieces.items ≡ pieces
+  pub before_is : deck.before ≡ old.before
+  pub behind : deck.behind ≡ old.behind
+  pub stage : deck.stage ≡ stages.Front
+
+-- its pieces are short, and none is begun
+pub record IsWholeDeck (old : OldCards) (deck : OldDeck) : Type 0 where
+  pub stage : deck.stage ≡ stages.Front
+  pub before_is : deck.before ≡ old.before
+  pub begun : deck.statements.items ≡ []
+  pub short : AllByRecursion IsShort deck.pieces.items
+  pub behind : deck.behind ≡ old.behind
+
+-- what stays of an old deck stands in front of an edited one: all that stands untouched in front of both
+pub record BeginsBeside (kind : DeckKind) (old cards : List Card) (before : ℕ) (deck : OldDeck) : Type 0 where
+  pub of : List Card
+  pub kept_on : IsKeptOn kind of cards [] deck
+  pub stands : (decks : Edited) (front : List Statement) → decks.old ≡ known_in old → decks.new ≡ known_in cards → decks.before ≤ before → kind_of_statements (known_in cards) ≡ kind →
+      IsUntouched decks front → StandsInFront of (known_in cards) front deck
+
+-- a line behind those of so many cards is that of a neutral statement, and ends within so many
+pub record IsLineOfHead (before stood : ℕ) (line : Line) : Type 0 where
+  pub neutral : (coded : CodedLine) × ((line.coded ≡ Some coded) × (is_neutral (Some (operation_as coded.operation)) ≡ true))
+  pub within : stood + line.cards ≤ before
+
+-- the first lines, as far as they are those of neutral statements and end within so many cards
+abbrev pub AreHeadLines : ℕ → ℕ → List Line → List Line → Type 0
+AreHeadLines before stood [] [] = ⊤
+AreHeadLines before stood [] (first ∷ others) = ⊥
+AreHeadLines before stood (line ∷ lines) [] = IsLineOfHead before stood line → ⊥
+AreHeadLines before stood (line ∷ lines) (first ∷ others) = (first ≡ line) × (IsLineOfHead before stood line × AreHeadLines before (stood + line.cards) lines others)
+
+-- how many cards lines have
+abbrev pub cards_of_lines : List Line → ℕ
+cards_of_lines [] = 0
+cards_of_lines (line ∷ lines) = line.cards + cards_of_lines lines

@@ -1,0 +1,143 @@
+-- Where an old deck and an edited one are found to agree again, told from a place where they do.
+use Rattle.std.specs.Prelude.{ℕ, ◌≡◌, ◌+◌, ◌<◌, ◌≤◌, ◌⊎◌, List, [], ◌∷◌, ◌++◌, Option, None, false, length, map, reverse}
+use Rattle.std.specs.List.{AllByRecursion}
+use Rattle.cards.specs.Joins.Spans.{statement_at}
+use Rattle.cards.specs.declared.statement_list.Span.{Span}
+use Rattle.definitions.specs.Cards.{Card}
+use Rattle.definitions.specs.DeckKinds.{has_end}
+use Rattle.definitions.specs.Edits.{Edited}
+use Rattle.definitions.specs.Settled.{defined}
+use Rattle.definitions.specs.Settling.{settled_all}
+use Rattle.definitions.specs.Statements.{Statement, statements_of}
+use Rattle.definitions.specs.States.{state_after}
+use Rattle.definitions.specs.declared.deck_kind.DeckKind.{DeckKind}
+use Rattle.deck_assembler.specs.Joins.Agreements.{left, HasFront, StandAlike}
+use Rattle.deck_assembler.specs.Joins.DeckParts.{DeckPiece, sized_in}
+use Rattle.deck_assembler.specs.Joins.FirstSymbols.{symbol_in}
+use Rattle.deck_assembler.specs.Joins.FirstStatements.{all_statements}
+use Rattle.deck_assembler.specs.Joins.Formers.{known_in}
+use Rattle.deck_assembler.specs.Joins.OldDecks.{IsOnSpan}
+use Rattle.deck_assembler.specs.Joins.Sizers.{stood}
+use Rattle.deck_assembler.specs.declared.old_deck.OldDeck.{OldDeck}
+use Rattle.deck_assembler.specs.declared.old_deck.Stage.{Stage}
+use Rattle.deck_assembler.specs.declared.old_deck.Stage.TheVariants as stages
+use Rattle.deck_assembler.specs.declared.sized_statement.SizedStatement.{SizedStatement}
+use Rattle.deck_assembler.specs.declared.sizer.Sizer.{Sizer}
+
+-- how many cards statements have that were sized
+abbrev pub cards_of : List SizedStatement → ℕ
+cards_of [] = 0
+cards_of (sized ∷ later) = sized.cards + cards_of later
+
+-- a piece has a few statements
+abbrev pub IsShort : DeckPiece → Type 0
+IsShort piece = length piece.statements ≤ 128
+
+-- a statement was the next one of the old deck, in the piece that was begun or in the next one
+abbrev pub IsNextOf : OldDeck → OldDeck → SizedStatement → Type 0
+IsNextOf old new sized =
+    ((old.statements.items ≡ sized ∷ new.statements.items) × (old.pieces.items ≡ new.pieces.items))
+    ⊎ ((old.statements.items ≡ []) × ((piece : DeckPiece) × (old.pieces.items ≡ piece ∷ new.pieces.items) × (piece.statements ≡ sized ∷ new.statements.items)))
+
+-- a piece of the old deck that is left, or its end: these statements and so many cards are left from there on
+pub record HasPiece (deck : OldDeck) (tail : List SizedStatement) (count : ℕ) : Type 0 where
+  pub passed : List DeckPiece
+  pub pieces : List DeckPiece
+  pub split : deck.pieces.items ≡ passed ++ pieces
+  pub tail_is : tail ≡ sized_in pieces
+  pub cards : length deck.ahead.now ≡ cards_of (deck.statements.items ++ sized_in passed) + count
+
+-- behind these statements an edited deck agrees with the old one where these statements and so many cards are left of that
+pub record AreMeeting (kind : DeckKind) (old cards : List Card) (behind : ℕ) (tail : List SizedStatement) (count : ℕ) (front : List Statement) : Type 0 where
+  pub few : count ≤ behind
+  pub place : stood front + count ≡ length cards
+  pub stands : (others : List Statement) × (known_in cards ≡ others ++ front)
+  pub agree : (deck : OldDeck) → deck.kind ≡ kind → HasFront old tail deck →
+      (deck.state ≡ state_after (settled_all kind front)) × StandAlike kind deck.ahead.now (symbol_in deck.symbols) (λ name. defined name (settled_all kind front)) tail
+
+-- where they agree, and which statements of the edited deck stand in front of that
+pub record HasMeeting (kind : DeckKind) (old cards : List Card) (behind : ℕ) (tail : List SizedStatement) (count : ℕ) : Type 0 where
+  pub front : List Statement
+  pub meeting : AreMeeting kind old cards behind tail count front
+  pub whole : length front + length tail ≡ length (known_in cards)
+
+-- both decks agree where so many statements are left of both, and at each later place
+pub record AgreeFrom (kind : DeckKind) (old cards : List Card) (before behind rest : ℕ) : Type 0 where
+  pub old_front : (later earlier : List Statement) → known_in old ≡ later ++ earlier → stood earlier ≤ before → rest ≤ length later
+  pub new_front : (later earlier : List Statement) → known_in cards ≡ later ++ earlier → stood earlier ≤ before → rest ≤ length later
+  pub meets : (later earlier : List Statement) (tail : List SizedStatement) (count : ℕ) → known_in old ≡ later ++ earlier → length later ≤ rest → length tail ≡ length later →
+      stood earlier + count ≡ length old → HasMeeting kind old cards behind tail count
+
+-- both decks of an edit, the cards of which stand so in them
+pub record StandApart (old cards : List Card) (before behind : ℕ) (decks : Edited) : Type 0 where
+  pub of_old : decks.old ≡ known_in old
+  pub of_new : decks.new ≡ known_in cards
+  pub old_before : before ≤ decks.old_behind
+  pub new_before : before ≤ decks.new_behind
+  pub count : ℕ
+  pub old_count : decks.old_behind + count ≡ length old
+  pub new_count : decks.new_behind + count ≡ length cards
+  pub few : count ≤ behind
+
+-- in front of the edited card: the decks agree later on
+pub record WillAgreeLater (kind : DeckKind) (old cards : List Card) (limit : ℕ) (earlier : List Statement) (deck : OldDeck) : Type 0 where
+  pub begun : length deck.statements.items < 128
+  pub short : AllByRecursion IsShort deck.pieces.items
+  pub within : stood earlier ≤ deck.before
+  pub rest : ℕ
+  pub agree : AgreeFrom kind old cards deck.before deck.behind rest
+  pub limit_is : limit + rest ≡ length (known_in cards) + 128
+
+-- behind it: they agree at a piece of the old deck that is left, and no more statements than these stand in front of that
+pub record WillMeet (kind : DeckKind) (old cards : List Card) (limit : ℕ) (earlier : List Statement) (deck : OldDeck) : Type 0 where
+  pub tail : List SizedStatement
+  pub count : ℕ
+  pub piece : HasPiece deck tail count
+  pub has : HasMeeting kind old cards deck.behind tail count
+  pub reached : length earlier ≤ length has.front
+  pub due : length has.front ≤ limit
+
+-- where they agree: what is left is cut alike
+pub record IsCutAlike (cards : List Card) (earlier : List Statement) (deck : OldDeck) : Type 0 where
+  pub later : List Statement
+  pub all : known_in cards ≡ reverse later ++ earlier
+  pub counts : map (λ (sized : SizedStatement). sized.cards) (left deck) ≡ map (λ (statement : Statement). length statement.cards) later
+
+-- and no more statements than a limit were taken where that begins
+pub record IsSoon (cards : List Card) (limit : ℕ) (earlier : List Statement) (deck : OldDeck) : Type 0 where
+  pub reached : length cards ≤ stood earlier + length deck.ahead.now
+  pub soon : (middle front : List Statement) → earlier ≡ middle ++ front → stood front + length deck.ahead.now ≡ length cards → length front ≤ limit
+
+-- an edited deck of more statements than this limit is found to agree with the old one before so many of it are taken
+abbrev pub WillAgreeAt : DeckKind → List Card → List Card → ℕ → List Statement → OldDeck → Stage → Type 0
+WillAgreeAt kind old cards limit earlier deck stages.Front = WillAgreeLater kind old cards limit earlier deck
+WillAgreeAt kind old cards limit earlier deck stages.Between = WillMeet kind old cards limit earlier deck
+WillAgreeAt kind old cards limit earlier deck stages.Tail = IsCutAlike cards earlier deck × IsSoon cards limit earlier deck
+WillAgreeAt kind old cards limit earlier deck stages.Over = ⊥
+
+abbrev pub WillAgree : DeckKind → List Card → List Card → ℕ → List Statement → OldDeck → Type 0
+WillAgree kind old cards limit earlier deck = WillAgreeAt kind old cards limit earlier deck deck.stage
+
+-- the statement of a span is the next one of a deck of more statements than a limit
+pub record IsNextKnown (cards : List Card) (earlier : List Statement) (span : Span) (limit : ℕ) : Type 0 where
+  pub others : List Statement
+  pub all : known_in cards ≡ others ++ statement_at cards span ∷ earlier
+  pub unended : has_end earlier ≡ false
+  pub more : limit < length (known_in cards)
+
+-- behind a statement the decks are still found to agree in time; where it isn't kept there was time left
+pub record IsDue (kind : DeckKind) (old cards : List Card) (limit : ℕ) (earlier : List Statement) (span : Span) (new : OldDeck) (found : Option SizedStatement) : Type 0 where
+  pub sized : found ≡ None → length earlier < limit
+  pub will : WillAgree kind old cards limit (statement_at cards span ∷ earlier) new
+
+-- wherever the decks are found to agree in time, they are so behind the statement of a span
+abbrev pub KeepsDue : List Card → Span → Sizer → OldDeck → OldDeck → Option SizedStatement → Type 0
+KeepsDue cards span sizer deck new found =
+    (kind : DeckKind) (old : List Card) (earlier : List Statement) (limit : ℕ) → IsOnSpan kind old cards earlier span sizer deck → IsNextKnown cards earlier span limit → WillAgree kind old cards limit earlier deck →
+    IsDue kind old cards limit earlier span new found
+
+-- the statements of these spans are those of the deck, which are more than a limit, and of which no more than that stand in front
+pub record IsBounded (cards : List Card) (spans : List Span) (front : List Statement) (limit : ℕ) : Type 0 where
+  pub all : all_statements cards spans ≡ statements_of (reverse cards)
+  pub few : length front ≤ limit
+  pub more : limit < length (known_in cards)

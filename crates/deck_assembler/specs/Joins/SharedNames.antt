@@ -1,0 +1,60 @@
+-- Entries and externals, as they are found in the order of the deck.
+use Rattle.std.specs.Prelude.{ℕ, ◌≡◌, ◌∷◌, ◌++◌, List, [], Bool, true, false, Option, Some, None, is_some, if◌then◌else◌}
+use Rattle.std.specs.List.{list_any}
+use Rattle.definitions.specs.Forms.{Form}
+use Rattle.definitions.specs.Operands.{Operand, NamesOperand}
+use Rattle.definitions.specs.Operations as op
+use Rattle.definitions.specs.Operations.{Operation}
+use Rattle.definitions.specs.Entries.{entries_among, externals_of}
+use Rattle.definitions.specs.Settled.{Settled, Definition, defined, defined_in}
+use Rattle.definitions.specs.Settling.{View, external}
+use Rattle.definitions.specs.declared.deck_kind.DeckKind.{DeckKind}
+use Rattle.definitions.specs.declared.deck_kind.DeckKind.TheVariants.{Periph}
+use Rattle.operations.specs.Joins.OperationsAs.{operation_as}
+use Rattle.deck_assembler.specs.Joins.DeckParts.{DeckPiece}
+use Rattle.deck_assembler.specs.Joins.FirstSymbols.{symbol_in, with_symbol}
+use Rattle.deck_assembler.specs.declared.sized_statement.SizedStatement.{SizedStatement}
+
+-- the names that are seen are those of the entries, each with its value
+abbrev pub AreSeen : List (ℕ × Form) → List Definition → Type 0
+AreSeen seen entries = symbol_in seen ≡ (λ name. defined_in name entries)
+
+-- the externals so far with the names of an EXT that have no value yet
+abbrev pub with_new : List (Option (List ℕ)) → View → List (List ℕ) → List (List ℕ)
+with_new [] symbols so_far = so_far
+with_new (None ∷ names) symbols so_far = with_new names symbols so_far
+with_new (Some name ∷ names) symbols so_far = with_new names (with_symbol name (external name).form symbols) (if is_some (symbols name) then so_far else so_far ++ name ∷ [])
+
+-- the externals so far with the names of an operand that have no value yet, if it has names
+abbrev pub with_new_of : Operand → View → List (List ℕ) → List (List ℕ)
+with_new_of (NamesOperand names) symbols so_far = with_new names symbols so_far
+with_new_of operand symbols so_far = so_far
+
+-- whether an operation is EXT
+abbrev pub is_ext : Operation → Bool
+is_ext op.Ext = true
+is_ext operation = false
+
+-- whether one of these statements is an EXT
+abbrev pub has_ext : List SizedStatement → Bool
+has_ext statements = list_any (λ (sized : SizedStatement). is_ext (operation_as sized.operation)) statements
+
+-- whether one of those of some pieces is
+abbrev pub have_ext : List DeckPiece → Bool
+have_ext pieces = list_any (λ (piece : DeckPiece). has_ext piece.statements) pieces
+
+-- what statements define is seen, and the externals among it are these
+pub record AreExternals (settled : List Settled) (seen : List (ℕ × Form)) (names : List (List ℕ)) : Type 0 where
+  pub symbols : symbol_in seen ≡ (λ name. defined name settled)
+  pub externals : names ≡ externals_of settled
+
+-- whether a statement enters names; in a peripheral deck none does
+abbrev pub enters : DeckKind → Operation → Bool
+enters Periph operation = false
+enters kind op.Entry = true
+enters kind operation = false
+
+-- the entries of some statements, by the values among all; a peripheral deck has none
+abbrev pub entries_to : DeckKind → List Settled → List Settled → List Definition
+entries_to Periph all settled = []
+entries_to kind all settled = entries_among all settled

@@ -1,0 +1,82 @@
+-- The statements of a deck, one after the other, and the lines that show them.
+use Rattle.std.specs.Prelude.{ℕ, ◌≡◌, ◌≤◌, ◌+◌, List, [], ◌∷◌, Bool, true, false, map, drop, length, reverse}
+use Rattle.std.specs.List.{list_any}
+use Rattle.definitions.specs.Cards.{Card}
+use Rattle.definitions.specs.Characters.{same_text}
+use Rattle.definitions.specs.Expressions.{Literal, OfNumber}
+use Rattle.definitions.specs.Lengths.{BlockRow, block_rows}
+use Rattle.definitions.specs.Objects.{Shown, shown_of}
+use Rattle.definitions.specs.Settled.{Settled}
+use Rattle.definitions.specs.Settling.{settled_all}
+use Rattle.definitions.specs.StatementItems.{Context}
+use Rattle.definitions.specs.Statements.{Statement}
+use Rattle.definitions.specs.Symbols.{TooGreat}
+use Rattle.definitions.specs.declared.deck_kind.DeckKind.{DeckKind}
+use Rattle.statement_coder.specs.declared.items.Item as code
+use Rattle.deck_objects.specs.Joins.CodedLines.{IsShown}
+use Rattle.deck_objects.specs.declared.lines.Line.{Line}
+use Rattle.deck_assembler.specs.Joins.DeckParts.{DeckParts}
+use Rattle.deck_assembler.specs.Joins.SizedDecks.{IsSizedUp}
+use Rattle.deck_assembler.specs.Joins.SharedNames.{AreSeen, AreExternals, entries_to, have_ext}
+use Rattle.deck_assembler.specs.declared.deck_lines.DeckLines.{DeckLines}
+use Rattle.deck_assembler.specs.declared.deck_names.DeckNames.{DeckNames}
+use Rattle.deck_assembler.specs.declared.deck_view.DeckView.{DeckView}
+
+-- whether a literal is a number that is too great
+abbrev pub is_too_great : Literal → Bool
+is_too_great (OfNumber sign TooGreat) = true
+is_too_great literal = false
+
+-- whether a block is among those of a deck
+abbrev pub has_row : List ℕ → List BlockRow → Bool
+has_row name rows = list_any (λ (row : BlockRow). same_text name row.name) rows
+
+-- a deck with its cards and its blocks, and its statements up to END and behind it, newest first
+pub record Whole : Type 0 where
+  pub cards : List Card
+  pub deck : DeckParts
+  pub rows : List BlockRow
+  pub known : List Statement
+  pub others : List Statement
+
+-- a deck that is viewed, where these are its statements
+abbrev pub whole_of : DeckView → List Statement → List Statement → Whole
+whole_of view known others = record { cards = view.cards.now; deck = view.deck.now; rows = view.bases.now; known = known; others = others }
+
+-- its settled statements
+abbrev pub all_settled : Whole → List Settled
+all_settled whole = settled_all whole.deck.kind whole.known
+
+-- what its statements are coded with
+abbrev pub context_in : Whole → Context
+context_in whole = record { kind = whole.deck.kind; settled = all_settled whole; rows = whole.rows; literals = whole.deck.literals }
+
+-- the deck was sized, and its blocks have their places
+pub record IsWhole (whole : Whole) : Type 0 where
+  pub sized : IsSizedUp whole.cards whole.known whole.others whole.deck
+  pub rows : whole.rows ≡ block_rows whole.deck.kind (all_settled whole)
+  pub few : length whole.cards ≤ 20000
+
+-- lines show statements one behind the other: those have the first of these cards, so many stood before them, and so many are behind
+abbrev pub AreShownTo : DeckKind → List BlockRow → List code.Item → ℕ → List Card → List Line → List Shown → ℕ → List Card → Type 0
+AreShownTo kind rows items before cards [] [] stood ahead = (before ≡ stood) × (cards ≡ ahead)
+AreShownTo kind rows items before cards [] (shown ∷ others) stood ahead = ⊥
+AreShownTo kind rows items before cards (line ∷ lines) [] stood ahead = ⊥
+AreShownTo kind rows items before cards (line ∷ lines) (shown ∷ others) stood ahead =
+    IsShown kind rows items before cards line shown × AreShownTo kind rows items (before + line.cards) (drop line.cards cards) lines others stood ahead
+
+-- the lines show these statements, and the cards that are left stand behind them
+abbrev pub AreLinedAs : Whole → List Shown → DeckLines → Type 0
+AreLinedAs whole shown lines = AreShownTo whole.deck.kind whole.rows lines.items.items 0 whole.cards lines.lines.items shown lines.stood (drop lines.stood whole.cards)
+
+-- the lines show statements up to END, read newest first
+abbrev pub AreLined : Whole → List Statement → DeckLines → Type 0
+AreLined whole earlier lines = AreLinedAs whole (reverse (map (shown_of (context_in whole)) (settled_all whole.deck.kind earlier))) lines
+
+-- the names are those of statements up to END, read newest first; externals are looked for where the deck has an EXT
+pub record AreNoted (whole : Whole) (earlier : List Statement) (names : DeckNames) : Type 0 where
+  pub entries : names.entries.entries.items ≡ entries_to whole.deck.kind (all_settled whole) (settled_all whole.deck.kind earlier)
+  pub seen : AreSeen names.entries.seen names.entries.entries.items
+  pub lists : names.lists ≡ have_ext whole.deck.pieces
+  pub externals : names.lists ≡ true → AreExternals (settled_all whole.deck.kind earlier) names.externals.seen names.externals.names.items
+  pub none : names.lists ≡ false → names.externals.names.items ≡ []

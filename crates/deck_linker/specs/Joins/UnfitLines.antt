@@ -1,0 +1,42 @@
+-- The LINK A lines of an object, from its fields as they are kept.
+use Rattle.std.specs.Prelude.{ℕ, ◌≡◌, ◌*◌, ⊤, Bool, true, List, [], ◌∷◌, ◌++◌, Option, Some, None, slice_get}
+use Rattle.definitions.specs.Kinds.{unit_bits}
+use Rattle.definitions.specs.Lengths.{BlockRow}
+use Rattle.definitions.specs.Link.{Layout, Based, address_lines, block_base, unfit_words}
+use Rattle.definitions.specs.declared.deck_kind.DeckKind.{DeckKind}
+use Rattle.statement_coder.specs.declared.items.Item as code
+use Rattle.deck_objects.specs.Joins.LineItems.{kept_items, AreKept}
+use Rattle.deck_objects.specs.declared.lines.CodedLine as lines
+use Rattle.deck_objects.specs.declared.lines.Line.{Line}
+use Rattle.deck_listing.specs.KeptSections.{DoAllFit}
+
+-- the lines of a statement in this block
+abbrev pub unfit_in : Layout → Based → List code.Item → lines.CodedLine → Option BlockRow → List (List ℕ)
+unfit_in layout based items line None = []
+unfit_in layout based items line (Some row) =
+    address_lines based.object.name (block_base layout.commons based row.name)
+    (unfit_words layout based (line.place * unit_bits based.object.kind) (kept_items based.object.kind items line))
+
+-- the lines of a statement of the listing
+abbrev pub unfit_of : Layout → Based → List BlockRow → List code.Item → Option lines.CodedLine → List (List ℕ)
+unfit_of layout based rows items None = []
+unfit_of layout based rows items (Some line) = unfit_in layout based items line (slice_get rows line.block)
+
+-- the lines of all statements
+abbrev pub unfit_lines : Layout → Based → List BlockRow → List code.Item → List Line → List (List ℕ)
+unfit_lines layout based rows items [] = []
+unfit_lines layout based rows items (line ∷ lines) = unfit_of layout based rows items line.coded ++ unfit_lines layout based rows items lines
+
+-- the fields of a statement of the listing are kept as they are to be
+abbrev pub IsKept : DeckKind → List code.Item → Option lines.CodedLine → Type 0
+IsKept kind items None = ⊤
+IsKept kind items (Some line) = AreKept kind items line line.fields
+
+-- so are those of all statements
+abbrev pub AllAreKept : DeckKind → List code.Item → List Line → Type 0
+AllAreKept kind items [] = ⊤
+AllAreKept kind items (line ∷ lines) = IsKept kind items line.coded × AllAreKept kind items lines
+
+-- of some of these decks it is known that all their fields fit: of those at whose places `true` stands
+abbrev pub AreKnownToFit : Layout → List Based → List Bool → Type 0
+AreKnownToFit layout decks fits = (i : ℕ) (based : Based) → slice_get decks i ≡ Some based → slice_get fits i ≡ Some true → DoAllFit layout based

@@ -1,0 +1,18 @@
+-- What inner functions promise, so that the proofs of the outer ones join: no promise of the documents leads here.
+-- What is put into a block, run by run, and the words that it then has.
+pub mod Packing
+pub mod Spans
+pub mod Filling
+pub mod Joining
+-- The lines of the words that fields fill.
+pub mod WordLines
+-- The text of what an object keeps.
+pub mod ListedParts
+-- Fields that are put, and the runs of the statements so far.
+pub mod Putting
+pub mod Walking
+-- What lines are put to, the lines of words, and how a deck is linked alone.
+pub mod Sheets
+pub mod ImageWordLines
+pub mod BlockWords
+pub mod Alone

@@ -1,0 +1,42 @@
+-- The lines of stored words.
+use Rattle.std.specs.Prelude.{ℕ, ◌+◌, List, [], ◌++◌, codes, not, filter, flat_map, if◌then◌else◌}
+use Rattle.definitions.specs.Blocks.{is_common}
+use Rattle.definitions.specs.Image.{word_line}
+use Rattle.definitions.specs.Kinds.{kind_text}
+use Rattle.definitions.specs.Lengths.{BlockRow}
+use Rattle.definitions.specs.Link.{AddressedWord, addressed, block_words, is_beyond, literal_stored}
+use Rattle.definitions.specs.Listing.{line}
+use Rattle.definitions.specs.Numerals.{octal_of}
+use Rattle.definitions.specs.Objects.{Object}
+use Rattle.definitions.specs.Words.{Linking}
+use Rattle.definitions.specs.declared.deck_kind.DeckKind.{DeckKind}
+use Rattle.deck_listing.specs.Joins.Filling.{as_stored, words_from}
+use Rattle.deck_listing.specs.declared.packing.word_spans.WordSpan.{WordSpan}
+
+-- the lines of words; one beyond the memory of the deck has none
+abbrev pub lines_of : DeckKind → List AddressedWord → List ℕ
+lines_of kind words = flat_map (word_line kind) (filter (λ word. not (is_beyond kind word)) words)
+
+-- the lines of so many words of one value, where their block stands at a base
+abbrev pub span_lines : DeckKind → ℕ → ℕ → ℕ → ℕ → List ℕ
+span_lines kind base offset count value = lines_of kind (addressed base (words_from offset count value))
+
+-- the lines of the words of a block that stands at a place behind a base
+abbrev pub block_lines : DeckKind → ℕ → ℕ → List WordSpan → List ℕ
+block_lines kind base block words = lines_of kind (addressed (base + block) (as_stored words))
+
+-- the lines of literals that stand at an offset of their block, which stands at a base
+abbrev pub literal_lines : DeckKind → ℕ → ℕ → List ℕ → List ℕ
+literal_lines kind base offset literals = lines_of kind (addressed base (literal_stored offset literals))
+
+-- the words of one of an object's own blocks with their addresses; a common block has none there
+abbrev pub row_words : Linking → Object → ℕ → BlockRow → List AddressedWord
+row_words linking object base row = if is_common row.name then [] else addressed (base + row.base) (block_words linking object row)
+
+-- the words of the own blocks of an object among these
+abbrev pub rows_words : Linking → Object → ℕ → List BlockRow → List AddressedWord
+rows_words linking object base rows = flat_map (row_words linking object base) rows
+
+-- the first line of a section
+abbrev pub section_head : List ℕ → DeckKind → ℕ → List ℕ
+section_head name kind base = line (codes "DECK " ++ (name ++ (codes " " ++ (kind_text kind ++ (codes " " ++ octal_of 6 base)))))

@@ -1,0 +1,69 @@
+-- The text of what an object keeps, in the words of the definitions.
+use Rattle.std.specs.Prelude.{ℕ, ◌≡◌, ◌≤◌, ◌<◌, ◌+◌, ◌%◌, ◌^◌, ⊤, List, [], ◌∷◌, ◌++◌, Bool, true, false, Option, Some, None, All, codes, length, take, drop, filter, flat_map, nat_lt, ◌↔◌}
+use Rattle.definitions.specs.Cards.{Card}
+use Rattle.definitions.specs.Kinds.{kind_text, word_bits}
+use Rattle.definitions.specs.Lengths.{BlockRow}
+use Rattle.definitions.specs.Listing.{block_line, card_lines, letters_line, line, unlinked}
+use Rattle.definitions.specs.Numerals.{decimal_of}
+use Rattle.definitions.specs.Operations as op
+use Rattle.definitions.specs.Words.{width_of}
+use Rattle.definitions.specs.declared.deck_kind.DeckKind.{DeckKind}
+use Rattle.deck_objects.specs.Joins.LineItems.{AreKept, kept_items}
+use Rattle.deck_objects.specs.declared.lines.CodedLine.{CodedLine}
+use Rattle.deck_objects.specs.declared.lines.Line.{Line}
+use Rattle.deck_objects.specs.declared.lines.LineFields.TheVariants as variant
+use Rattle.deck_objects.specs.declared.object.ObjectParts.{ObjectParts}
+use Rattle.statement_coder.specs.declared.items.Item as code
+use Rattle.operations.specs.Joins.OperationsAs.{operation_as}
+use Rattle.deck_listing.specs.Joins.WordLines.{fields_text, has_one_line}
+
+-- the lines of what a statement stores, where it stores anything
+abbrev pub stored_text : DeckKind → List BlockRow → List code.Item → Option CodedLine → List ℕ
+stored_text kind rows items None = []
+stored_text kind rows items (Some stored) = fields_text kind (unlinked rows) (operation_as stored.operation) stored.place (kept_items kind items stored)
+
+-- the text of a statement that has these cards, where so many stand before it
+abbrev pub line_text : DeckKind → List BlockRow → List code.Item → ℕ → List Card → Line → List ℕ
+line_text kind rows items before cards shown = card_lines before cards ++ (letters_line shown.letters ++ stored_text kind rows items shown.coded)
+
+-- the text of statements one behind the other, which have these cards
+abbrev pub lines_text : DeckKind → List BlockRow → List code.Item → ℕ → List Card → List Line → List ℕ
+lines_text kind rows items before cards [] = []
+lines_text kind rows items before cards (shown ∷ lines) =
+    line_text kind rows items before (take shown.cards cards) shown
+    ++ lines_text kind rows items (before + length (take shown.cards cards)) (drop shown.cards cards) lines
+
+-- whether a statement has a letter
+abbrev pub has_letters : Line → Bool
+has_letters shown = nat_lt 0 (length shown.letters)
+
+-- how many statements have a letter
+abbrev pub flagged_lines : List Line → ℕ
+flagged_lines lines = length (filter has_letters lines)
+
+-- the listing of a deck with this name and these cards, from what its object keeps
+abbrev pub parts_text : List ℕ → List Card → ObjectParts → List ℕ
+parts_text name cards parts =
+    line (codes "DECK " ++ (name ++ (codes " " ++ kind_text parts.kind)))
+    ++ (lines_text parts.kind parts.bases parts.items.items 0 cards parts.lines.items
+    ++ (flat_map block_line parts.bases
+    ++ line (codes "ERRORS " ++ decimal_of (flagged_lines parts.lines.items))))
+
+-- what is known of what a statement stores
+pub record IsListable (kind : DeckKind) (items : List code.Item) (stored : CodedLine) : Type 0 where
+  -- each field is short but a BSSZ's, which has no line
+  pub kept : AreKept kind items stored stored.fields
+  pub zeros : (stored.fields ≡ variant.Zeros) ↔ (operation_as stored.operation ≡ op.Bssz)
+  -- what has one line has at most 60 bits, and all else fills whole words
+  pub short : has_one_line kind (operation_as stored.operation) ≡ true → width_of (kept_items kind items stored) ≤ 60
+  pub whole : has_one_line kind (operation_as stored.operation) ≡ false → width_of (kept_items kind items stored) % word_bits kind ≡ 0
+  pub bounded : width_of (kept_items kind items stored) < 2 ^ 23
+
+-- the same of a statement that may store nothing
+abbrev pub IsListableLine : DeckKind → List code.Item → Option CodedLine → Type 0
+IsListableLine kind items None = ⊤
+IsListableLine kind items (Some stored) = IsListable kind items stored
+
+-- the same of all statements
+abbrev pub AreListable : DeckKind → List code.Item → List Line → Type 0
+AreListable kind items lines = All (λ (shown : Line). IsListableLine kind items shown.coded) lines

@@ -1,0 +1,14 @@
+-- What the code promises of a call (ours).
+use Rattle.std.specs.Prelude.{◌≡◌, ◌⊎◌, IsTrue}
+use Rattle.desk_core.specs.Desks.{Desk}
+use Rattle.desk_core.specs.Joins.Calls.{Reply, Refused, OutOfMemory}
+use Rattle.desk_core.specs.Answers.{Answer}
+use Rattle.desk_core.specs.Steps.{is_made}
+
+-- the reply and the desk are those of an answer
+abbrev pub IsAnswer : Answer → Reply → Desk → Type 0
+IsAnswer answer reply next = (reply ≡ answer.reply) × (next ≡ answer.desk)
+
+-- they are; or, where the reply has to be made first, want of memory is told and the desk is as it was
+abbrev pub MayAnswer : Desk → Answer → Reply → Desk → Type 0
+MayAnswer desk answer reply next = IsAnswer answer reply next ⊎ (IsTrue (is_made answer.reply) × (reply ≡ Refused OutOfMemory) × (next ≡ desk))

@@ -1,0 +1,22 @@
+-- What inner functions promise, so that the proofs of the outer ones join: no promise of the documents leads here.
+pub mod Numbers
+pub mod Registers
+pub mod PiecesFound
+pub mod Elements
+pub mod Links
+pub mod LoneRegisters
+pub mod ElementLists
+pub mod Parsed
+pub mod NamesInline
+pub mod FormsAs
+pub mod Ranges
+pub mod Running
+pub mod Walks
+pub mod CodedItems
+pub mod Shapes
+pub mod Subfields
+pub mod Operands
+pub mod Sums
+pub mod TextWords
+pub mod Readings
+pub mod Kept

@@ -1,0 +1,53 @@
+-- What was read in a variable field, in the words of the definitions.
+use Rattle.std.specs.Prelude.{ℕ, List, [], ◌∷◌, Option, Some, None, Bool, codes, if◌then◌else◌}
+use Rattle.definitions.specs.Characters.{same_text}
+use Rattle.definitions.specs.Pieces.{Piece, Plain}
+use Rattle.definitions.specs.Symbols.{is_block_name, number_read}
+use Rattle.definitions.specs.Expressions.{Sign}
+use Rattle.definitions.specs.Operands.{Datum, ZeroWord, NumberWord, CountedItemWords, ExpressionWord, number_word, BitField, bit_field, given_expression, plain_of, Operand, BadOperand, UseName, UseBefore, UseRefused}
+use Rattle.definitions.specs.declared.number_base.NumberBase.{NumberBase}
+use Rattle.expr_forms.specs.Joins.Numbers.{number_as}
+use Rattle.expr_forms.specs.Joins.Elements.{sign_as}
+use Rattle.definitions.specs.ItemTexts.{item_as}
+use Rattle.expr_forms.specs.declared.data_words.Datum as words
+use Rattle.expr_forms.specs.declared.data_words.Datum.TheVariants as word
+use Rattle.expr_forms.specs.declared.bit_fields.BitField as fields
+use Rattle.expr_forms.specs.declared.use_fields.UseField as uses
+use Rattle.expr_forms.specs.declared.use_fields.UseField.TheVariants as use_field
+
+-- what the field of a USE says
+abbrev pub use_as : uses.UseField → Operand
+use_as (use_field.UseName name) = UseName name
+use_as use_field.UseBefore = UseBefore
+use_as use_field.Refused = UseRefused
+use_as use_field.Bad = BadOperand
+
+-- USE of a text without `/`: `*`, or a block name
+abbrev pub local_operand : List ℕ → Operand
+local_operand text = if same_text text (codes "*") then UseBefore else if is_block_name text then UseName text else BadOperand
+
+-- what fills words of DATA or CON
+abbrev pub datum_as : words.Datum → Datum
+datum_as word.Zero = ZeroWord
+datum_as (word.Number sign number) = NumberWord (sign_as sign) (number_as number)
+datum_as (word.Item item) = CountedItemWords (item_as item)
+datum_as (word.Expression e) = ExpressionWord e
+
+-- what a piece is, where no other is behind it
+abbrev pub alone : {A : Type 0} → Option A → List Piece → Option A
+alone x [] = x
+alone x (piece ∷ pieces) = None
+
+-- a subfield of DATA behind its sign
+abbrev pub signed_word : NumberBase → Sign → List Piece → Option Datum
+signed_word base sign (Plain text ∷ pieces) = alone (number_word sign (number_read base text)) pieces
+signed_word base sign pieces = None
+
+-- a field of a VFD
+abbrev pub bit_field_as : fields.BitField → BitField
+bit_field_as field = record { width = field.width; value = field.value }
+
+-- a field of this width, with what stands behind its slash
+abbrev pub sized_value : Bool → NumberBase → ℕ → List Piece → Option BitField
+sized_value literals base width [] = bit_field (Some width) (Some None)
+sized_value literals base width (piece ∷ pieces) = bit_field (Some width) (given_expression (plain_of literals base (piece ∷ pieces)))

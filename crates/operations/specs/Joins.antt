@@ -1,0 +1,20 @@
+-- What inner functions promise, so that the proofs of the outer ones join: no promise of the documents leads here.
+pub mod OperationsAs
+pub mod KindsFound
+pub mod LetterBits
+pub mod SortedNames
+pub mod OperationNames
+pub mod CodeTexts
+pub mod CentralTables
+pub mod RegistersFound
+pub mod RegisterPieces
+pub mod RegisterLinks
+pub mod PatternTexts
+pub mod Fits
+pub mod Parts
+pub mod Found
+pub mod LawfulCodes
+pub mod FirstLetters
+pub mod PeripheralCodes
+pub mod PeripheralTables
+pub mod PeripheralShapes

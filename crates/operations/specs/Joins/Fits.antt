@@ -1,0 +1,40 @@
+-- What the rows of an operation make of an operand, by the digit that the operation's name has (COMPASS 60492600, CPU instructions).
+use Rattle.std.specs.Prelude.{ℕ, ◌-◌, ◌==◌, List, [], ◌∷◌, Option, Some, None, nat_le, length, if◌then◌else◌}
+use Rattle.std.specs.List.{slice_split}
+use Rattle.definitions.specs.Characters.{comma, zero_digit}
+use Rattle.definitions.specs.Pieces.{Piece}
+use Rattle.definitions.specs.CentralTable as table
+use Rattle.definitions.specs.CentralTable.{SumRow}
+use Rattle.definitions.specs.Matching.{RegisterDigits, no_ijk, is_octal_digit, matched, Field, NoField, Match, is_plain_field, Instruction, Sum, instruction_of, matched_instruction, subfields_matched, sum_code, sum_instruction}
+use Rattle.definitions.specs.declared.number_base.NumberBase.{NumberBase}
+use Rattle.operations.specs.declared.central.registers_found.RegistersFound.{RegistersFound}
+use Rattle.operations.specs.Joins.RegistersFound.{digits_as}
+
+-- the rest of a text against the rest of a pattern, where what is before them fits
+abbrev pub matched_behind : Option RegistersFound → List ℕ → List ℕ → Option RegisterDigits
+matched_behind None ps cs = None
+matched_behind (Some found) ps cs = matched ps cs (digits_as found)
+
+-- the digit that the name of an operation has for i: 6 of BX6
+abbrev pub named_digits : List ℕ → RegisterDigits
+named_digits (a ∷ b ∷ c ∷ []) = if is_octal_digit c then record { i = c - zero_digit; j = 0; k = 0 } else no_ijk
+named_digits _ = no_ijk
+
+-- the instruction of subfields by a row
+abbrev pub row_fit_with : NumberBase → RegisterDigits → List (List Piece) → table.Row → Option Instruction
+row_fit_with base ijk subfields row =
+    matched_instruction row.code (subfields_matched base (slice_split (λ c. c == comma) row.operand) subfields (Some (record { ijk = ijk; field = NoField })))
+
+-- the instruction of a sum by a row, if there is a sum
+abbrev pub sum_fit_with : RegisterDigits → Option Sum → SumRow → Option Instruction
+sum_fit_with ijk None row = None
+sum_fit_with ijk (Some sum) row = sum_instruction (sum_code row sum.others) sum (matched row.registers sum.registers ijk)
+
+-- the instruction of a code, where there is one, with what was found
+abbrev pub code_fit : List ℕ → Match → Option Instruction
+code_fit code found = if nat_le 1 (length code) then Some (instruction_of code found) else None
+
+-- the instruction of a row for a sum, by its codes with K and without it, the digits and the field K
+abbrev pub form_fit : List ℕ → List ℕ → RegisterDigits → Field → Option Instruction
+form_fit with_k alone ijk NoField = code_fit alone (record { ijk = ijk; field = NoField })
+form_fit with_k alone ijk field = if is_plain_field field then code_fit with_k (record { ijk = ijk; field = field }) else None

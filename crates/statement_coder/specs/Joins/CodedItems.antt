@@ -1,0 +1,46 @@
+-- What is told of the fields of a statement.
+use Rattle.std.specs.Prelude.{ℕ, ◌≡◌, ◌+◌, ◌-◌, ◌*◌, ◌/◌, List, [], ◌∷◌, Bool, true, false, map, length, take, drop}
+use Rattle.definitions.specs.Kinds.{word_bits, units}
+use Rattle.definitions.specs.Operands.{Operand}
+use Rattle.definitions.specs.Operations as op
+use Rattle.definitions.specs.Operations.{Operation}
+use Rattle.definitions.specs.StatementItems.{Item, known}
+use Rattle.definitions.specs.declared.deck_kind.DeckKind.{DeckKind}
+use Rattle.statement_coder.specs.Joins.Items.{item_as, items_as}
+use Rattle.statement_coder.specs.declared.items.Item as code
+use Rattle.statement_coder.specs.Joins.WordItems.{listed_fields}
+use Rattle.statement_coder.specs.declared.coded.CodedItems as told
+use Rattle.statement_coder.specs.declared.coded.CodedItems.TheVariants as items
+use Rattle.statement_coder.specs.declared.sizing.Sizing.{Sizing}
+
+-- a list of which nothing before its old end is changed
+abbrev pub IsKept : List code.Item → List code.Item → Type 0
+IsKept before after = take (length before) after ≡ before
+
+-- so many at the end of a list are these fields of an operand
+pub record AreListed (kind : DeckKind) (operand : Operand) (count : ℕ) (before after : List code.Item) (fields : List Item) : Type 0 where
+  pub kept : IsKept before after
+  pub size : length after ≡ length before + count
+  pub told : map item_as (drop (length before) after) ≡ listed_fields kind operand fields
+
+-- zeros from the place of a statement to its end
+abbrev pub zeros_of : DeckKind → Sizing → Item
+zeros_of kind sizing = known ((sizing.end - sizing.place) / units kind * word_bits kind) 0
+
+-- what is told of the fields of a statement with this operand, with the list before and after it, are these;
+-- those of an instruction are what a list would tell
+abbrev pub AreTold : DeckKind → Operand → Sizing → told.CodedItems → List code.Item → List code.Item → List Item → Type 0
+AreTold kind operand sizing items.Absent before after fields = (fields ≡ []) × (after ≡ before)
+AreTold kind operand sizing (items.Instruction instruction) before after fields = (items_as instruction ≡ fields) × ((after ≡ before) × (listed_fields kind operand fields ≡ fields))
+AreTold kind operand sizing (items.Listed count) before after fields = AreListed kind operand count before after fields
+AreTold kind operand sizing items.Zeros before after fields = (fields ≡ zeros_of kind sizing ∷ []) × (after ≡ before)
+
+-- whether zeros are told
+abbrev pub is_zeros : told.CodedItems → Bool
+is_zeros items.Zeros = true
+is_zeros _ = false
+
+-- whether an operation stores zeros
+abbrev pub stores_zeros : Operation → Bool
+stores_zeros op.Bssz = true
+stores_zeros _ = false

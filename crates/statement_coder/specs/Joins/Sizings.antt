@@ -1,0 +1,52 @@
+-- What a statement is once the state before it is known, in the words of the definitions.
+use Rattle.std.specs.Prelude.{◌≡◌}
+use Rattle.definitions.specs.Statements.{Statement}
+use Rattle.definitions.specs.Operands.{Operand, operand_of}
+use Rattle.definitions.specs.Settled.{ReadStatement, Settled}
+use Rattle.definitions.specs.Counters.{counters_at}
+use Rattle.definitions.specs.EarlyValues.{early_names, early_value}
+use Rattle.definitions.specs.Letters.{in_order}
+use Rattle.definitions.specs.Settling.{View, Seen, place_of, settled_with}
+use Rattle.definitions.specs.declared.deck_kind.DeckKind.{DeckKind}
+use Rattle.operations.specs.Joins.OperationsAs.{operation_as}
+use Rattle.use_blocks.specs.Joins.EffectsAs.{change_as, setting_as}
+use Rattle.statement_coder.specs.Joins.Definitions.{defined_by, IsOfExt}
+use Rattle.statement_coder.specs.declared.statement.Statement as statements
+use Rattle.statement_coder.specs.declared.sizing.Sizing.{Sizing}
+
+-- a statement that was read, with its operand
+abbrev pub read_as : statements.Statement → Statement → Operand → ReadStatement
+read_as code statement operand = record {
+  statement = statement;
+  fields = record { location = code.location.now; operation = code.name.now; variable = code.variable.now };
+  operation = operation_as code.operation;
+  operand = operand;
+}
+
+-- a statement that was read, settled from what it sees
+abbrev pub settled_read : DeckKind → Seen → ReadStatement → Settled
+settled_read kind seen read =
+    let place = place_of kind read.operation read.operand read.fields.location seen.position in
+    let counters = counters_at kind seen.block place seen.counting in
+    settled_with kind seen read place counters (early_value (early_names seen.symbol counters) read.operand)
+
+-- all that contracts see of a sizing is what is settled
+pub record IsSizing (view : View) (settled : Settled) (sizing : Sizing) : Type 0 where
+  pub block : sizing.block ≡ settled.block
+  pub change : change_as sizing.change ≡ settled.change
+  pub is_placed : sizing.is_placed ≡ settled.is_placed
+  pub place : sizing.place ≡ settled.place
+  pub end : sizing.end ≡ settled.end
+  pub asks : sizing.asks ≡ settled.asks
+  pub begins_run : sizing.begins_run ≡ settled.begins_run
+  pub setting : setting_as sizing.setting ≡ settled.setting
+  pub location : sizing.location ≡ settled.location
+  pub origin : sizing.origin ≡ settled.origin
+  pub definitions : defined_by view settled.read.fields.location settled.read.operand sizing.defines ≡ settled.definitions
+  pub externals : IsOfExt settled.read.operation sizing.defines
+  pub letters : sizing.letters ≡ in_order settled.letters
+
+-- a settled statement with the operation of a statement, and the operand that it has under the base that its sizing keeps
+pub record IsCodable (statement : statements.Statement) (sizing : Sizing) (settled : Settled) : Type 0 where
+  pub operation : settled.read.operation ≡ operation_as statement.operation
+  pub operand : settled.read.operand ≡ operand_of statement.kind sizing.number_base (operation_as statement.operation) statement.name.now statement.variable.now

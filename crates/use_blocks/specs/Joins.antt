@@ -1,0 +1,6 @@
+-- What inner functions promise, so that the proofs of the outer ones join: no promise of the documents leads here.
+pub mod BlockLengths
+pub mod EffectsAs
+pub mod StateInside
+pub mod Changes
+pub mod Offsets
