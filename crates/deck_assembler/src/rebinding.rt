@@ -298,24 +298,7 @@ impl Rebinding<'_> {
     {
         match operation {
             Operation::Entry => self.entry_differs(names),
-            Operation::EmptyField => false,
-            Operation::Listed => false,
-            Operation::End => false,
-            Operation::Kind(_) => false,
-            Operation::Base => false,
-            Operation::Use => false,
-            Operation::Org => false,
-            Operation::Loc => false,
-            Operation::Equ => false,
-            Operation::Bss => false,
-            Operation::Bssz => false,
-            Operation::Data => false,
-            Operation::Con => false,
-            Operation::Vfd => false,
-            Operation::Dis => false,
-            Operation::Ext => false,
-            Operation::Instruction => false,
-            Operation::Unknown => false,
+            _ => false,
         }
     }
 

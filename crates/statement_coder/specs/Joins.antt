@@ -4,6 +4,7 @@ pub mod LettersAs
 pub mod Readings
 pub mod KeptReadings
 pub mod ReadOperands
+pub mod CodedReads
 pub mod StatementsRead
 pub mod Outcomes
 pub mod Definitions

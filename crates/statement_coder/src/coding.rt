@@ -14,7 +14,7 @@ ghost use Rattle.statement_coder.specs.Joins.Items.{deck_with};
 ghost use Rattle.statement_coder.specs.declared.items.Item as fields;
 ghost use Rattle.operations.specs.Joins.OperationsAs.{operation_as};
 ghost use Rattle.statement_coder.specs.Joins.CodedItems.{AreTold, is_zeros, stores_zeros};
-ghost use Rattle.statement_coder.specs.Joins.ReadOperands.{IsReadOperand};
+ghost use Rattle.statement_coder.specs.Joins.CodedReads.{AreCodedItems, AreCodedLetters};
 ghost use Rattle.statement_coder.specs.Joins.Readings.{is_listed};
 ghost use Rattle.statement_coder.specs.Joins.Sizings.{IsSizing};
 ghost use Rattle.statement_coder.specs.Joins.StatementsRead.{IsRead};
@@ -72,24 +72,7 @@ fn placed(
 {
     match operation {
         Operation::Bssz => zeros(items, list),
-        Operation::EmptyField => within(sizing, items, list),
-        Operation::Listed => within(sizing, items, list),
-        Operation::End => within(sizing, items, list),
-        Operation::Kind(_) => within(sizing, items, list),
-        Operation::Base => within(sizing, items, list),
-        Operation::Use => within(sizing, items, list),
-        Operation::Org => within(sizing, items, list),
-        Operation::Loc => within(sizing, items, list),
-        Operation::Equ => within(sizing, items, list),
-        Operation::Bss => within(sizing, items, list),
-        Operation::Data => within(sizing, items, list),
-        Operation::Con => within(sizing, items, list),
-        Operation::Vfd => within(sizing, items, list),
-        Operation::Dis => within(sizing, items, list),
-        Operation::Entry => within(sizing, items, list),
-        Operation::Ext => within(sizing, items, list),
-        Operation::Instruction => within(sizing, items, list),
-        Operation::Unknown => within(sizing, items, list),
+        _ => within(sizing, items, list),
     }
 }
 
@@ -101,15 +84,8 @@ fn coded<S: FinalSymbols, B: BlockBases>(
     bases: &B,
     list: &mut Vec<Item>,
 ) -> Result<Coded, AllocError>
-    ensures items { IfOk result (λ coded. (view : View) (settled : Settled) (all : List Settled) (literals : List ℕ) →
-        S.symbols symbols.now ≡ (λ name. defined name all) → S.literals symbols.now ≡ (λ literal. literal_form literals literal) →
-        IsSizing view settled sizing.now → IsReadOperand read.now settled →
-        AreTold read.now.kind settled.read.operand sizing.now coded.items list.old.items list.new.items
-        (items_of (deck_with read.now.kind (B.rows bases.now) all literals) settled settled.read.operation)) }
-    ensures letters { IfOk result (λ coded. (view : View) (settled : Settled) (all : List Settled) (literals : List ℕ) →
-        S.symbols symbols.now ≡ (λ name. defined name all) → S.literals symbols.now ≡ (λ literal. literal_form literals literal) →
-        IsSizing view settled sizing.now → IsReadOperand read.now settled →
-        coded.letters ≡ in_order (letters_of (deck_with read.now.kind (B.rows bases.now) all literals) settled)) }
+    ensures items { IfOk result (λ coded. AreCodedItems read.now sizing.now (S.symbols symbols.now) (S.literals symbols.now) (B.rows bases.now) coded list.old.items list.new.items) }
+    ensures letters { IfOk result (λ coded. AreCodedLetters read.now sizing.now (S.symbols symbols.now) (S.literals symbols.now) (B.rows bases.now) coded) }
     ensures zeros { IfOk result (λ coded. is_zeros coded.items ≡ stores_zeros (operation_as read.now.operation)) }
     ensures unchanged { OnErr result (list.new.items ≡ list.old.items) }
     ensures listed { OnErr result (is_listed read.now.reading ≡ true) }
@@ -139,15 +115,8 @@ pub fn code_read<S: FinalSymbols, B: BlockBases>(
     list: &mut Vec<Item>,
     meter: &mut Meter,
 ) -> Result<Coded, AllocError>
-    ensures items { IfOk result (λ coded. (view : View) (settled : Settled) (all : List Settled) (literals : List ℕ) →
-        S.symbols symbols.now ≡ (λ name. defined name all) → S.literals symbols.now ≡ (λ literal. literal_form literals literal) →
-        IsSizing view settled sizing.now → IsReadOperand read.now settled →
-        AreTold read.now.kind settled.read.operand sizing.now coded.items list.old.items list.new.items
-        (items_of (deck_with read.now.kind (B.rows bases.now) all literals) settled settled.read.operation)) }
-    ensures letters { IfOk result (λ coded. (view : View) (settled : Settled) (all : List Settled) (literals : List ℕ) →
-        S.symbols symbols.now ≡ (λ name. defined name all) → S.literals symbols.now ≡ (λ literal. literal_form literals literal) →
-        IsSizing view settled sizing.now → IsReadOperand read.now settled →
-        coded.letters ≡ in_order (letters_of (deck_with read.now.kind (B.rows bases.now) all literals) settled)) }
+    ensures items { IfOk result (λ coded. AreCodedItems read.now sizing.now (S.symbols symbols.now) (S.literals symbols.now) (B.rows bases.now) coded list.old.items list.new.items) }
+    ensures letters { IfOk result (λ coded. AreCodedLetters read.now sizing.now (S.symbols symbols.now) (S.literals symbols.now) (B.rows bases.now) coded) }
     ensures zeros { IfOk result (λ coded. is_zeros coded.items ≡ stores_zeros (operation_as read.now.operation)) }
     ensures unchanged { OnErr result (list.new.items ≡ list.old.items) }
     ensures listed { OnErr result (is_listed read.now.reading ≡ true) }

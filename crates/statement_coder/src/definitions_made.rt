@@ -101,14 +101,6 @@ pub(crate) fn definition_made(
         Operation::Dis => first_definition(location, counter, is_defined),
         Operation::Instruction => first_definition(location, counter, is_defined),
         Operation::Unknown => first_definition(location, counter, is_defined),
-        Operation::EmptyField => Defines::Nothing,
-        Operation::Listed => Defines::Nothing,
-        Operation::End => Defines::Nothing,
-        Operation::Kind(_) => Defines::Nothing,
-        Operation::Base => Defines::Nothing,
-        Operation::Use => Defines::Nothing,
-        Operation::Org => Defines::Nothing,
-        Operation::Loc => Defines::Nothing,
-        Operation::Entry => Defines::Nothing,
+        _ => Defines::Nothing,
     }
 }

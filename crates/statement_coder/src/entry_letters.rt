@@ -101,24 +101,7 @@ fn operation_letters<S: FinalSymbols>(
 {
     match operation {
         Operation::Entry => operand_letters(symbols, reading),
-        Operation::EmptyField => Letters::none(),
-        Operation::Listed => Letters::none(),
-        Operation::End => Letters::none(),
-        Operation::Kind(_) => Letters::none(),
-        Operation::Base => Letters::none(),
-        Operation::Use => Letters::none(),
-        Operation::Org => Letters::none(),
-        Operation::Loc => Letters::none(),
-        Operation::Equ => Letters::none(),
-        Operation::Bss => Letters::none(),
-        Operation::Bssz => Letters::none(),
-        Operation::Data => Letters::none(),
-        Operation::Con => Letters::none(),
-        Operation::Vfd => Letters::none(),
-        Operation::Dis => Letters::none(),
-        Operation::Ext => Letters::none(),
-        Operation::Instruction => Letters::none(),
-        Operation::Unknown => Letters::none(),
+        _ => Letters::none(),
     }
 }
 

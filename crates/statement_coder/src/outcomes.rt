@@ -244,21 +244,7 @@ fn outcome_of_value(
         Operation::Loc => location_outcome(kind, place, value),
         Operation::Bss => reserved_outcome(kind, place, value),
         Operation::Bssz => reserved_outcome(kind, place, value),
-        Operation::EmptyField => value_outcome(place, value),
-        Operation::Listed => value_outcome(place, value),
-        Operation::End => value_outcome(place, value),
-        Operation::Kind(_) => value_outcome(place, value),
-        Operation::Base => value_outcome(place, value),
-        Operation::Use => value_outcome(place, value),
-        Operation::Equ => value_outcome(place, value),
-        Operation::Data => value_outcome(place, value),
-        Operation::Con => value_outcome(place, value),
-        Operation::Vfd => value_outcome(place, value),
-        Operation::Dis => value_outcome(place, value),
-        Operation::Entry => value_outcome(place, value),
-        Operation::Ext => value_outcome(place, value),
-        Operation::Instruction => value_outcome(place, value),
-        Operation::Unknown => value_outcome(place, value),
+        _ => value_outcome(place, value),
     }
 }
 

@@ -199,10 +199,6 @@ pub fn read_operand<'a>(
             DeckKind::Rel => read_central(base, name, text),
             DeckKind::Abs => read_central(base, name, text),
         },
-        Operation::EmptyField => Reading::Unread,
-        Operation::Listed => Reading::Unread,
-        Operation::End => Reading::Unread,
-        Operation::Kind(_) => Reading::Unread,
-        Operation::Unknown => Reading::Unread,
+        _ => Reading::Unread,
     }
 }

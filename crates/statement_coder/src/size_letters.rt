@@ -85,24 +85,7 @@ fn operand_letters<S: EarlySymbols>(
 {
     match operation {
         Operation::Ext => ext_letters(kind, symbols, reading),
-        Operation::EmptyField => bad_letters(reading),
-        Operation::Listed => bad_letters(reading),
-        Operation::End => bad_letters(reading),
-        Operation::Kind(_) => bad_letters(reading),
-        Operation::Base => bad_letters(reading),
-        Operation::Use => bad_letters(reading),
-        Operation::Org => bad_letters(reading),
-        Operation::Loc => bad_letters(reading),
-        Operation::Equ => bad_letters(reading),
-        Operation::Bss => bad_letters(reading),
-        Operation::Bssz => bad_letters(reading),
-        Operation::Data => bad_letters(reading),
-        Operation::Con => bad_letters(reading),
-        Operation::Vfd => bad_letters(reading),
-        Operation::Dis => bad_letters(reading),
-        Operation::Entry => bad_letters(reading),
-        Operation::Instruction => bad_letters(reading),
-        Operation::Unknown => bad_letters(reading),
+        _ => bad_letters(reading),
     }
 }
 

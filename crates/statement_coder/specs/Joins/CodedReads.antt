@@ -1,0 +1,33 @@
+-- What is coded of an operand that was read, once all symbols and literals have their values and all blocks their places.
+use Rattle.std.specs.Prelude.{ℕ, ◌≡◌, List, Result}
+use Rattle.definitions.specs.Expressions.{Literal}
+use Rattle.definitions.specs.Forms.{Form}
+use Rattle.definitions.specs.Lengths.{BlockRow}
+use Rattle.definitions.specs.Letters.{in_order, letters_of}
+use Rattle.definitions.specs.Literals.{literal_form}
+use Rattle.definitions.specs.Settled.{Settled, defined}
+use Rattle.definitions.specs.Settling.{View}
+use Rattle.definitions.specs.StatementItems.{items_of}
+use Rattle.definitions.specs.declared.letter.Letter.{Letter}
+use Rattle.statement_coder.specs.Joins.Items.{deck_with}
+use Rattle.statement_coder.specs.Joins.CodedItems.{AreTold}
+use Rattle.statement_coder.specs.Joins.ReadOperands.{IsReadOperand}
+use Rattle.statement_coder.specs.Joins.Sizings.{IsSizing}
+use Rattle.statement_coder.specs.declared.coded.Coded.{Coded}
+use Rattle.statement_coder.specs.declared.items.Item as code
+use Rattle.statement_coder.specs.declared.read_operands.ReadOperand.{ReadOperand}
+use Rattle.statement_coder.specs.declared.sizing.Sizing.{Sizing}
+
+-- the fields that are told, with the list before and after it, are the definitions' of every settled statement that was so read and sized
+abbrev pub AreCodedItems : ReadOperand → Sizing → View → (Literal → Result Form Letter) → List BlockRow → Coded → List code.Item → List code.Item → Type 0
+AreCodedItems read sizing symbols literals rows coded before after =
+    (view : View) (settled : Settled) (all : List Settled) (words : List ℕ) → symbols ≡ (λ name. defined name all) → literals ≡ (λ literal. literal_form words literal) →
+    IsSizing view settled sizing → IsReadOperand read settled →
+    AreTold read.kind settled.read.operand sizing coded.items before after (items_of (deck_with read.kind rows all words) settled settled.read.operation)
+
+-- and so are the letters
+abbrev pub AreCodedLetters : ReadOperand → Sizing → View → (Literal → Result Form Letter) → List BlockRow → Coded → Type 0
+AreCodedLetters read sizing symbols literals rows coded =
+    (view : View) (settled : Settled) (all : List Settled) (words : List ℕ) → symbols ≡ (λ name. defined name all) → literals ≡ (λ literal. literal_form words literal) →
+    IsSizing view settled sizing → IsReadOperand read settled →
+    coded.letters ≡ in_order (letters_of (deck_with read.kind rows all words) settled)
