@@ -1,36 +1,25 @@
 //! Files as a person reads them, and ports that fail at one call after another.
 //!
 //! `load CALL`: the file is loaded by a reader that fails at the call of this number; `count`: how many cards it
-//! has; `save CALL`: its cards are saved by a writer that fails. `journal CALL`: the file is read as a journal,
-//! whose records are shown as they are written again; `replay VERSION`: its changes are made again up to a
-//! version; `compact`: it becomes the one that begins with its decks. `run PIECE READ WRITE`: it is assembled by
+//! has; `save CALL`: its cards are saved by a writer that fails. `run PIECE READ WRITE`: it is assembled by
 //! ports that give and take so many bytes at a time, and fail at the calls of these numbers; `run_line LINE`:
 //! whether a run writes this line; `statuses`: those of want of memory, and of a link that is missing.
 
-use crate::inputs::{cards_of, cut_number, name_of, number};
-use crate::jobs::{ask, push_cards, push_reply};
+use crate::inputs::{cards_of, cut_number, number};
 use crate::outputs::Answer;
 use asm_main::{AsmFault, Tally, asm_run, asm_status};
 use cards::Card;
 use deck_files::{LoadFault, load, save};
-use desk_core::Call;
-use journal::{
-    Ending, JournalFault, Moment, Next, Place, ReplayFault, Replayed, compacted_text, next_record,
-    record_text, replay,
-};
 use std::alloc::{AllocError, Global};
 use std::io::{BufRead, BufReader, Read, Write};
-use text_ports::{Broken, Counted, FaultyReader, FaultyWriter, Text};
+use text_ports::{Broken, Counted, FaultyReader, FaultyWriter};
 
 /// Makes a step of this word, if it is one of files, and answers whether it is.
-pub fn make(file: &mut Vec<u8>, word: &str, rest: &str, answer: &mut Answer) -> bool {
+pub fn make(file: &[u8], word: &str, rest: &str, answer: &mut Answer) -> bool {
     match word {
         "load" => push_loaded(answer, file, number(rest)),
         "count" => push_count(answer, file),
         "save" => push_saved(answer, file, number(rest)),
-        "journal" => push_journal(answer, file, number(rest)),
-        "replay" => push_replayed(answer, file, number(rest)),
-        "compact" => compact(answer, file),
         "run" => push_run(answer, file, rest),
         "run_line" => push_run_line(answer, file, rest),
         "statuses" => push_statuses(answer),
@@ -98,93 +87,6 @@ fn push_saved(answer: &mut Answer, file: &[u8], fails_at: u64) {
     answer.debug(&saved);
     answer.number(", faults ", faults);
     answer.line("");
-}
-
-/// The next record of a journal.
-fn next<R: Read>(
-    alloc: Global,
-    input: &mut Counted<R>,
-    place: &mut Place,
-) -> Result<Next, JournalFault> {
-    next_record(alloc, input, place)
-}
-
-/// Reads a journal to its end, ten records at most, and appends the text of each: how many there were, and the end.
-fn rewritten<R: Read>(
-    alloc: Global,
-    input: &mut Counted<R>,
-    text: &mut Text,
-) -> Result<(u64, Ending), JournalFault> {
-    let mut place = Place::at_start();
-    for count in 0..10 {
-        match next(alloc, input, &mut place)? {
-            Next::Found(record) => text.append(record_text(alloc, &record)?)?,
-            Next::Ended(ending) => return Ok((count, ending)),
-        }
-    }
-    Err(JournalFault::OutOfMemory)
-}
-
-fn push_journal(answer: &mut Answer, file: &[u8], fails_at: u64) {
-    let mut text = Text::new(answer.alloc);
-    let mut input = Counted::new(FaultyReader::new(file, 7, fails_at));
-    let end = rewritten(answer.alloc, &mut input, &mut text);
-    if fails_at == 0 {
-        answer.bytes(text.as_slice());
-    }
-    answer.push("= ");
-    answer.debug(&end);
-    answer.line("");
-}
-
-/// Makes the changes of a journal again, up to a version.
-fn replayed(alloc: Global, file: &[u8], last: u64) -> Result<Replayed, ReplayFault> {
-    replay(
-        alloc,
-        &mut Counted::new(FaultyReader::new(file, 7, 0)),
-        last,
-    )
-}
-
-/// The version of a desk, how many decks it has, how its journal ends, and the cards of M.
-fn push_desk(answer: &mut Answer, replayed: Replayed) -> Result<(), AllocError> {
-    answer.number("version ", replayed.desk.version());
-    answer.number(", decks ", replayed.desk.decks().len() as u64);
-    answer.push(", ");
-    answer.debug(&replayed.ending);
-    answer.push(", M: ");
-    let mut desk = replayed.desk;
-    push_reply(answer, &ask(&mut desk, Call::Cards(name_of("M")?)));
-    Ok(())
-}
-
-fn push_replayed(answer: &mut Answer, file: &[u8], last: u64) {
-    match replayed(answer.alloc, file, last) {
-        Ok(replayed) => {
-            let done = push_desk(answer, replayed);
-            answer.keep(done);
-        }
-        Err(fault) => answer.debug(&fault),
-    }
-    answer.line("");
-}
-
-/// The journal that begins with the decks of another.
-fn compacted(alloc: Global, file: &[u8]) -> Result<Text, AllocError> {
-    match replayed(alloc, file, 9) {
-        Ok(replayed) => compacted_text(alloc, &Moment::of_seconds(0), 3, &replayed.desk),
-        Err(_) => Err(AllocError),
-    }
-}
-
-fn compact(answer: &mut Answer, file: &mut Vec<u8>) {
-    match compacted(answer.alloc, file) {
-        Ok(text) => {
-            file.clear();
-            answer.keep(file.extend_from_slice(text.as_slice()));
-        }
-        Err(error) => answer.keep(Err(error)),
-    }
 }
 
 /// Assembles decks, in the same way.

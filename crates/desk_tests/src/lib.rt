@@ -1,6 +1,6 @@
-//! What `service_tests` does that asks for no socket and no journal on a disk: the steps of its
-//! transcripts at a desk, at its jobs, sessions and files, at folders, offices and workers, each of which
-//! writes down what comes of it. It is proved beside the service, and not behind it.
+//! What `service_tests` does that asks for no socket and no journal: the steps of its transcripts at a
+//! desk, at its jobs, sessions and files, at folders, offices and workers, each of which writes down what
+//! comes of it. It is proved beside the journal and the service, and not behind them.
 #![tactic(auto)]
 
 // What steps are read from, and what they write.
@@ -23,6 +23,7 @@ mod sweeps;
 
 use deck_files::KnownFiles;
 pub use inputs::{card_of, cards_of, cut, cut_line, cut_number, name_of, number, plain_text};
+pub use jobs::{ask, push_reply};
 pub use outputs::Answer;
 pub use place::Place;
 use std::alloc::AllocGlobal;
@@ -57,6 +58,6 @@ pub fn make<R: AllocGlobal + Threads + Wait + Sync + Files + Clock + Clone + Dro
     answer: &mut Answer,
 ) -> bool {
     place.make(word, rest, answer)
-        || files::make(&mut place.file, word, rest, answer)
+        || files::make(place.file.as_slice(), word, rest, answer)
         || make_alone(rt, known, word, rest, answer)
 }

@@ -10,6 +10,7 @@
 //! of `desk_tests` tell theirs, and a step that begins with none of them is a command of a session.
 #![tactic(auto)]
 
+mod journals;
 mod keeping;
 mod replies;
 mod sockets;
@@ -55,6 +56,7 @@ where
 {
     let (word, rest) = cut(step);
     let is_made = desk_tests::make(rt, place, known, word, rest, answer)
+        || journals::make(&mut place.file, word, rest, answer)
         || replies::make(word, rest, answer)
         || keeping::make(rt, word, rest, answer)
         || sockets::make(rt, rt.alloc(), word, rest, answer);
