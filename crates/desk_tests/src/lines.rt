@@ -21,6 +21,9 @@ pub fn make(word: &str, rest: &str, answer: &mut Answer) -> bool {
 fn push_line(answer: &mut Answer, line: &str) {
     match read_command(line.as_bytes()) {
         Ok(command) => push_change(answer, &command),
+        Err(Refusal::UnknownCommand(word)) => {
+            push_named(answer, "UnknownCommand ", word.as_slice());
+        }
         Err(refusal) => answer.debug(&refusal),
     }
 }

@@ -27,6 +27,7 @@ const REFUSALS = {
   NoDeck: "The deck is not there any more.", TooWide: "A card has 80 columns at most.",
   DeckFull: "The deck has 20,000 cards already.", NotKept: "The journal can't be written; look whether the change stands, and tell the keeper.",
   OutOfMemory: "The service has no memory left; try again later.", BadCommand: "The card has a character that no card has.",
+  UnknownCommand: "The service has no such command; load the page again.",
 };
 const PERIOD = 500, TRIES = 5, AROUND = 2, MOST_HITS = 200, MOST_EDITS = 500;
 

@@ -2,6 +2,7 @@ pub mod WorkedLines
 pub mod WorkedReplies
 pub mod ReadBack
 pub mod LineLaws
+pub mod UnknownWordLaws
 pub mod TakingSteps
 pub mod SessionKinds
 pub mod WorkedSessions

@@ -1,13 +1,14 @@
 -- Worked lines, computed: which command each is, or why it is refused.
-use Rattle.std.proofs.Common.{◌≡◌, Ok, Err, codes, refl}
+use Rattle.std.proofs.Common.{◌≡◌, [], ◌∷◌, Ok, Err, codes, refl}
 use Rattle.cards.specs.declared.card.CardFault.TheVariants as card
 use Rattle.cards.specs.declared.edits.Edit.TheVariants.{Insert, Replace, Remove}
 use Rattle.deck_files.specs.declared.deck_shelf.SaveOver.TheVariants.{Known, Any}
 use Rattle.session_line.specs.declared.commands.Command.TheVariants as command
 use Rattle.session_line.specs.declared.errors.ErrorsView.TheVariants.{Every, Of}
 use Rattle.session_line.specs.declared.views.CardsView.TheVariants.{All, From, With}
-use Rattle.session_line.specs.declared.refusals.Refusal.TheVariants.{BadCommand, BadName, BadCard}
+use Rattle.session_line.specs.declared.refusals.Refusal.TheVariants.{BadCommand, UnknownCommand, BadName, BadCard}
 use Rattle.session_line.specs.declared.words.Seen.TheVariants.{Exactly, Since}
+use Rattle.session_line.specs.UnknownWords.{told_word}
 use Rattle.session_line.specs.Edits.{edit_in_batch}
 use Rattle.session_line.specs.Commands.{command_of}
 
@@ -345,9 +346,6 @@ two_names = refl
 pub no_place : command_of (codes "INS M 1") ≡ Err BadCommand
 no_place = refl
 
-pub small_letters : command_of (codes "add M") ≡ Err BadCommand
-small_letters = refl
-
 pub no_number : command_of (codes "DROP M -1") ≡ Err BadCommand
 no_number = refl
 
@@ -371,6 +369,41 @@ put_of_nobody = refl
 
 pub batch_of_nobody : command_of (codes "BATCH M+ 4 0") ≡ Err BadCommand
 batch_of_nobody = refl
+
+-- first words that begin no command, whatever stands behind them
+pub unknown : command_of (codes "FOO M  ") ≡ Err (UnknownCommand (told_word (codes "FOO")))
+unknown = refl
+
+pub small_letters : command_of (codes "add M") ≡ Err (UnknownCommand (told_word (codes "add")))
+small_letters = refl
+
+pub glued : command_of (codes "SAVEALLM") ≡ Err (UnknownCommand (told_word (codes "SAVEALLM")))
+glued = refl
+
+pub request : command_of (codes "GET / HTTP/1.1") ≡ Err (UnknownCommand (told_word (codes "GET")))
+request = refl
+
+pub sixteen_characters : command_of (codes "!234567890abcde~ M") ≡ Err (UnknownCommand (told_word (codes "!234567890abcde~")))
+sixteen_characters = refl
+
+-- first words that are not told: too long, empty, or with a character that is not printed
+pub seventeen_characters : command_of (codes "1234567890abcdefg M") ≡ Err BadCommand
+seventeen_characters = refl
+
+pub blank_before_unknown : command_of (codes " FOO") ≡ Err BadCommand
+blank_before_unknown = refl
+
+pub tab_behind_word : command_of (codes "ADD\tM") ≡ Err BadCommand
+tab_behind_word = refl
+
+pub tls_hello : command_of (22 ∷ 3 ∷ 1 ∷ 0 ∷ 238 ∷ []) ≡ Err BadCommand
+tls_hello = refl
+
+pub delete_character : command_of (65 ∷ 127 ∷ []) ≡ Err BadCommand
+delete_character = refl
+
+pub not_ascii : command_of (65 ∷ 195 ∷ 164 ∷ []) ≡ Err BadCommand
+not_ascii = refl
 
 -- a session's name, and what is none
 pub hello : command_of (codes "HELLO PAT") ≡ Ok (command.Hello (codes "PAT"))

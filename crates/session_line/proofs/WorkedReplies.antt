@@ -6,6 +6,7 @@ use Rattle.cards.specs.declared.edits.EditFault.TheVariants as fault
 use Rattle.session_line.specs.declared.refusals.Refusal.TheVariants as refusal
 use Rattle.session_line.specs.declared.replies.Reply.TheVariants as reply
 use Rattle.desk_core.specs.declared.replies.State.TheVariants.{Behind}
+use Rattle.session_line.specs.UnknownWords.{told_word}
 use Rattle.session_line.specs.Replies.{text_of_reply, row_text, marked_text, saved_text, published_text, counted_text, line_count, numbers_text}
 use Rattle.session_line.specs.FileLines.{file_line}
 use Rattle.session_line.specs.declared.rights.Rights.TheVariants.{Edits, Reads}
@@ -21,6 +22,12 @@ bye = refl
 
 pub old_version : text_of_reply (reply.Refused (refusal.OldVersion 4)) ≡ codes "NO OldVersion 4\n"
 old_version = unfold digits in refl
+
+pub unknown_command : text_of_reply (reply.Refused (refusal.UnknownCommand (told_word (codes "FOO")))) ≡ codes "NO UnknownCommand FOO\n"
+unknown_command = refl
+
+pub sixteen_characters : text_of_reply (reply.Refused (refusal.UnknownCommand (told_word (codes "!234567890abcde~")))) ≡ codes "NO UnknownCommand !234567890abcde~\n"
+sixteen_characters = refl
 
 pub bad_line : text_of_reply (reply.Refused (refusal.BadLine 1 (card.BadCharacter 10))) ≡ codes "NO BadLine 1 BadCharacter 10\n"
 bad_line = unfold digits in refl

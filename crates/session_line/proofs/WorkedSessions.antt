@@ -9,8 +9,9 @@ use Rattle.desk_core.specs.declared.replies.Reply.TheVariants as reply
 use Rattle.desk_core.specs.declared.replies.State.TheVariants.{Behind}
 use Rattle.desk_core.specs.declared.replies.Refusal.TheVariants as desk
 use Rattle.deck_files.specs.declared.deck_shelf.SaveOver.TheVariants.{Known}
-use Rattle.session_line.specs.declared.refusals.Refusal.TheVariants.{BadCommand, BadName, BadCard, BadLine, FileExists, ReadOnly}
+use Rattle.session_line.specs.declared.refusals.Refusal.TheVariants.{BadCommand, UnknownCommand, BadName, BadCard, BadLine, FileExists, ReadOnly}
 use Rattle.definitions.specs.DeckInput.{Deck}
+use Rattle.session_line.specs.UnknownWords.{told_word}
 use Rattle.session_line.specs.Commands.{command_of}
 use Rattle.session_line.specs.declared.errors.ErrorsView.TheVariants.{Every, Of}
 use Rattle.session_line.specs.declared.views.CardsView.TheVariants.{All, From, With}
@@ -115,6 +116,10 @@ bad_card = refl
 -- a head that is malformed takes no lines
 pub lines_of_bad_head : lines_due (command_of (codes "BATCH M 4 0")) ≡ 0
 lines_of_bad_head = refl
+
+-- nor does a line that is no command
+pub lines_of_unknown : lines_due (command_of (codes "FOO M 4 2")) ≡ 0
+lines_of_unknown = refl
 
 -- a put is one call, and each of its lines is a card, one that looks like a command too
 pub put : task_of (codes "PUT M 3 3") (codes "          IDENT  M " ∷ codes "DROP M 3" ∷ codes "" ∷ [])
@@ -308,6 +313,9 @@ saves_nothing = refl
 
 pub line_before_rights : allowed Reads (task_of (codes "ADD  M") []) ≡ Refuse BadCommand
 line_before_rights = refl
+
+pub word_before_rights : allowed Reads (task_of (codes "FOO M") []) ≡ Refuse (UnknownCommand (told_word (codes "FOO")))
+word_before_rights = refl
 
 pub name_before_rights : allowed Reads (task_of (codes "ADD M+") []) ≡ Refuse BadName
 name_before_rights = refl

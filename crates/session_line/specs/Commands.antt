@@ -1,4 +1,4 @@
--- Which line of a session is which command, or why it is refused: a line that is none first, then the name, then the card (ours).
+-- Which line of a session is which command, or why it is refused: a line that is none first, with its first word where no command begins with that, then the name, then the card (ours).
 use Rattle.std.specs.Prelude.{ℕ, List, Option, Some, None, Result, Ok, Err, Bool, ◌&&◌, codes, length, drop, nat_le, option_and_then, if◌then◌else◌}
 use Rattle.definitions.specs.Characters.{same_text}
 use Rattle.definitions.specs.Cards.{Card, CardRead, IsCard, TooWide, BadCharacter, card_of}
@@ -19,8 +19,9 @@ use Rattle.session_line.specs.declared.views.CardsView.TheVariants.{All, From, W
 use Rattle.session_line.specs.declared.commands.Command.TheVariants as command
 use Rattle.session_line.specs.declared.errors.ErrorsView.TheVariants.{Every, Of}
 use Rattle.session_line.specs.declared.refusals.Refusal.{Refusal}
-use Rattle.session_line.specs.declared.refusals.Refusal.TheVariants.{BadCommand, BadName}
+use Rattle.session_line.specs.declared.refusals.Refusal.TheVariants.{BadCommand, UnknownCommand, BadName}
 use Rattle.session_line.specs.Words.{from_blank, first_word, first_number, first_seen, behind_word}
+use Rattle.session_line.specs.UnknownWords.{can_be_told, told_word}
 use Rattle.session_line.specs.Verbs.{verb_of}
 use Rattle.session_line.specs.Views.{is_sought_size}
 use Rattle.session_line.specs.Edits.{needs, only_if, made_of, is_end, fits_edit, edit_at}
@@ -196,6 +197,15 @@ command_by verb.Undo rest = of_version command.Undo (named_version rest)
 command_by verb.Hello rest = made_of command.Hello (only_name rest)
 command_by verb.Bye rest = alone command.Bye rest
 
+-- why a line is none whose first word begins no command: that word is told, where it can be
+abbrev pub refusal_of_word : List ℕ → Refusal
+refusal_of_word word = if can_be_told word then UnknownCommand (told_word word) else BadCommand
+
+-- the command of a verb, if there is one, or else the refusal of the word
+abbrev pub command_or_word : Option Verb → List ℕ → List ℕ → Result Command Refusal
+command_or_word (Some verb) word rest = command_by verb rest
+command_or_word None word rest = Err (refusal_of_word word)
+
 -- the command that a line is, or why it is refused
 abbrev pub command_of : List ℕ → Result Command Refusal
-command_of line = needs (verb_of (unbroken_front line)) (λ verb. command_by verb (from_blank line))
+command_of line = let word = unbroken_front line in command_or_word (verb_of word) word (from_blank line)

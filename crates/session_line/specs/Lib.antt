@@ -1,4 +1,5 @@
 pub mod Words
+pub mod UnknownWords
 pub mod Verbs
 pub mod Views
 pub mod Parts

@@ -1,10 +1,11 @@
--- The texts of refusals (ours): the name, then the numbers in decimal, each after one blank.
+-- The texts of refusals (ours): the name, then the numbers in decimal, or the word, each after one blank.
 use Rattle.std.specs.Prelude.{ℕ, List, ◌++◌, codes, decimal}
 use Rattle.cards.specs.CardReads.{card_fault_text}
 use Rattle.cards.specs.declared.edits.EditFault.{EditFault}
 use Rattle.cards.specs.declared.edits.EditFault.TheVariants as fault
 use Rattle.session_line.specs.declared.refusals.Refusal.{Refusal}
 use Rattle.session_line.specs.declared.refusals.Refusal.TheVariants as refusal
+use Rattle.session_line.specs.UnknownWords.{text_of_word}
 
 -- the text of an edit's fault
 abbrev pub edit_fault_text : EditFault → List ℕ
@@ -33,6 +34,7 @@ refusal_text refusal.LastLineCut = codes "LastLineCut"
 refusal_text (refusal.WriteFault sent) = codes "WriteFault " ++ decimal sent
 refusal_text refusal.CannotOpen = codes "CannotOpen"
 refusal_text refusal.BadCommand = codes "BadCommand"
+refusal_text (refusal.UnknownCommand word) = codes "UnknownCommand " ++ text_of_word word
 refusal_text refusal.BadName = codes "BadName"
 refusal_text refusal.SeatsOut = codes "SeatsOut"
 refusal_text (refusal.BadEdit number fault) = codes "BadEdit " ++ (decimal number ++ (codes " " ++ edit_fault_text fault))

@@ -1,11 +1,12 @@
 //! The commands of a session.
 ghost use Rattle.std.specs.Prelude.{◌≡◌};
 ghost use Rattle.session_line.specs.declared.commands.Command.TheVariants as command;
-ghost use Rattle.session_line.specs.Commands.{name_in, alone, only_name, save_over_in, save_in, view_in, at_in, cards_by, cards_in, sought_in, find_in, image_in, list_in, errors_in, status_in, wait_in, named_version, of_version, edit_in, head_in, batch_by, put_of, put_by, command_by, command_of, is_batch_size, is_put_size};
+ghost use Rattle.session_line.specs.Commands.{name_in, alone, only_name, save_over_in, save_in, view_in, at_in, cards_by, cards_in, sought_in, find_in, image_in, list_in, errors_in, status_in, wait_in, named_version, of_version, edit_in, head_in, batch_by, put_of, put_by, command_by, refusal_of_word, command_of, is_batch_size, is_put_size};
 
 use crate::edits::{edit_at, fits_edit};
 use crate::errors::ErrorsView;
 use crate::refusals::Refusal;
+use crate::unknown_words::UnknownWord;
 use crate::verbs::{EditKind, Verb, verb_of};
 use crate::views::{CardsView, is_sought_size};
 use crate::words::{
@@ -473,14 +474,26 @@ fn put_in(rest: &[u8]) -> Result<Command, Refusal>
 /// Reads a line as a command. Words are separated by one blank each; a number has 1 to 19 decimal
 /// digits and is at most 2^62, and a plus may stand behind the version of an edit or a batch; the text of
 /// a card is all that stands behind one blank, and a line that ends behind its place has the empty card.
-/// Any other line is `BadCommand`; then comes `BadName`, and then the fault of the card. The name of a
-/// batch or a put is looked at later, so its fault stands in the head.
+/// Any other line is `BadCommand`, or `UnknownCommand` with its first word where that begins no command
+/// and can be told; then comes `BadName`, and then the fault of the card. The name of a batch or a put is
+/// looked at later, so its fault stands in the head.
 pub fn read_command(line: &[u8]) -> Result<Command, Refusal>
     ensures command { result ≡ command_of line.now }
 {
-    match verb_of(to_blank(line)) {
+    let word = to_blank(line);
+    match verb_of(word) {
         Some(verb) => command_by(verb, from_blank(line)),
-        None => Err(Refusal::BadCommand),
+        None => Err(refusal_of_word(word)),
+    }
+}
+
+/// Why a line is none whose first word begins no command.
+fn refusal_of_word(word: &[u8]) -> Refusal
+    ensures { result ≡ refusal_of_word word.now }
+{
+    match UnknownWord::read(word) {
+        Some(word) => Refusal::UnknownCommand(word),
+        None => Refusal::BadCommand,
     }
 }
 

@@ -8,10 +8,11 @@
 //! first, so that a file that is no deck adds none; SAVE asks the desk first. A reply borrows its cards and texts, and takes no memory. What
 //! one call makes of a desk is named by the trait `Calls`: a `Desk` meets it with its own clause,
 //! `SeatCalls` with that of `Seat::call`. The lines are meant to stay: one is added only where it
-//! was `BadCommand` before.
+//! was none before.
 #![tactic(auto)]
 
 // Words and numbers.
+mod unknown_words;
 mod verbs;
 mod words;
 
@@ -71,7 +72,7 @@ pub use desk_laws::a_desk_answers_sessions;
 pub use edits::read_batch_line;
 pub use errors::ErrorsView;
 pub use greetings::{Connected, Greeting, VERSION};
-pub use laws::lines_read_back;
+pub use laws::{lines_read_back, words_are_told_whole};
 pub use marked_rows::MarkedRow;
 pub use refusals::Refusal;
 pub use replies::Reply;
@@ -79,6 +80,7 @@ pub use rights::Rights;
 pub use saved_decks::SavedDeck;
 pub use seat_calls::SeatCalls;
 pub use serving::{Outcome, serve_one};
+pub use unknown_words::UnknownWord;
 pub use views::CardsView;
 pub use words::{Seen, behind_blank, behind_word, first_number, first_word, from_blank, to_blank};
 pub use writing::{reply_text, write_reply};

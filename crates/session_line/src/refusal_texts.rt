@@ -5,6 +5,7 @@ ghost use Rattle.session_line.specs.Refusals.{edit_fault_text, refusal_text};
 
 use crate::refusals::Refusal;
 use crate::reply_line::ReplyLine;
+use crate::unknown_words::UnknownWord;
 use cards::{CardFault, EditFault};
 
 /// A name, and a number behind it.
@@ -71,6 +72,7 @@ pub(crate) fn put_refusal(line: &mut ReplyLine, refusal: &Refusal)
         Refusal::WriteFault { sent } => put_numbered(line, b"WriteFault ", sent as u64),
         Refusal::CannotOpen => line.put(b"CannotOpen"),
         Refusal::BadCommand => line.put(b"BadCommand"),
+        Refusal::UnknownCommand(word) => put_unknown_command(line, &word),
         Refusal::BadName => line.put(b"BadName"),
         Refusal::SeatsOut => line.put(b"SeatsOut"),
         Refusal::BadEdit { number, fault } => put_bad_edit(line, number, fault),
@@ -83,6 +85,15 @@ pub(crate) fn put_refusal(line: &mut ReplyLine, refusal: &Refusal)
         Refusal::NoChange => line.put(b"NoChange"),
         Refusal::ReadOnly => line.put(b"ReadOnly"),
     }
+}
+
+fn put_unknown_command(line: &mut ReplyLine, word: &UnknownWord)
+    requires { length line.old ≤ 11 }
+    ensures text { line.new ≡ line.old ++ refusal_text (Refusal.UnknownCommand word.now) }
+    ensures short { length line.new ≤ 79 }
+{
+    line.put(b"UnknownCommand ");
+    line.put(word.as_slice());
 }
 
 fn put_bad_line(line: &mut ReplyLine, number: u64, fault: CardFault)

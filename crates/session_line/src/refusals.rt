@@ -1,10 +1,11 @@
 //! Why something is refused.
 
+use crate::unknown_words::UnknownWord;
 use cards::{CardFault, EditFault};
 
 /// Why a command, a file or an input is refused. Lines, columns and edits count from 1.
 ///
-/// The text is the name, then the numbers in decimal, each after one blank.
+/// The text is the name, then the numbers in decimal, or the word, each after one blank.
 #[derive(Clone, Copy, Debug)]
 pub enum Refusal {
     /// No memory was left.
@@ -47,6 +48,8 @@ pub enum Refusal {
     CannotOpen,
     /// The line is no command.
     BadCommand,
+    /// The line is no command, since none begins with this word.
+    UnknownCommand(UnknownWord),
     /// The name of a deck is not 1 to 7 letters and digits.
     BadName,
     /// Seats of the office are out.
