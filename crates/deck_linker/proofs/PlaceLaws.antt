@@ -63,14 +63,18 @@ end-absolute base object absolute = by_kind object.kind absolute
     by_kind Abs h = refl
     by_kind Periph h = refl
 
+-- a common block, by whether it would pass the end of memory
+abbrev common_as : BlockLength → ℕ → Bool → Common
+common_as block base past = elim past [
+  | true ↦ record { name = block.name; words = block.words; base = 0; is_past = true }
+  | false ↦ record { name = block.name; words = block.words; base = base; is_past = false }
+]
+
 -- a common block in its place keeps its name
 name-placed : (base : ℕ) (block : BlockLength) → (placed_common base block).name ≡ block.name
 name-placed base block = by_test (common_past block base)
   where
-    by_test : (t : Bool) → (elim t [
-      | true ↦ record { name = block.name; words = block.words; base = 0; is_past = true }
-      | false ↦ record { name = block.name; words = block.words; base = base; is_past = false }
-    ]).name ≡ block.name
+    by_test : (past : Bool) → (common_as block base past).name ≡ block.name
     by_test true = refl
     by_test false = refl
 

@@ -1,8 +1,11 @@
 //! Decks that are linked, before their texts are made: they are made part by part, each when it is
 //! written.
-ghost use Rattle.std.specs.Prelude.{◌≡◌, ◌≤◌, ◌<◌, ◌^◌, ◌+◌, flat_map, length, IfOk, IfErr};
+ghost use Rattle.std.specs.Prelude.{◌≡◌, ◌≤◌, ◌<◌, ◌^◌, ◌+◌, ◌∷◌, [], flat_map, length, map, IfOk, IfErr};
 ghost use Rattle.std.specs.List.{AllZip};
-ghost use Rattle.definitions.specs.Build.{build_of, image_of};
+ghost use Rattle.definitions.specs.Build.{build_of, errors_in, image_of};
+ghost use Rattle.definitions.specs.Link.{link_lines};
+ghost use Rattle.definitions.specs.Map.{map_text};
+ghost use Rattle.definitions.specs.Objects.{object_of};
 ghost use Rattle.text_ports.specs.Joins.Sending.{Sends, count_after_sending};
 ghost use Rattle.deck_linker.specs.Joins.CommonWords.{AreCommonWords};
 ghost use Rattle.deck_linker.specs.Joins.InPieces.{AreDeckWords, DoFit, deck_text, end_text};
@@ -59,29 +62,17 @@ impl LinkedDecks {
         ensures { IfOk result (λ linked. linked ≡ objects.items) }
     {
         let layout = Layout::new(alloc, shared(alloc, objects.as_slice())?)?;
-        let mapped = with_map(alloc, Text::new(alloc), &layout, &[])?;
-        let words = words_of_decks(alloc, &layout, layout.decks())?;
-        let commons = words_of_commons(alloc, &layout)?;
-        let front = measure_listings(alloc, objects.as_slice(), Measure { all: 0, most: 0 })?;
-        let most = image_room(
-            alloc,
-            &layout,
-            words.as_slice(),
-            commons.as_slice(),
-            front,
-            mapped.text.len(),
-        )?;
-        let sheet = Sheet::with_room(alloc, most)?;
-        let errors = errors_in(objects.as_slice())?;
+        let words = linked_words(alloc, &layout)?;
+        let texts = measured_texts(alloc, &layout, &words, objects.as_slice())?;
         Ok(LinkedDecks {
             objects,
             layout,
-            words,
-            commons,
-            map: mapped.text,
-            sheet,
-            errors,
-            links: mapped.links,
+            words: words.decks,
+            commons: words.commons,
+            map: texts.map,
+            sheet: texts.sheet,
+            errors: texts.errors,
+            links: texts.links,
         })
     }
 
@@ -175,6 +166,76 @@ fn words_of_decks(
         words.push(blocks)?;
     }
     Ok(words)
+}
+
+/// The words that linked decks store in their blocks, and those of the common blocks.
+#[derive(Drop)]
+struct LinkedWords {
+    decks: Vec<Vec<Vec<WordSpan>>>,
+    commons: Vec<Vec<WordSpan>>,
+}
+
+fn linked_words(alloc: Global, layout: &Layout) -> Result<LinkedWords, AllocError>
+    ensures decks { IfOk result (λ words. AllZip (AreDeckWords layout.now) layout.now.decks words.decks.items) }
+    ensures commons { IfOk result (λ words. AreCommonWords layout.now words.commons.items) }
+{
+    let decks = words_of_decks(alloc, layout, layout.decks())?;
+    let commons = words_of_commons(alloc, layout)?;
+    Ok(LinkedWords { decks, commons })
+}
+
+/// The map of a link with the number of its LINK lines, and the number of flagged statements; and a sheet with
+/// room for the longest part of all texts, with what was measured for it: the listings, and what the longest
+/// part needs.
+#[derive(Drop)]
+struct MeasuredTexts {
+    map: Text,
+    links: usize,
+    errors: u64,
+    front: Measure,
+    most: usize,
+    sheet: Sheet,
+}
+
+fn measured_texts(
+    alloc: Global,
+    layout: &Layout,
+    words: &LinkedWords,
+    objects: &[SharedObject],
+) -> Result<MeasuredTexts, AllocError>
+    requires words { AllZip (AreDeckWords layout.now) layout.now.decks words.now.decks.items }
+    requires commons { AreCommonWords layout.now words.now.commons.items }
+    ensures map { IfOk result (λ texts. texts.map ≡ map_text layout.now) }
+    ensures links { IfOk result (λ texts. texts.links ≡ length (link_lines layout.now)) }
+    ensures errors { IfOk result (λ texts. texts.errors ≡ errors_in (map object_of objects.now)) }
+    ensures all { IfOk result (λ texts. texts.front.all ≡ length (listings objects.now)) }
+    ensures listings_fit { IfOk result (λ texts. DoFit deck_text texts.front.most objects.now) }
+    ensures most { IfOk result (λ texts. texts.front.most ≤ texts.most) }
+    ensures sections_fit { IfOk result (λ texts. DoFit (deck_section layout.now) texts.most layout.now.decks) }
+    ensures end_fits { IfOk result (λ texts. length (end_text layout.now) ≤ texts.most) }
+    ensures sheet { IfOk result (λ texts. texts.sheet ≡ texts.most ∷ []) }
+    ensures few { IfOk result (λ texts. texts.front.all + (length (flat_map (deck_section layout.now) layout.now.decks) + (length (end_text layout.now) + length texts.map)) < 2 ^ 63) }
+{
+    let errors = errors_in(objects)?;
+    let front = measure_listings(alloc, objects, Measure { all: 0, most: 0 })?;
+    let mapped = with_map(alloc, Text::new(alloc), layout, &[])?;
+    let most = image_room(
+        alloc,
+        layout,
+        words.decks.as_slice(),
+        words.commons.as_slice(),
+        front,
+        mapped.text.len(),
+    )?;
+    let sheet = Sheet::with_room(alloc, most)?;
+    Ok(MeasuredTexts {
+        map: mapped.text,
+        links: mapped.links,
+        errors,
+        front,
+        most,
+        sheet,
+    })
 }
 
 /// How much room the longest part of the texts needs, those of the image and those that are measured. No
