@@ -30,9 +30,6 @@ use std::alloc::{AllocError, Global};
 use std::marker::Model;
 use std::mem::replace;
 
-/// Of how many changes of a desk, the latest ones, those of a deck count as late.
-const LATELY: u64 = 16;
-
 /// A deck on the desk: its name and cards; its identity, which is the version that its addition made, or
 /// that of the last deck put in its place;
 /// the version of the last change of it; its object, if it has one of that version, in which its cards lie unless
@@ -351,7 +348,7 @@ impl StoredDeck {
     }
 
     /// The same object with what the link of a version has added to it takes the place of its own, where it has
-    /// one. If it was not changed lately, its cards lie in the object alone from then on.
+    /// one. If another deck's change made that version, its cards lie in the object alone from then on.
     pub(crate) fn refresh(&mut self, alloc: Global, version: u64, object: &ListedObject)
         requires { object.now ≡ deck_of self.old }
         ensures { self.new ≡ self.old }
@@ -365,12 +362,12 @@ impl StoredDeck {
         self.let_cards_go(alloc, version);
     }
 
-    /// Where it has an object and was not changed by one of the latest changes, of which the last made this
-    /// version, its cards lie in the object alone from then on.
+    /// Where it has an object and another deck's change made the latest version, its cards lie in the object alone
+    /// from then on.
     pub(crate) fn let_cards_go(&mut self, alloc: Global, latest: u64)
         ensures { self.new ≡ self.old }
     {
-        if self.object.is_some() && latest.saturating_sub(self.version) >= LATELY {
+        if self.object.is_some() && self.version != latest {
             self.own_cards = Vec::new(alloc);
             self.holds_cards = false;
         }
