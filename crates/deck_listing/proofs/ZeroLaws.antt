@@ -3,8 +3,8 @@ use Rattle.std.proofs.Common.{◌≡◌, ◌≢◌, ℕ, zero, suc, ◌+◌, ◌
 use Rattle.std.specs.List.{list_any}
 use Rattle.std.proofs.lemmas.Bool.Decides.{eqb_tells, leb_tells}
 use Rattle.std.proofs.lemmas.List.Elements.{filter-append}
-use Rattle.definitions.specs.Kinds.{units, unit_bits}
-use Rattle.definitions.specs.Words.{Parcel, bits_at, filling_of, in_word, last_places, parcels_from}
+use Rattle.definitions.specs.Kinds.{units}
+use Rattle.definitions.specs.Words.{Parcel, bits_at, filling_of, in_word, parcels_from, word_of_parcels}
 use Rattle.definitions.specs.declared.deck_kind.DeckKind.{DeckKind}
 use Rattle.definitions.specs.declared.deck_kind.DeckKind.TheVariants.{Rel, Abs, Periph}
 use Rattle.deck_listing.specs.Joins.Spans.{span_parcels}
@@ -40,18 +40,18 @@ zero-bits kind place (parcel ∷ parcels) zeros = elim (eqb_tells (parcel.place 
   | inr h ↦ rw h.0 (zero-bits kind place parcels zeros.2)
 ]
 
-zero-places : (kind : DeckKind) (parcels : List Parcel) (count : ℕ) → AreZero parcels → last_places kind parcels count ≡ 0
-zero-places kind parcels zero zeros = refl
-zero-places kind parcels (suc count) zeros =
-    rw (zero-filling kind parcels zeros, zero-bits kind _ parcels zeros, zero-places kind parcels count zeros) (no_bits (2 ^ (unit_bits kind * count)))
-  where
-    no_bits : (n : ℕ) → 0 * n + 0 ≡ 0
-    no_bits n = omega arith
+zero-place : (kind : DeckKind) (parcels : List Parcel) (place : ℕ) → AreZero parcels → bits_at kind (filling_of kind parcels) place parcels ≡ 0
+zero-place kind parcels place zeros = rw (zero-filling kind parcels zeros) (zero-bits kind place parcels zeros)
+
+zero-word : (kind : DeckKind) (parcels : List Parcel) → AreZero parcels → word_of_parcels kind parcels ≡ 0
+zero-word Rel parcels zeros = omega (arith, zero-place Rel parcels 0 zeros, zero-place Rel parcels 1 zeros, zero-place Rel parcels 2 zeros, zero-place Rel parcels 3 zeros)
+zero-word Abs parcels zeros = omega (arith, zero-place Abs parcels 0 zeros, zero-place Abs parcels 1 zeros, zero-place Abs parcels 2 zeros, zero-place Abs parcels 3 zeros)
+zero-word Periph parcels zeros = omega (arith, zero-place Periph parcels 0 zeros)
 
 -- the word of some zeros
 zero-value : (kind : DeckKind) (parcels : List Parcel) → AreZero parcels → is_none_there parcels ≡ false → value_of_parcels kind parcels ≡ Some 0
 zero-value kind [] zeros some = cc
-zero-value kind (parcel ∷ parcels) zeros some = ap Some (zero-places kind (parcel ∷ parcels) (units kind) zeros)
+zero-value kind (parcel ∷ parcels) zeros some = ap Some (zero-word kind (parcel ∷ parcels) zeros)
 
 zero-held : (kind : DeckKind) (word place count : ℕ) → AreZero (in_word kind word (parcels_from false place (replicate count 0)))
 zero-held kind word place zero = tt

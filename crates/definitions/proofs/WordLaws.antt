@@ -1,14 +1,13 @@
 -- Each stored word fits a word of its deck.
-use Rattle.std.proofs.Common.{◌≡◌, ℕ, zero, suc, ◌+◌, ◌-◌, ◌*◌, ◌/◌, ◌%◌, ◌^◌, ◌<◌, Bool, true, false, nat_eq, List, [], ◌∷◌, ◌++◌, refl, ap, ◌∙◌, arith}
+use Rattle.std.proofs.Common.{◌≡◌, ℕ, zero, suc, ◌+◌, ◌-◌, ◌*◌, ◌/◌, ◌%◌, ◌^◌, ◌<◌, Bool, true, false, nat_eq, List, [], ◌∷◌, ◌++◌, refl, arith}
 use Rattle.std.specs.Prelude.{All, filter, if◌then◌else◌}
 use Rattle.std.specs.List.{AllByRecursion, list_any}
 use Rattle.std.proofs.Math.Nat.{mod-lt, pow-suc as pow-succ}
-use Rattle.std.proofs.lemmas.Nat.{pow-add, mul-add-lt}
 use Rattle.std.proofs.lemmas.List.Elements.{All-from_recursion}
 use Rattle.definitions.specs.Characters.{same_text}
 use Rattle.definitions.specs.Kinds.{units, unit_bits, word_bits}
 use Rattle.definitions.specs.Operations.{is_instruction}
-use Rattle.definitions.specs.Words.{Parcel, Coded, Linking, StoredWord, cut, parcels_from, parcels_of, onto_runs, runs_of, in_word, latest_in_word, pass, filling_of, bits_at, last_places, word_of_parcels, stored, words_in, stored_words, joined}
+use Rattle.definitions.specs.Words.{Parcel, Coded, Linking, StoredWord, cut, parcels_from, parcels_of, onto_runs, runs_of, in_word, latest_in_word, pass, filling_of, bits_at, word_of_parcels, stored, words_in, stored_words, joined}
 use Rattle.definitions.specs.StatementItems.{Item}
 use Rattle.definitions.specs.declared.deck_kind.DeckKind.{DeckKind}
 use Rattle.definitions.specs.declared.deck_kind.DeckKind.TheVariants.{Rel, Abs, Periph}
@@ -93,21 +92,20 @@ filling_of-below Rel parcels = picked_cond (λ n. n < 32768) (list_any (λ (parc
 filling_of-below Abs parcels = picked_cond (λ n. n < 32768) (list_any (λ (parcel : Parcel). parcel.is_instruction) parcels) pass 0 (omega arith) (omega arith)
 filling_of-below Periph parcels = omega arith
 
--- so many places of so many bits
-last_places-below : (kind : DeckKind) (parcels : List Parcel) (count : ℕ) → AreBelow (2 ^ unit_bits kind) parcels → last_places kind parcels count < 2 ^ (unit_bits kind * count)
-last_places-below kind parcels zero h = pow_positive (unit_bits kind * zero)
-last_places-below kind parcels (suc count) h =
-    let width = unit_bits kind in
-    let here = bits_at-below kind (2 ^ width) (filling_of kind parcels) (units kind - suc count) parcels (filling_of-below kind parcels) h in
-    let behind = last_places-below kind parcels count h in
-    let split : 2 ^ (width * suc count) ≡ 2 ^ (width * count) * 2 ^ width = ap (λ n. 2 ^ n) (omega arith) ∙ pow-add 2 (width * count) width in
-    rw split (mul-add-lt (bits_at kind (filling_of kind parcels) (units kind - suc count) parcels) (2 ^ (width * count)) (last_places kind parcels count) (2 ^ width) here behind)
+-- the bits at a place are those of a unit
+place-below : (kind : DeckKind) (parcels : List Parcel) (place : ℕ) → AreBelow (2 ^ unit_bits kind) parcels → bits_at kind (filling_of kind parcels) place parcels < 2 ^ unit_bits kind
+place-below kind parcels place h = bits_at-below kind (2 ^ unit_bits kind) (filling_of kind parcels) place parcels (filling_of-below kind parcels) h
+
+-- four parcels one behind the other
+parcels-below : (first second third fourth : ℕ) → first < 32768 → second < 32768 → third < 32768 → fourth < 32768 →
+    0 + first * 2 ^ 45 + second * 2 ^ 30 + third * 2 ^ 15 + fourth * 2 ^ 0 < 2 ^ 60
+parcels-below first second third fourth a b c d = omega arith
 
 -- a word has as many places as units
 word-below : (kind : DeckKind) (parcels : List Parcel) → AreBelow (2 ^ unit_bits kind) parcels → word_of_parcels kind parcels < 2 ^ word_bits kind
-word-below Rel parcels h = last_places-below Rel parcels 4 h
-word-below Abs parcels h = last_places-below Abs parcels 4 h
-word-below Periph parcels h = last_places-below Periph parcels 1 h
+word-below Rel parcels h = parcels-below _ _ _ _ (place-below Rel parcels 0 h) (place-below Rel parcels 1 h) (place-below Rel parcels 2 h) (place-below Rel parcels 3 h)
+word-below Abs parcels h = parcels-below _ _ _ _ (place-below Abs parcels 0 h) (place-below Abs parcels 1 h) (place-below Abs parcels 2 h) (place-below Abs parcels 3 h)
+word-below Periph parcels h = let first = place-below Periph parcels 0 h in omega arith
 
 stored-below : (kind : DeckKind) (runs : List (List Parcel)) (words : List ℕ) → AreRunsBelow (2 ^ unit_bits kind) runs → AllByRecursion (λ (word : StoredWord). word.value < 2 ^ word_bits kind) (stored kind runs words)
 stored-below kind runs [] h = tt

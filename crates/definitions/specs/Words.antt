@@ -1,6 +1,6 @@
 -- Words: what the items of a block leave in each word (COMPASS 60492600, ORG; that the latest run counts alone is ours).
 use Rattle.std.specs.Prelude.{ℕ, zero, suc, ◌+◌, ◌-◌, ◌*◌, ◌/◌, ◌%◌, ◌^◌, ◌==◌, List, [], ◌∷◌, ◌++◌, Bool, true, false, nat_lt, filter, if◌then◌else◌}
-use Rattle.std.specs.List.{list_any}
+use Rattle.std.specs.List.{list_any, range_with_len, sum_by}
 use Rattle.definitions.specs.Characters.{same_text}
 use Rattle.definitions.specs.Forms.{Form}
 use Rattle.definitions.specs.Operations.{is_instruction}
@@ -98,15 +98,17 @@ abbrev pub bits_at : DeckKind → ℕ → ℕ → List Parcel → ℕ
 bits_at kind filling place [] = filling
 bits_at kind filling place (parcel ∷ parcels) = if parcel.place % units kind == place then parcel.bits else bits_at kind filling place parcels
 
--- the bits of the last places of a word, so many of them, as one number: the sum of what lies there
-abbrev pub last_places : DeckKind → List Parcel → ℕ → ℕ
-last_places kind parcels zero = 0
-last_places kind parcels (suc count) =
-    bits_at kind (filling_of kind parcels) (units kind - suc count) parcels * 2 ^ (unit_bits kind * count) + last_places kind parcels count
+-- how many bits of a word lie behind a place of it
+abbrev pub bits_behind : DeckKind → ℕ → ℕ
+bits_behind kind place = unit_bits kind * (units kind - 1 - place)
 
--- a word: the sum of what lies in it
+-- what a place adds to a word: the bits there times 2 to the bits behind it
+abbrev pub part_at : DeckKind → List Parcel → ℕ → ℕ
+part_at kind parcels place = bits_at kind (filling_of kind parcels) place parcels * 2 ^ bits_behind kind place
+
+-- a word: the sum of what its places add, from the first on
 abbrev pub word_of_parcels : DeckKind → List Parcel → ℕ
-word_of_parcels kind parcels = last_places kind parcels (units kind)
+word_of_parcels kind parcels = sum_by (part_at kind parcels) (range_with_len 0 (units kind))
 
 -- a number in its place among increasing ones, once
 abbrev pub with_number : ℕ → List ℕ → List ℕ
