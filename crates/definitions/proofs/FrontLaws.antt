@@ -1,14 +1,15 @@
 -- The scanned variable field is the longest front of its text whose blanks stand in counted items.
-use Rattle.std.proofs.Common.{ℕ, zero, suc, ◌≡◌, ◌≢◌, ◌+◌, ◌-◌, ◌<◌, ◌≤◌, ◌⊎◌, inl, inr, List, [], ◌∷◌, ◌++◌, Bool, true, false, ◌&&◌, nat_le, nat_eq, length, take, drop, codes, refl, sym, ◌∙◌, ap, ap₂, subst, arith, append_assoc, append-nil, Option, Some, None}
+use Rattle.std.proofs.Common.{ℕ, zero, suc, ◌≡◌, ◌≢◌, ◌+◌, ◌-◌, ◌<◌, ◌≤◌, ◌⊎◌, inl, inr, List, [], ◌∷◌, ◌++◌, Bool, true, false, ◌&&◌, nat_le, nat_eq, length, take, drop, refl, sym, ◌∙◌, ap, ap₂, subst, arith, append_assoc, append-nil, Option, Some, None}
 use Rattle.std.specs.Prelude.{take_while, if◌then◌else◌, cond}
 use Rattle.std.specs.List.{AllByRecursion}
 use Rattle.std.proofs.lemmas.Bool.{leb-true, le-leb, and_parts}
 use Rattle.std.proofs.lemmas.List.{take-append-le, length-append}
 use Rattle.std.proofs.lemmas.List.Sums.{take_while-cons}
-use Rattle.definitions.specs.Characters.{blank, is_digit, is_among, equals}
+use Rattle.definitions.specs.Characters.{blank, is_digit, equals}
 use Rattle.definitions.specs.Numerals.{number_of}
-use Rattle.definitions.specs.CountedItems.{CountedSpan, counted_item_behind, counted_item_at}
+use Rattle.definitions.specs.CountedItems.{CountedSpan, item_letter_of, counted_item_with, counted_item_behind, counted_item_at}
 use Rattle.definitions.specs.Pieces.{Mark, Piece, IsMark, IsCountedItem, Plain, Spot, AtStart, AtEquals, Inside, Begun, ByMark, ByCountedItem, ByOther, mark_of, begun_by, begun_by_counted_item, begun_at, spot_behind, left_of, onto_plain, onto_pieces, pieces_at}
+use Rattle.definitions.specs.declared.item_letter.ItemLetter.{ItemLetter}
 use Rattle.definitions.specs.Cuts.{HasNoBlank, HasBlanksInItems, IsLongestFront}
 
 -- the field holds no blank outside an item, and ends at such a blank or where the text ends
@@ -67,28 +68,38 @@ count-all (x ∷ xs) ys h = step (is_digit x) refl (count-all xs ys)
         subst (λ digits. suc (length xs) ≤ length digits) (sym (count-digit x (xs ++ ys) e)) (omega arith)
     step false e before = let k : x ∷ xs ≡ [] = sym (behind-other x xs e) ∙ h in cc
 
--- whether a count with its letter is lawful
-abbrev is_lawful : ℕ → ℕ → Bool
-is_lawful letter n = is_among letter (codes "HALRC") && nat_le 1 n && nat_le n 100
+-- whether a count is lawful
+abbrev is_lawful : ℕ → Bool
+is_lawful n = nat_le 1 n && nat_le n 100
 
 -- the item of a letter and so many characters
-abbrev span_of : ℕ → ℕ → ℕ → List ℕ → CountedSpan
+abbrev span_of : ℕ → ℕ → ItemLetter → List ℕ → CountedSpan
 span_of digits n letter rest = record { item = record { letter = letter; characters = take n rest }; taken = digits + 1 + n }
 
-behind-lawful : (digits n letter : ℕ) (rest : List ℕ) → is_lawful letter n ≡ true → n ≤ length rest → counted_item_behind digits n (letter ∷ rest) ≡ Some (span_of digits n letter rest)
-behind-lawful digits n letter rest lawful fits = rw (lawful, le-leb n (length rest) fits) refl
+behind-lawful : (digits n c : ℕ) (letter : ItemLetter) (rest : List ℕ) → item_letter_of c ≡ Some letter → is_lawful n ≡ true → n ≤ length rest →
+    counted_item_behind digits n (c ∷ rest) ≡ Some (span_of digits n letter rest)
+behind-lawful digits n c letter rest read lawful fits =
+    ap (counted_item_with digits n rest) read
+    ∙ ap (λ (b : Bool). if b then Some (span_of digits n letter rest) else None) (ap₂ (λ (a b : Bool). a && b) lawful (le-leb n (length rest) fits))
 
--- what is told of an item that is found behind a count
-behind-found : (digits n letter : ℕ) (rest : List ℕ) (s : CountedSpan) → counted_item_behind digits n (letter ∷ rest) ≡ Some s →
-    (is_lawful letter n ≡ true) × (n ≤ length rest) × (s ≡ span_of digits n letter rest)
-behind-found digits n letter rest s h = by_test (is_lawful letter n && nat_le n (length rest)) refl
+-- an item that is found behind a count: its letter is read there, and the count is lawful and has its characters
+abbrev IsFound : ℕ → ℕ → ℕ → List ℕ → CountedSpan → Type 0
+IsFound digits n c rest s = (letter : ItemLetter) × (item_letter_of c ≡ Some letter) × (is_lawful n ≡ true) × (n ≤ length rest) × (s ≡ span_of digits n letter rest)
+
+behind-found : (digits n c : ℕ) (rest : List ℕ) (s : CountedSpan) → counted_item_behind digits n (c ∷ rest) ≡ Some s → IsFound digits n c rest s
+behind-found digits n c rest s h = by_letter (item_letter_of c) refl
   where
-    by_test : (b : Bool) → (is_lawful letter n && nat_le n (length rest)) ≡ b → (is_lawful letter n ≡ true) × (n ≤ length rest) × (s ≡ span_of digits n letter rest)
-    by_test true e =
-        let parts = and_parts (is_lawful letter n) (nat_le n (length rest)) e in
-        let same : Some (span_of digits n letter rest) ≡ Some s = rw e at h in
-        (parts.0, leb-true n (length rest) parts.1, cc)
-    by_test false e = let none : None ≡ Some s = rw e at h in cc
+    by_test : (letter : ItemLetter) → item_letter_of c ≡ Some letter → (b : Bool) → (is_lawful n && nat_le n (length rest)) ≡ b →
+        (if b then Some (span_of digits n letter rest) else None) ≡ Some s → IsFound digits n c rest s
+    by_test letter read true e k =
+        let parts = and_parts (is_lawful n) (nat_le n (length rest)) e in
+        let same : s ≡ span_of digits n letter rest = cc in
+        (letter, read, parts.0, leb-true n (length rest) parts.1, same)
+    by_test letter read false e k = cc
+
+    by_letter : (found : Option ItemLetter) → item_letter_of c ≡ found → IsFound digits n c rest s
+    by_letter None read = let none : None ≡ Some s = sym (ap (counted_item_with digits n rest) read) ∙ h in cc
+    by_letter (Some letter) read = by_test letter read (is_lawful n && nat_le n (length rest)) refl (sym (ap (counted_item_with digits n rest) read) ∙ h)
 
 -- an item at a text, by its digits and what stands behind them
 abbrev at_count : List ℕ → List ℕ → Option CountedSpan
@@ -102,20 +113,18 @@ at_count-nil digits = either (nat_le 1 (length digits))
     either false = refl
 
 -- what is told of an item that is found at a count
-at_count-found : (digits : List ℕ) (letter : ℕ) (rest : List ℕ) (s : CountedSpan) → at_count digits (letter ∷ rest) ≡ Some s →
-    (nat_le 1 (length digits) ≡ true) × (is_lawful letter (number_of 10 digits) ≡ true) × (number_of 10 digits ≤ length rest) × (s ≡ span_of (length digits) (number_of 10 digits) letter rest)
-at_count-found digits letter rest s h = by_test (nat_le 1 (length digits)) refl
+at_count-found : (digits : List ℕ) (c : ℕ) (rest : List ℕ) (s : CountedSpan) → at_count digits (c ∷ rest) ≡ Some s →
+    (nat_le 1 (length digits) ≡ true) × IsFound (length digits) (number_of 10 digits) c rest s
+at_count-found digits c rest s h = by_test (nat_le 1 (length digits)) refl h
   where
-    by_test : (b : Bool) → nat_le 1 (length digits) ≡ b →
-        (nat_le 1 (length digits) ≡ true) × (is_lawful letter (number_of 10 digits) ≡ true) × (number_of 10 digits ≤ length rest) × (s ≡ span_of (length digits) (number_of 10 digits) letter rest)
-    by_test true e =
-        let k = behind-found (length digits) (number_of 10 digits) letter rest s (rw e at h) in
-        (e, k.0, k.1, k.2)
-    by_test false e = let none : None ≡ Some s = rw e at h in cc
+    by_test : (b : Bool) → nat_le 1 (length digits) ≡ b → (if b then counted_item_behind (length digits) (number_of 10 digits) (c ∷ rest) else None) ≡ Some s →
+        (nat_le 1 (length digits) ≡ true) × IsFound (length digits) (number_of 10 digits) c rest s
+    by_test true e k = (e, behind-found (length digits) (number_of 10 digits) c rest s k)
+    by_test false e k = cc
 
-at_count-lawful : (digits : List ℕ) (letter : ℕ) (rest : List ℕ) → nat_le 1 (length digits) ≡ true → is_lawful letter (number_of 10 digits) ≡ true → number_of 10 digits ≤ length rest →
-    at_count digits (letter ∷ rest) ≡ Some (span_of (length digits) (number_of 10 digits) letter rest)
-at_count-lawful digits letter rest some lawful fits = rw some (behind-lawful (length digits) (number_of 10 digits) letter rest lawful fits)
+at_count-lawful : (digits : List ℕ) (c : ℕ) (letter : ItemLetter) (rest : List ℕ) → nat_le 1 (length digits) ≡ true → item_letter_of c ≡ Some letter → is_lawful (number_of 10 digits) ≡ true →
+    number_of 10 digits ≤ length rest → at_count digits (c ∷ rest) ≡ Some (span_of (length digits) (number_of 10 digits) letter rest)
+at_count-lawful digits c letter rest some read lawful fits = rw some (behind-lawful (length digits) (number_of 10 digits) c letter rest read lawful fits)
 
 -- the item of a text is that of a longer one
 item-longer : (xs ys : List ℕ) (s : CountedSpan) → counted_item_at xs ≡ Some s → counted_item_at (xs ++ ys) ≡ Some s
@@ -124,16 +133,18 @@ item-longer xs ys s h = by_behind (behind_count xs) refl
     by_behind : (behind : List ℕ) → behind_count xs ≡ behind → counted_item_at (xs ++ ys) ≡ Some s
     by_behind [] e =
         let none : None ≡ Some s = sym (ap (at_count (count_text xs)) e ∙ at_count-nil (count_text xs)) ∙ h in cc
-    by_behind (letter ∷ rest) e =
+    by_behind (c ∷ rest) e =
         let digits = count_text xs in
         let n = number_of 10 digits in
-        let k = at_count-found digits letter rest s (sym (ap (at_count digits) e) ∙ h) in
-        let same = stays_same xs ys letter rest e in
-        let fits : n ≤ length (rest ++ ys) = subst (λ l. n ≤ l) (sym (length-append rest ys)) (let room : n ≤ length rest = k.2 in omega arith) in
+        let k = at_count-found digits c rest s (sym (ap (at_count digits) e) ∙ h) in
+        let found = k.1 in
+        let letter = found.0 in
+        let same = stays_same xs ys c rest e in
+        let fits : n ≤ length (rest ++ ys) = subst (λ l. n ≤ l) (sym (length-append rest ys)) (let room : n ≤ length rest = found.3 in omega arith) in
         ap₂ at_count same.0 same.1
-        ∙ at_count-lawful digits letter (rest ++ ys) k.0 k.1 fits
-        ∙ ap (λ characters. Some (record { item = record { letter = letter; characters = characters }; taken = length digits + 1 + n })) (take-append-le n rest ys k.2)
-        ∙ ap Some (sym k.3)
+        ∙ at_count-lawful digits c letter (rest ++ ys) k.0 found.1 found.2 fits
+        ∙ ap (λ characters. Some (record { item = record { letter = letter; characters = characters }; taken = length digits + 1 + n })) (take-append-le n rest ys found.3)
+        ∙ ap Some (sym found.4)
 
 count-behind : (xs : List ℕ) (letter : ℕ) (rest : List ℕ) → behind_count xs ≡ letter ∷ rest → length xs ≡ length (count_text xs) + 1 + length rest
 count-behind [] letter rest h = cc
@@ -154,24 +165,27 @@ item-front xs ys s h within = by_behind (behind_count xs) refl
   where
     longer : (more : List ℕ) → behind_count (xs ++ ys) ≡ more → length (count_text (xs ++ ys)) < s.taken
     longer [] e = let none : None ≡ Some s = sym (ap (at_count (count_text (xs ++ ys))) e ∙ at_count-nil (count_text (xs ++ ys))) ∙ h in cc
-    longer (letter ∷ rest) e =
-        let k = at_count-found (count_text (xs ++ ys)) letter rest s (sym (ap (at_count (count_text (xs ++ ys))) e) ∙ h) in
-        subst (λ (found : CountedSpan). length (count_text (xs ++ ys)) < found.taken) (sym k.3) (omega arith)
+    longer (c ∷ rest) e =
+        let k = at_count-found (count_text (xs ++ ys)) c rest s (sym (ap (at_count (count_text (xs ++ ys))) e) ∙ h) in
+        let found = k.1 in
+        subst (λ (span : CountedSpan). length (count_text (xs ++ ys)) < span.taken) (sym found.4) (omega arith)
 
     by_behind : (behind : List ℕ) → behind_count xs ≡ behind → counted_item_at xs ≡ Some s
     by_behind [] e = let all = count-all xs ys e in let more = longer (behind_count (xs ++ ys)) refl in absurd (omega arith)
-    by_behind (letter ∷ rest) e =
+    by_behind (c ∷ rest) e =
         let digits = count_text xs in
         let n = number_of 10 digits in
-        let same = stays_same xs ys letter rest e in
-        let k = at_count-found digits letter (rest ++ ys) s (sym (ap₂ at_count same.0 same.1) ∙ h) in
-        let taken : s.taken ≡ length digits + 1 + n = ap (λ (found : CountedSpan). found.taken) k.3 in
-        let long = count-behind xs letter rest e in
+        let same = stays_same xs ys c rest e in
+        let k = at_count-found digits c (rest ++ ys) s (sym (ap₂ at_count same.0 same.1) ∙ h) in
+        let found = k.1 in
+        let letter = found.0 in
+        let taken : s.taken ≡ length digits + 1 + n = ap (λ (span : CountedSpan). span.taken) found.4 in
+        let long = count-behind xs c rest e in
         let fits : n ≤ length rest = omega arith in
         ap (at_count digits) e
-        ∙ at_count-lawful digits letter rest k.0 k.1 fits
+        ∙ at_count-lawful digits c letter rest k.0 found.1 found.2 fits
         ∙ ap (λ characters. Some (record { item = record { letter = letter; characters = characters }; taken = length digits + 1 + n })) (sym (take-append-le n rest ys fits))
-        ∙ ap Some (sym k.3)
+        ∙ ap Some (sym found.4)
 
 -- what is left of an item lies in the field, or the text ends with it
 extent-left : (spot : Spot) (left : ℕ) (field rest : List ℕ) → IsExtent spot left field rest → (left ≤ length field) ⊎ (rest ≡ [])

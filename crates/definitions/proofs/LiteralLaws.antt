@@ -14,13 +14,15 @@ use Rattle.definitions.specs.CountedItems.{CountedItem, bits_needed}
 use Rattle.definitions.specs.Symbols.{Number, Value, TooGreat}
 use Rattle.definitions.specs.Expressions.{Sign, Literal, OfNumber, OfCountedItem}
 use Rattle.definitions.specs.Forms.{characters_number}
-use Rattle.definitions.specs.Coding.{fits, coded, coded_in, counted_item_in, counted_item_bits, blanks}
+use Rattle.definitions.specs.Coding.{fits, coded, coded_in, counted_item_in, counted_item_bits, at_left, justified, blanks}
 use Rattle.definitions.specs.Literals.{literal_word, literal_number_bits, signed_number, most_literals, with_word, with_literals, literal_words, operand_literals}
 use Rattle.definitions.specs.Settled.{Settled}
+use Rattle.definitions.specs.declared.item_letter.ItemLetter.{ItemLetter}
+use Rattle.definitions.specs.declared.item_letter.ItemLetter.TheVariants.{H, A, L, R, C}
 use Rattle.definitions.proofs.WordLaws.{pow_positive, picked_cond}
 
 -- a coded value is below the power
-coded-below : (width : ℕ) (value : ℤ) → fits width value ≡ true → coded width value < 2 ^ width
+pub coded-below : (width : ℕ) (value : ℤ) → fits width value ≡ true → coded width value < 2 ^ width
 coded-below width (pos n) e = let p = pow_positive width in let small : n ≤ 2 ^ width - 1 = leb-true n (2 ^ width - 1) e in omega arith
 coded-below width (negsuc n) e = let p = pow_positive width in omega arith
 
@@ -62,31 +64,33 @@ shifted_below cs bits more e =
     let split : 2 ^ bits ≡ 2 ^ (6 * length cs) * 2 ^ more = ap (λ k. 2 ^ k) (sym e) ∙ pow-add 2 (6 * length cs) more in
     rw split (mul-lt-mul_of_pos_right (characters_number-below cs) (pow_positive more))
 
-right_below : (cs : List ℕ) (bits : ℕ) → 6 * length cs ≤ bits → characters_number cs < 2 ^ bits
+pub right_below : (cs : List ℕ) (bits : ℕ) → 6 * length cs ≤ bits → characters_number cs < 2 ^ bits
 right_below cs bits h = let below = characters_number-below cs in let up : 2 ^ (6 * length cs) ≤ 2 ^ bits = pow_mono h in omega arith
 
-filled_length : (cs : List ℕ) (count : ℕ) → length cs ≤ count → length (cs ++ blanks (count - length cs)) ≡ count
+-- characters at the left of a field that has room for them
+left_below : (width : ℕ) (cs : List ℕ) → 6 * length cs ≤ width → at_left width cs < 2 ^ width
+left_below width cs room = shifted_below cs width (width - 6 * length cs) (omega arith)
+
+pub filled_length : (cs : List ℕ) (count : ℕ) → length cs ≤ count → length (cs ++ blanks (count - length cs)) ≡ count
 filled_length cs count h = length-append cs (blanks (count - length cs)) ∙ ap (λ n. length cs + n) (length-replicate (count - length cs) 32) ∙ (omega arith)
 
 led_length : (cs : List ℕ) (count : ℕ) → length cs ≤ count → length (blanks (count - length cs) ++ cs) ≡ count
 led_length cs count h = length-append (blanks (count - length cs)) cs ∙ ap (λ n. n + length cs) (length-replicate (count - length cs) 32) ∙ (omega arith)
 
--- the four ways an item stands in a field
-counted_item_bits-below : (width : ℕ) (item : CountedItem) → 6 * length item.characters ≤ 6 * (width / 6) → counted_item_bits width item < 2 ^ width
-counted_item_bits-below width item room =
-    let cs = item.characters in
-    let count = width / 6 in
-    let within : 6 * count ≤ width = omega arith in
-    let few : length cs ≤ count = omega arith in
-    picked_cond (λ n. n < 2 ^ width) (nat_eq item.letter 72) _ _
-    (shifted_below (cs ++ blanks (count - length cs)) width (width - 6 * count) (ap (λ n. 6 * n + (width - 6 * count)) (filled_length cs count few) ∙ (omega arith)))
-    (picked_cond (λ n. n < 2 ^ width) (nat_eq item.letter 65) _ _
-    (right_below (blanks (count - length cs) ++ cs) width (rw (led_length cs count few) within))
-    (picked_cond (λ n. n < 2 ^ width) (nat_eq item.letter 82) _ _
-    (right_below cs width (omega arith))
-    (shifted_below cs width (width - 6 * length cs) (omega arith))))
+-- the five ways that characters stand in a field that has room for them
+justified-below : (letter : ItemLetter) (width : ℕ) (cs : List ℕ) → length cs ≤ width / 6 → justified letter width cs < 2 ^ width
+justified-below H width cs few = left_below width (cs ++ blanks (width / 6 - length cs)) (omega (arith, filled_length cs (width / 6) few))
+justified-below A width cs few = right_below (blanks (width / 6 - length cs) ++ cs) width (omega (arith, led_length cs (width / 6) few))
+justified-below L width cs few = left_below width cs (omega arith)
+justified-below R width cs few = right_below cs width (omega arith)
+justified-below C width cs few = left_below width cs (omega arith)
 
-needed_more : (item : CountedItem) → 6 * length item.characters ≤ bits_needed item
+-- an item that stands in a field
+pub counted_item_bits-below : (width : ℕ) (item : CountedItem) → 6 * length item.characters ≤ 6 * (width / 6) → counted_item_bits width item < 2 ^ width
+counted_item_bits-below width item room = justified-below item.letter width item.characters (omega arith)
+
+-- an item needs the bits of its characters, or more
+pub needed_more : (item : CountedItem) → 6 * length item.characters ≤ bits_needed item
 needed_more item = omega arith
 
 counted_item_in-below : (width : ℕ) (item : CountedItem) (b : Bool) → nat_le (bits_needed item) (6 * (width / 6)) ≡ b → unwrap_or (counted_item_in width item) 0 < 2 ^ width

@@ -1,8 +1,10 @@
 -- How a value and an item stand in a field of so many bits (COMPASS 60492600, data generation; negative numbers by ones' complement).
-use Rattle.std.specs.Prelude.{ℕ, ◌+◌, ◌-◌, ◌*◌, ◌/◌, ◌^◌, ◌==◌, List, ◌++◌, Option, Some, None, Bool, nat_le, length, replicate, ℤ, pos, negsuc, unsigned_abs, if◌then◌else◌}
+use Rattle.std.specs.Prelude.{ℕ, ◌+◌, ◌-◌, ◌*◌, ◌/◌, ◌^◌, List, ◌++◌, Option, Some, None, Bool, nat_le, length, replicate, ℤ, pos, negsuc, unsigned_abs, if◌then◌else◌}
 use Rattle.definitions.specs.Characters.{blank}
-use Rattle.definitions.specs.CountedItems.{letter_A, letter_H, letter_R, CountedItem, bits_needed}
+use Rattle.definitions.specs.CountedItems.{CountedItem, bits_needed}
 use Rattle.definitions.specs.Forms.{characters_number}
+use Rattle.definitions.specs.declared.item_letter.ItemLetter.{ItemLetter}
+use Rattle.definitions.specs.declared.item_letter.ItemLetter.TheVariants.{H, A, L, R, C}
 
 -- a value fits where its size is at most the greatest of the field
 abbrev pub fits : ℕ → ℤ → Bool
@@ -21,16 +23,22 @@ coded_in width value = if fits width value then Some (coded width value) else No
 abbrev pub blanks : ℕ → List ℕ
 blanks count = replicate count blank
 
--- H: then blanks, then zero bits; A: behind blanks; L: then zero bits; R: behind zero bits; C: as L, with 12 zero bits at least
+-- characters at the left of a field of so many bits, and zero bits behind them
+abbrev pub at_left : ℕ → List ℕ → ℕ
+at_left width characters = characters_number characters * 2 ^ (width - 6 * length characters)
+
+-- the characters of an item in a field of so many bits, as its letter says: H at the left and A at the right, filled with blanks;
+-- L at the left and R at the right, filled with zero bits; C as L
+abbrev pub justified : ItemLetter → ℕ → List ℕ → ℕ
+justified H width characters = at_left width (characters ++ blanks (width / 6 - length characters))
+justified A width characters = characters_number (blanks (width / 6 - length characters) ++ characters)
+justified L width characters = at_left width characters
+justified R width characters = characters_number characters
+justified C width characters = at_left width characters
+
+-- an item that has room in a field of so many bits
 abbrev pub counted_item_bits : ℕ → CountedItem → ℕ
-counted_item_bits width item =
-    let count = width / 6 in
-    let n = length item.characters in
-    let codes_alone = characters_number item.characters in
-    if item.letter == letter_H then characters_number (item.characters ++ blanks (count - n)) * 2 ^ (width - 6 * count)
-    else if item.letter == letter_A then characters_number (blanks (count - n) ++ item.characters)
-    else if item.letter == letter_R then codes_alone
-    else codes_alone * 2 ^ (width - 6 * n)
+counted_item_bits width item = justified item.letter width item.characters
 
 -- an item that is all of a field, if it has room there
 abbrev pub counted_item_in : ℕ → CountedItem → Option ℕ

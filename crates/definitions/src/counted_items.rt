@@ -1,13 +1,14 @@
 //! Counted items where they are written: a count, one of H A L R C, and that many characters
 //! (COMPASS 60492600, data items). The extent of a field and the pieces of an expression are both
 //! told by them.
-ghost use Rattle.std.specs.Prelude.{◌≡◌, ◌≤◌, ◌<◌, ◌+◌, ◌^◌, ℕ, false, None, min, length, codes, option_map, IfSome};
+ghost use Rattle.std.specs.Prelude.{◌≡◌, ◌≤◌, ◌<◌, ◌+◌, ◌^◌, ℕ, false, None, min, length, option_map, IfSome};
 ghost use Rattle.std.specs.List.{prefix_len};
-ghost use Rattle.definitions.specs.Characters.{is_digit, is_among};
+ghost use Rattle.definitions.specs.Characters.{is_digit};
 ghost use Rattle.definitions.specs.Numerals.{number_of};
 ghost use Rattle.definitions.specs.CountedItems.{counted_item_at, counted_item_behind};
 ghost use Rattle.definitions.specs.ItemTexts.{span_as};
 
+use crate::item_letter::ItemLetter;
 use crate::item_text::{ItemSpan, ItemText};
 
 /// How many characters an item has at most, without its count and letter.
@@ -19,13 +20,6 @@ pub fn is_digit(c: u8) -> bool
     ensures { result ≡ is_digit c }
 {
     b'0' <= c && c <= b'9'
-}
-
-#[inline(always)]
-fn is_item_letter(c: u8) -> bool
-    ensures { result ≡ is_among c (codes "HALRC") }
-{
-    matches!(c, b'H' | b'A' | b'L' | b'R' | b'C')
 }
 
 /// How many digits begin a text.
@@ -62,13 +56,14 @@ fn item_behind(digits: usize, count: usize, text: &[u8]) -> Option<ItemSpan<'_>>
     ensures some { IfSome result (λ span. 0 < span.taken) }
     ensures within { IfSome result (λ span. span.taken ≤ digits + length text.now) }
 {
-    let (letter, rest) = text.split_first()?;
-    if !is_item_letter(*letter) || count < 1 || count > MOST_CHARACTERS || count > rest.len() {
+    let (c, rest) = text.split_first()?;
+    let letter = ItemLetter::read(*c)?;
+    if count < 1 || count > MOST_CHARACTERS || count > rest.len() {
         return None;
     }
     Some(ItemSpan {
         item: ItemText {
-            letter: *letter,
+            letter,
             characters: rest.split_at(count).0,
         },
         taken: digits + 1 + count,
@@ -82,7 +77,7 @@ fn begins_with_letter(text: &[u8]) -> bool
 {
     match text.split_first() {
         None => false,
-        Some((letter, _)) => is_item_letter(*letter),
+        Some((c, _)) => ItemLetter::read(*c).is_some(),
     }
 }
 

@@ -1,13 +1,13 @@
 //! A counted item as it is written (COMPASS 60492600, data items).
-ghost use Rattle.std.specs.Prelude.{◌≡◌, ◌≤◌, length, codes, true};
-ghost use Rattle.definitions.specs.Characters.{is_among};
+ghost use Rattle.std.specs.Prelude.{◌≤◌, length};
 
-/// A counted item as it is written: its letter, one of H A L R C, and its 1 to 100 characters.
+use crate::item_letter::ItemLetter;
+
+/// A counted item as it is written: its letter, and its 1 to 100 characters.
 #[derive(Clone, Copy)]
 pub struct ItemText<'a> {
-    pub letter: u8,
+    pub letter: ItemLetter,
     pub characters: &'a [u8],
-    ghost lettered: { is_among letter (codes "HALRC") ≡ true },
     ghost some: { 1 ≤ length characters.now },
     ghost few: { length characters.now ≤ 100 },
 }

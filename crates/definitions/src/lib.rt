@@ -13,6 +13,7 @@
 mod characters;
 mod counted_items;
 mod deck_kind;
+mod item_letter;
 mod item_text;
 mod letter;
 mod number_base;
@@ -38,6 +39,7 @@ pub use counted_items::{digit_count, is_digit, item_at};
 pub use deck_kind::DeckKind;
 pub use edit_laws::{agreement_lasts, bindings_are_enough};
 pub use field_laws::{fields_fill, fields_fit, instructions_fill_parcels};
+pub use item_letter::ItemLetter;
 pub use item_text::{ItemSpan, ItemText};
 pub use laws::{
     bases_are_sums, octal_reads_back, one_cut_into_fields, places_are_the_least, reads_the_grammar,

@@ -11,13 +11,15 @@ use Rattle.std.proofs.Math.Pow.{pow_mono}
 use Rattle.definitions.specs.Characters.{display_code_of}
 use Rattle.definitions.specs.CountedItems.{CountedItem, bits_needed}
 use Rattle.definitions.specs.Forms.{characters_number}
-use Rattle.definitions.specs.Coding.{counted_item_bits, counted_item_in, words_needed}
+use Rattle.definitions.specs.Coding.{at_left, blanks, counted_item_bits, counted_item_in, justified, words_needed}
 use Rattle.definitions.specs.Kinds.{word_bits}
 use Rattle.definitions.specs.declared.deck_kind.DeckKind.{DeckKind}
 use Rattle.definitions.specs.declared.deck_kind.DeckKind.TheVariants.{Rel, Abs, Periph}
+use Rattle.definitions.specs.declared.item_letter.ItemLetter.{ItemLetter}
+use Rattle.definitions.specs.declared.item_letter.ItemLetter.TheVariants.{H, A, L, R, C}
 use Rattle.definitions.specs.Words.{cut}
 use Rattle.definitions.proofs.WordLaws.{pow_positive}
-use Rattle.definitions.proofs.LiteralLaws.{characters_number-below}
+use Rattle.definitions.proofs.LiteralLaws.{characters_number-below, filled_length}
 use Rattle.expr_forms.specs.Joins.CodedItems.{in_places, is_at_end, filler}
 
 abbrev pub code_or_zero : ℕ → ℕ
@@ -83,12 +85,12 @@ behind_zeros : (n : ℕ) (cs : List ℕ) → characters_number (replicate n 58 +
 behind_zeros n cs = characters_number-append (replicate n 58) cs ∙ rw (zeros n) (omega arith)
 
 -- an item that stands at the end of a field is the number of its places
-abbrev EndsField : ℕ → List ℕ → ℕ → Type 0
-EndsField width cs letter = counted_item_bits width (record { letter = letter; characters = cs }) ≡ characters_number (in_places (width / 6) (record { letter = letter; characters = cs }))
+abbrev EndsField : ℕ → List ℕ → ItemLetter → Type 0
+EndsField width cs letter = justified letter width cs ≡ characters_number (in_places (width / 6) (record { letter = letter; characters = cs }))
 
 -- one that stands in front has behind it the bits that are no place
-abbrev BeginsField : ℕ → List ℕ → ℕ → Type 0
-BeginsField width cs letter = counted_item_bits width (record { letter = letter; characters = cs }) ≡ characters_number (in_places (width / 6) (record { letter = letter; characters = cs })) * 2 ^ (width % 6)
+abbrev BeginsField : ℕ → List ℕ → ItemLetter → Type 0
+BeginsField width cs letter = justified letter width cs ≡ characters_number (in_places (width / 6) (record { letter = letter; characters = cs })) * 2 ^ (width % 6)
 
 left_bits : (width : ℕ) → width - 6 * (width / 6) ≡ width % 6
 left_bits width = sym (mod-eq-sub-mul-div width 6)
@@ -104,19 +106,18 @@ shifted width cs room =
     ap (λ k. characters_number cs * 2 ^ k) bits ∙ ap (λ k. characters_number cs * k) (pow-add 2 (6 * n) (width % 6))
     ∙ (let e = before_zeros cs n in rw e (omega arith))
 
-bits-by_letter : (width : ℕ) (cs : List ℕ) (letter : ℕ) → length cs ≤ width / 6 → cond (is_at_end letter) (EndsField width cs letter) (BeginsField width cs letter)
-bits-by_letter width cs letter room =
-    elim (eqb_tells letter 72) [
-      | inl h ↦ let P = λ (l : ℕ). cond (is_at_end l) (EndsField width cs l) (BeginsField width cs l) in
-          subst P (sym h.1) (ap (λ k. characters_number (cs ++ replicate (width / 6 - length cs) 32) * 2 ^ k) (left_bits width))
-      | inr h ↦ elim (eqb_tells letter 65) [
-        | inl i ↦ let P = λ (l : ℕ). cond (is_at_end l) (EndsField width cs l) (BeginsField width cs l) in subst P (sym i.1) refl
-        | inr i ↦ elim (eqb_tells letter 82) [
-          | inl j ↦ let P = λ (l : ℕ). cond (is_at_end l) (EndsField width cs l) (BeginsField width cs l) in subst P (sym j.1) (sym (behind_zeros (width / 6 - length cs) cs))
-          | inr j ↦ rw (h.0, i.0, j.0) (shifted width cs room)
-        ]
-      ]
-    ]
+-- characters that fill all places
+filled : (width : ℕ) (cs : List ℕ) → length cs ≤ width / 6 → at_left width (cs ++ blanks (width / 6 - length cs)) ≡ characters_number (cs ++ blanks (width / 6 - length cs)) * 2 ^ (width % 6)
+filled width cs room =
+    ap (λ n. characters_number (cs ++ blanks (width / 6 - length cs)) * 2 ^ (width - 6 * n)) (filled_length cs (width / 6) room)
+    ∙ ap (λ k. characters_number (cs ++ blanks (width / 6 - length cs)) * 2 ^ k) (left_bits width)
+
+bits-by_letter : (width : ℕ) (cs : List ℕ) (letter : ItemLetter) → length cs ≤ width / 6 → cond (is_at_end letter) (EndsField width cs letter) (BeginsField width cs letter)
+bits-by_letter width cs H room = filled width cs room
+bits-by_letter width cs A room = refl
+bits-by_letter width cs L room = shifted width cs room
+bits-by_letter width cs R room = sym (behind_zeros (width / 6 - length cs) cs)
+bits-by_letter width cs C room = shifted width cs room
 
 pub counted_item_bits-at_end : (width : ℕ) (item : CountedItem) → length item.characters ≤ width / 6 → is_at_end item.letter ≡ true →
     counted_item_bits width item ≡ characters_number (in_places (width / 6) item)

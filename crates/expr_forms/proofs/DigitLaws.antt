@@ -68,7 +68,9 @@ digits-run (c ∷ cs) ended = by (is_digit c) refl ended (digits-run cs)
 -- behind its count an item has a letter
 ended-none : (digits count : ℕ) (rest : List ℕ) → is_ended rest ≡ true → counted_item_behind digits count rest ≡ None
 ended-none digits count [] ended = refl
-ended-none digits count (c ∷ cs) ended = grind arith
+ended-none digits count (c ∷ cs) ended =
+    let is_comma : c ≡ comma = grind arith in
+    ap (λ (d : ℕ). counted_item_behind digits count (d ∷ cs)) is_comma
 
 -- no item begins digits behind which a subfield ends
 digits-no_item : (text : List ℕ) → is_ended (drop (prefix_len is_digit text) text) ≡ true → counted_item_at text ≡ None

@@ -1,14 +1,15 @@
 -- The counted item that begins a text begins each front of the text that holds it.
-use Rattle.std.proofs.Common.{◌≡◌, ℕ, zero, suc, ◌+◌, ◌-◌, ◌<◌, ◌≤◌, min, List, [], ◌∷◌, Bool, true, false, cond, ◌&&◌, nat_le, nat_lt, if◌then◌else◌, Option, Some, None, length, take, drop, codes, refl, sym, ◌∙◌, ap, ap₂, subst, arith, ltb-true, ltb-false}
+use Rattle.std.proofs.Common.{◌≡◌, ℕ, zero, suc, ◌+◌, ◌-◌, ◌<◌, ◌≤◌, min, List, [], ◌∷◌, Bool, true, false, cond, ◌&&◌, nat_le, nat_lt, if◌then◌else◌, Option, Some, None, length, take, drop, refl, sym, ◌∙◌, ap, ap₂, subst, arith, ltb-true, ltb-false}
 use Rattle.std.specs.List.{prefix_len}
 use Rattle.std.proofs.lemmas.Bool.{leb-true, le-leb}
 use Rattle.std.proofs.lemmas.List.{drop-take, length-take, take-take}
 use Rattle.std.proofs.lemmas.List.Folds.{length-prefix_len}
 use Rattle.std.proofs.lemmas.List.Sums.{prefix_len-le-length}
 use Rattle.std.proofs.Math.Seq.{drop-length, take-length}
-use Rattle.definitions.specs.Characters.{is_digit, is_among}
+use Rattle.definitions.specs.Characters.{is_digit}
 use Rattle.definitions.specs.Numerals.{number_of}
-use Rattle.definitions.specs.CountedItems.{CountedSpan, counted_item_behind, counted_item_at}
+use Rattle.definitions.specs.CountedItems.{CountedSpan, item_letter_of, counted_item_with, counted_item_behind, counted_item_at}
+use Rattle.definitions.specs.declared.item_letter.ItemLetter.{ItemLetter}
 
 -- an item has at most so many characters with its count and letter
 abbrev pub IsWithin : Option CountedSpan → ℕ → Type 0
@@ -30,45 +31,58 @@ digits-front (suc n) (c ∷ cs) = by (is_digit c) (digits-front n cs)
     by true before = omega arith
     by false before = omega arith
 
+-- the item of a letter and these characters
+abbrev span_of : ℕ → ℕ → ItemLetter → List ℕ → CountedSpan
+span_of digits n letter characters = record { item = record { letter = letter; characters = characters }; taken = digits + 1 + n }
+
 -- no item ends within its count
 behind-none : (digits n m : ℕ) (rest : List ℕ) → m ≤ digits → IsWithin (counted_item_behind digits n rest) m → counted_item_behind digits n rest ≡ None
 behind-none digits n m [] few h = refl
-behind-none digits n m (letter ∷ rest) few h = by (is_among letter (codes "HALRC") && nat_le 1 n && nat_le n 100 && nat_le n (length rest)) h
+behind-none digits n m (c ∷ rest) few h = by_letter (item_letter_of c) h
   where
-    item : CountedSpan
-    item = record { item = record { letter = letter; characters = take n rest }; taken = digits + 1 + n }
+    by : (letter : ItemLetter) (b : Bool) → IsWithin (if b then Some (span_of digits n letter (take n rest)) else None) m →
+        (if b then Some (span_of digits n letter (take n rest)) else None) ≡ None
+    by letter true h = absurd (omega arith)
+    by letter false h = refl
 
-    by : (b : Bool) → IsWithin (if b then Some item else None) m → (if b then Some item else None) ≡ None
-    by true h = absurd (omega arith)
-    by false h = refl
+    by_letter : (letter : Option ItemLetter) → IsWithin (counted_item_with digits n rest letter) m → counted_item_with digits n rest letter ≡ None
+    by_letter None h = refl
+    by_letter (Some letter) h = by letter (nat_le 1 n && nat_le n 100 && nat_le n (length rest)) h
 
--- an item that ends in time stands in the front too
-behind-front : (digits n m : ℕ) (rest : List ℕ) → IsWithin (counted_item_behind digits n rest) (digits + m) →
-    counted_item_behind digits n (take m rest) ≡ counted_item_behind digits n rest
-behind-front digits n zero rest h = sym (behind-none digits n (digits + 0) rest (omega arith) h)
-behind-front digits n (suc m) [] h = refl
-behind-front digits n (suc m) (letter ∷ rest) h = by (is_among letter (codes "HALRC") && nat_le 1 n && nat_le n 100) (nat_le n (length rest)) refl h
+-- an item that ends in time has its characters in the front too
+with-front : (digits n m : ℕ) (letter : ItemLetter) (rest : List ℕ) → IsWithin (counted_item_with digits n rest (Some letter)) (digits + suc m) →
+    counted_item_with digits n (take m rest) (Some letter) ≡ counted_item_with digits n rest (Some letter)
+with-front digits n m letter rest h = by (nat_le 1 n && nat_le n 100) (nat_le n (length rest)) refl h
   where
-    item_of : List ℕ → CountedSpan
-    item_of characters = record { item = record { letter = letter; characters = characters }; taken = digits + 1 + n }
-
-    by : (lawful fits : Bool) → nat_le n (length rest) ≡ fits → IsWithin (if lawful && fits then Some (item_of (take n rest)) else None) (digits + suc m) →
-        (if lawful && nat_le n (length (take m rest)) then Some (item_of (take n (take m rest))) else None)
-        ≡ (if lawful && fits then Some (item_of (take n rest)) else None)
+    by : (lawful fits : Bool) → nat_le n (length rest) ≡ fits → IsWithin (if lawful && fits then Some (span_of digits n letter (take n rest)) else None) (digits + suc m) →
+        (if lawful && nat_le n (length (take m rest)) then Some (span_of digits n letter (take n (take m rest))) else None)
+        ≡ (if lawful && fits then Some (span_of digits n letter (take n rest)) else None)
     by false fits e h = refl
     by true true e h =
         let fits : n ≤ length rest = leb-true n (length rest) e in
         let long : length (take m rest) ≡ min m (length rest) = length-take m rest in
-        ap₂ (λ t characters. if t then Some (item_of characters) else None) (le-leb n (length (take m rest)) (omega arith)) (take-take n m rest (omega arith))
+        ap₂ (λ t characters. if t then Some (span_of digits n letter characters) else None) (le-leb n (length (take m rest)) (omega arith)) (take-take n m rest (omega arith))
     by true false e h = either (nat_le n (length (take m rest))) refl
       where
-        either : (b : Bool) → nat_le n (length (take m rest)) ≡ b → (if b then Some (item_of (take n (take m rest))) else None) ≡ None
+        either : (b : Bool) → nat_le n (length (take m rest)) ≡ b → (if b then Some (span_of digits n letter (take n (take m rest))) else None) ≡ None
         either true k =
             let fits : n ≤ length (take m rest) = leb-true n (length (take m rest)) k in
             let long : length (take m rest) ≡ min m (length rest) = length-take m rest in
             let known : true ≡ false = sym (le-leb n (length rest) (omega arith)) ∙ e in
             cc
         either false k = refl
+
+-- an item that ends in time stands in the front too
+behind-front : (digits n m : ℕ) (rest : List ℕ) → IsWithin (counted_item_behind digits n rest) (digits + m) →
+    counted_item_behind digits n (take m rest) ≡ counted_item_behind digits n rest
+behind-front digits n zero rest h = sym (behind-none digits n (digits + 0) rest (omega arith) h)
+behind-front digits n (suc m) [] h = refl
+behind-front digits n (suc m) (c ∷ rest) h = by_letter (item_letter_of c) h
+  where
+    by_letter : (letter : Option ItemLetter) → IsWithin (counted_item_with digits n rest letter) (digits + suc m) →
+        counted_item_with digits n (take m rest) letter ≡ counted_item_with digits n rest letter
+    by_letter None h = refl
+    by_letter (Some letter) h = with-front digits n m letter rest h
 
 -- no item begins a text of digits alone
 item-digits : (text : List ℕ) → prefix_len is_digit text ≡ length text → counted_item_at text ≡ None

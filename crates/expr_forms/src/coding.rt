@@ -9,10 +9,10 @@ ghost use Rattle.definitions.specs.Coding.{coded_in, counted_item_bits, counted_
 ghost use Rattle.definitions.specs.Kinds.{word_bits};
 ghost use Rattle.definitions.specs.Literals.{literal_word};
 ghost use Rattle.definitions.specs.Words.{cut};
-ghost use Rattle.expr_forms.specs.Joins.CodedItems.{in_places};
+ghost use Rattle.expr_forms.specs.Joins.CodedItems.{filler, in_places, is_at_end};
 
 use crate::counted_item::CountedItem;
-use definitions::{DeckKind, Letter, display_of};
+use definitions::{DeckKind, ItemLetter, Letter, display_of};
 
 /// How many bits a character has.
 const CHARACTER_BITS: usize = 6;
@@ -88,7 +88,7 @@ pub fn counted_item_in(width: usize, item: &CountedItem) -> Option<u64>
         return None;
     }
     let number = number_in_places(item, places, 0, places);
-    if item.letter().is_at_end() {
+    if is_at_end(item.letter()) {
         Some(number)
     } else {
         Some(number << (width % CHARACTER_BITS))
@@ -130,16 +130,33 @@ fn character_at(item: &CountedItem, places: usize, place: usize) -> u8
     let characters = item.characters();
     let letter = item.letter();
     let others = places - characters.len();
-    if letter.is_at_end() {
+    if is_at_end(letter) {
         if place < others {
-            letter.filler()
+            filler(letter)
         } else {
             characters[place - others]
         }
     } else if place < characters.len() {
         characters[place]
     } else {
-        letter.filler()
+        filler(letter)
+    }
+}
+
+/// Whether the characters of an item stand at the end of their field.
+fn is_at_end(letter: ItemLetter) -> bool
+    ensures { result ≡ is_at_end letter }
+{
+    matches!(letter, ItemLetter::A | ItemLetter::R)
+}
+
+/// The character that fills the places beside an item's: a blank, or the one of code 0 for zero bits.
+fn filler(letter: ItemLetter) -> u8
+    ensures { result ≡ filler letter }
+{
+    match letter {
+        ItemLetter::H | ItemLetter::A => b' ',
+        ItemLetter::L | ItemLetter::R | ItemLetter::C => b':',
     }
 }
 

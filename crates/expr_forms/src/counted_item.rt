@@ -3,11 +3,10 @@ ghost use Rattle.std.specs.Prelude.{◌≡◌, ◌≤◌, length};
 ghost use Rattle.definitions.specs.CountedItems.{bits_needed};
 ghost use Rattle.definitions.specs.Coding.{words_needed};
 ghost use Rattle.definitions.specs.Kinds.{word_bits};
-ghost use Rattle.expr_forms.specs.Joins.CodedItems.{letter_character, item_of};
+ghost use Rattle.expr_forms.specs.Joins.CodedItems.{item_of};
 ghost use Rattle.definitions.specs.ItemTexts.{item_as};
 
-use crate::item_letter::ItemLetter;
-use definitions::{DeckKind, ItemText};
+use definitions::{DeckKind, ItemLetter, ItemText};
 use std::marker::Model;
 
 /// How many characters an item has at most.
@@ -24,11 +23,10 @@ pub struct CountedItem<'a> {
 impl<'a> Model for CountedItem<'a> {
     ghost use Rattle.std.specs.Prelude.{◌≤◌, length};
     ghost use Rattle.definitions.specs.CountedItems.{CountedItem};
-    ghost use Rattle.expr_forms.specs.Joins.CodedItems.{letter_character};
 
     ghost Value = { CountedItem };
 
-    ghost view = { λ i. record { letter = letter_character i.letter; characters = i.characters.now } };
+    ghost view = { λ i. record { letter = i.letter; characters = i.characters.now } };
 
     ghost invariant = { λ i. (1 ≤ length i.characters.now) × (length i.characters.now ≤ 100) };
 }
@@ -50,14 +48,14 @@ impl<'a> CountedItem<'a> {
     pub fn of_text(item: ItemText<'a>) -> CountedItem<'a>
         ensures { result ≡ item_as item.entry }
     {
-        match CountedItem::read(item.letter, item.characters) {
-            Some(item) => item,
-            None => unreachable!(),
+        CountedItem {
+            letter: item.letter,
+            characters: item.characters,
         }
     }
 
     pub fn letter(&self) -> ItemLetter
-        ensures { letter_character result ≡ self.now.letter }
+        ensures { result ≡ self.now.letter }
     {
         self.letter
     }

@@ -46,7 +46,6 @@ mod values;
 // How values and counted items are coded.
 mod coding;
 mod counted_item;
-mod item_letter;
 
 // Variable fields that are no instruction's.
 mod base_fields;
@@ -78,7 +77,6 @@ pub use element_lists::{Literals, Symbols};
 pub use elements::{Element, Literal, Sign};
 pub use expressions::Expr;
 pub use forms::{Form, Names, Part, Relocation};
-pub use item_letter::ItemLetter;
 pub use kept_expressions::KeptExpr;
 pub use kept_fields::{KeptBits, KeptData};
 pub use kept_shapes::{KeptField, KeptShape};

@@ -10,26 +10,20 @@ ghost use Rattle.definitions.specs.ItemTexts.{item_as};
 ghost use Rattle.expr_forms.specs.Joins.Elements.{literal_as, element_as};
 ghost use Rattle.expr_forms.specs.Joins.ElementLists.{elements_in, item_alone};
 
+use crate::counted_item::CountedItem;
 use crate::elements::{Element, Literal, Sign};
 use crate::expressions::Expr;
 use crate::links::Links;
 use definitions::{ItemText, Letter, NumberBase};
 
-/// How many characters an item in a word has at most.
-const MOST_IN_WORD: usize = 10;
-
-/// The same for the letter C, behind whose characters two more places are zero.
-const MOST_WITH_C: usize = 8;
+/// How many bits a word has.
+const WORD_BITS: usize = 60;
 
 /// Whether an item goes into a word of 60 bits.
 fn fits_word(item: ItemText<'_>) -> bool
     ensures { result ≡ nat_le (bits_needed (item_as item.entry)) 60 }
 {
-    if item.letter == b'C' {
-        item.characters.len() <= MOST_WITH_C
-    } else {
-        item.characters.len() <= MOST_IN_WORD
-    }
+    CountedItem::of_text(item).bits_needed() <= WORD_BITS
 }
 
 fn is_allowed_literal(literals: bool, literal: Literal<'_>) -> bool

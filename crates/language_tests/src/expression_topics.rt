@@ -102,7 +102,7 @@ fn number(answer: &mut Answer, number: &Number) {
 }
 
 fn item(answer: &mut Answer, item: &ItemText<'_>) {
-    answer.bare(&[item.letter]);
+    answer.debug(&item.letter);
     answer.quoted(item.characters)
 }
 

@@ -71,7 +71,7 @@ fn datum(answer: &mut Answer, datum: &Datum<'_>) {
             }
         }
         Datum::Item(item) => {
-            answer.bare(&[item.letter]);
+            answer.debug(&item.letter);
             answer.quoted(item.characters)
         }
         Datum::Expression(expression) => {
