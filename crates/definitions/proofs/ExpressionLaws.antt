@@ -2,10 +2,10 @@
 use Rattle.std.proofs.Common.{◌≡◌, inl, inr, List, [], ◌∷◌, ◌++◌, Option, Some, None, refl, sym, ◌∙◌, ap, subst, append_assoc}
 use Rattle.std.specs.Prelude.{codes}
 use Rattle.definitions.specs.Pieces.{Plus, Minus, Star, Equals, Piece, IsMark, IsCountedItem, Plain}
-use Rattle.definitions.specs.Expressions.{Sign, NoSign, PlusSign, MinusSign, OfNumber, OfCountedItem, Element, ANumber, ACountedItem, ASymbol, ARegister, LocationCounter, OriginCounter, ALiteral, Operator, Add, Subtract, OperatorElement, Term, Expression, ElementOf, pairs_of, Grouped, grouped, with_sign, expression_of}
+use Rattle.definitions.specs.Expressions.{Sign, NoSign, PlusSign, MinusSign, OfNumber, OfCountedItem, Element, ANumber, ACountedItem, ASymbol, ARegister, LocationCounter, OriginCounter, ALiteral, Operator, Add, Subtract, OperatorElement, Term, Expression, Grouped, grouped, with_sign, expression_of}
 use Rattle.definitions.specs.Grammar.{sign_pieces, IsElement, operator_of, Spells}
 use Rattle.definitions.specs.declared.number_base.NumberBase.{NumberBase}
-use Rattle.definitions.proofs.GrammarLaws.{AreLinks, StartsWithElement, pairs_of-read, pairs_of-spelt, pairs_of-start}
+use Rattle.definitions.proofs.GrammarLaws.{AreLinks, StartsWithElement, pairs_from-read, pairs_of-spelt, pairs_from-start, pairs_from}
 use Rattle.definitions.proofs.TermLaws.{JoinsTerms, AreJoined, links_in, term_of, IsGrouping, grouped-groups, onto_grouped-term, grouped-links_in, pieces_before, AreFactors-pairs, AreFactors-joined, AreLinks-factors, AreTerms-pairs, AreTerms-joined, AreLinks-terms}
 
 -- the expression with this sign and these terms
@@ -44,27 +44,27 @@ Spells-grouped base sign pairs pieces e (element, more, front, rest, starts, spl
 
 -- what is read behind a sign is spelt behind it
 pub Spells-with_sign : (base : NumberBase) (sign : Sign) (pieces : List Piece) (e : Expression) (read : Option (List OperatorElement)) →
-    pairs_of base (ElementOf (operator_of sign)) pieces ≡ read → with_sign sign read ≡ Some e → Spells base e (sign_pieces sign ++ pieces)
+    pairs_from base (operator_of sign) pieces ≡ read → with_sign sign read ≡ Some e → Spells base e (sign_pieces sign ++ pieces)
 Spells-with_sign base sign pieces e None pairs expression = cc
 Spells-with_sign base sign pieces e (Some l) pairs expression =
-    Spells-grouped base sign l pieces e (pairs_of-read base (ElementOf (operator_of sign)) pieces l pairs) expression
+    Spells-grouped base sign l pieces e (pairs_from-read base (operator_of sign) pieces l pairs) expression
 
 -- what is read is spelt
 pub Spells-expression_of : (base : NumberBase) (pieces : List Piece) (e : Expression) → expression_of base pieces ≡ Some e → Spells base e pieces
-Spells-expression_of base (IsMark Plus ∷ pieces) e read = Spells-with_sign base PlusSign pieces e (pairs_of base (ElementOf Add) pieces) refl read
-Spells-expression_of base (IsMark Minus ∷ pieces) e read = Spells-with_sign base MinusSign pieces e (pairs_of base (ElementOf Subtract) pieces) refl read
-Spells-expression_of base pieces e read = Spells-with_sign base NoSign pieces e (pairs_of base (ElementOf Add) pieces) refl read
+Spells-expression_of base (IsMark Plus ∷ pieces) e read = Spells-with_sign base PlusSign pieces e (pairs_from base Add pieces) refl read
+Spells-expression_of base (IsMark Minus ∷ pieces) e read = Spells-with_sign base MinusSign pieces e (pairs_from base Subtract pieces) refl read
+Spells-expression_of base pieces e read = Spells-with_sign base NoSign pieces e (pairs_from base Add pieces) refl read
 
 -- pieces that are spelt like pieces without a sign are read without one
 pub without_sign : (base : NumberBase) (other front rest : List Piece) → front ≡ other →
-    expression_of base (other ++ rest) ≡ with_sign NoSign (pairs_of base (ElementOf Add) (other ++ rest)) →
-    expression_of base (front ++ rest) ≡ with_sign NoSign (pairs_of base (ElementOf Add) (front ++ rest))
+    expression_of base (other ++ rest) ≡ with_sign NoSign (pairs_from base Add (other ++ rest)) →
+    expression_of base (front ++ rest) ≡ with_sign NoSign (pairs_from base Add (front ++ rest))
 without_sign base other front rest spelt read =
-    subst (λ (p : List Piece). expression_of base (p ++ rest) ≡ with_sign NoSign (pairs_of base (ElementOf Add) (p ++ rest))) (sym spelt) read
+    subst (λ (p : List Piece). expression_of base (p ++ rest) ≡ with_sign NoSign (pairs_from base Add (p ++ rest))) (sym spelt) read
 
 -- an element begins with no sign
 pub expression_of-element : (base : NumberBase) (element : Element) (front rest : List Piece) → IsElement base element front →
-    expression_of base (front ++ rest) ≡ with_sign NoSign (pairs_of base (ElementOf Add) (front ++ rest))
+    expression_of base (front ++ rest) ≡ with_sign NoSign (pairs_from base Add (front ++ rest))
 expression_of-element base (ANumber number) front rest (text, run, spelt) = without_sign base (Plain text ∷ []) front rest spelt refl
 expression_of-element base (ACountedItem item) front rest spelt = without_sign base (IsCountedItem item ∷ []) front rest spelt refl
 expression_of-element base (ASymbol name) front rest (text, run, spelt) = without_sign base (Plain text ∷ []) front rest spelt refl
@@ -78,7 +78,7 @@ expression_of-element base (ALiteral (OfCountedItem item)) front rest spelt = wi
 
 -- an expression is read behind its sign
 pub expression_of-signed : (base : NumberBase) (sign : Sign) (element : Element) (front rest : List Piece) → IsElement base element front →
-    expression_of base (sign_pieces sign ++ (front ++ rest)) ≡ with_sign sign (pairs_of base (ElementOf (operator_of sign)) (front ++ rest))
+    expression_of base (sign_pieces sign ++ (front ++ rest)) ≡ with_sign sign (pairs_from base (operator_of sign) (front ++ rest))
 expression_of-signed base NoSign element front rest is = expression_of-element base element front rest is
 expression_of-signed base PlusSign element front rest is = refl
 expression_of-signed base MinusSign element front rest is = refl
@@ -88,9 +88,9 @@ pub expression_of-spelt : (base : NumberBase) (pieces : List Piece) (e : Express
 expression_of-spelt base pieces e (first, others, front, rest, terms, operator, spelt, (start, more, split, is, factors), are) =
     let pairs : AreLinks base (first.factors ++ links_in others) (more ++ rest) =
     AreFactors-pairs base first.factors (links_in others) more rest factors (AreTerms-pairs base others rest are) in
-    let read : pairs_of base (ElementOf (operator_of e.sign)) (start ++ (more ++ rest)) ≡ Some (links_in (first ∷ others)) =
-    subst (λ (o : Operator). pairs_of base (ElementOf o) (start ++ (more ++ rest)) ≡ Some (links_in (first ∷ others))) operator
-    (pairs_of-start base first.operator first.element (first.factors ++ links_in others) start (more ++ rest) is pairs
+    let read : pairs_from base (operator_of e.sign) (start ++ (more ++ rest)) ≡ Some (links_in (first ∷ others)) =
+    subst (λ (o : Operator). pairs_from base o (start ++ (more ++ rest)) ≡ Some (links_in (first ∷ others))) operator
+    (pairs_from-start base first.operator first.element (first.factors ++ links_in others) start (more ++ rest) is pairs
     (pairs_of-spelt base (first.factors ++ links_in others) (more ++ rest) pairs)) in
     let joined : AreJoined (first ∷ others) =
     (subst JoinsTerms (sym operator) (operator_of-joins e.sign), AreFactors-joined base first.factors more factors, AreTerms-joined base others rest are) in

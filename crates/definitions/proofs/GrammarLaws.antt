@@ -5,9 +5,23 @@ use Rattle.definitions.specs.Characters.{same_text}
 use Rattle.definitions.proofs.TextLaws.{same_text-true}
 use Rattle.definitions.specs.Pieces.{Mark, Plus, Minus, Star, Slash, Equals, Piece, IsMark, IsCountedItem, Plain}
 use Rattle.definitions.specs.Symbols.{Register, register_of, is_symbol, Number, number_read}
-use Rattle.definitions.specs.Expressions.{Sign, NoSign, PlusSign, MinusSign, OfNumber, OfCountedItem, Element, ANumber, ACountedItem, ASymbol, ARegister, LocationCounter, OriginCounter, ALiteral, Operator, Times, Divide, Add, Subtract, OperatorElement, element_of_number, element_of_name, element_of_text, counter_of, literal_of, Awaited, AnOperator, ElementOf, onto_pairs, pairs_of}
+use Rattle.definitions.specs.Expressions.{Sign, NoSign, PlusSign, MinusSign, OfNumber, OfCountedItem, Element, ANumber, ACountedItem, ASymbol, ARegister, LocationCounter, OriginCounter, ALiteral, Operator, Times, Divide, Add, Subtract, OperatorElement, element_of_number, element_of_name, element_of_text, counter_of, literal_of, element_at, onto_pairs, pairs_of}
 use Rattle.definitions.specs.Grammar.{IsNumberText, IsSymbolText, sign_pieces, IsElement}
 use Rattle.definitions.specs.declared.number_base.NumberBase.{NumberBase}
+
+-- an operator with the element that begins these pieces, and the pairs behind it
+abbrev pub pairs_from : NumberBase → Operator → List Piece → Option (List OperatorElement)
+pairs_from base operator pieces = onto_pairs operator (element_at base pieces).element (pairs_of base (element_at base pieces).taken pieces)
+
+-- what is awaited: an operator, or an element behind an operator
+data Awaited : Type 0 where
+  AnOperator : Awaited
+  ElementOf : Operator → Awaited
+
+-- the pairs that are read there
+abbrev read_at : NumberBase → Awaited → List Piece → Option (List OperatorElement)
+read_at base AnOperator pieces = pairs_of base 0 pieces
+read_at base (ElementOf operator) pieces = pairs_from base operator pieces
 
 -- the pair with this operator and element
 abbrev pub link_of : Operator → Element → OperatorElement
@@ -35,7 +49,7 @@ StartsWithElement base operator pairs pieces =
     × IsElement base element front × AreLinks base more rest
 
 -- how the pieces spell the pairs that are read from them, by what is awaited
-abbrev pub AreRead : NumberBase → Awaited → List OperatorElement → List Piece → Type 0
+abbrev AreRead : NumberBase → Awaited → List OperatorElement → List Piece → Type 0
 AreRead base AnOperator pairs pieces = AreLinks base pairs pieces
 AreRead base (ElementOf operator) pairs pieces = StartsWithElement base operator pairs pieces
 
@@ -106,41 +120,47 @@ mark_and_links base o pairs pieces (element, more, front, rest, starts, spelt, i
     (front, rest, ap (λ (p : List Piece). IsMark (mark_between o) ∷ p) spelt, is, are)
 
 -- what `pairs_of` reads is spelt by the pieces
-pub pairs_of-read : (base : NumberBase) (awaited : Awaited) (pieces : List Piece) (pairs : List OperatorElement) →
-    pairs_of base awaited pieces ≡ Some pairs → AreRead base awaited pairs pieces
-pairs_of-read base AnOperator [] pairs e = let none : [] ≡ pairs = cc in subst (λ (l : List OperatorElement). AreLinks base l []) none refl
-pairs_of-read base AnOperator (IsMark Plus ∷ pieces) pairs e = mark_and_links base Add pairs pieces (pairs_of-read base (ElementOf Add) pieces pairs e)
-pairs_of-read base AnOperator (IsMark Minus ∷ pieces) pairs e = mark_and_links base Subtract pairs pieces (pairs_of-read base (ElementOf Subtract) pieces pairs e)
-pairs_of-read base AnOperator (IsMark Star ∷ pieces) pairs e = mark_and_links base Times pairs pieces (pairs_of-read base (ElementOf Times) pieces pairs e)
-pairs_of-read base AnOperator (IsMark Slash ∷ pieces) pairs e = mark_and_links base Divide pairs pieces (pairs_of-read base (ElementOf Divide) pieces pairs e)
-pairs_of-read base AnOperator (piece ∷ pieces) pairs e = cc
-pairs_of-read base (ElementOf o) (Plain text ∷ pieces) pairs e =
-    onto_pairs-starts base o (Plain text ∷ []) (element_of_text base text) pieces (pairs_of base AnOperator pieces) pairs e
-    (λ (element : Element). run_is_element base text element (register_of text) refl) (pairs_of-read base AnOperator pieces)
-pairs_of-read base (ElementOf o) (IsCountedItem item ∷ pieces) pairs e =
-    onto_pairs-starts base o (IsCountedItem item ∷ []) (Some (ACountedItem item)) pieces (pairs_of base AnOperator pieces) pairs e
-    (λ (element : Element) same. same_element base (ACountedItem item) element (IsCountedItem item ∷ []) same refl) (pairs_of-read base AnOperator pieces)
-pairs_of-read base (ElementOf o) (IsMark Star ∷ Plain text ∷ pieces) pairs e =
-    onto_pairs-starts base o (IsMark Star ∷ Plain text ∷ []) (counter_of text) pieces (pairs_of base AnOperator pieces) pairs e
-    (λ (element : Element). counter_is_element base text element (same_text text (codes "O")) refl (same_text text (codes "L")) refl) (pairs_of-read base AnOperator pieces)
-pairs_of-read base (ElementOf o) (IsMark Star ∷ IsCountedItem item ∷ pieces) pairs e = cc
-pairs_of-read base (ElementOf o) (IsMark Star ∷ IsMark Equals ∷ pieces) pairs e = cc
-pairs_of-read base (ElementOf o) (IsMark Star ∷ pieces) pairs e =
-    onto_pairs-starts base o (IsMark Star ∷ []) (Some LocationCounter) pieces (pairs_of base AnOperator pieces) pairs e
-    (λ (element : Element) same. same_element base LocationCounter element (IsMark Star ∷ []) same (inl refl)) (pairs_of-read base AnOperator pieces)
-pairs_of-read base (ElementOf o) (IsMark Equals ∷ Plain text ∷ pieces) pairs e =
-    onto_pairs-starts base o (IsMark Equals ∷ Plain text ∷ []) (literal_of NoSign (number_read base text)) pieces (pairs_of base AnOperator pieces) pairs e
-    (λ (element : Element). literal_is_element base NoSign text element (number_read base text) refl) (pairs_of-read base AnOperator pieces)
-pairs_of-read base (ElementOf o) (IsMark Equals ∷ IsCountedItem item ∷ pieces) pairs e =
-    onto_pairs-starts base o (IsMark Equals ∷ IsCountedItem item ∷ []) (Some (ALiteral (OfCountedItem item))) pieces (pairs_of base AnOperator pieces) pairs e
-    (λ (element : Element) same. same_element base (ALiteral (OfCountedItem item)) element (IsMark Equals ∷ IsCountedItem item ∷ []) same refl) (pairs_of-read base AnOperator pieces)
-pairs_of-read base (ElementOf o) (IsMark Equals ∷ IsMark Plus ∷ Plain text ∷ pieces) pairs e =
-    onto_pairs-starts base o (IsMark Equals ∷ IsMark Plus ∷ Plain text ∷ []) (literal_of PlusSign (number_read base text)) pieces (pairs_of base AnOperator pieces) pairs e
-    (λ (element : Element). literal_is_element base PlusSign text element (number_read base text) refl) (pairs_of-read base AnOperator pieces)
-pairs_of-read base (ElementOf o) (IsMark Equals ∷ IsMark Minus ∷ Plain text ∷ pieces) pairs e =
-    onto_pairs-starts base o (IsMark Equals ∷ IsMark Minus ∷ Plain text ∷ []) (literal_of MinusSign (number_read base text)) pieces (pairs_of base AnOperator pieces) pairs e
-    (λ (element : Element). literal_is_element base MinusSign text element (number_read base text) refl) (pairs_of-read base AnOperator pieces)
-pairs_of-read base (ElementOf o) pieces pairs e = cc
+read_is_spelt : (base : NumberBase) (awaited : Awaited) (pieces : List Piece) (pairs : List OperatorElement) →
+    read_at base awaited pieces ≡ Some pairs → AreRead base awaited pairs pieces
+read_is_spelt base AnOperator [] pairs e = let none : [] ≡ pairs = cc in subst (λ (l : List OperatorElement). AreLinks base l []) none refl
+read_is_spelt base AnOperator (IsMark Plus ∷ pieces) pairs e = mark_and_links base Add pairs pieces (read_is_spelt base (ElementOf Add) pieces pairs e)
+read_is_spelt base AnOperator (IsMark Minus ∷ pieces) pairs e = mark_and_links base Subtract pairs pieces (read_is_spelt base (ElementOf Subtract) pieces pairs e)
+read_is_spelt base AnOperator (IsMark Star ∷ pieces) pairs e = mark_and_links base Times pairs pieces (read_is_spelt base (ElementOf Times) pieces pairs e)
+read_is_spelt base AnOperator (IsMark Slash ∷ pieces) pairs e = mark_and_links base Divide pairs pieces (read_is_spelt base (ElementOf Divide) pieces pairs e)
+read_is_spelt base AnOperator (piece ∷ pieces) pairs e = cc
+read_is_spelt base (ElementOf o) (Plain text ∷ pieces) pairs e =
+    onto_pairs-starts base o (Plain text ∷ []) (element_of_text base text) pieces (pairs_of base 0 pieces) pairs e
+    (λ (element : Element). run_is_element base text element (register_of text) refl) (read_is_spelt base AnOperator pieces)
+read_is_spelt base (ElementOf o) (IsCountedItem item ∷ pieces) pairs e =
+    onto_pairs-starts base o (IsCountedItem item ∷ []) (Some (ACountedItem item)) pieces (pairs_of base 0 pieces) pairs e
+    (λ (element : Element) same. same_element base (ACountedItem item) element (IsCountedItem item ∷ []) same refl) (read_is_spelt base AnOperator pieces)
+read_is_spelt base (ElementOf o) (IsMark Star ∷ Plain text ∷ pieces) pairs e =
+    onto_pairs-starts base o (IsMark Star ∷ Plain text ∷ []) (counter_of text) pieces (pairs_of base 0 pieces) pairs e
+    (λ (element : Element). counter_is_element base text element (same_text text (codes "O")) refl (same_text text (codes "L")) refl) (read_is_spelt base AnOperator pieces)
+read_is_spelt base (ElementOf o) (IsMark Star ∷ IsCountedItem item ∷ pieces) pairs e = cc
+read_is_spelt base (ElementOf o) (IsMark Star ∷ IsMark Equals ∷ pieces) pairs e = cc
+read_is_spelt base (ElementOf o) (IsMark Star ∷ pieces) pairs e =
+    onto_pairs-starts base o (IsMark Star ∷ []) (Some LocationCounter) pieces (pairs_of base 0 pieces) pairs e
+    (λ (element : Element) same. same_element base LocationCounter element (IsMark Star ∷ []) same (inl refl)) (read_is_spelt base AnOperator pieces)
+read_is_spelt base (ElementOf o) (IsMark Equals ∷ Plain text ∷ pieces) pairs e =
+    onto_pairs-starts base o (IsMark Equals ∷ Plain text ∷ []) (literal_of NoSign (number_read base text)) pieces (pairs_of base 0 pieces) pairs e
+    (λ (element : Element). literal_is_element base NoSign text element (number_read base text) refl) (read_is_spelt base AnOperator pieces)
+read_is_spelt base (ElementOf o) (IsMark Equals ∷ IsCountedItem item ∷ pieces) pairs e =
+    onto_pairs-starts base o (IsMark Equals ∷ IsCountedItem item ∷ []) (Some (ALiteral (OfCountedItem item))) pieces (pairs_of base 0 pieces) pairs e
+    (λ (element : Element) same. same_element base (ALiteral (OfCountedItem item)) element (IsMark Equals ∷ IsCountedItem item ∷ []) same refl) (read_is_spelt base AnOperator pieces)
+read_is_spelt base (ElementOf o) (IsMark Equals ∷ IsMark Plus ∷ Plain text ∷ pieces) pairs e =
+    onto_pairs-starts base o (IsMark Equals ∷ IsMark Plus ∷ Plain text ∷ []) (literal_of PlusSign (number_read base text)) pieces (pairs_of base 0 pieces) pairs e
+    (λ (element : Element). literal_is_element base PlusSign text element (number_read base text) refl) (read_is_spelt base AnOperator pieces)
+read_is_spelt base (ElementOf o) (IsMark Equals ∷ IsMark Minus ∷ Plain text ∷ pieces) pairs e =
+    onto_pairs-starts base o (IsMark Equals ∷ IsMark Minus ∷ Plain text ∷ []) (literal_of MinusSign (number_read base text)) pieces (pairs_of base 0 pieces) pairs e
+    (λ (element : Element). literal_is_element base MinusSign text element (number_read base text) refl) (read_is_spelt base AnOperator pieces)
+read_is_spelt base (ElementOf o) pieces pairs e = cc
+
+pub pairs_of-read : (base : NumberBase) (pieces : List Piece) (pairs : List OperatorElement) → pairs_of base 0 pieces ≡ Some pairs → AreLinks base pairs pieces
+pairs_of-read base pieces pairs e = read_is_spelt base AnOperator pieces pairs e
+
+pub pairs_from-read : (base : NumberBase) (o : Operator) (pieces : List Piece) (pairs : List OperatorElement) → pairs_from base o pieces ≡ Some pairs → StartsWithElement base o pairs pieces
+pairs_from-read base o pieces pairs e = read_is_spelt base (ElementOf o) pieces pairs e
 
 -- what may stand behind an element: nothing, or a mark but an equals sign
 abbrev pub EndsElement : List Piece → Type 0
@@ -163,12 +183,12 @@ AreLinks-end base (pair ∷ pairs) pieces (front, rest, spelt, is, are) =
     subst EndsElement (sym spelt) (mark_between-ends pair.operator (front ++ rest))
 
 -- a star with nothing but an operator behind it reads as the location counter
-pub pairs_of-star : (base : NumberBase) (o : Operator) (rest : List Piece) → EndsElement rest →
-    pairs_of base (ElementOf o) (IsMark Star ∷ rest) ≡ onto_pairs o (Some LocationCounter) (pairs_of base AnOperator rest)
-pairs_of-star base o [] ends = refl
-pairs_of-star base o (IsMark Equals ∷ rest) ends = absurd ends
-pairs_of-star base o (IsMark mark ∷ rest) ends = refl
-pairs_of-star base o (piece ∷ rest) ends = absurd ends
+pub pairs_from-star : (base : NumberBase) (o : Operator) (rest : List Piece) → EndsElement rest →
+    pairs_from base o (IsMark Star ∷ rest) ≡ onto_pairs o (Some LocationCounter) (pairs_of base 0 rest)
+pairs_from-star base o [] ends = refl
+pairs_from-star base o (IsMark Equals ∷ rest) ends = absurd ends
+pairs_from-star base o (IsMark mark ∷ rest) ends = refl
+pairs_from-star base o (piece ∷ rest) ends = absurd ends
 
 -- a number run reads as its number
 pub element_of_text-number : (base : NumberBase) (text : List ℕ) (number : Number) → IsNumberText base text number →
@@ -187,55 +207,55 @@ element_of_text-symbol base text name (r, s, same) =
     ∙ ap (λ (t : List ℕ). Some (ASymbol t)) (sym same))
 
 -- a literal's pieces read as the literal
-pub pairs_of-literal : (base : NumberBase) (o : Operator) (sign : Sign) (text : List ℕ) (number : Number) (rest : List Piece) →
+pub pairs_from-literal : (base : NumberBase) (o : Operator) (sign : Sign) (text : List ℕ) (number : Number) (rest : List Piece) →
     number_read base text ≡ Some number →
-    pairs_of base (ElementOf o) ((IsMark Equals ∷ (sign_pieces sign ++ Plain text ∷ [])) ++ rest)
-    ≡ onto_pairs o (Some (ALiteral (OfNumber sign number))) (pairs_of base AnOperator rest)
-pairs_of-literal base o NoSign text number rest n = ap (λ (m : Option Number). onto_pairs o (literal_of NoSign m) (pairs_of base AnOperator rest)) n
-pairs_of-literal base o PlusSign text number rest n = ap (λ (m : Option Number). onto_pairs o (literal_of PlusSign m) (pairs_of base AnOperator rest)) n
-pairs_of-literal base o MinusSign text number rest n = ap (λ (m : Option Number). onto_pairs o (literal_of MinusSign m) (pairs_of base AnOperator rest)) n
+    pairs_from base o ((IsMark Equals ∷ (sign_pieces sign ++ Plain text ∷ [])) ++ rest)
+    ≡ onto_pairs o (Some (ALiteral (OfNumber sign number))) (pairs_of base 0 rest)
+pairs_from-literal base o NoSign text number rest n = ap (λ (m : Option Number). onto_pairs o (literal_of NoSign m) (pairs_of base 0 rest)) n
+pairs_from-literal base o PlusSign text number rest n = ap (λ (m : Option Number). onto_pairs o (literal_of PlusSign m) (pairs_of base 0 rest)) n
+pairs_from-literal base o MinusSign text number rest n = ap (λ (m : Option Number). onto_pairs o (literal_of MinusSign m) (pairs_of base 0 rest)) n
 
 -- an element's pieces read as the element, in front of what may stand behind it
-pub pairs_of-element : (base : NumberBase) (o : Operator) (element : Element) (front rest : List Piece) → IsElement base element front → EndsElement rest →
-    pairs_of base (ElementOf o) (front ++ rest) ≡ onto_pairs o (Some element) (pairs_of base AnOperator rest)
-pairs_of-element base o (ANumber number) front rest (text, run, spelt) ends =
-    ap (λ (p : List Piece). pairs_of base (ElementOf o) (p ++ rest)) spelt
-    ∙ ap (λ (x : Option Element). onto_pairs o x (pairs_of base AnOperator rest)) (element_of_text-number base text number run)
-pairs_of-element base o (ACountedItem item) front rest spelt ends = ap (λ (p : List Piece). pairs_of base (ElementOf o) (p ++ rest)) spelt
-pairs_of-element base o (ASymbol name) front rest (text, run, spelt) ends =
-    ap (λ (p : List Piece). pairs_of base (ElementOf o) (p ++ rest)) spelt
-    ∙ ap (λ (x : Option Element). onto_pairs o x (pairs_of base AnOperator rest)) (element_of_text-symbol base text name run)
-pairs_of-element base o (ARegister register) front rest (text, r, spelt) ends =
-    ap (λ (p : List Piece). pairs_of base (ElementOf o) (p ++ rest)) spelt
-    ∙ ap (λ (x : Option Register). onto_pairs o (element_of_name base text x) (pairs_of base AnOperator rest)) r
-pairs_of-element base o LocationCounter front rest (inl spelt) ends =
-    ap (λ (p : List Piece). pairs_of base (ElementOf o) (p ++ rest)) spelt ∙ pairs_of-star base o rest ends
-pairs_of-element base o LocationCounter front rest (inr spelt) ends = ap (λ (p : List Piece). pairs_of base (ElementOf o) (p ++ rest)) spelt
-pairs_of-element base o OriginCounter front rest spelt ends = ap (λ (p : List Piece). pairs_of base (ElementOf o) (p ++ rest)) spelt
-pairs_of-element base o (ALiteral (OfNumber sign number)) front rest (text, n, spelt) ends =
-    ap (λ (p : List Piece). pairs_of base (ElementOf o) (p ++ rest)) spelt ∙ pairs_of-literal base o sign text number rest n
-pairs_of-element base o (ALiteral (OfCountedItem item)) front rest spelt ends = ap (λ (p : List Piece). pairs_of base (ElementOf o) (p ++ rest)) spelt
+pub pairs_from-element : (base : NumberBase) (o : Operator) (element : Element) (front rest : List Piece) → IsElement base element front → EndsElement rest →
+    pairs_from base o (front ++ rest) ≡ onto_pairs o (Some element) (pairs_of base 0 rest)
+pairs_from-element base o (ANumber number) front rest (text, run, spelt) ends =
+    ap (λ (p : List Piece). pairs_from base o (p ++ rest)) spelt
+    ∙ ap (λ (x : Option Element). onto_pairs o x (pairs_of base 0 rest)) (element_of_text-number base text number run)
+pairs_from-element base o (ACountedItem item) front rest spelt ends = ap (λ (p : List Piece). pairs_from base o (p ++ rest)) spelt
+pairs_from-element base o (ASymbol name) front rest (text, run, spelt) ends =
+    ap (λ (p : List Piece). pairs_from base o (p ++ rest)) spelt
+    ∙ ap (λ (x : Option Element). onto_pairs o x (pairs_of base 0 rest)) (element_of_text-symbol base text name run)
+pairs_from-element base o (ARegister register) front rest (text, r, spelt) ends =
+    ap (λ (p : List Piece). pairs_from base o (p ++ rest)) spelt
+    ∙ ap (λ (x : Option Register). onto_pairs o (element_of_name base text x) (pairs_of base 0 rest)) r
+pairs_from-element base o LocationCounter front rest (inl spelt) ends =
+    ap (λ (p : List Piece). pairs_from base o (p ++ rest)) spelt ∙ pairs_from-star base o rest ends
+pairs_from-element base o LocationCounter front rest (inr spelt) ends = ap (λ (p : List Piece). pairs_from base o (p ++ rest)) spelt
+pairs_from-element base o OriginCounter front rest spelt ends = ap (λ (p : List Piece). pairs_from base o (p ++ rest)) spelt
+pairs_from-element base o (ALiteral (OfNumber sign number)) front rest (text, n, spelt) ends =
+    ap (λ (p : List Piece). pairs_from base o (p ++ rest)) spelt ∙ pairs_from-literal base o sign text number rest n
+pairs_from-element base o (ALiteral (OfCountedItem item)) front rest spelt ends = ap (λ (p : List Piece). pairs_from base o (p ++ rest)) spelt
 
 -- behind an operator's mark its element is awaited
 pub pairs_of-mark : (base : NumberBase) (o : Operator) (pieces : List Piece) →
-    pairs_of base AnOperator (IsMark (mark_between o) ∷ pieces) ≡ pairs_of base (ElementOf o) pieces
+    pairs_of base 0 (IsMark (mark_between o) ∷ pieces) ≡ pairs_from base o pieces
 pairs_of-mark base Times pieces = refl
 pairs_of-mark base Divide pieces = refl
 pairs_of-mark base Add pieces = refl
 pairs_of-mark base Subtract pieces = refl
 
 -- the pieces of an element and of the pairs behind it read as these
-pub pairs_of-start : (base : NumberBase) (o : Operator) (element : Element) (pairs : List OperatorElement) (front rest : List Piece) →
-    IsElement base element front → AreLinks base pairs rest → pairs_of base AnOperator rest ≡ Some pairs →
-    pairs_of base (ElementOf o) (front ++ rest) ≡ Some (link_of o element ∷ pairs)
-pairs_of-start base o element pairs front rest is are e =
-    pairs_of-element base o element front rest is (AreLinks-end base pairs rest are) ∙ ap (onto_pairs o (Some element)) e
+pub pairs_from-start : (base : NumberBase) (o : Operator) (element : Element) (pairs : List OperatorElement) (front rest : List Piece) →
+    IsElement base element front → AreLinks base pairs rest → pairs_of base 0 rest ≡ Some pairs →
+    pairs_from base o (front ++ rest) ≡ Some (link_of o element ∷ pairs)
+pairs_from-start base o element pairs front rest is are e =
+    pairs_from-element base o element front rest is (AreLinks-end base pairs rest are) ∙ ap (onto_pairs o (Some element)) e
 
 -- the pieces of pairs read as the pairs
 pub pairs_of-spelt : (base : NumberBase) (pairs : List OperatorElement) (pieces : List Piece) → AreLinks base pairs pieces →
-    pairs_of base AnOperator pieces ≡ Some pairs
-pairs_of-spelt base [] pieces none = ap (pairs_of base AnOperator) none
+    pairs_of base 0 pieces ≡ Some pairs
+pairs_of-spelt base [] pieces none = ap (pairs_of base 0) none
 pairs_of-spelt base (pair ∷ pairs) pieces (front, rest, spelt, is, are) =
-    ap (pairs_of base AnOperator) spelt
+    ap (pairs_of base 0) spelt
     ∙ (pairs_of-mark base pair.operator (front ++ rest)
-    ∙ pairs_of-start base pair.operator pair.element pairs front rest is are (pairs_of-spelt base pairs rest are))
+    ∙ pairs_from-start base pair.operator pair.element pairs front rest is are (pairs_of-spelt base pairs rest are))

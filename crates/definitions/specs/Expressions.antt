@@ -1,9 +1,9 @@
 -- Expressions: the tree, and how the pieces of a subfield are read (COMPASS 60492600, address expressions).
-use Rattle.std.specs.Prelude.{ℕ, List, [], ◌∷◌, Option, Some, None, Bool, true, false, ◌&&◌, nat_le, codes, map, flat_map, if◌then◌else◌}
+use Rattle.std.specs.Prelude.{ℕ, zero, suc, List, [], ◌∷◌, Option, Some, None, Bool, true, false, ◌&&◌, nat_le, codes, map, flat_map, if◌then◌else◌}
 use Rattle.std.specs.List.{list_all}
 use Rattle.definitions.specs.Characters.{same_text}
 use Rattle.definitions.specs.CountedItems.{CountedItem, bits_needed}
-use Rattle.definitions.specs.Pieces.{Plus, Minus, Star, Slash, Equals, Piece, IsMark, IsCountedItem, Plain}
+use Rattle.definitions.specs.Pieces.{Mark, Plus, Minus, Star, Slash, Equals, Piece, IsMark, IsCountedItem, Plain}
 use Rattle.definitions.specs.Symbols.{Register, register_of, is_symbol, Number, number_read}
 use Rattle.definitions.specs.declared.number_base.NumberBase.{NumberBase}
 
@@ -76,10 +76,38 @@ abbrev pub literal_of : Sign → Option Number → Option Element
 literal_of sign None = None
 literal_of sign (Some number) = Some (ALiteral (OfNumber sign number))
 
--- what is awaited: an operator, or an element behind an operator
-pub data Awaited : Type 0 where
-  AnOperator : Awaited
-  ElementOf : Operator → Awaited
+-- an element, if it is lawful, and how many of the pieces it takes
+pub record ElementSpan : Type 0 where
+  pub element : Option Element
+  pub taken : ℕ
+
+-- an element of so many pieces
+abbrev pub spanning : ℕ → Option Element → ElementSpan
+spanning taken element = record { element = element; taken = taken }
+
+-- no element
+abbrev pub no_element : ElementSpan
+no_element = spanning 0 None
+
+-- the element that begins these pieces; a star with no run behind it is the location counter
+abbrev pub element_at : NumberBase → List Piece → ElementSpan
+element_at base (Plain text ∷ pieces) = spanning 1 (element_of_text base text)
+element_at base (IsCountedItem item ∷ pieces) = spanning 1 (Some (ACountedItem item))
+element_at base (IsMark Star ∷ Plain text ∷ pieces) = spanning 2 (counter_of text)
+element_at base (IsMark Star ∷ pieces) = spanning 1 (Some LocationCounter)
+element_at base (IsMark Equals ∷ Plain text ∷ pieces) = spanning 2 (literal_of NoSign (number_read base text))
+element_at base (IsMark Equals ∷ IsCountedItem item ∷ pieces) = spanning 2 (Some (ALiteral (OfCountedItem item)))
+element_at base (IsMark Equals ∷ IsMark Plus ∷ Plain text ∷ pieces) = spanning 3 (literal_of PlusSign (number_read base text))
+element_at base (IsMark Equals ∷ IsMark Minus ∷ Plain text ∷ pieces) = spanning 3 (literal_of MinusSign (number_read base text))
+element_at base pieces = no_element
+
+-- the operator that a mark is, if it is one
+abbrev pub operator_of_mark : Mark → Option Operator
+operator_of_mark Star = Some Times
+operator_of_mark Slash = Some Divide
+operator_of_mark Plus = Some Add
+operator_of_mark Minus = Some Subtract
+operator_of_mark _ = None
 
 -- an operator and its element in front of those behind them, where all are lawful
 abbrev pub onto_pairs : Operator → Option Element → Option (List OperatorElement) → Option (List OperatorElement)
@@ -87,25 +115,17 @@ onto_pairs operator None pairs = None
 onto_pairs operator (Some element) None = None
 onto_pairs operator (Some element) (Some pairs) = Some (record { operator = operator; element = element } ∷ pairs)
 
--- elements with the operators between them
-abbrev pub pairs_of : NumberBase → Awaited → List Piece → Option (List OperatorElement)
-pairs_of base AnOperator [] = Some []
-pairs_of base AnOperator (IsMark Plus ∷ pieces) = pairs_of base (ElementOf Add) pieces
-pairs_of base AnOperator (IsMark Minus ∷ pieces) = pairs_of base (ElementOf Subtract) pieces
-pairs_of base AnOperator (IsMark Star ∷ pieces) = pairs_of base (ElementOf Times) pieces
-pairs_of base AnOperator (IsMark Slash ∷ pieces) = pairs_of base (ElementOf Divide) pieces
-pairs_of base AnOperator (piece ∷ pieces) = None
-pairs_of base (ElementOf o) (Plain text ∷ pieces) = onto_pairs o (element_of_text base text) (pairs_of base AnOperator pieces)
-pairs_of base (ElementOf o) (IsCountedItem item ∷ pieces) = onto_pairs o (Some (ACountedItem item)) (pairs_of base AnOperator pieces)
-pairs_of base (ElementOf o) (IsMark Star ∷ Plain text ∷ pieces) = onto_pairs o (counter_of text) (pairs_of base AnOperator pieces)
-pairs_of base (ElementOf o) (IsMark Star ∷ IsCountedItem item ∷ pieces) = None
-pairs_of base (ElementOf o) (IsMark Star ∷ IsMark Equals ∷ pieces) = None
-pairs_of base (ElementOf o) (IsMark Star ∷ pieces) = onto_pairs o (Some LocationCounter) (pairs_of base AnOperator pieces)
-pairs_of base (ElementOf o) (IsMark Equals ∷ Plain text ∷ pieces) = onto_pairs o (literal_of NoSign (number_read base text)) (pairs_of base AnOperator pieces)
-pairs_of base (ElementOf o) (IsMark Equals ∷ IsCountedItem item ∷ pieces) = onto_pairs o (Some (ALiteral (OfCountedItem item))) (pairs_of base AnOperator pieces)
-pairs_of base (ElementOf o) (IsMark Equals ∷ IsMark Plus ∷ Plain text ∷ pieces) = onto_pairs o (literal_of PlusSign (number_read base text)) (pairs_of base AnOperator pieces)
-pairs_of base (ElementOf o) (IsMark Equals ∷ IsMark Minus ∷ Plain text ∷ pieces) = onto_pairs o (literal_of MinusSign (number_read base text)) (pairs_of base AnOperator pieces)
-pairs_of base (ElementOf o) pieces = None
+-- operators, each with the element behind it, behind so many pieces of the element before them
+abbrev pub pairs_of : NumberBase → ℕ → List Piece → Option (List OperatorElement)
+pairs_of base left [] = Some []
+pairs_of base (suc left) (piece ∷ pieces) = pairs_of base left pieces
+pairs_of base zero (IsMark mark ∷ pieces) =
+    let next = element_at base pieces in
+    elim (operator_of_mark mark) [
+      | None ↦ None
+      | Some operator ↦ onto_pairs operator next.element (pairs_of base next.taken pieces)
+    ]
+pairs_of base zero (piece ∷ pieces) = None
 
 -- the factors in front, and the terms behind them
 pub record Grouped : Type 0 where
@@ -129,11 +149,11 @@ abbrev pub with_sign : Sign → Option (List OperatorElement) → Option Express
 with_sign sign None = None
 with_sign sign (Some pairs) = Some (record { sign = sign; terms = (grouped pairs).terms })
 
--- the expression that the pieces of a subfield spell, if they spell one
+-- the expression that the pieces of a subfield spell, if they spell one; without a sign it is read as behind a plus
 abbrev pub expression_of : NumberBase → List Piece → Option Expression
-expression_of base (IsMark Plus ∷ pieces) = with_sign PlusSign (pairs_of base (ElementOf Add) pieces)
-expression_of base (IsMark Minus ∷ pieces) = with_sign MinusSign (pairs_of base (ElementOf Subtract) pieces)
-expression_of base pieces = with_sign NoSign (pairs_of base (ElementOf Add) pieces)
+expression_of base (IsMark Plus ∷ pieces) = with_sign PlusSign (pairs_of base 0 (IsMark Plus ∷ pieces))
+expression_of base (IsMark Minus ∷ pieces) = with_sign MinusSign (pairs_of base 0 (IsMark Minus ∷ pieces))
+expression_of base pieces = with_sign NoSign (pairs_of base 0 (IsMark Plus ∷ pieces))
 
 -- the elements of an expression, from left to right
 abbrev pub elements_of : Expression → List Element

@@ -6,9 +6,9 @@ use Rattle.definitions.specs.Characters.{same_text}
 use Rattle.definitions.specs.CountedItems.{CountedSpan, counted_item_at}
 use Rattle.definitions.specs.Pieces.{Mark, Plus, Minus, Star, Equals, Spot, AtStart, AtEquals, Inside, Begun, ByMark, Piece, IsMark, IsCountedItem, Plain, mark_of, begun_by, begun_by_counted_item, spot_behind, left_of, onto_pieces, pieces_at, pieces_of}
 use Rattle.definitions.specs.Symbols.{number_read}
-use Rattle.definitions.specs.Expressions.{Sign, PlusSign, MinusSign, Element, LocationCounter, OriginCounter, Operator, OperatorElement, AnOperator, ElementOf, counter_of, literal_of, onto_pairs, pairs_of}
+use Rattle.definitions.specs.Expressions.{Sign, PlusSign, MinusSign, Element, LocationCounter, OriginCounter, Operator, OperatorElement, counter_of, literal_of, onto_pairs, pairs_of}
 use Rattle.definitions.specs.declared.number_base.NumberBase.{NumberBase}
-use Rattle.definitions.proofs.GrammarLaws.{EndsElement, pairs_of-star}
+use Rattle.definitions.proofs.GrammarLaws.{EndsElement, pairs_from-star, pairs_from}
 use Rattle.expr_forms.specs.Joins.Elements.{ends_element, signed_literal}
 use Rattle.expr_forms.specs.Joins.PiecesFound.{piece_as, spot_behind_piece}
 use Rattle.expr_forms.specs.declared.pieces.Piece as codes
@@ -40,10 +40,10 @@ inside-start (c ∷ cs) ends = inside_at c cs (c == 61) ends
 
 -- a star with nothing but an operator behind it
 pub star-alone : (base : NumberBase) (o : Operator) (text : List ℕ) (pieces : List Piece) → pieces_of text ≡ pieces → EndsElement pieces →
-    pairs_of base (ElementOf o) (IsMark Star ∷ pieces_of text) ≡ onto_pairs o (Some LocationCounter) (pairs_of base AnOperator (pieces_at Inside 0 text))
+    pairs_from base o (IsMark Star ∷ pieces_of text) ≡ onto_pairs o (Some LocationCounter) (pairs_of base 0 (pieces_at Inside 0 text))
 star-alone base o text pieces e ends =
     let here : EndsElement (pieces_of text) = subst EndsElement (sym e) ends in
-    pairs_of-star base o (pieces_of text) here ∙ ap (λ (p : List Piece). onto_pairs o (Some LocationCounter) (pairs_of base AnOperator p)) (inside-start text here)
+    pairs_from-star base o (pieces_of text) here ∙ ap (λ (p : List Piece). onto_pairs o (Some LocationCounter) (pairs_of base 0 p)) (inside-start text here)
 
 -- each mark but an equals sign ends an element
 pub mark-ends : (mark : Mark) (pieces : List Piece) → ends_element mark ≡ true → EndsElement (IsMark mark ∷ pieces)
@@ -52,7 +52,7 @@ mark-ends mark pieces e = tt
 
 -- a star in front of an equals sign is no element
 pub star-equals : (base : NumberBase) (o : Operator) (mark : Mark) (pieces : List Piece) → ends_element mark ≡ false →
-    pairs_of base (ElementOf o) (IsMark Star ∷ IsMark mark ∷ pieces) ≡ None
+    pairs_from base o (IsMark Star ∷ IsMark mark ∷ pieces) ≡ None
 star-equals base o Equals pieces e = refl
 star-equals base o mark pieces e = cc
 
@@ -85,7 +85,7 @@ counter-length (c ∷ d ∷ cs) other =
 
 -- a literal with a plus
 pub literal-plus : (base : NumberBase) (o : Operator) (pieces : List Piece) →
-    pairs_of base (ElementOf o) (IsMark Equals ∷ IsMark Plus ∷ pieces) ≡ signed_literal base o PlusSign pieces
+    pairs_from base o (IsMark Equals ∷ IsMark Plus ∷ pieces) ≡ signed_literal base o PlusSign pieces
 literal-plus base o [] = refl
 literal-plus base o (Plain text ∷ pieces) = refl
 literal-plus base o (IsMark mark ∷ pieces) = refl
@@ -93,7 +93,7 @@ literal-plus base o (IsCountedItem item ∷ pieces) = refl
 
 -- a literal with a minus
 pub literal-minus : (base : NumberBase) (o : Operator) (pieces : List Piece) →
-    pairs_of base (ElementOf o) (IsMark Equals ∷ IsMark Minus ∷ pieces) ≡ signed_literal base o MinusSign pieces
+    pairs_from base o (IsMark Equals ∷ IsMark Minus ∷ pieces) ≡ signed_literal base o MinusSign pieces
 literal-minus base o [] = refl
 literal-minus base o (Plain text ∷ pieces) = refl
 literal-minus base o (IsMark mark ∷ pieces) = refl

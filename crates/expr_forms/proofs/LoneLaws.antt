@@ -2,9 +2,9 @@
 use Rattle.std.proofs.Common.{◌≡◌, ℕ, ◌≤◌, List, [], ◌∷◌, ◌++◌, length, Bool, true, false, ◌&&◌, if◌then◌else◌, Option, Some, None, refl, sym, ◌∙◌, ap, arith}
 use Rattle.std.specs.Prelude.{is_some, unwrap_or}
 use Rattle.definitions.specs.Pieces.{Piece, mark_of, pieces_of}
-use Rattle.definitions.specs.Expressions.{Element, Operator, Times, Divide, Add, Subtract, OperatorElement, Term, ElementOf, pairs_of, Grouped, onto_grouped, grouped}
+use Rattle.definitions.specs.Expressions.{Element, Operator, Times, Divide, Add, Subtract, OperatorElement, Term, Grouped, onto_grouped, grouped}
 use Rattle.definitions.specs.declared.number_base.NumberBase.{NumberBase}
-use Rattle.definitions.proofs.GrammarLaws.{link_of, StartsWithElement, pairs_of-read}
+use Rattle.definitions.proofs.GrammarLaws.{link_of, StartsWithElement, pairs_from-read, pairs_from}
 use Rattle.definitions.proofs.TermLaws.{JoinsTerms, AreFactorLinks, AreJoined, links_in, term_of, IsGrouping, grouped-groups}
 use Rattle.expr_forms.specs.Joins.Links.{operator_marked, pairs_behind, links_behind, IsLawful}
 use Rattle.expr_forms.specs.Joins.Parsed.{BeginsTerm}
@@ -13,19 +13,19 @@ use Rattle.expr_forms.specs.declared.links.LoneRegisters.{LoneRegisters}
 use Rattle.expr_forms.specs.declared.links.LoneRegisters.TheVariants.{Kept, LeftOut}
 use Rattle.expr_forms.proofs.LinkLaws.{link-operator, link-unlawful}
 
-begins-by : (base : NumberBase) (o : Operator) (pieces : List Piece) (x : Option (List OperatorElement)) → pairs_of base (ElementOf o) pieces ≡ x → is_some x ≡ true →
+begins-by : (base : NumberBase) (o : Operator) (pieces : List Piece) (x : Option (List OperatorElement)) → pairs_from base o pieces ≡ x → is_some x ≡ true →
     joins_terms o ≡ begins_term (unwrap_or x [])
 begins-by base o pieces None e lawful = cc
 begins-by base o pieces (Some pairs) e lawful =
-    let starts : StartsWithElement base o pairs pieces = pairs_of-read base (ElementOf o) pieces pairs e in
+    let starts : StartsWithElement base o pairs pieces = pairs_from-read base o pieces pairs e in
     sym (ap begins_term starts.4)
 
 -- the operator that begins a text tells whether a term begins it
 pub text-begins : (base : NumberBase) (text cs : List ℕ) (c : ℕ) (o : Operator) → text ≡ c ∷ cs → operator_marked (mark_of c) ≡ Some o → IsLawful base text →
     joins_terms o ≡ begins_term (links_behind base text)
 text-begins base text cs c o t e lawful =
-    let read : pairs_behind base text ≡ pairs_of base (ElementOf o) (pieces_of cs) = link-operator base text cs c o t e in
-    begins-by base o (pieces_of cs) (pairs_of base (ElementOf o) (pieces_of cs)) refl (sym (ap is_some read) ∙ lawful)
+    let read : pairs_behind base text ≡ pairs_from base o (pieces_of cs) = link-operator base text cs c o t e in
+    begins-by base o (pieces_of cs) (pairs_from base o (pieces_of cs)) refl (sym (ap is_some read) ∙ lawful)
     ∙ ap (λ (x : Option (List OperatorElement)). begins_term (unwrap_or x [])) (sym read)
 
 -- a lawful text begins with an operator

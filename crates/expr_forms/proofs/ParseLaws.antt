@@ -3,26 +3,26 @@ use Rattle.std.proofs.Common.{◌≡◌, ◌≢◌, ℕ, ◌+◌, ◌*◌, ◌�
 use Rattle.std.specs.Prelude.{is_some, unwrap_or}
 use Rattle.definitions.specs.CountedItems.{CountedSpan, counted_item_at}
 use Rattle.definitions.specs.Pieces.{Mark, Comma, Plus, Minus, Star, Slash, Equals, Spot, Inside, Begun, ByMark, ByCountedItem, ByOther, Piece, IsMark, IsCountedItem, Plain, mark_of, begun_by, begun_by_counted_item, begun_at, spot_behind, left_of, onto_plain, onto_pieces, pieces_at, pieces_of}
-use Rattle.definitions.specs.Expressions.{Sign, NoSign, PlusSign, MinusSign, OfNumber, OfCountedItem, Element, ANumber, ACountedItem, ASymbol, ARegister, LocationCounter, OriginCounter, ALiteral, Operator, Add, Subtract, OperatorElement, AnOperator, ElementOf, onto_pairs, pairs_of, grouped, with_sign, expression_of}
+use Rattle.definitions.specs.Expressions.{Sign, NoSign, PlusSign, MinusSign, OfNumber, OfCountedItem, Element, ANumber, ACountedItem, ASymbol, ARegister, LocationCounter, OriginCounter, ALiteral, Operator, Add, Subtract, OperatorElement, onto_pairs, grouped, with_sign, expression_of}
 use Rattle.definitions.specs.Grammar.{IsElement, operator_of}
 use Rattle.definitions.specs.declared.number_base.NumberBase.{NumberBase}
-use Rattle.definitions.proofs.GrammarLaws.{link_of, AreLinks, pairs_of-read}
+use Rattle.definitions.proofs.GrammarLaws.{link_of, AreLinks, pairs_of-read, pairs_from}
 use Rattle.expr_forms.specs.Joins.Links.{pairs_behind, links_behind, links_left, IsLawful}
 use Rattle.expr_forms.specs.declared.links.Link.{Link}
 
 -- a plus in front
 pub signed-plus : (base : NumberBase) (text body : List ℕ) (c : ℕ) → text ≡ c ∷ body → c ≡ 43 →
-    expression_of base (pieces_of text) ≡ with_sign PlusSign (pairs_of base (ElementOf Add) (pieces_of body))
+    expression_of base (pieces_of text) ≡ with_sign PlusSign (pairs_from base Add (pieces_of body))
 signed-plus base text body c t e = ap (λ (s : List ℕ). expression_of base (pieces_of s)) (t ∙ ap (λ (d : ℕ). d ∷ body) e)
 
 -- a minus in front
 pub signed-minus : (base : NumberBase) (text body : List ℕ) (c : ℕ) → text ≡ c ∷ body → c ≡ 45 →
-    expression_of base (pieces_of text) ≡ with_sign MinusSign (pairs_of base (ElementOf Subtract) (pieces_of body))
+    expression_of base (pieces_of text) ≡ with_sign MinusSign (pairs_from base Subtract (pieces_of body))
 signed-minus base text body c t e = ap (λ (s : List ℕ). expression_of base (pieces_of s)) (t ∙ ap (λ (d : ℕ). d ∷ body) e)
 
 -- pieces that are read without a sign
 abbrev Unsigned : NumberBase → List Piece → Type 0
-Unsigned base pieces = expression_of base pieces ≡ with_sign NoSign (pairs_of base (ElementOf Add) pieces)
+Unsigned base pieces = expression_of base pieces ≡ with_sign NoSign (pairs_from base Add pieces)
 
 unsigned-run : (base : NumberBase) (c : ℕ) (pieces : List Piece) → Unsigned base (onto_plain c pieces)
 unsigned-run base c [] = refl
@@ -65,14 +65,14 @@ unsigned-equals base c cs false p m = unsigned-item base c cs (counted_item_at (
 
 -- no sign in front
 pub signed-other : (base : NumberBase) (text body : List ℕ) (c : ℕ) → text ≡ c ∷ body → c ≢ 43 → c ≢ 45 →
-    expression_of base (pieces_of text) ≡ with_sign NoSign (pairs_of base (ElementOf Add) (pieces_of text))
+    expression_of base (pieces_of text) ≡ with_sign NoSign (pairs_from base Add (pieces_of text))
 signed-other base text body c t p m =
     let P : List ℕ → Type 0 = λ s. Unsigned base (pieces_of s) in
     subst P (sym t) (unsigned-equals base c body (c == 61) (ne_eqb c 43 p) (ne_eqb c 45 m))
 
 -- nothing at all
 pub signed-nothing : (base : NumberBase) (text : List ℕ) → text ≡ [] →
-    expression_of base (pieces_of text) ≡ with_sign NoSign (pairs_of base (ElementOf Add) (pieces_of text))
+    expression_of base (pieces_of text) ≡ with_sign NoSign (pairs_from base Add (pieces_of text))
 signed-nothing base text t = let P : List ℕ → Type 0 = λ s. Unsigned base (pieces_of s) in subst P (sym t) refl
 
 -- lawful links behind an element make an expression
@@ -153,7 +153,7 @@ length-pieces_at spot zero (c ∷ cs) =
 few_by : (base : NumberBase) (rest : List ℕ) (x : Option (List OperatorElement)) → pairs_behind base rest ≡ x → 2 * length (unwrap_or x []) ≤ length rest
 few_by base rest None e = omega arith
 few_by base rest (Some pairs) e =
-    let are : 2 * length pairs ≤ length (pieces_at Inside 0 rest) = AreLinks-few base pairs (pieces_at Inside 0 rest) (pairs_of-read base AnOperator (pieces_at Inside 0 rest) pairs e) in
+    let are : 2 * length pairs ≤ length (pieces_at Inside 0 rest) = AreLinks-few base pairs (pieces_at Inside 0 rest) (pairs_of-read base (pieces_at Inside 0 rest) pairs e) in
     omega (arith, length-pieces_at Inside 0 rest)
 
 -- links take two characters each at least

@@ -2,9 +2,10 @@
 //! (COMPASS 60492600, address expressions).
 ghost use Rattle.std.specs.Prelude.{◌≡◌, ◌<◌, ◌≤◌, ◌∷◌, length, option_map, IfSome};
 ghost use Rattle.definitions.specs.Pieces.{Star, Equals, AtEquals, Inside, ByMark, IsMark, spot_behind, pieces_at, pieces_of};
-ghost use Rattle.definitions.specs.Expressions.{Operator, AnOperator, ElementOf, element_of_text, counter_of, literal_of, onto_pairs, pairs_of};
+ghost use Rattle.definitions.specs.Expressions.{Operator, element_of_text, counter_of, literal_of, onto_pairs, pairs_of};
 ghost use Rattle.definitions.specs.Symbols.{number_read};
 ghost use Rattle.definitions.specs.declared.number_base.NumberBase.{NumberBase};
+ghost use Rattle.definitions.proofs.GrammarLaws.{pairs_from};
 ghost use Rattle.expr_forms.specs.Joins.PiecesFound.{mark_as};
 ghost use Rattle.expr_forms.specs.Joins.Elements.{sign_as, element_as, elements_found, ends_element, signed_literal};
 
@@ -85,7 +86,7 @@ fn counter_of(run: &[u8]) -> Option<Element<'_>>
 /// The counter that a star and the run behind it name, with the text behind them.
 #[inline(always)]
 fn counter_found<'a>(run: &'a [u8], rest: &'a [u8]) -> Option<ElementFound<'a>>
-    ensures elements { (base : NumberBase) (o : Operator) → elements_found base o result ≡ onto_pairs o (counter_of run.now) (pairs_of base AnOperator (pieces_at Inside 0 rest.now)) }
+    ensures elements { (base : NumberBase) (o : Operator) → elements_found base o result ≡ onto_pairs o (counter_of run.now) (pairs_of base 0 (pieces_at Inside 0 rest.now)) }
     ensures rest { IfSome result (λ found. found.rest.now ≡ rest.now) }
 {
     match counter_of(run) {
@@ -112,7 +113,7 @@ fn ends_element(mark: Mark) -> bool
 /// The element that begins with a star, which this text follows.
 #[inline(always)]
 fn behind_star(text: &[u8]) -> Option<ElementFound<'_>>
-    ensures elements { (base : NumberBase) (o : Operator) → pairs_of base (ElementOf o) (IsMark Star ∷ pieces_of text.now) ≡ elements_found base o result }
+    ensures elements { (base : NumberBase) (o : Operator) → pairs_from base o (IsMark Star ∷ pieces_of text.now) ≡ elements_found base o result }
     ensures within { IfSome result (λ found. length found.rest.now ≤ length text.now) }
 {
     let alone = Some(ElementFound {
@@ -137,7 +138,7 @@ fn number_literal<'a>(
     run: &'a [u8],
     rest: &'a [u8],
 ) -> Option<ElementFound<'a>>
-    ensures elements { (o : Operator) → elements_found base o result ≡ onto_pairs o (literal_of (sign_as sign) (number_read base run.now)) (pairs_of base AnOperator (pieces_at Inside 0 rest.now)) }
+    ensures elements { (o : Operator) → elements_found base o result ≡ onto_pairs o (literal_of (sign_as sign) (number_read base run.now)) (pairs_of base 0 (pieces_at Inside 0 rest.now)) }
     ensures rest { IfSome result (λ found. found.rest.now ≡ rest.now) }
 {
     match number_read(base, run) {
@@ -168,7 +169,7 @@ fn behind_sign(base: NumberBase, sign: Sign, text: &[u8]) -> Option<ElementFound
 /// The literal whose equals sign and a mark this text follows.
 #[inline(always)]
 fn behind_equals_mark(base: NumberBase, mark: Mark, text: &[u8]) -> Option<ElementFound<'_>>
-    ensures elements { (o : Operator) → pairs_of base (ElementOf o) (IsMark Equals ∷ IsMark (mark_as mark) ∷ pieces_at (spot_behind (ByMark (mark_as mark))) 0 text.now) ≡ elements_found base o result }
+    ensures elements { (o : Operator) → pairs_from base o (IsMark Equals ∷ IsMark (mark_as mark) ∷ pieces_at (spot_behind (ByMark (mark_as mark))) 0 text.now) ≡ elements_found base o result }
     ensures shorter { IfSome result (λ found. length found.rest.now < length text.now) }
 {
     match mark {
@@ -184,7 +185,7 @@ fn behind_equals_mark(base: NumberBase, mark: Mark, text: &[u8]) -> Option<Eleme
 /// The literal whose equals sign this text follows.
 #[inline(always)]
 fn behind_equals(base: NumberBase, text: &[u8]) -> Option<ElementFound<'_>>
-    ensures elements { (o : Operator) → pairs_of base (ElementOf o) (IsMark Equals ∷ pieces_at AtEquals 0 text.now) ≡ elements_found base o result }
+    ensures elements { (o : Operator) → pairs_from base o (IsMark Equals ∷ pieces_at AtEquals 0 text.now) ≡ elements_found base o result }
     ensures shorter { IfSome result (λ found. length found.rest.now < length text.now) }
 {
     match piece_behind_equals(text) {
@@ -203,7 +204,7 @@ fn behind_equals(base: NumberBase, text: &[u8]) -> Option<ElementFound<'_>>
 /// The element that begins with a mark, which this text follows.
 #[inline(always)]
 fn behind_mark(base: NumberBase, mark: Mark, text: &[u8]) -> Option<ElementFound<'_>>
-    ensures elements { (o : Operator) → pairs_of base (ElementOf o) (IsMark (mark_as mark) ∷ pieces_at (spot_behind (ByMark (mark_as mark))) 0 text.now) ≡ elements_found base o result }
+    ensures elements { (o : Operator) → pairs_from base o (IsMark (mark_as mark) ∷ pieces_at (spot_behind (ByMark (mark_as mark))) 0 text.now) ≡ elements_found base o result }
     ensures within { IfSome result (λ found. length found.rest.now ≤ length text.now) }
 {
     match mark {
@@ -219,7 +220,7 @@ fn behind_mark(base: NumberBase, mark: Mark, text: &[u8]) -> Option<ElementFound
 /// The element that a run of characters is, with the text behind it.
 #[inline(always)]
 fn run_found<'a>(base: NumberBase, run: &'a [u8], rest: &'a [u8]) -> Option<ElementFound<'a>>
-    ensures elements { (o : Operator) → elements_found base o result ≡ onto_pairs o (element_of_text base run.now) (pairs_of base AnOperator (pieces_at Inside 0 rest.now)) }
+    ensures elements { (o : Operator) → elements_found base o result ≡ onto_pairs o (element_of_text base run.now) (pairs_of base 0 (pieces_at Inside 0 rest.now)) }
     ensures rest { IfSome result (λ found. found.rest.now ≡ rest.now) }
 {
     match element_of_run(base, run) {
@@ -232,7 +233,7 @@ fn run_found<'a>(base: NumberBase, run: &'a [u8], rest: &'a [u8]) -> Option<Elem
 /// does.
 #[inline(always)]
 pub(crate) fn next_element(base: NumberBase, text: &[u8]) -> Option<ElementFound<'_>>
-    ensures elements { (o : Operator) → pairs_of base (ElementOf o) (pieces_of text.now) ≡ elements_found base o result }
+    ensures elements { (o : Operator) → pairs_from base o (pieces_of text.now) ≡ elements_found base o result }
     ensures shorter { IfSome result (λ found. length found.rest.now < length text.now) }
 {
     match piece_at_start(text) {

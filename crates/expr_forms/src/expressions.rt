@@ -2,9 +2,10 @@
 //! (COMPASS 60492600, address expressions).
 ghost use Rattle.std.specs.Prelude.{◌≡◌, ◌≤◌, ◌<◌, ◌∷◌, [], length, option_map, MatchOption, MatchResult, Some, None};
 ghost use Rattle.definitions.specs.Pieces.{Inside, pieces_at, pieces_of};
-ghost use Rattle.definitions.specs.Expressions.{ElementOf, AnOperator, pairs_of, grouped, with_sign, expression_of};
+ghost use Rattle.definitions.specs.Expressions.{pairs_of, grouped, with_sign, expression_of};
 ghost use Rattle.definitions.specs.Grammar.{operator_of};
 ghost use Rattle.definitions.specs.declared.number_base.NumberBase.{NumberBase};
+ghost use Rattle.definitions.proofs.GrammarLaws.{pairs_from};
 ghost use Rattle.expr_forms.specs.Joins.Elements.{sign_as};
 ghost use Rattle.expr_forms.specs.Joins.Links.{operator_as};
 ghost use Rattle.expr_forms.specs.Joins.LoneRegisters.{other_terms};
@@ -56,7 +57,7 @@ struct Signed<'a> {
 fn sign_in_front(text: &[u8]) -> Signed<'_>
     ensures expression { (base : NumberBase) →
         expression_of base (pieces_of text.now)
-        ≡ with_sign (sign_as result.sign) (pairs_of base (ElementOf (operator_of (sign_as result.sign))) (pieces_of result.body.now)) }
+        ≡ with_sign (sign_as result.sign) (pairs_from base (operator_of (sign_as result.sign)) (pieces_of result.body.now)) }
     ensures within { length result.body.now ≤ length text.now }
 {
     match text.split_first() {
@@ -88,7 +89,7 @@ fn sign_in_front(text: &[u8]) -> Signed<'_>
 /// Whether the links that a text behind an element is have neither registers nor literals; nothing
 /// where it is not links and nothing else.
 fn are_plain(base: NumberBase, text: &[u8]) -> Option<bool>
-    ensures { result ≡ option_map are_plain (pairs_of base AnOperator (pieces_at Inside 0 text.now)) }
+    ensures { result ≡ option_map are_plain (pairs_of base 0 (pieces_at Inside 0 text.now)) }
 {
     let mut rest = text;
     let mut plain = true;

@@ -1,7 +1,7 @@
 //! The links of an expression behind its first element: operators with their elements.
 ghost use Rattle.std.specs.Prelude.{◌≡◌, ◌≤◌, ◌+◌, ◌∷◌, [], length, option_map, IfNone, IfSome};
 ghost use Rattle.definitions.specs.Pieces.{Inside, mark_of, pieces_at};
-ghost use Rattle.definitions.specs.Expressions.{AnOperator, pairs_of};
+ghost use Rattle.definitions.specs.Expressions.{pairs_of};
 ghost use Rattle.definitions.specs.declared.number_base.NumberBase.{NumberBase};
 ghost use Rattle.expr_forms.specs.Joins.Elements.{element_as};
 ghost use Rattle.expr_forms.specs.Joins.Links.{operator_as, operator_marked, link_as, links_behind, links_found, IsLawful, ForLink};
@@ -100,7 +100,7 @@ fn term_begins(text: &[u8]) -> bool
 /// The link that begins a text behind an element, if one does.
 #[inline(always)]
 pub(crate) fn next_link(base: NumberBase, text: &[u8]) -> LinkFound<'_>
-    ensures links { pairs_of base AnOperator (pieces_at Inside 0 text.now) ≡ links_found base result }
+    ensures links { pairs_of base 0 (pieces_at Inside 0 text.now) ≡ links_found base result }
     ensures shorter { ForLink result (λ rest. length rest + 2 ≤ length text.now) }
 {
     match text.split_first() {

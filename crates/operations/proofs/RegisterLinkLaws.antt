@@ -6,9 +6,10 @@ use Rattle.definitions.specs.Characters.{is_among, same_text}
 use Rattle.definitions.specs.CountedItems.{CountedItem}
 use Rattle.definitions.specs.Pieces.{Mark, Comma, Plus, Minus, Star, Slash, Equals, Piece, IsMark, IsCountedItem, Plain}
 use Rattle.definitions.specs.Symbols.{Register, register_of, is_symbol, Number, number_read}
-use Rattle.definitions.specs.Expressions.{Sign, NoSign, PlusSign, MinusSign, OfCountedItem, Element, ANumber, ACountedItem, ASymbol, ARegister, LocationCounter, OriginCounter, ALiteral, Operator, Times, Divide, Add, Subtract, OperatorElement, AnOperator, ElementOf, onto_pairs, pairs_of, element_of_number, element_of_name, element_of_text, counter_of, literal_of}
+use Rattle.definitions.specs.Expressions.{Sign, NoSign, PlusSign, MinusSign, OfCountedItem, Element, ANumber, ACountedItem, ASymbol, ARegister, LocationCounter, OriginCounter, ALiteral, Operator, Times, Divide, Add, Subtract, OperatorElement, onto_pairs, pairs_of, element_of_number, element_of_name, element_of_text, counter_of, literal_of}
 use Rattle.definitions.specs.Matching.{RegisterDigits, is_ijk, with_ijk, is_octal_digit, matched, plain_text}
 use Rattle.definitions.specs.declared.number_base.NumberBase.{NumberBase}
+use Rattle.definitions.proofs.GrammarLaws.{pairs_from}
 use Rattle.operations.specs.Joins.RegisterPieces.{pieces_fit, is_of_run, begins_with_run, is_run, is_sum_of_registers, are_of_field, is_letter_of, is_operator, is_behind_register}
 use Rattle.operations.specs.Joins.RegisterLinks.{operator_character, register_digit, with_digit, links_fit, read_links_fit}
 use Rattle.operations.proofs.OperationLaws.{is_not}
@@ -73,11 +74,11 @@ literal_no_register sign (Some number) = refl
 -- at an element, and behind one
 abbrev AtElement : List Piece → Type 0
 AtElement pieces = (base : NumberBase) (o : Operator) (m p q : ℕ) (ps : List ℕ) (ijk : RegisterDigits) → eqb m (operator_character o) ≡ true → IsLetter p → is_ijk q ≡ true → is_behind_register ps ≡ true →
-    pieces_fit (p ∷ q ∷ ps) pieces ijk ≡ read_links_fit (m ∷ p ∷ q ∷ ps) (pairs_of base (ElementOf o) pieces) ijk
+    pieces_fit (p ∷ q ∷ ps) pieces ijk ≡ read_links_fit (m ∷ p ∷ q ∷ ps) (pairs_from base o pieces) ijk
 
 abbrev BehindElement : List Piece → Type 0
 BehindElement pieces = (base : NumberBase) (ps : List ℕ) (ijk : RegisterDigits) → begins_with_run pieces ≡ false → is_behind_register ps ≡ true →
-    pieces_fit ps pieces ijk ≡ read_links_fit ps (pairs_of base AnOperator pieces) ijk
+    pieces_fit ps pieces ijk ≡ read_links_fit ps (pairs_of base 0 pieces) ijk
 
 -- the register that two characters name, by the two tests
 register_test : (a d : ℕ) (x y z : Bool) → is_among a (codes "ABX") ≡ x → leb 48 d ≡ y → leb d 55 ≡ z →
@@ -109,51 +110,51 @@ two_at a d pieces no_run behind true true true is_x is_y is_z base o m p q ps ij
     let octal : is_octal_digit d ≡ true = ap (λ t. t && leb d 55) is_y ∙ is_z in
     ap (λ b. cond (eqb p a) (cond b (pieces_fit ps pieces (with_ijk q (d - 48) ijk)) None) None) octal
     ∙ ap (λ o. cond (eqb p a) o None) (behind base ps (with_ijk q (d - 48) ijk) no_run shaped)
-    ∙ sym (ap (λ r. read_links_fit (m ∷ p ∷ q ∷ ps) (onto_pairs o (element_of_name base (a ∷ d ∷ []) r) (pairs_of base AnOperator pieces)) ijk) register
-    ∙ register_fits o m p q ps ijk (record { letter = a; digit = d - 48 }) (pairs_of base AnOperator pieces) same)
+    ∙ sym (ap (λ r. read_links_fit (m ∷ p ∷ q ∷ ps) (onto_pairs o (element_of_name base (a ∷ d ∷ []) r) (pairs_of base 0 pieces)) ijk) register
+    ∙ register_fits o m p q ps ijk (record { letter = a; digit = d - 48 }) (pairs_of base 0 pieces) same)
 two_at a d pieces no_run behind false y z is_x is_y is_z base o m p q ps ijk same letter place shaped =
     let none : register_of (a ∷ d ∷ []) ≡ None = register_test a d false y z is_x is_y is_z in
     ap (λ b. cond b (cond (is_octal_digit d) (pieces_fit ps pieces (with_ijk q (d - 48) ijk)) None) None) (other_letter p a letter.register is_x)
-    ∙ sym (no_register_fits o m p q ps ijk (element_of_text base (a ∷ d ∷ [])) (pairs_of base AnOperator pieces) (name_no_register base (a ∷ d ∷ []) none))
+    ∙ sym (no_register_fits o m p q ps ijk (element_of_text base (a ∷ d ∷ [])) (pairs_of base 0 pieces) (name_no_register base (a ∷ d ∷ []) none))
 two_at a d pieces no_run behind true false z is_x is_y is_z base o m p q ps ijk same letter place shaped =
     let none : register_of (a ∷ d ∷ []) ≡ None = register_test a d true false z is_x is_y is_z in
     let octal : is_octal_digit d ≡ false = ap (λ t. t && leb d 55) is_y in
     no_octal p a d q ps pieces ijk octal
-    ∙ sym (no_register_fits o m p q ps ijk (element_of_text base (a ∷ d ∷ [])) (pairs_of base AnOperator pieces) (name_no_register base (a ∷ d ∷ []) none))
+    ∙ sym (no_register_fits o m p q ps ijk (element_of_text base (a ∷ d ∷ [])) (pairs_of base 0 pieces) (name_no_register base (a ∷ d ∷ []) none))
 two_at a d pieces no_run behind true true false is_x is_y is_z base o m p q ps ijk same letter place shaped =
     let none : register_of (a ∷ d ∷ []) ≡ None = register_test a d true true false is_x is_y is_z in
     let octal : is_octal_digit d ≡ false = ap (λ t. t && leb d 55) is_y ∙ is_z in
     no_octal p a d q ps pieces ijk octal
-    ∙ sym (no_register_fits o m p q ps ijk (element_of_text base (a ∷ d ∷ [])) (pairs_of base AnOperator pieces) (name_no_register base (a ∷ d ∷ []) none))
+    ∙ sym (no_register_fits o m p q ps ijk (element_of_text base (a ∷ d ∷ [])) (pairs_of base 0 pieces) (name_no_register base (a ∷ d ∷ []) none))
 
 -- a run at an element
 run_at : (text : List ℕ) (pieces : List Piece) → is_run text ≡ true → begins_with_run pieces ≡ false → BehindElement pieces → AtElement (Plain text ∷ pieces)
 run_at [] pieces run no_run behind base o m p q ps ijk same letter place shaped = absurd (cc)
 run_at (a ∷ []) pieces run no_run behind base o m p q ps ijk same letter place shaped =
-    sym (no_register_fits o m p q ps ijk (element_of_text base (a ∷ [])) (pairs_of base AnOperator pieces) (name_no_register base (a ∷ []) refl))
+    sym (no_register_fits o m p q ps ijk (element_of_text base (a ∷ [])) (pairs_of base 0 pieces) (name_no_register base (a ∷ []) refl))
 run_at (a ∷ d ∷ []) pieces run no_run behind base o m p q ps ijk same letter place shaped =
     two_at a d pieces no_run behind (is_among a (codes "ABX")) (leb 48 d) (leb d 55) refl refl refl base o m p q ps ijk same letter place shaped
 run_at (a ∷ d ∷ e ∷ es) pieces run no_run behind base o m p q ps ijk same letter place shaped =
-    sym (no_register_fits o m p q ps ijk (element_of_text base (a ∷ d ∷ e ∷ es)) (pairs_of base AnOperator pieces) (name_no_register base (a ∷ d ∷ e ∷ es) refl))
+    sym (no_register_fits o m p q ps ijk (element_of_text base (a ∷ d ∷ e ∷ es)) (pairs_of base 0 pieces) (name_no_register base (a ∷ d ∷ e ∷ es) refl))
 
 -- what begins with a mark begins with no register
 record StartsOtherwise (base : NumberBase) (o : Operator) (pieces : List Piece) : Type 0 where
   element : Option Element
   links : Option (List OperatorElement)
-  read : pairs_of base (ElementOf o) pieces ≡ onto_pairs o element links
+  read : pairs_from base o pieces ≡ onto_pairs o element links
   other : is_register_element element ≡ false
 
-nothing_read : (base : NumberBase) (o : Operator) (pieces : List Piece) → pairs_of base (ElementOf o) pieces ≡ None → StartsOtherwise base o pieces
+nothing_read : (base : NumberBase) (o : Operator) (pieces : List Piece) → pairs_from base o pieces ≡ None → StartsOtherwise base o pieces
 nothing_read base o pieces none = record { element = None; links = None; read = none; other = refl }
 
-location_read : (base : NumberBase) (o : Operator) (pieces : List Piece) → pairs_of base (ElementOf o) (IsMark Star ∷ pieces) ≡ onto_pairs o (Some LocationCounter) (pairs_of base AnOperator pieces) → StartsOtherwise base o (IsMark Star ∷ pieces)
-location_read base o pieces is = record { element = Some LocationCounter; links = pairs_of base AnOperator pieces; read = is; other = refl }
+location_read : (base : NumberBase) (o : Operator) (pieces : List Piece) → pairs_from base o (IsMark Star ∷ pieces) ≡ onto_pairs o (Some LocationCounter) (pairs_of base 0 pieces) → StartsOtherwise base o (IsMark Star ∷ pieces)
+location_read base o pieces is = record { element = Some LocationCounter; links = pairs_of base 0 pieces; read = is; other = refl }
 
 star_read : (base : NumberBase) (o : Operator) (pieces : List Piece) → StartsOtherwise base o (IsMark Star ∷ pieces)
 star_read base o [] = location_read base o [] refl
 star_read base o (Plain text ∷ pieces) = record {
   element = counter_of text;
-  links = pairs_of base AnOperator pieces;
+  links = pairs_of base 0 pieces;
   read = refl;
   other = counter_no_register (same_text text (codes "O")) (same_text text (codes "L"));
 }
@@ -165,10 +166,10 @@ star_read base o (IsMark Minus ∷ pieces) = location_read base o (IsMark Minus 
 star_read base o (IsMark Star ∷ pieces) = location_read base o (IsMark Star ∷ pieces) refl
 star_read base o (IsMark Slash ∷ pieces) = location_read base o (IsMark Slash ∷ pieces) refl
 
-literal_read : (base : NumberBase) (o : Operator) (sign : Sign) (text : List ℕ) (front pieces : List Piece) → pairs_of base (ElementOf o) front ≡ onto_pairs o (literal_of sign (number_read base text)) (pairs_of base AnOperator pieces) → StartsOtherwise base o front
+literal_read : (base : NumberBase) (o : Operator) (sign : Sign) (text : List ℕ) (front pieces : List Piece) → pairs_from base o front ≡ onto_pairs o (literal_of sign (number_read base text)) (pairs_of base 0 pieces) → StartsOtherwise base o front
 literal_read base o sign text front pieces is = record {
   element = literal_of sign (number_read base text);
-  links = pairs_of base AnOperator pieces;
+  links = pairs_of base 0 pieces;
   read = is;
   other = literal_no_register sign (number_read base text);
 }
@@ -176,7 +177,7 @@ literal_read base o sign text front pieces is = record {
 equals_read : (base : NumberBase) (o : Operator) (pieces : List Piece) → StartsOtherwise base o (IsMark Equals ∷ pieces)
 equals_read base o [] = nothing_read base o (IsMark Equals ∷ []) refl
 equals_read base o (Plain text ∷ pieces) = literal_read base o NoSign text (IsMark Equals ∷ Plain text ∷ pieces) pieces refl
-equals_read base o (IsCountedItem item ∷ pieces) = record { element = Some (ALiteral (OfCountedItem item)); links = pairs_of base AnOperator pieces; read = refl; other = refl }
+equals_read base o (IsCountedItem item ∷ pieces) = record { element = Some (ALiteral (OfCountedItem item)); links = pairs_of base 0 pieces; read = refl; other = refl }
 equals_read base o (IsMark Plus ∷ []) = nothing_read base o (IsMark Equals ∷ IsMark Plus ∷ []) refl
 equals_read base o (IsMark Plus ∷ Plain text ∷ pieces) = literal_read base o PlusSign text (IsMark Equals ∷ IsMark Plus ∷ Plain text ∷ pieces) pieces refl
 equals_read base o (IsMark Plus ∷ IsCountedItem item ∷ pieces) = nothing_read base o (IsMark Equals ∷ IsMark Plus ∷ IsCountedItem item ∷ pieces) refl
@@ -202,12 +203,12 @@ mark_read base o Slash pieces = nothing_read base o (IsMark Slash ∷ pieces) re
 record Read (base : NumberBase) (o : Operator) (pieces : List Piece) : Type 0 where
   element : Option Element
   links : Option (List OperatorElement)
-  read : pairs_of base (ElementOf o) pieces ≡ onto_pairs o element links
+  read : pairs_from base o pieces ≡ onto_pairs o element links
 
 read_of : (base : NumberBase) (o : Operator) (pieces : List Piece) → Read base o pieces
 read_of base o [] = record { element = None; links = None; read = refl }
-read_of base o (Plain text ∷ pieces) = record { element = element_of_text base text; links = pairs_of base AnOperator pieces; read = refl }
-read_of base o (IsCountedItem item ∷ pieces) = record { element = Some (ACountedItem item); links = pairs_of base AnOperator pieces; read = refl }
+read_of base o (Plain text ∷ pieces) = record { element = element_of_text base text; links = pairs_of base 0 pieces; read = refl }
+read_of base o (IsCountedItem item ∷ pieces) = record { element = Some (ACountedItem item); links = pairs_of base 0 pieces; read = refl }
 read_of base o (IsMark mark ∷ pieces) = let found = mark_read base o mark pieces in record { element = found.element; links = found.links; read = found.read }
 
 other_operator : (o : Operator) (m p q : ℕ) (ps : List ℕ) (ijk : RegisterDigits) (e : Option Element) (links : Option (List OperatorElement)) → eqb m (operator_character o) ≡ false →
@@ -231,13 +232,13 @@ mark_at mark pieces base o m p q ps ijk same letter place shaped =
 
 -- an operator, and an element behind it
 by_operator : (o : Operator) (pieces : List Piece) → AtElement pieces → (base : NumberBase) (m p q : ℕ) (ps : List ℕ) (ijk : RegisterDigits) (b : Bool) → eqb m (operator_character o) ≡ b → IsLetter p → is_ijk q ≡ true → is_behind_register ps ≡ true →
-    cond b (pieces_fit (p ∷ q ∷ ps) pieces ijk) None ≡ read_links_fit (m ∷ p ∷ q ∷ ps) (pairs_of base (ElementOf o) pieces) ijk
+    cond b (pieces_fit (p ∷ q ∷ ps) pieces ijk) None ≡ read_links_fit (m ∷ p ∷ q ∷ ps) (pairs_from base o pieces) ijk
 by_operator o pieces at base m p q ps ijk true same letter place shaped = at base o m p q ps ijk same letter place shaped
 by_operator o pieces at base m p q ps ijk false other letter place shaped =
     let found = read_of base o pieces in
     sym (ap (λ links. read_links_fit (m ∷ p ∷ q ∷ ps) links ijk) found.read ∙ other_operator o m p q ps ijk found.element found.links other)
 
-no_links : (o : Operator) (pieces : List Piece) (base : NumberBase) (ijk : RegisterDigits) → None ≡ read_links_fit [] (pairs_of base (ElementOf o) pieces) ijk
+no_links : (o : Operator) (pieces : List Piece) (base : NumberBase) (ijk : RegisterDigits) → None ≡ read_links_fit [] (pairs_from base o pieces) ijk
 no_links o pieces base ijk =
     let found = read_of base o pieces in
     sym (ap (λ links. read_links_fit [] links ijk) found.read ∙ no_pattern o ijk found.element found.links)
@@ -251,7 +252,7 @@ no_equals m mark =
 
 -- a mark behind an element: an operator, or nothing that is read
 behind_mark : (mark : Mark) (pieces : List Piece) → AtElement pieces → (base : NumberBase) (m p q : ℕ) (ps : List ℕ) (ijk : RegisterDigits) → eqb m 44 ≡ false → eqb m 61 ≡ false → IsLetter p → is_ijk q ≡ true → is_behind_register ps ≡ true →
-    pieces_fit (m ∷ p ∷ q ∷ ps) (IsMark mark ∷ pieces) ijk ≡ read_links_fit (m ∷ p ∷ q ∷ ps) (pairs_of base AnOperator (IsMark mark ∷ pieces)) ijk
+    pieces_fit (m ∷ p ∷ q ∷ ps) (IsMark mark ∷ pieces) ijk ≡ read_links_fit (m ∷ p ∷ q ∷ ps) (pairs_of base 0 (IsMark mark ∷ pieces)) ijk
 behind_mark Plus pieces at base m p q ps ijk comma equals letter place shaped = by_operator Add pieces at base m p q ps ijk (eqb m 43) refl letter place shaped
 behind_mark Minus pieces at base m p q ps ijk comma equals letter place shaped = by_operator Subtract pieces at base m p q ps ijk (eqb m 45) refl letter place shaped
 behind_mark Star pieces at base m p q ps ijk comma equals letter place shaped = by_operator Times pieces at base m p q ps ijk (eqb m 42) refl letter place shaped
@@ -259,7 +260,7 @@ behind_mark Slash pieces at base m p q ps ijk comma equals letter place shaped =
 behind_mark Comma pieces at base m p q ps ijk comma equals letter place shaped = ap (λ b. cond b (pieces_fit (p ∷ q ∷ ps) pieces ijk) None) comma
 behind_mark Equals pieces at base m p q ps ijk comma equals letter place shaped = ap (λ b. cond b (pieces_fit (p ∷ q ∷ ps) pieces ijk) None) equals
 
-nothing_behind : (mark : Mark) (pieces : List Piece) (base : NumberBase) (ijk : RegisterDigits) → pieces_fit [] (IsMark mark ∷ pieces) ijk ≡ read_links_fit [] (pairs_of base AnOperator (IsMark mark ∷ pieces)) ijk
+nothing_behind : (mark : Mark) (pieces : List Piece) (base : NumberBase) (ijk : RegisterDigits) → pieces_fit [] (IsMark mark ∷ pieces) ijk ≡ read_links_fit [] (pairs_of base 0 (IsMark mark ∷ pieces)) ijk
 nothing_behind Plus pieces base ijk = no_links Add pieces base ijk
 nothing_behind Minus pieces base ijk = no_links Subtract pieces base ijk
 nothing_behind Star pieces base ijk = no_links Times pieces base ijk
@@ -298,7 +299,7 @@ both : (pieces : List Piece) → are_of_field pieces ≡ true → AtElement piec
 both [] field = (λ base o m p q ps ijk same letter place shaped. refl, end_behind)
 both (IsMark mark ∷ pieces) field = (mark_at mark pieces, mark_behind mark pieces (both pieces field).0)
 both (IsCountedItem item ∷ pieces) field =
-    (λ base o m p q ps ijk same letter place shaped. sym (no_register_fits o m p q ps ijk (Some (ACountedItem item)) (pairs_of base AnOperator pieces) refl), item_behind item pieces)
+    (λ base o m p q ps ijk same letter place shaped. sym (no_register_fits o m p q ps ijk (Some (ACountedItem item)) (pairs_of base 0 pieces) refl), item_behind item pieces)
 both (Plain text ∷ pieces) field =
     let one = and_parts (is_run text) (not (begins_with_run pieces) && are_of_field pieces) field in
     let two = and_parts (not (begins_with_run pieces)) (are_of_field pieces) one.1 in
@@ -312,7 +313,7 @@ same_character Subtract = refl
 
 -- behind an operator the pieces fit registers where the elements that they spell do
 pub pieces_fit-links : (base : NumberBase) (o : Operator) (pattern : List ℕ) (pieces : List Piece) (ijk : RegisterDigits) → is_sum_of_registers pattern ≡ true → are_of_field pieces ≡ true →
-    pieces_fit pattern pieces ijk ≡ read_links_fit (operator_character o ∷ pattern) (pairs_of base (ElementOf o) pieces) ijk
+    pieces_fit pattern pieces ijk ≡ read_links_fit (operator_character o ∷ pattern) (pairs_from base o pieces) ijk
 pieces_fit-links base o [] pieces ijk shaped field = absurd (cc)
 pieces_fit-links base o (p ∷ []) pieces ijk shaped field = absurd (cc)
 pieces_fit-links base o (p ∷ q ∷ ps) pieces ijk shaped field =
@@ -322,10 +323,10 @@ pieces_fit-links base o (p ∷ q ∷ ps) pieces ijk shaped field =
 
 -- the text of a subfield fits registers where the elements that it spells do
 pub registers_fit-links : (base : NumberBase) (pattern : List ℕ) (pieces : List Piece) (ijk : RegisterDigits) → is_sum_of_registers pattern ≡ true → are_of_field pieces ≡ true →
-    matched pattern (plain_text pieces) ijk ≡ read_links_fit (43 ∷ pattern) (pairs_of base (ElementOf Add) pieces) ijk
+    matched pattern (plain_text pieces) ijk ≡ read_links_fit (43 ∷ pattern) (pairs_from base Add pieces) ijk
 registers_fit-links base pattern pieces ijk shaped field = registers_fit pattern pieces ijk shaped field ∙ pieces_fit-links base Add pattern pieces ijk shaped field
 
 -- behind a minus as well
 pub minus_fit-links : (base : NumberBase) (pattern : List ℕ) (pieces : List Piece) (ijk : RegisterDigits) → is_sum_of_registers pattern ≡ true → are_of_field pieces ≡ true →
-    matched (45 ∷ pattern) (plain_text (IsMark Minus ∷ pieces)) ijk ≡ read_links_fit (45 ∷ pattern) (pairs_of base (ElementOf Subtract) pieces) ijk
+    matched (45 ∷ pattern) (plain_text (IsMark Minus ∷ pieces)) ijk ≡ read_links_fit (45 ∷ pattern) (pairs_from base Subtract pieces) ijk
 minus_fit-links base pattern pieces ijk shaped field = pattern_fits (45 ∷ pattern) (IsMark Minus ∷ pieces) ijk shaped field ∙ pieces_fit-links base Subtract pattern pieces ijk shaped field

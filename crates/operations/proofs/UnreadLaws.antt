@@ -7,10 +7,11 @@ use Rattle.std.proofs.lemmas.Bool.Decides.{eqb_tells}
 use Rattle.definitions.specs.Characters.{same_text}
 use Rattle.definitions.specs.CountedItems.{CountedItem, CountedSpan, counted_item_at}
 use Rattle.definitions.specs.Pieces.{Mark, Comma, Plus, Minus, Star, Slash, Equals, Spot, AtStart, AtEquals, Inside, Begun, ByMark, ByCountedItem, ByOther, Piece, IsMark, IsCountedItem, Plain, mark_of, begun_by, begun_by_counted_item, begun_at, spot_behind, left_of, onto_plain, onto_pieces, pieces_at, pieces_of, subfields_of}
-use Rattle.definitions.specs.Expressions.{Sign, NoSign, MinusSign, Add, Subtract, OperatorElement, ElementOf, pairs_of, with_sign, expression_of}
+use Rattle.definitions.specs.Expressions.{Sign, NoSign, MinusSign, Add, Subtract, OperatorElement, with_sign, expression_of}
 use Rattle.definitions.specs.CentralTable.{Row, central_rows, ignoring_rows, sum_rows}
 use Rattle.definitions.specs.Matching.{RegisterDigits, no_ijk, is_octal_digit, with_ijk, matched, is_operation, OfK, OfN, Match, plain_text, plain_field, with_field, subfield_matched, subfields_matched, with_registers, matched_instruction, Instruction, ignoring_fit, row_fit, sum_fit, sum_read, single, sum_rows_for, first_fit, central_of}
 use Rattle.definitions.specs.declared.number_base.NumberBase.{NumberBase}
+use Rattle.definitions.proofs.GrammarLaws.{pairs_from}
 use Rattle.expr_forms.specs.Joins.Operands.{is_subfield, is_operand}
 use Rattle.operations.specs.Joins.RegisterPieces.{pieces_fit, is_of_run, begins_with_run, is_run, are_of_field, is_sum_of_registers, is_register_pattern, is_pattern_part}
 use Rattle.operations.specs.Joins.RegisterLinks.{read_links_fit}
@@ -51,7 +52,7 @@ minus_unread base [] pieces ijk shaped field unread = absurd (both_ways (sym sha
 minus_unread base (q ∷ ps) [] ijk shaped field unread = refl
 minus_unread base (q ∷ ps) (IsMark Minus ∷ pieces) ijk shaped field unread =
     minus_fit-links base (q ∷ ps) pieces ijk shaped field
-    ∙ ap (λ links. read_links_fit (45 ∷ q ∷ ps) links ijk) (no_pairs MinusSign (pairs_of base (ElementOf Subtract) pieces) unread)
+    ∙ ap (λ links. read_links_fit (45 ∷ q ∷ ps) links ijk) (no_pairs MinusSign (pairs_from base Subtract pieces) unread)
 minus_unread base (q ∷ ps) (IsMark Comma ∷ pieces) ijk shaped field unread = refl
 minus_unread base (q ∷ ps) (IsMark Plus ∷ pieces) ijk shaped field unread = refl
 minus_unread base (q ∷ ps) (IsMark Star ∷ pieces) ijk shaped field unread = refl
@@ -63,16 +64,16 @@ minus_unread base (q ∷ ps) (Plain text ∷ pieces) ijk shaped field unread =
     pattern_fits (45 ∷ q ∷ ps) (Plain text ∷ pieces) ijk shaped field ∙ minus_run q ps text pieces ijk parts.0
 
 -- nor are there elements from the start on: a sign there is none
-no_elements : (base : NumberBase) (pieces : List Piece) → is_some (expression_of base pieces) ≡ false → pairs_of base (ElementOf Add) pieces ≡ None
+no_elements : (base : NumberBase) (pieces : List Piece) → is_some (expression_of base pieces) ≡ false → pairs_from base Add pieces ≡ None
 no_elements base [] unread = refl
 no_elements base (IsMark Plus ∷ pieces) unread = refl
 no_elements base (IsMark Minus ∷ pieces) unread = refl
 no_elements base (IsMark Comma ∷ pieces) unread = refl
 no_elements base (IsMark Slash ∷ pieces) unread = refl
-no_elements base (IsMark Star ∷ pieces) unread = no_pairs NoSign (pairs_of base (ElementOf Add) (IsMark Star ∷ pieces)) unread
-no_elements base (IsMark Equals ∷ pieces) unread = no_pairs NoSign (pairs_of base (ElementOf Add) (IsMark Equals ∷ pieces)) unread
-no_elements base (IsCountedItem item ∷ pieces) unread = no_pairs NoSign (pairs_of base (ElementOf Add) (IsCountedItem item ∷ pieces)) unread
-no_elements base (Plain text ∷ pieces) unread = no_pairs NoSign (pairs_of base (ElementOf Add) (Plain text ∷ pieces)) unread
+no_elements base (IsMark Star ∷ pieces) unread = no_pairs NoSign (pairs_from base Add (IsMark Star ∷ pieces)) unread
+no_elements base (IsMark Equals ∷ pieces) unread = no_pairs NoSign (pairs_from base Add (IsMark Equals ∷ pieces)) unread
+no_elements base (IsCountedItem item ∷ pieces) unread = no_pairs NoSign (pairs_from base Add (IsCountedItem item ∷ pieces)) unread
+no_elements base (Plain text ∷ pieces) unread = no_pairs NoSign (pairs_from base Add (Plain text ∷ pieces)) unread
 
 registers_unread : (base : NumberBase) (m : ℕ) (ps : List ℕ) (pieces : List Piece) (ijk : RegisterDigits) (b : Bool) → eqb m 45 ≡ b → cond b (is_sum_of_registers ps) (is_sum_of_registers (m ∷ ps)) ≡ true → are_of_field pieces ≡ true →
     is_some (expression_of base pieces) ≡ false → matched (m ∷ ps) (plain_text pieces) ijk ≡ None

@@ -2,7 +2,7 @@
 use Rattle.std.specs.Prelude.{ℕ, List, [], ◌∷◌, Option, Some, None, Bool, true, false}
 use Rattle.definitions.specs.Pieces.{Mark, Equals, Piece, Plain, Inside, pieces_at}
 use Rattle.definitions.specs.Symbols.{number_read}
-use Rattle.definitions.specs.Expressions.{Sign, NoSign, PlusSign, MinusSign, Literal, OfNumber, OfCountedItem, Element, ANumber, ACountedItem, ASymbol, ARegister, LocationCounter, OriginCounter, ALiteral, Operator, OperatorElement, AnOperator, literal_of, onto_pairs, pairs_of}
+use Rattle.definitions.specs.Expressions.{Sign, NoSign, PlusSign, MinusSign, Literal, OfNumber, OfCountedItem, Element, ANumber, ACountedItem, ASymbol, ARegister, LocationCounter, OriginCounter, ALiteral, Operator, OperatorElement, literal_of, onto_pairs, pairs_of}
 use Rattle.definitions.specs.declared.number_base.NumberBase.{NumberBase}
 use Rattle.expr_forms.specs.Joins.Numbers.{number_as}
 use Rattle.expr_forms.specs.Joins.Registers.{register_as}
@@ -39,11 +39,11 @@ element_as (element.Literal literal) = ALiteral (literal_as literal)
 -- an operator and the element that was found, in front of the pairs behind it
 abbrev pub elements_found : NumberBase → Operator → Option found.ElementFound → Option (List OperatorElement)
 elements_found base o None = None
-elements_found base o (Some found) = onto_pairs o (Some (element_as found.element)) (pairs_of base AnOperator (pieces_at Inside 0 found.rest.now))
+elements_found base o (Some found) = onto_pairs o (Some (element_as found.element)) (pairs_of base 0 (pieces_at Inside 0 found.rest.now))
 
 -- behind an equals sign and a sign: a number, and pairs
 abbrev pub signed_literal : NumberBase → Operator → Sign → List Piece → Option (List OperatorElement)
-signed_literal base o sign (Plain text ∷ pieces) = onto_pairs o (literal_of sign (number_read base text)) (pairs_of base AnOperator pieces)
+signed_literal base o sign (Plain text ∷ pieces) = onto_pairs o (literal_of sign (number_read base text)) (pairs_of base 0 pieces)
 signed_literal base o sign pieces = None
 
 -- an equals sign begins an element; every other mark may stand behind one

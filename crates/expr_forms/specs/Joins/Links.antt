@@ -1,7 +1,7 @@
 -- Links of the code, in the words of the definitions.
 use Rattle.std.specs.Prelude.{ℕ, List, [], ◌∷◌, Option, Some, None, ⊤, unwrap_or, ◌≡◌, true, is_some}
-use Rattle.definitions.specs.Pieces.{Mark, Plus, Minus, Star, Slash, Inside, pieces_at}
-use Rattle.definitions.specs.Expressions.{Operator, Times, Divide, Add, Subtract, OperatorElement, AnOperator, onto_pairs, pairs_of}
+use Rattle.definitions.specs.Pieces.{Mark, Inside, pieces_at}
+use Rattle.definitions.specs.Expressions.{Operator, Times, Divide, Add, Subtract, OperatorElement, operator_of_mark, onto_pairs, pairs_of}
 use Rattle.definitions.specs.declared.number_base.NumberBase.{NumberBase}
 use Rattle.expr_forms.specs.Joins.Elements.{element_as}
 use Rattle.expr_forms.specs.declared.links.Operator as operators
@@ -20,17 +20,14 @@ operator_as operator.Subtract = Subtract
 
 -- the operator of a mark behind an element
 abbrev pub operator_marked : Option Mark → Option Operator
-operator_marked (Some Plus) = Some Add
-operator_marked (Some Minus) = Some Subtract
-operator_marked (Some Star) = Some Times
-operator_marked (Some Slash) = Some Divide
-operator_marked _ = None
+operator_marked None = None
+operator_marked (Some mark) = operator_of_mark mark
 
 -- the pairs that begin with the link that was found
 abbrev pub links_found : NumberBase → links.LinkFound → Option (List OperatorElement)
 links_found base found.End = Some []
 links_found base found.Unlawful = None
-links_found base (found.Link link rest) = onto_pairs (operator_as link.operator) (Some (element_as link.element)) (pairs_of base AnOperator (pieces_at Inside 0 rest.now))
+links_found base (found.Link link rest) = onto_pairs (operator_as link.operator) (Some (element_as link.element)) (pairs_of base 0 (pieces_at Inside 0 rest.now))
 
 -- the operator and its element
 abbrev pub link_as : code.Link → OperatorElement
@@ -42,7 +39,7 @@ link_made operator element = record { operator = operator_as operator; element =
 
 -- the pairs that a text behind an element spells, if it does
 abbrev pub pairs_behind : NumberBase → List ℕ → Option (List OperatorElement)
-pairs_behind base rest = pairs_of base AnOperator (pieces_at Inside 0 rest)
+pairs_behind base rest = pairs_of base 0 (pieces_at Inside 0 rest)
 
 -- a text spells pairs and nothing else
 abbrev pub IsLawful : NumberBase → List ℕ → Type 0

@@ -2,8 +2,8 @@
 //! pieces.
 ghost use Rattle.std.specs.Prelude.{◌≡◌, ◌==◌, ◌∷◌, ℕ, List, true};
 ghost use Rattle.std.specs.List.{list_all, slice_split};
-ghost use Rattle.definitions.specs.Pieces.{Minus, IsMark, Piece};
-ghost use Rattle.definitions.specs.Expressions.{Add, Subtract, ElementOf, pairs_of};
+ghost use Rattle.definitions.specs.Pieces.{Plus, Minus, IsMark, Piece};
+ghost use Rattle.definitions.specs.Expressions.{pairs_of};
 ghost use Rattle.definitions.specs.Matching.{RegisterDigits, matched, plain_text};
 ghost use Rattle.operations.specs.declared.central.patterns.OperandPattern.{OperandPattern};
 ghost use Rattle.operations.specs.Joins.CodeTexts.{operand_text};
@@ -26,8 +26,8 @@ pub fn patterns_fit_pieces()
 pub fn patterns_fit_expressions()
     ensures sums { (base : NumberBase) (pattern : List ℕ) (pieces : List Piece) (ijk : RegisterDigits) →
         is_sum_of_registers pattern ≡ true → are_of_field pieces ≡ true →
-        matched pattern (plain_text pieces) ijk ≡ read_links_fit (43 ∷ pattern) (pairs_of base (ElementOf Add) pieces) ijk }
+        matched pattern (plain_text pieces) ijk ≡ read_links_fit (43 ∷ pattern) (pairs_of base 0 (IsMark Plus ∷ pieces)) ijk }
     ensures behind_minus { (base : NumberBase) (pattern : List ℕ) (pieces : List Piece) (ijk : RegisterDigits) →
         is_sum_of_registers pattern ≡ true → are_of_field pieces ≡ true →
-        matched (45 ∷ pattern) (plain_text (IsMark Minus ∷ pieces)) ijk ≡ read_links_fit (45 ∷ pattern) (pairs_of base (ElementOf Subtract) pieces) ijk }
+        matched (45 ∷ pattern) (plain_text (IsMark Minus ∷ pieces)) ijk ≡ read_links_fit (45 ∷ pattern) (pairs_of base 0 (IsMark Minus ∷ pieces)) ijk }
 {}

@@ -1,22 +1,22 @@
 use Rattle.std.proofs.Common.{◌≡◌, ◌∙◌, ◌∷◌, List, ap, sym}
 use Rattle.definitions.specs.Pieces.{Equals, AtEquals, Piece, IsMark, pieces_at}
-use Rattle.definitions.specs.Expressions.{ElementOf, pairs_of}
+use Rattle.definitions.proofs.GrammarLaws.{pairs_from}
 use Rattle.expr_forms.proofs.ElementLaws.{found_is}
 use Rattle.expr_forms.proofs.elements.behind_equals.Goals as goal
 
 pub returns-in-Run-clause-elements : goal.returns-in-Run-clause-elements
 returns-in-Run-clause-elements c o =
-    ap (λ (p : List Piece). pairs_of c.args.base (ElementOf o) (IsMark Equals ∷ p))
+    ap (λ (p : List Piece). pairs_from c.args.base o (IsMark Equals ∷ p))
     (found_is (pieces_at AtEquals 0 c.args.text.now) c.in-Some.found.piece _ c.in-Some.found.rest.now c.in-Some.ensures.pieces c.in-Run.is)
     ∙ sym (c.number_literal.ensures.elements o)
 
 pub returns-in-Item-clause-elements : goal.returns-in-Item-clause-elements
 returns-in-Item-clause-elements c o =
-    ap (λ (p : List Piece). pairs_of c.args.base (ElementOf o) (IsMark Equals ∷ p))
+    ap (λ (p : List Piece). pairs_from c.args.base o (IsMark Equals ∷ p))
     (found_is (pieces_at AtEquals 0 c.args.text.now) c.in-Some.found.piece _ c.in-Some.found.rest.now c.in-Some.ensures.pieces c.in-Item.is)
 
 pub returns-in-Mark-clause-elements : goal.returns-in-Mark-clause-elements
 returns-in-Mark-clause-elements c o =
-    ap (λ (p : List Piece). pairs_of c.args.base (ElementOf o) (IsMark Equals ∷ p))
+    ap (λ (p : List Piece). pairs_from c.args.base o (IsMark Equals ∷ p))
     (found_is (pieces_at AtEquals 0 c.args.text.now) c.in-Some.found.piece _ c.in-Some.found.rest.now c.in-Some.ensures.pieces c.in-Mark.is)
     ∙ c.behind_equals_mark.ensures.elements o

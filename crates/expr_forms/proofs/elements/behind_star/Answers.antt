@@ -1,6 +1,6 @@
 use Rattle.std.proofs.Common.{◌≡◌, ◌∙◌, ◌∷◌, [], List, ap, sym}
 use Rattle.definitions.specs.Pieces.{Star, ByMark, Piece, IsMark, spot_behind, pieces_at, pieces_of}
-use Rattle.definitions.specs.Expressions.{ElementOf, pairs_of}
+use Rattle.definitions.proofs.GrammarLaws.{pairs_from}
 use Rattle.expr_forms.specs.Joins.PiecesFound.{mark_as}
 use Rattle.expr_forms.proofs.ElementLaws.{found_is, star-alone, star-equals, mark-ends}
 use Rattle.expr_forms.proofs.elements.behind_star.Goals as goal
@@ -10,7 +10,7 @@ returns-in-None-clause-elements c base o = star-alone base o c.args.text.now [] 
 
 pub returns-in-Run-clause-elements : goal.returns-in-Run-clause-elements
 returns-in-Run-clause-elements c base o =
-    ap (λ (p : List Piece). pairs_of base (ElementOf o) (IsMark Star ∷ p))
+    ap (λ (p : List Piece). pairs_from base o (IsMark Star ∷ p))
     (found_is (pieces_of c.args.text.now) c.in-Some.found.piece _ c.in-Some.found.rest.now c.in-Some.ensures.pieces c.in-Run.is)
     ∙ sym (c.counter_found.ensures.elements base o)
 
@@ -22,6 +22,6 @@ returns-then-ends_element-clause-elements c base o =
 
 pub returns-else-ends_element-clause-elements : goal.returns-else-ends_element-clause-elements
 returns-else-ends_element-clause-elements c base o =
-    ap (λ (p : List Piece). pairs_of base (ElementOf o) (IsMark Star ∷ p))
+    ap (λ (p : List Piece). pairs_from base o (IsMark Star ∷ p))
     (found_is (pieces_of c.args.text.now) c.in-Some.found.piece _ c.in-Some.found.rest.now c.in-Some.ensures.pieces c.in-Mark.is)
     ∙ star-equals base o (mark_as c.in-Mark.mark) (pieces_at (spot_behind (ByMark (mark_as c.in-Mark.mark))) 0 c.in-Some.found.rest.now) (sym c.ends_element.ensures ∙ c.if-ends_element.false)
