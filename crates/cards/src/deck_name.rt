@@ -4,6 +4,7 @@ ghost use Rattle.std.specs.List.{list_all};
 ghost use Rattle.definitions.specs.Characters.{is_digit, is_letter};
 ghost use Rattle.definitions.specs.DeckInput.{is_deck_name};
 
+use definitions::InlineText;
 use std::marker::Model;
 
 /// How many characters the name of a deck has at most.
@@ -12,18 +13,15 @@ const MOST_CHARACTERS: usize = 7;
 /// The name of a deck: 1 to 7 letters and digits. Contracts see it as the list of its characters.
 #[derive(Drop)]
 pub struct DeckName {
-    characters: [u8; MOST_CHARACTERS],
-    len: usize,
+    characters: InlineText<MOST_CHARACTERS>,
 }
 
 impl Model for DeckName {
-    ghost use Rattle.std.specs.Prelude.{ℕ, List, take, ◌≤◌};
+    ghost use Rattle.std.specs.Prelude.{ℕ, List};
 
     ghost Value = { List ℕ };
 
-    ghost view = { λ n. take n.len n.characters };
-
-    ghost invariant = { λ n. n.len ≤ 7 };
+    ghost view = { λ n. n.characters };
 }
 
 /// The characters are no name of a deck.
@@ -37,21 +35,11 @@ impl DeckName {
         ensures name { IfOk result (λ name. name ≡ text.now) }
     {
         if is_name(text) {
-            Ok(DeckName::of_characters(text))
+            Ok(DeckName {
+                characters: InlineText::of(text),
+            })
         } else {
             Err(BadName)
-        }
-    }
-
-    fn of_characters(text: &[u8]) -> DeckName
-        requires { length text.now ≤ 7 }
-        ensures { result ≡ text.now }
-    {
-        let mut characters = [b' '; MOST_CHARACTERS];
-        characters.split_at_mut(text.len()).0.copy_from_slice(text);
-        DeckName {
-            characters,
-            len: text.len(),
         }
     }
 
@@ -60,8 +48,7 @@ impl DeckName {
         ensures { result ≡ self.now }
     {
         DeckName {
-            characters: self.characters,
-            len: self.len,
+            characters: self.characters.copied(),
         }
     }
 
@@ -69,7 +56,7 @@ impl DeckName {
         ensures name { result.now ≡ self.now }
         ensures short { length self.now ≤ 7 }
     {
-        self.characters.split_at(self.len).0
+        self.characters.as_slice()
     }
 }
 

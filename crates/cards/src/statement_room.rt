@@ -1,8 +1,9 @@
 //! Room for the text of a statement that goes over several cards.
-ghost use Rattle.std.specs.Prelude.{◌≡◌, ◌≤◌, ◌+◌, ◌++◌, ◌∷◌, [], length};
+ghost use Rattle.std.specs.Prelude.{◌≡◌, ◌≤◌, ◌∷◌, [], length};
 ghost use Rattle.definitions.specs.Statements.{text_of};
 
 use crate::card::Card;
+use definitions::InlineText;
 use std::marker::Model;
 
 /// How many characters the text of a statement has at most: 72 of its first card and 71 of each of
@@ -14,18 +15,15 @@ const MOST_CHARACTERS: usize = 711;
 /// Contracts see it as the list of the characters in it.
 #[derive(Drop)]
 pub struct StatementRoom {
-    characters: [u8; MOST_CHARACTERS],
-    len: usize,
+    text: InlineText<MOST_CHARACTERS>,
 }
 
 impl Model for StatementRoom {
-    ghost use Rattle.std.specs.Prelude.{ℕ, List, take, ◌≤◌};
+    ghost use Rattle.std.specs.Prelude.{ℕ, List};
 
     ghost Value = { List ℕ };
 
-    ghost view = { λ t. take t.len t.characters };
-
-    ghost invariant = { λ t. t.len ≤ 711 };
+    ghost view = { λ r. r.text };
 }
 
 impl StatementRoom {
@@ -34,8 +32,7 @@ impl StatementRoom {
         ensures { result ≡ [] }
     {
         StatementRoom {
-            characters: [b' '; MOST_CHARACTERS],
-            len: 0,
+            text: InlineText::new(),
         }
     }
 
@@ -43,22 +40,7 @@ impl StatementRoom {
         ensures text { result.now ≡ self.now }
         ensures short { length result.now ≤ 711 }
     {
-        self.characters.split_at(self.len).0
-    }
-
-    fn clear(&mut self)
-        ensures { self.new ≡ [] }
-    {
-        self.len = 0;
-    }
-
-    fn append(&mut self, columns: &[u8])
-        requires { length self.old + length columns.now ≤ 711 }
-        ensures { self.new ≡ self.old ++ columns.now }
-    {
-        let end = self.len + columns.len();
-        self.characters[self.len..end].copy_from_slice(columns);
-        self.len = end;
+        self.text.as_slice()
     }
 
     /// Puts the text of the statement in that these cards are: columns 1 to 72 of the first, and 2
@@ -67,10 +49,10 @@ impl StatementRoom {
         requires { length others.now ≤ 9 }
         ensures { self.new ≡ text_of (first.now ∷ others.now) }
     {
-        self.clear();
-        self.append(first.read_columns());
+        self.text.clear();
+        self.text.append(first.read_columns());
         for card in others {
-            self.append(card.read_columns().split_at(1).1);
+            self.text.append(card.read_columns().split_at(1).1);
         }
     }
 }

@@ -1,10 +1,9 @@
 -- The steps of saving cards: the lines of the first cards went out.
-use Rattle.std.proofs.Common.{ℕ, ◌≡◌, ◌+◌, ◌-◌, ◌<◌, ◌≤◌, List, [], ◌∷◌, ◌++◌, Option, length, take, drop, get_or, refl, sym, ap, subst, ◌∙◌, arith, append-nil, length-append, take-append-drop}
-use Rattle.std.specs.Prelude.{replicate}
+use Rattle.std.proofs.Common.{ℕ, ◌≡◌, ◌+◌, ◌<◌, ◌≤◌, List, [], ◌∷◌, ◌++◌, Option, length, take, drop, get_or, refl, sym, ap, subst, ◌∙◌, arith, append-nil, length-append, take-append-drop}
 use Rattle.std.specs.Io.KnownBytes.{Appends}
 use Rattle.std.proofs.KnownBytes.{Appends-trans}
 use Rattle.std.proofs.lemmas.Grind.{flat_map-append}
-use Rattle.std.proofs.lemmas.List.{take_more, at_drop_more, drop-replicate, take-replicate, take-append-le, take_at, drop_at}
+use Rattle.std.proofs.lemmas.List.{take_more, at_drop_more, take-append-le, take_at, drop_at}
 use Rattle.std.proofs.Math.Seq.{take-add}
 use Rattle.definitions.specs.Cards.{Card}
 use Rattle.deck_files.specs.DeckFiles.{line_of_card, file_of}
@@ -52,16 +51,3 @@ Appends-part old mid new cards i sent more line within is count first few second
       omega (arith, ap length whole, length-append front (line ++ behind), length-append line behind),
       subst (λ l. Appends old new l) (sym cut) (Appends-trans old mid new front (take more line) first second),
     )
-
--- columns, and of what stood behind them only the line feed
-pub take-line : (columns front back : List ℕ) → length columns ≤ 80 → front ≡ columns → back ≡ drop (length columns) (replicate 81 10) →
-    take (length columns + 1) (front ++ back) ≡ line_of_card columns
-take-line columns front back short is behind =
-    let feeds : back ≡ replicate (81 - length columns) 10 = behind ∙ drop-replicate (length columns) 81 10 in
-    let some : take 1 (replicate (81 - length columns) 10) ≡ 10 ∷ [] = take-replicate 1 (81 - length columns) 10 (omega arith) in
-    ap (λ (l : List ℕ). take (length columns + 1) (l ++ back)) is
-    ∙ take-add (length columns) 1 (columns ++ back)
-    ∙ ap (λ (l : List ℕ). l ++ take 1 (drop (length columns) (columns ++ back))) (take_at columns back (length columns) refl)
-    ∙ ap (λ (l : List ℕ). columns ++ take 1 l) (drop_at columns back (length columns) refl)
-    ∙ ap (λ (l : List ℕ). columns ++ take 1 l) feeds
-    ∙ ap (λ (l : List ℕ). columns ++ l) some

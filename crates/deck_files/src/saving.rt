@@ -4,7 +4,7 @@ ghost use Rattle.std.specs.Io.KnownBytes.{Appends};
 ghost use Rattle.text_ports.specs.Faults.{count_up};
 ghost use Rattle.deck_files.specs.DeckFiles.{file_of};
 
-use crate::card_line::CardLine;
+use crate::card_line::card_line;
 use cards::Card;
 use std::alloc::{AllocError, Global};
 use std::io::Write;
@@ -23,7 +23,7 @@ pub fn save<W: Write>(writer: &mut Counted<W>, cards: &[Card]) -> Result<(), Bro
 {
     let mut sent = 0;
     for card in cards {
-        let line = CardLine::of(card);
+        let line = card_line(card);
         let bytes = line.as_slice();
         if let Err(broken) = put_all(writer, bytes) {
             return Err(Broken {

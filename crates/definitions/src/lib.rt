@@ -1,5 +1,5 @@
 //! The language, in `specs/`: what a program and its definitions name alike (characters, counted
-//! items, letters, kinds of decks, number bases), and the laws of the definitions, each the contract of a function.
+//! items, letters, kinds of decks, number bases, short texts), and the laws of the definitions, each the contract of a function.
 //!
 //! `specs/Lib.antt` is the table of contents. A reader of this project has to believe these files,
 //! and nothing else of the language. Statements are read newest first, so a definition searches all
@@ -18,6 +18,9 @@ mod item_text;
 mod letter;
 mod number_base;
 mod texts;
+
+// Short texts, of which every crate above has some.
+mod inline_text;
 
 // The laws of texts, fields, places, bases and builds.
 mod laws;
@@ -39,6 +42,7 @@ pub use counted_items::{digit_count, is_digit, item_at};
 pub use deck_kind::DeckKind;
 pub use edit_laws::{agreement_lasts, bindings_are_enough};
 pub use field_laws::{fields_fill, fields_fit, instructions_fill_parcels};
+pub use inline_text::InlineText;
 pub use item_letter::ItemLetter;
 pub use item_text::{ItemSpan, ItemText};
 pub use laws::{

@@ -9,10 +9,10 @@ append-requires c = omega (arith, ap length c.clear.ensures, ap length c.read_co
 pub loop-card-init : goal.loop-card-init
 loop-card-init c = record {
   split = text_of-first (c.args.first.now ∷ c.args.others.now) c.args.others.now c.args.first.now c.append.new.self c.clear.new.self c.read_columns.result.now
-      refl c.clear.ensures c.read_columns.ensures c.append.ensures;
+      refl c.clear.ensures c.read_columns.ensures c.append.ensures.text;
   long = omega (
     arith,
-    ap length c.append.ensures,
+    ap length c.append.ensures.text,
     length-append c.clear.new.self c.read_columns.result.now,
     ap length c.clear.ensures,
     ap length c.read_columns.ensures,
@@ -32,8 +32,8 @@ append-requires-in-loop-card c =
 
 pub loop-card-preserved : goal.loop-card-preserved
 loop-card-preserved c = record {
-  split = flat_map-next c.loop-card.self c.append-in-loop-card.new.self c.split_at.result.1.now _ c.args.others.now c.loop-card.card-index
-      c.loop-card-test.true c.append-in-loop-card.ensures
+  split = flat_map-next c.loop-card.self-inside.text c.append-in-loop-card.new.self c.split_at.result.1.now _ c.args.others.now c.loop-card.card-index
+      c.loop-card-test.true c.append-in-loop-card.ensures.text
       (
       c.split_at.ensures.back
       ∙ ap (drop 1) c.read_columns-in-loop-card.ensures
@@ -45,7 +45,7 @@ loop-card-preserved c = record {
     c.split_at.ensures.back_len,
     ap length c.read_columns-in-loop-card.ensures,
     length-padded 72 c.card-item.result,
-    ap length c.append-in-loop-card.ensures,
-    length-append c.loop-card.self c.split_at.result.1.now,
+    ap length c.append-in-loop-card.ensures.text,
+    length-append c.loop-card.self-inside.text c.split_at.result.1.now,
   );
 }

@@ -7,6 +7,6 @@ use Rattle.cards.proofs.statement_room.StatementRoom.join.Given as goal
 -- the text so far, and the comma cards that are left, are the text
 abbrev pub invariant-loop-card : goal.invariant-loop-card
 invariant-loop-card l = record {
-  split : l.self ++ flat_map comma_columns (drop l.card-index l.others) ≡ text_of (l.first ∷ l.others);
-  long : length l.self ≡ 72 + 71 * l.card-index;
+  split : l.self-inside.text ++ flat_map comma_columns (drop l.card-index l.others) ≡ text_of (l.first ∷ l.others);
+  long : length l.self-inside.text ≡ 72 + 71 * l.card-index;
 }
