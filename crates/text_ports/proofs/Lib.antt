@@ -1,5 +1,4 @@
 pub mod LineSteps
-pub mod OctalSteps
 pub mod WritingSteps
 pub mod SendSteps
 pub mod LineLaws

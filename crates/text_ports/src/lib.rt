@@ -5,19 +5,19 @@
 //! Contracts see a `Counted` port as the port with its count of faults. `next_held_line` answers as
 //! `next_line` does and asks for a reader that shows what it holds: a line that lies there whole is
 //! taken at once. `Text` takes what it appends in one call, so without memory it is as it was;
-//! `ShortText` is an array on the stack that grows at its front, for a line that is appended whole. A
+//! `PrependedText` is an array on the stack that grows at its front, for the digits of a number, and for a
+//! line that is appended whole. A
 //! `Piece` takes all bytes and tells at its end whether it has them: so a text can be put to it by
 //! functions that have no want of memory to tell.
 #![tactic(auto)]
 
 // Numbers.
 mod digits;
-mod octal_text;
 
 // Texts in memory, and short ones on the stack.
 mod history;
 mod piece;
-mod short_text;
+mod prepended_text;
 mod text;
 
 // Ports, and what goes in and out.
@@ -32,12 +32,12 @@ mod faulty_reader;
 mod faulty_writer;
 
 pub use counted::Counted;
+pub use digits::octal;
 pub use faulty_reader::FaultyReader;
 pub use faulty_writer::FaultyWriter;
 pub use held_lines::next_held_line;
 pub use lines::{LineBuf, LineIs, next_line, next_whole_line};
-pub use octal_text::{OctalText, octal};
 pub use piece::Piece;
-pub use short_text::ShortText;
+pub use prepended_text::{PrependedText, ShortText};
 pub use text::Text;
 pub use writing::{Broken, put_all};

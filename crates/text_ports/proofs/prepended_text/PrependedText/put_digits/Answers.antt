@@ -2,13 +2,13 @@ use Rattle.std.proofs.Common.{◌≡◌, ◌≤◌, ◌+◌, ◌-◌, ◌∙◌,
 use Rattle.std.proofs.lemmas.List.{length-drop}
 use Rattle.definitions.specs.Numerals.{digits_of}
 use Rattle.text_ports.proofs.DigitSteps.{digits_of-step}
-use Rattle.text_ports.proofs.short_text.ShortText.put_digits.Goals as goal
+use Rattle.text_ports.proofs.prepended_text.PrependedText.put_digits.Goals as goal
 
 pub loop-left-init : goal.loop-left-init
 loop-left-init g c =
     let begin = c.self.inside.begin in
-    let most : begin ≤ 48 = c.self.invariant in
-    let long : length c.args.self.now ≡ 48 - begin = ap length (sym c.self.view_is) ∙ length-drop begin c.self.inside.bytes ∙ ap (λ n. n - begin) c.self.told in
+    let most : begin ≤ g.row.MOST = c.self.invariant in
+    let long : length c.args.self.now ≡ g.row.MOST - begin = ap length (sym c.self.view_is) ∙ length-drop begin c.self.inside.bytes ∙ ap (λ n. n - begin) c.self.told in
     let room = c.requires.room in
     let count : begin - (begin - c.args.count) ≡ c.args.count = omega arith in
     record {
@@ -35,9 +35,9 @@ loop-left-preserved g c =
 pub returns-clause-len : goal.returns-clause-len
 returns-clause-len g c =
     let begin = c.self.inside.begin in
-    let most : begin ≤ 48 = c.self.invariant in
-    let old : length c.args.self.now ≡ 48 - begin = ap length (sym c.self.view_is) ∙ length-drop begin c.self.inside.bytes ∙ ap (λ n. n - begin) c.self.told in
+    let most : begin ≤ g.row.MOST = c.self.invariant in
+    let old : length c.args.self.now ≡ g.row.MOST - begin = ap length (sym c.self.view_is) ∙ length-drop begin c.self.inside.bytes ∙ ap (λ n. n - begin) c.self.told in
     let bytes = c.loop-left.self-inside.bytes in
-    let new : length (drop (begin - c.args.count) bytes) ≡ 48 - (begin - c.args.count) = length-drop (begin - c.args.count) bytes ∙ ap (λ n. n - (begin - c.args.count)) c.loop-left.invariant.room in
+    let new : length (drop (begin - c.args.count) bytes) ≡ g.row.MOST - (begin - c.args.count) = length-drop (begin - c.args.count) bytes ∙ ap (λ n. n - (begin - c.args.count)) c.loop-left.invariant.room in
     let room = c.requires.room in
     omega arith

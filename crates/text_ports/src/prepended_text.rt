@@ -1,41 +1,41 @@
-//! A short text on the stack that grows at its front, as a number does whose digits are written from
-//! the last one on.
+//! Short texts on the stack that grow at their front, as a number does whose digits are written from the
+//! last one on.
 ghost use Rattle.std.specs.Prelude.{◌≡◌, ◌+◌, ◌<◌, ◌≤◌, ◌++◌, ◌∷◌, [], length};
 ghost use Rattle.definitions.specs.Numerals.{digits_of, octal_of};
 
 use std::marker::Model;
 
-/// How many bytes a short text has at most.
-const MOST_BYTES: usize = 48;
-
-/// A text of at most 48 bytes that grows at its front. They stand at the end of the array. Contracts
-/// see the list of its bytes.
+/// A text of at most `MOST` bytes, which lie in the value itself: it takes no memory. It grows at its front,
+/// so its bytes stand at the end of the array. Contracts see their list.
 #[derive(Drop)]
-pub struct ShortText {
-    bytes: [u8; MOST_BYTES],
+pub struct PrependedText<const MOST: usize> {
+    bytes: [u8; MOST],
     begin: usize,
 }
 
-impl Model for ShortText {
+/// A line that is written from its end on.
+pub type ShortText = PrependedText<48>;
+
+impl<const MOST: usize> Model for PrependedText<MOST> {
     ghost use Rattle.std.specs.Prelude.{ℕ, List, drop, ◌≤◌};
 
     ghost Value = { List ℕ };
 
     ghost view = { λ t. drop t.begin t.bytes };
 
-    ghost invariant = { λ t. t.begin ≤ 48 };
+    ghost invariant = { λ t. t.begin ≤ MOST };
 }
 
-impl ShortText {
+impl<const MOST: usize> PrependedText<MOST> {
     /// An empty text.
     #[inline(always)]
-    pub fn new() -> ShortText
+    pub fn new() -> PrependedText<MOST>
         ensures text { result ≡ [] }
         ensures len { length result ≡ 0 }
     {
-        ShortText {
-            bytes: [0; MOST_BYTES],
-            begin: MOST_BYTES,
+        PrependedText {
+            bytes: [0; MOST],
+            begin: MOST,
         }
     }
 
@@ -49,7 +49,7 @@ impl ShortText {
     /// Puts a byte in front.
     #[inline(always)]
     pub fn put_byte(&mut self, byte: u8)
-        requires room { length self.old < 48 }
+        requires room { length self.old < MOST }
         ensures text { self.new ≡ byte ∷ self.old }
         ensures len { length self.new ≡ length self.old + 1 }
     {
@@ -62,7 +62,7 @@ impl ShortText {
     pub(crate) fn put_digits<const BASE: u64>(&mut self, count: u32, value: u64)
         requires some { 0 < BASE }
         requires digit { BASE ≤ 10 }
-        requires room { length self.old + count ≤ 48 }
+        requires room { length self.old + count ≤ MOST }
         ensures text { self.new ≡ digits_of BASE count value ++ self.old }
         ensures len { length self.new ≡ length self.old + count }
     {
@@ -80,7 +80,7 @@ impl ShortText {
     /// Puts the last `digits` octal digits of a value in front, leading zeros among them.
     #[inline(always)]
     pub fn put_octal(&mut self, digits: u32, value: u64)
-        requires room { length self.old + digits ≤ 48 }
+        requires room { length self.old + digits ≤ MOST }
         ensures text { self.new ≡ octal_of digits value ++ self.old }
         ensures len { length self.new ≡ length self.old + digits }
     {
@@ -90,7 +90,7 @@ impl ShortText {
     /// Puts the last `digits` decimal digits of a value in front, leading zeros among them.
     #[inline(always)]
     pub fn put_padded(&mut self, digits: u32, value: u64)
-        requires room { length self.old + digits ≤ 48 }
+        requires room { length self.old + digits ≤ MOST }
         ensures text { self.new ≡ digits_of 10 digits value ++ self.old }
         ensures len { length self.new ≡ length self.old + digits }
     {
