@@ -2,10 +2,8 @@
 use Rattle.std.proofs.Common.{ℕ, ◌≡◌, ◌+◌, ◌<◌, ◌≤◌, Bool, true, false, List, [], ◌∷◌, ◌++◌, ◌⊎◌, inl, inr, ⊎_elim, length, take, drop, get_or, reverse, refl, sym, ap, ap₂, ◌∙◌, arith, append-nil, append_assoc, length-append, if◌then◌else◌}
 use Rattle.std.specs.Prelude.{All, codes, filter, flat_map, map}
 use Rattle.std.specs.List.{AllByRecursion, count_by}
-use Rattle.std.proofs.Math.Seq.{take-nil, drop-nil}
-use Rattle.std.proofs.lemmas.Bool.{cases_lt}
 use Rattle.std.proofs.lemmas.Grind.{flat_map-append}
-use Rattle.std.proofs.lemmas.List.{drop_all, drop_more, length-take-le, reverse-append, take_all, take_more}
+use Rattle.std.proofs.lemmas.List.{drop_all, drop_more, reverse-append, take_all, take_more}
 use Rattle.std.proofs.lemmas.List.Elements.{All-from_recursion}
 use Rattle.std.proofs.lemmas.List.Sums.{count_by-le-length, length-filter}
 use Rattle.text_ports.proofs.SendSteps.{texts-more}
@@ -23,6 +21,7 @@ use Rattle.deck_objects.specs.Joins.CodedLines.{AreShown}
 use Rattle.deck_objects.specs.Joins.PartsOf.{ArePartsOf}
 use Rattle.deck_objects.specs.declared.lines.Line.{Line}
 use Rattle.deck_objects.specs.declared.object.ObjectParts.{ObjectParts}
+use Rattle.deck_listing.proofs.ListingLaws.{behind-cards, take-none}
 use Rattle.session_line.specs.Errors.{Flag, deck_errors, errors_where, flag_of, flags_of, flag_text, shown_flag, shows_deck}
 use Rattle.session_line.specs.Joins.FlagWalks.{flags_in, flags_text}
 use Rattle.session_line.specs.Replies.{line_of, text_of_lines}
@@ -92,19 +91,6 @@ flag-same : (before stood : ℕ) (cards : List Card) (letters : List ℕ) → (c
 flag-same before stood cards letters which =
     ⊎_elim (λ (none : cards ≡ []). ap (λ (c : List Card). flag_of before c letters) none ∙ sym (ap (λ (c : List Card). flag_of stood c letters) none))
     (λ (same : before ≡ stood). ap (λ (n : ℕ). flag_of n cards letters) same) which
-
-take-none : (n : ℕ) (cards : List Card) → cards ≡ [] → take n cards ≡ []
-take-none n cards none = ap (take n) none ∙ take-nil n
-
--- behind some cards so many stand as stood before them and they are, or no card is left
-behind-cards : (n before stood : ℕ) (cards : List Card) → (cards ≡ []) ⊎ (before ≡ stood) → (drop n cards ≡ []) ⊎ (before + length (take n cards) ≡ stood + n)
-behind-cards n before stood cards which =
-    ⊎_elim (λ (none : cards ≡ []). inl (ap (drop n) none ∙ drop-nil n))
-    (λ (same : before ≡ stood). ⊎_elim
-    (λ (within : n < length cards). inr (let e = length-take-le n cards (omega (arith, within)) in omega (arith, same, e)))
-    (λ (past : length cards ≤ n). inl (drop_all n cards past))
-    (cases_lt n (length cards)))
-    which
 
 -- the flagged ones of lines are those of the statements that they show
 flags-same : (parts : ObjectParts) (before stood : ℕ) (cards : List Card) (lines : List Line) (all : List Shown) →
