@@ -9,7 +9,6 @@ use crate::errors::{ErrorsView, shows_any};
 use crate::greetings::{Connected, Greeting};
 use crate::marked_rows::MarkedRow;
 use crate::parts::part_of;
-use crate::reasons::desk_reason;
 use crate::saved_decks::SavedDeck;
 use crate::tasks::PublishedText;
 use crate::views::{CardsView, cards_from};
@@ -96,7 +95,7 @@ pub(crate) fn told_of_call(reply: Reply) -> Told
                 foreign()
             }
         }
-        Reply::Refused(refusal) => Told::Refused(desk_reason(refusal)),
+        Reply::Refused(refusal) => Told::Refused(Refusal::from(refusal)),
         _ => foreign(),
     }
 }
@@ -108,7 +107,7 @@ pub(crate) fn told_of_wait(reply: Reply) -> Told
 {
     match reply {
         Reply::StatusIs(version, published, _) => Told::Standing(version, published),
-        Reply::Refused(refusal) => Told::Refused(desk_reason(refusal)),
+        Reply::Refused(refusal) => Told::Refused(Refusal::from(refusal)),
         _ => foreign(),
     }
 }
@@ -126,7 +125,7 @@ pub(crate) fn told_of_greeting(greeting: Greeting) -> Told
                 foreign()
             }
         }
-        Reply::Refused(refusal) => Told::Refused(desk_reason(refusal)),
+        Reply::Refused(refusal) => Told::Refused(Refusal::from(refusal)),
         _ => foreign(),
     }
 }
@@ -144,7 +143,7 @@ pub(crate) fn told_of_cards(view: CardsView, reply: Reply) -> Told
                 foreign()
             }
         }
-        Reply::Refused(refusal) => Told::Refused(desk_reason(refusal)),
+        Reply::Refused(refusal) => Told::Refused(Refusal::from(refusal)),
         _ => foreign(),
     }
 }
@@ -176,7 +175,7 @@ pub(crate) fn told_of_cards_at(alloc: Global, reply: Reply) -> Told
         Reply::CardsBefore(version, cards, backs) => {
             told_of_backs(alloc, version, backs.as_slice(), cards.as_slice())
         }
-        Reply::Refused(refusal) => Told::Refused(desk_reason(refusal)),
+        Reply::Refused(refusal) => Told::Refused(Refusal::from(refusal)),
         _ => foreign(),
     }
 }
@@ -188,7 +187,7 @@ pub(crate) fn told_of_publication(text: PublishedText, reply: Reply) -> Told
 {
     match reply {
         Reply::Shown(publication) => Told::Published(publication, text),
-        Reply::Refused(refusal) => Told::Refused(desk_reason(refusal)),
+        Reply::Refused(refusal) => Told::Refused(Refusal::from(refusal)),
         _ => foreign(),
     }
 }
@@ -201,7 +200,7 @@ pub(crate) fn told_of_part(text: PublishedText, name: DeckName, reply: Reply) ->
 {
     match reply {
         Reply::Shown(publication) => Told::Part(publication, text, name),
-        Reply::Refused(refusal) => Told::Refused(desk_reason(refusal)),
+        Reply::Refused(refusal) => Told::Refused(Refusal::from(refusal)),
         _ => foreign(),
     }
 }
@@ -220,7 +219,7 @@ pub(crate) fn told_of_errors(view: ErrorsView, reply: Reply) -> Told
                 foreign()
             }
         }
-        Reply::Refused(refusal) => Told::Refused(desk_reason(refusal)),
+        Reply::Refused(refusal) => Told::Refused(Refusal::from(refusal)),
         _ => foreign(),
     }
 }

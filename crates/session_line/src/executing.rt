@@ -5,6 +5,7 @@ ghost use Rattle.session_line.specs.Executing.{Asks, AsksAt, AwaitsVersion, Exec
 ghost use Rattle.session_line.specs.SavingDecks.{SavesCards, SavesDeck};
 ghost use Rattle.desk_core.specs.declared.calls.Call.TheVariants.{Cards, Show};
 
+use crate::Refusal;
 use crate::answers::{
     Answer, Told, told_of_call, told_of_cards, told_of_cards_at, told_of_errors, told_of_greeting,
     told_of_part, told_of_publication, told_of_wait,
@@ -13,7 +14,6 @@ use crate::calls::Calls;
 use crate::errors::ErrorsView;
 use crate::file_status::show_file_status;
 use crate::file_tasks::show_files;
-use crate::reasons::{load_reason, save_reason};
 use crate::saving_all::save_all;
 use crate::tasks::{PublishedText, Task};
 use crate::views::CardsView;
@@ -128,7 +128,7 @@ fn load_deck<C: Calls, S: Shelf>(desk: &mut C, shelf: &mut S, name: DeckName) ->
             note_told(shelf, &name, &answer.told);
             answer
         }
-        Err(fault) => uncalled(Told::Refused(load_reason(fault))),
+        Err(fault) => uncalled(Told::Refused(Refusal::from(fault))),
     }
 }
 
@@ -146,7 +146,7 @@ fn save_cards<S: Shelf>(
 {
     match shelf.save(name, over, version, cards) {
         Ok(()) => called(Told::Done(version)),
-        Err(fault) => called(Told::Refused(save_reason(fault))),
+        Err(fault) => called(Told::Refused(Refusal::from(fault))),
     }
 }
 
