@@ -8,7 +8,7 @@ use cards::{DeckName, Edit, first_fault};
 use deck_linker::publish;
 use deck_listing::ListedObject;
 use desk_core::{Held, SharedPublication, Start};
-use edit_core::{Kept, RecordFault, record_fault};
+use edit_core::{Kept, RecordFault};
 use statement_coder::Meter;
 use std::alloc::{AllocError, Global};
 
@@ -27,7 +27,7 @@ fn edits_fault(start: &Start, edits: &[Edit]) -> Option<RecordFault>
     ensures { result ≡ edits_fault edits.now (start_cards start.now) }
 {
     match first_fault(edits, start_len(start)) {
-        Some(found) => Some(record_fault(found.1)),
+        Some(found) => Some(RecordFault::from(found.1)),
         None => None,
     }
 }

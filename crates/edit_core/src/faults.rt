@@ -1,6 +1,4 @@
 //! Why a record is not edited.
-ghost use Rattle.std.specs.Prelude.{◌≡◌};
-ghost use Rattle.edit_core.specs.Faults.{record_fault};
 
 use cards::EditFault;
 
@@ -18,11 +16,16 @@ pub enum RecordFault {
 }
 
 /// What keeps a record from an edit that does not apply to its cards.
-pub fn record_fault(fault: EditFault) -> RecordFault
-    ensures { result ≡ record_fault fault }
-{
-    match fault {
-        EditFault::NoSuchCard => RecordFault::NoSuchCard,
-        EditFault::DeckFull => RecordFault::DeckFull,
+impl From<EditFault> for RecordFault {
+    ghost use Rattle.std.specs.Prelude.{◌≡◌};
+    ghost use Rattle.edit_core.specs.Faults.{record_fault};
+
+    ghost from_gives = { λ fault given. given ≡ record_fault fault };
+
+    fn from(fault: EditFault) -> RecordFault {
+        match fault {
+            EditFault::NoSuchCard => RecordFault::NoSuchCard,
+            EditFault::DeckFull => RecordFault::DeckFull,
+        }
     }
 }

@@ -14,7 +14,7 @@ ghost use Rattle.edit_core.specs.Sums.{cards_between, statements_sum, CountsInOr
 ghost use Rattle.edit_core.specs.Joins.Groups.{IsFirstMade};
 
 use crate::assembling::{edited_object, object_of};
-use crate::faults::{RecordFault, record_fault};
+use crate::faults::RecordFault;
 use crate::fronts::{cards_before_all, cards_behind_all};
 use crate::near::near_edits;
 use crate::piece_counts::piece_counts;
@@ -286,7 +286,7 @@ impl Kept {
             return Some(RecordFault::Spent);
         }
         match first_fault(edits, self.cards().len()) {
-            Some(found) => Some(record_fault(found.1)),
+            Some(found) => Some(RecordFault::from(found.1)),
             None => None,
         }
     }

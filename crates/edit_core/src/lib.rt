@@ -19,5 +19,5 @@ mod near;
 mod piece_counts;
 
 pub use assembling::assemble;
-pub use faults::{RecordFault, record_fault};
+pub use faults::RecordFault;
 pub use kept::{FinishFault, Kept};

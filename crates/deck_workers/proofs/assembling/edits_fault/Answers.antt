@@ -10,7 +10,7 @@ abbrev found_fault : ℕ × EditFault → RecordFault
 found_fault found = record_fault found.1
 
 pub returns-in-Some : goal.returns-in-Some
-returns-in-Some c = ap Some c.record_fault.ensures ∙ ap (option_map found_fault) (sym c.in-Some.is ∙ c.first_fault.ensures (start_cards c.args.start.now) c.start_len.ensures)
+returns-in-Some c = ap Some c.from.ensures ∙ ap (option_map found_fault) (sym c.in-Some.is ∙ c.first_fault.ensures (start_cards c.args.start.now) c.start_len.ensures)
 
 pub returns-in-None : goal.returns-in-None
 returns-in-None c = ap (option_map found_fault) (sym c.in-None.is ∙ c.first_fault.ensures (start_cards c.args.start.now) c.start_len.ensures)
