@@ -10,7 +10,7 @@ use crate::desk::{Desk, against_next};
 use crate::earlier::against_since;
 use crate::listed::Listed;
 use crate::replies::{Refusal, Reply};
-use cards::{DeckName, Edit, EditFault, copied_edits};
+use cards::{DeckName, Edit, copied_edits};
 
 impl Desk {
     /// Edits of the deck by who saw a version of it, as one change.
@@ -122,8 +122,7 @@ fn alone(refusal: Refusal) -> Refusal
     ensures { result ≡ alone refusal }
 {
     match refusal {
-        Refusal::BadEdit(_, EditFault::NoSuchCard) => Refusal::NoSuchCard,
-        Refusal::BadEdit(_, EditFault::DeckFull) => Refusal::DeckFull,
+        Refusal::BadEdit(_, fault) => Refusal::from(fault),
         other => other,
     }
 }

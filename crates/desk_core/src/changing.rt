@@ -12,7 +12,7 @@ use crate::desk::{Desk, against_next};
 use crate::new_deck::NewDeck;
 use crate::replies::{Refusal, Reply};
 use crate::stored_deck::StoredDeck;
-use cards::{Card, DeckName, Edit, EditFault, MOST_CARDS, fault_of, first_fault};
+use cards::{Card, DeckName, Edit, MOST_CARDS, fault_of, first_fault};
 use std::alloc::AllocError;
 
 /// How many decks a desk has at most.
@@ -182,8 +182,7 @@ impl Desk {
             return Some(Refusal::OldVersion(deck.version()));
         }
         match fault_of(edit, deck.cards().len()) {
-            Some(EditFault::NoSuchCard) => Some(Refusal::NoSuchCard),
-            Some(EditFault::DeckFull) => Some(Refusal::DeckFull),
+            Some(fault) => Some(Refusal::from(fault)),
             None => against_next(self.version),
         }
     }

@@ -68,6 +68,21 @@ pub enum Refusal {
     NoChange,
 }
 
+/// Why an edit alone is refused that does not apply.
+impl From<EditFault> for Refusal {
+    ghost use Rattle.std.specs.Prelude.{◌≡◌};
+    ghost use Rattle.desk_core.specs.Changing.{refusal_of};
+
+    ghost from_gives = { λ fault refusal. refusal ≡ refusal_of fault };
+
+    fn from(fault: EditFault) -> Refusal {
+        match fault {
+            EditFault::NoSuchCard => Refusal::NoSuchCard,
+            EditFault::DeckFull => Refusal::DeckFull,
+        }
+    }
+}
+
 /// What a desk answers.
 #[derive(Drop)]
 pub enum Reply {
