@@ -91,7 +91,7 @@ pub use pieces::Mark;
 pub use register::{Register, RegisterKind};
 pub use shapes::{Field, Shape};
 pub use subfields::Subfields;
-pub use sums::{RegisterText, Sum, SumRegisters};
+pub use sums::{Sum, SumRegisters};
 pub use symbols::is_symbol;
 pub use use_fields::{UseField, use_field};
 pub use value_fields::one_value;

@@ -1,6 +1,6 @@
 //! Sums taken apart: the registers that are added and subtracted, and the expression that the other
 //! terms are (COMPASS 60492600, CPU instructions).
-ghost use Rattle.std.specs.Prelude.{◌≡◌, ◌+◌, ◌<◌, ◌≤◌, ◌++◌, ◌∷◌, [], length, ℕ, List, true};
+ghost use Rattle.std.specs.Prelude.{◌≡◌, ◌+◌, ◌≤◌, ◌++◌, ◌∷◌, [], length, ℕ, List, true};
 ghost use Rattle.definitions.specs.Expressions.{ARegister, Add, OperatorElement, Term, grouped};
 ghost use Rattle.definitions.specs.Matching as matching;
 ghost use Rattle.definitions.specs.Matching.{onto_sum, sum_of};
@@ -14,28 +14,13 @@ use crate::elements::{Element, Sign};
 use crate::expressions::Expr;
 use crate::links::{Link, Links, Operator, joins_terms};
 use crate::register::{Register, RegisterKind};
-use std::marker::Model;
+use definitions::InlineText;
 
 /// How many characters the registers of an instruction have at most, as in `-B1+X2`.
 const MOST_CHARACTERS: usize = 6;
 
-/// Registers with their signs as they are written, at most 6 characters; the first one has no plus.
-/// Contracts see the list of the characters.
-#[derive(Drop)]
-pub struct RegisterText {
-    characters: [u8; MOST_CHARACTERS],
-    len: usize,
-}
-
-impl Model for RegisterText {
-    ghost use Rattle.std.specs.Prelude.{ℕ, List, take, ◌≤◌};
-
-    ghost Value = { List ℕ };
-
-    ghost view = { λ t. take t.len t.characters };
-
-    ghost invariant = { λ t. t.len ≤ 6 };
-}
+/// Registers with their signs as they are written; the first one has no plus.
+pub type RegisterText = InlineText<MOST_CHARACTERS>;
 
 /// The registers of a sum: their text, or that it has more characters than any instruction takes.
 #[derive(Drop)]
@@ -59,33 +44,6 @@ struct Parts {
     sign: Sign,
     registers: SumRegisters,
     others: bool,
-}
-
-impl RegisterText {
-    /// No register.
-    fn new() -> RegisterText
-        ensures { result ≡ [] }
-    {
-        RegisterText {
-            characters: [0; MOST_CHARACTERS],
-            len: 0,
-        }
-    }
-
-    pub fn as_slice(&self) -> &[u8]
-        ensures text { result.now ≡ self.now }
-        ensures short { length self.now ≤ 6 }
-    {
-        self.characters.split_at(self.len).0
-    }
-
-    fn push(&mut self, c: u8)
-        requires { length self.old < 6 }
-        ensures { self.new ≡ self.old ++ c ∷ [] }
-    {
-        self.characters[self.len] = c;
-        self.len += 1;
-    }
 }
 
 /// The letter of a kind.

@@ -3,7 +3,7 @@ ghost use Rattle.std.specs.Prelude.{◌≡◌, ◌∷◌, ◌++◌, ◌%◌, ◌
 ghost use Rattle.definitions.specs.Letters.{letter_text, in_order};
 ghost use Rattle.operations.specs.Joins.LetterBits.{is_flagged, among};
 
-use definitions::Letter;
+use definitions::{InlineText, Letter};
 use std::marker::Model;
 
 /// How many letters there are.
@@ -29,48 +29,13 @@ impl Model for Letters {
     ghost view = { λ l. flagged l.bits };
 }
 
-/// The text of letters. Contracts see the list of its characters.
-#[derive(Drop)]
-pub struct LetterText {
-    characters: [u8; LETTER_COUNT],
-    len: usize,
-}
-
-impl Model for LetterText {
-    ghost use Rattle.std.specs.Prelude.{ℕ, List, take, ◌≤◌};
-
-    ghost Value = { List ℕ };
-
-    ghost view = { λ t. take t.len t.characters };
-
-    ghost invariant = { λ t. t.len ≤ 9 };
-}
-
-impl LetterText {
-    fn new() -> LetterText
-        ensures { result ≡ [] }
-    {
-        LetterText {
-            characters: [0; LETTER_COUNT],
-            len: 0,
-        }
-    }
-
-    /// Puts a character at the end, where it is flagged.
-    fn push_if(&mut self, flagged: bool, character: u8)
-        requires { length self.old + 1 ≤ 9 }
-        ensures { self.new ≡ (if flagged then self.old ++ character ∷ [] else self.old) }
-    {
-        if flagged {
-            self.characters[self.len] = character;
-            self.len += 1;
-        }
-    }
-
-    pub fn as_slice(&self) -> &[u8]
-        ensures { result.now ≡ self.now }
-    {
-        self.characters.split_at(self.len).0
+/// Puts a character at the end of a text, where it is flagged.
+fn push_if(text: &mut InlineText<LETTER_COUNT>, flagged: bool, character: u8)
+    requires { length text.old + 1 ≤ 9 }
+    ensures { text.new ≡ (if flagged then text.old ++ character ∷ [] else text.old) }
+{
+    if flagged {
+        text.push(character);
     }
 }
 
@@ -147,10 +112,10 @@ impl Letters {
     }
 
     /// Their text.
-    pub fn text(&self) -> LetterText
+    pub fn text(&self) -> InlineText<LETTER_COUNT>
         ensures { result ≡ self.now }
     {
-        let mut text = LetterText::new();
+        let mut text = InlineText::new();
         if self.bits == 0 {
             return text;
         }
@@ -159,7 +124,7 @@ impl Letters {
             match left.split_first() {
                 None => return text,
                 Some((character, behind)) => {
-                    text.push_if(is_flagged(self.bits, *character), *character);
+                    push_if(&mut text, is_flagged(self.bits, *character), *character);
                     left = behind;
                 }
             }

@@ -28,7 +28,7 @@ mod kind_search;
 mod letters;
 
 pub use kind_search::KindSearch;
-pub use letters::{LetterText, Letters};
+pub use letters::Letters;
 pub use operation::Operation;
 pub use pseudo_table::pseudo_instruction;
 pub use row::Row;
