@@ -3,6 +3,7 @@
 pub mod DeckParts
 pub mod SymbolKeys
 pub mod FirstSymbols
+pub mod OperandNames
 -- What makes it the deck's.
 pub mod SizedDecks
 -- One statement more, and the statements up to END.

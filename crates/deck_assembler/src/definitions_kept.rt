@@ -6,14 +6,15 @@ ghost use Rattle.definitions.specs.Settling.{external};
 ghost use Rattle.statement_coder.specs.Joins.Readings.{IsReading};
 ghost use Rattle.deck_assembler.specs.Joins.FirstSymbols.{symbol_in, with_symbol, with_externals, with_names, with_defined};
 
+use crate::operand_names::names_of;
 use crate::symbol_table::SymbolTable;
 use expr_forms::{Form, LinkedNames, Name, Part, Relocation};
 use statement_coder::{Defines, KeptSizing, Reading};
 use std::alloc::AllocError;
 
 /// The value of a name that EXT defines.
-fn external(name: &[u8]) -> Form
-    requires { length name.now ≤ 7 }
+pub(crate) fn external(name: &[u8]) -> Form
+    requires { length name.now ≤ 9 }
     ensures { result ≡ (external name.now).form }
 {
     Form::new(0, Some(Part::Added(Relocation::External(Name::new(name)))))
@@ -38,17 +39,9 @@ fn define_externals(symbols: &mut SymbolTable, names: LinkedNames<'_>) -> Result
 fn define_names(symbols: &mut SymbolTable, reading: &Reading<'_>) -> Result<(), AllocError>
     ensures { OnOk result ((operand : operands.Operand) → IsReading reading.now operand → symbol_in symbols.new ≡ with_names operand (symbol_in symbols.old)) }
 {
-    match reading {
-        Reading::Names(names) => define_externals(symbols, names.copied()),
-        Reading::Unread => Ok(()),
-        Reading::Bad => Ok(()),
-        Reading::Instruction(_) => Ok(()),
-        Reading::Data(_) => Ok(()),
-        Reading::Con(_) => Ok(()),
-        Reading::Vfd(_) => Ok(()),
-        Reading::Text(_) => Ok(()),
-        Reading::Value(_) => Ok(()),
-        Reading::Use(_) => Ok(()),
+    match names_of(reading) {
+        None => Ok(()),
+        Some(names) => define_externals(symbols, names),
     }
 }
 

@@ -11,6 +11,7 @@ ghost use Rattle.deck_assembler.specs.Joins.FirstSymbols.{is_known_name, symbol_
 ghost use Rattle.deck_assembler.specs.Joins.SharedNames.{AreSeen};
 
 use crate::SymbolTable;
+use crate::operand_names::names_of;
 use deck_objects::Entry;
 use expr_forms::{Form, LinkedNames, Name, Part, Relocation};
 use statement_coder::Reading;
@@ -107,17 +108,9 @@ impl EntryNames {
             AreSeen self.old.seen self.old.entries.items → self.new.entries.items ≡ entries_by settled op.Entry operand self.old.entries.items) }
         ensures seen { OnOk result (AreSeen self.old.seen self.old.entries.items → AreSeen self.new.seen self.new.entries.items) }
     {
-        match reading {
-            Reading::Names(names) => self.enter_all(symbols, names.copied()),
-            Reading::Unread => Ok(()),
-            Reading::Bad => Ok(()),
-            Reading::Instruction(_) => Ok(()),
-            Reading::Data(_) => Ok(()),
-            Reading::Con(_) => Ok(()),
-            Reading::Vfd(_) => Ok(()),
-            Reading::Text(_) => Ok(()),
-            Reading::Value(_) => Ok(()),
-            Reading::Use(_) => Ok(()),
+        match names_of(reading) {
+            None => Ok(()),
+            Some(names) => self.enter_all(symbols, names),
         }
     }
 }

@@ -16,8 +16,10 @@ ghost use Rattle.deck_assembler.specs.Joins.FirstSymbols.{symbol_in, with_symbol
 ghost use Rattle.deck_assembler.specs.Joins.SharedNames.{AreExternals, is_ext, with_new, with_new_of};
 
 use crate::SymbolTable;
+use crate::definitions_kept::external;
+use crate::operand_names::names_of;
 use definitions::{DeckKind, NumberBase};
-use expr_forms::{Form, LinkedNames, Name, Part, Relocation};
+use expr_forms::{LinkedNames, Name};
 use operations::Operation;
 use statement_coder::{Defines, KeptSizing, Reading, Statement, read_operand};
 use std::alloc::{AllocError, Global};
@@ -27,14 +29,6 @@ use std::alloc::{AllocError, Global};
 pub(crate) struct ExternalNames {
     pub(crate) seen: SymbolTable,
     pub(crate) names: Vec<Name>,
-}
-
-/// The value of a name that EXT defines.
-fn external(name: &[u8]) -> Form
-    requires { length name.now ≤ 9 }
-    ensures { result ≡ (external name.now).form }
-{
-    Form::new(0, Some(Part::Added(Relocation::External(Name::new(name)))))
 }
 
 /// Whether an operation is EXT.
@@ -115,17 +109,9 @@ impl ExternalNames {
         ensures unlisted { lists ≡ false → OnOk result (self.new.names.items ≡ self.old.names.items) }
         ensures seen { OnOk result ((operand : operands.Operand) → IsReading reading.now operand → symbol_in self.new.seen ≡ with_names operand (symbol_in self.old.seen)) }
     {
-        match reading {
-            Reading::Names(names) => self.add_all(names.copied(), lists),
-            Reading::Unread => Ok(()),
-            Reading::Bad => Ok(()),
-            Reading::Instruction(_) => Ok(()),
-            Reading::Data(_) => Ok(()),
-            Reading::Con(_) => Ok(()),
-            Reading::Vfd(_) => Ok(()),
-            Reading::Text(_) => Ok(()),
-            Reading::Value(_) => Ok(()),
-            Reading::Use(_) => Ok(()),
+        match names_of(reading) {
+            None => Ok(()),
+            Some(names) => self.add_all(names, lists),
         }
     }
 

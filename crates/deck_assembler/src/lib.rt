@@ -22,6 +22,7 @@ mod sized_statement;
 // The first definition of each symbol, and the literals.
 mod definitions_kept;
 mod literal_words;
+mod operand_names;
 mod symbol_key;
 mod symbol_table;
 
