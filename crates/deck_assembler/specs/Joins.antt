@@ -33,5 +33,7 @@ pub mod CopiedFields
 pub mod TailLines
 pub mod FormerLines
 pub mod Formers
+-- One statement more, beside these lines.
+pub mod DeckSteps
 -- How many statements of an edited deck are coded.
 pub mod DueCodes

@@ -1,18 +1,14 @@
 //! All statements of a deck, one after the other: their lines and their names.
-ghost use Rattle.std.specs.Prelude.{ℕ, ◌≡◌, ◌≤◌, ◌+◌, ◌-◌, ◌^◌, ◌∷◌, ◌++◌, [], List, IfOk, IfSome, None, Some, OnOk, false, true, drop, length, min, reverse};
-ghost use Rattle.definitions.specs.Rebound.{is_rebound};
-ghost use Rattle.definitions.specs.Settling.{settle, settled_all};
-ghost use Rattle.definitions.specs.StatementItems.{Context};
+ghost use Rattle.std.specs.Prelude.{ℕ, ◌≡◌, ◌≤◌, ◌+◌, ◌-◌, ◌^◌, ◌++◌, [], List, IfOk, IfSome, None, Some, OnOk, true, length, min, reverse};
 ghost use Rattle.definitions.specs.Statements as statements;
 ghost use Rattle.statement_coder.specs.Joins.Meters.{RisesBy};
 ghost use Rattle.deck_assembler.specs.Joins.DeckParts.{sized_in};
 ghost use Rattle.deck_assembler.specs.declared.sized_statement.SizedStatement as code;
 ghost use Rattle.deck_assembler.specs.Joins.DueCodes.{CodePlan, IsDueBeside, IsPlanned, IsWalkedDue, code_due_in};
-ghost use Rattle.deck_assembler.specs.Joins.Rebindings.{AreBindings};
-ghost use Rattle.deck_assembler.specs.Joins.SizedDecks.{IsSizedStatement};
-ghost use Rattle.deck_assembler.specs.Joins.Walks.{IsWhole, Whole, context_in, whole_of};
+ghost use Rattle.deck_assembler.specs.Joins.DeckSteps.{GoesPast, IsUncounted};
+ghost use Rattle.deck_assembler.specs.Joins.Walks.{IsWhole, Whole, whole_of};
 ghost use Rattle.deck_assembler.specs.Joins.DeckWalks.{IsDone, IsListing};
-ghost use Rattle.deck_assembler.specs.Joins.FormerLines.{IsBare, IsBeside, IsNextLine, IsWalkedBeside, MeanAsViewed};
+ghost use Rattle.deck_assembler.specs.Joins.FormerLines.{IsBare, IsBeside, IsWalkedBeside, MeanAsViewed};
 
 use crate::deck_lines::{DeckLines, next_cards};
 use crate::deck_names::{DeckNames, have_ext};
@@ -58,14 +54,11 @@ impl Making {
         found: Option<FormerLine<'_>>,
         meter: &mut Meter,
     ) -> Result<(), AllocError>
-        ensures walked { OnOk result ((known others : List statements.Statement) (left : List code.SizedStatement) (before after : FormerLines) → let whole = whole_of view.now known others in
-            IsWhole whole → IsNextLine before after self.old.lines.stood sized.now.cards found.entry → IsWalkedBeside whole (sized.now ∷ left) self.old before → IsWalkedBeside whole left self.new after) }
+        ensures walked { OnOk result (GoesPast view.now sized.now found.entry self.old self.new) }
         ensures coded { meter.new.coded ≤ meter.old.coded + 1 }
         ensures rises { meter.old.coded ≤ meter.new.coded }
         ensures all { found.entry ≡ None → OnOk result (RisesBy 1 meter.old.coded meter.new.coded) }
-        ensures kept { (known others earlier : List statements.Statement) (given : statements.Statement) (old : Context) (one : FormerLine) → let whole = whole_of view.now known others in
-            IsWhole whole → IsSizedStatement whole.deck.kind earlier self.old.lines.stood (drop self.old.lines.stood whole.cards) sized.now given → found.entry ≡ Some one → AreBindings one.bindings old →
-            is_rebound old (context_in whole) (settle whole.deck.kind (settled_all whole.deck.kind earlier) given) ≡ false → meter.new.coded ≡ meter.old.coded }
+        ensures kept { IsUncounted view.now sized.now found.entry self.old.lines.stood meter.old.coded meter.new.coded }
         ensures stood { OnOk result (self.new.lines.stood ≡ min (self.old.lines.stood + sized.now.cards) (2 ^ 64 - 1)) }
         ensures sized { meter.new.sized ≡ meter.old.sized }
     {
@@ -86,14 +79,11 @@ impl Making {
         found: Option<FormerLine<'_>>,
         meter: &mut Meter,
     ) -> Result<(), AllocError>
-        ensures walked { OnOk result ((known others : List statements.Statement) (left : List code.SizedStatement) (before after : FormerLines) → let whole = whole_of view.now known others in
-            IsWhole whole → IsNextLine before after self.old.lines.stood sized.now.cards found.entry → IsWalkedBeside whole (sized.now ∷ left) self.old before → IsWalkedBeside whole left self.new after) }
+        ensures walked { OnOk result (GoesPast view.now sized.now found.entry self.old self.new) }
         ensures coded { meter.new.coded ≤ meter.old.coded + 1 }
         ensures rises { meter.old.coded ≤ meter.new.coded }
         ensures all { found.entry ≡ None → OnOk result (RisesBy 1 meter.old.coded meter.new.coded) }
-        ensures kept { (known others earlier : List statements.Statement) (given : statements.Statement) (old : Context) (one : FormerLine) → let whole = whole_of view.now known others in
-            IsWhole whole → IsSizedStatement whole.deck.kind earlier self.old.lines.stood (drop self.old.lines.stood whole.cards) sized.now given → found.entry ≡ Some one → AreBindings one.bindings old →
-            is_rebound old (context_in whole) (settle whole.deck.kind (settled_all whole.deck.kind earlier) given) ≡ false → meter.new.coded ≡ meter.old.coded }
+        ensures kept { IsUncounted view.now sized.now found.entry self.old.lines.stood meter.old.coded meter.new.coded }
         ensures stood { OnOk result (self.new.lines.stood ≡ min (self.old.lines.stood + sized.now.cards) (2 ^ 64 - 1)) }
         ensures sized { meter.new.sized ≡ meter.old.sized }
     {
@@ -123,14 +113,11 @@ impl Making {
         meter: &mut Meter,
     ) -> Result<(), AllocError>
         requires { IfSome found (λ line. MeanAsViewed line.bindings view.now) }
-        ensures walked { OnOk result ((known others : List statements.Statement) (left : List code.SizedStatement) (before after : FormerLines) → let whole = whole_of view.now known others in
-            IsWhole whole → IsNextLine before after self.old.lines.stood sized.now.cards found.entry → IsWalkedBeside whole (sized.now ∷ left) self.old before → IsWalkedBeside whole left self.new after) }
+        ensures walked { OnOk result (GoesPast view.now sized.now found.entry self.old self.new) }
         ensures coded { meter.new.coded ≤ meter.old.coded + 1 }
         ensures rises { meter.old.coded ≤ meter.new.coded }
         ensures all { found.entry ≡ None → OnOk result (RisesBy 1 meter.old.coded meter.new.coded) }
-        ensures kept { (known others earlier : List statements.Statement) (given : statements.Statement) (old : Context) (one : FormerLine) → let whole = whole_of view.now known others in
-            IsWhole whole → IsSizedStatement whole.deck.kind earlier self.old.lines.stood (drop self.old.lines.stood whole.cards) sized.now given → found.entry ≡ Some one → AreBindings one.bindings old →
-            is_rebound old (context_in whole) (settle whole.deck.kind (settled_all whole.deck.kind earlier) given) ≡ false → meter.new.coded ≡ meter.old.coded }
+        ensures kept { IsUncounted view.now sized.now found.entry self.old.lines.stood meter.old.coded meter.new.coded }
         ensures stood { OnOk result (self.new.lines.stood ≡ min (self.old.lines.stood + sized.now.cards) (2 ^ 64 - 1)) }
         ensures sized { meter.new.sized ≡ meter.old.sized }
     {
@@ -158,14 +145,11 @@ impl Making {
         meter: &mut Meter,
     ) -> Result<(), AllocError>
         requires { same ≡ true → IfSome found (λ line. MeanAsViewed line.bindings view.now) }
-        ensures walked { OnOk result ((known others : List statements.Statement) (left : List code.SizedStatement) (before after : FormerLines) → let whole = whole_of view.now known others in
-            IsWhole whole → IsNextLine before after self.old.lines.stood sized.now.cards found.entry → IsWalkedBeside whole (sized.now ∷ left) self.old before → IsWalkedBeside whole left self.new after) }
+        ensures walked { OnOk result (GoesPast view.now sized.now found.entry self.old self.new) }
         ensures coded { meter.new.coded ≤ meter.old.coded + 1 }
         ensures rises { meter.old.coded ≤ meter.new.coded }
         ensures all { found.entry ≡ None → OnOk result (RisesBy 1 meter.old.coded meter.new.coded) }
-        ensures kept { (known others earlier : List statements.Statement) (given : statements.Statement) (old : Context) (one : FormerLine) → let whole = whole_of view.now known others in
-            IsWhole whole → IsSizedStatement whole.deck.kind earlier self.old.lines.stood (drop self.old.lines.stood whole.cards) sized.now given → found.entry ≡ Some one → AreBindings one.bindings old →
-            is_rebound old (context_in whole) (settle whole.deck.kind (settled_all whole.deck.kind earlier) given) ≡ false → meter.new.coded ≡ meter.old.coded }
+        ensures kept { IsUncounted view.now sized.now found.entry self.old.lines.stood meter.old.coded meter.new.coded }
         ensures stood { OnOk result (self.new.lines.stood ≡ min (self.old.lines.stood + sized.now.cards) (2 ^ 64 - 1)) }
         ensures sized { meter.new.sized ≡ meter.old.sized }
     {
