@@ -2,7 +2,7 @@
 ghost use Rattle.std.specs.Prelude.{ℕ, ◌≡◌, ◌+◌, ◌*◌, ◌/◌, ◌^◌, ◌<◌, ◌≤◌, ◌==◌, List, flat_map, length, map, reverse, slice_get, true, IfOk, OnOk};
 ghost use Rattle.definitions.specs.Kinds.{unit_bits, word_bits};
 ghost use Rattle.definitions.specs.Link.{address_lines, is_unfit, unfit_addresses, unfit_words};
-ghost use Rattle.deck_objects.specs.Joins.LineItems.{AreKept, AreShort, listed};
+ghost use Rattle.deck_objects.specs.Joins.LineItems.{AreKept, AreShort};
 ghost use Rattle.deck_listing.specs.KeptSections.{DoAllFit};
 ghost use Rattle.deck_linker.specs.Joins.Lines.{with_lines};
 ghost use Rattle.deck_linker.specs.Joins.UnfitLines.{AllAreKept, IsKept, unfit_in, unfit_lines, unfit_of};
@@ -12,7 +12,7 @@ ghost use Rattle.definitions.specs.Filling.{HasRoom};
 use crate::link_text::LinkText;
 use crate::linked_deck::{kind, name, parts};
 use crate::{Based, Layout};
-use deck_objects::{CodedLine, Line, LineFields, ObjectParts};
+use deck_objects::{CodedLine, Line, LineFields, ObjectParts, listed};
 use definitions::DeckKind;
 use statement_coder::{Content, Item, number_coded};
 use std::alloc::{AllocError, Global};
@@ -82,16 +82,6 @@ fn push_unfit_items(
         from += u64::from(item.width);
     }
     Ok(())
-}
-
-/// So many fields of an object, from the first of them on.
-fn listed(items: &[Item], first: u32, count: u32) -> &[Item]
-    requires { first + count ≤ length items.now }
-    ensures fields { map item_as result.now ≡ listed items.now first count }
-    ensures few { length result.now < 2 ^ 32 }
-{
-    let (_, behind) = items.split_at(first as usize);
-    behind.split_at(count as usize).0
 }
 
 /// Writes an A line for each field of a statement that its value does not fit.

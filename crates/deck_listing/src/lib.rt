@@ -16,7 +16,6 @@ mod sheet;
 
 // The listing.
 mod field_lines;
-mod kept_fields;
 mod lines;
 mod listed_object;
 mod statements;

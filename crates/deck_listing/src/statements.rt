@@ -11,11 +11,10 @@ ghost use Rattle.statement_coder.specs.Joins.Items.{item_as};
 ghost use Rattle.operations.specs.Joins.OperationsAs.{operation_as};
 
 use crate::field_lines::{joined_fields, push_word_lines};
-use crate::kept_fields::{known_field, listed};
 use crate::lines::{push_card_lines, push_central_line, push_letters_line};
 use crate::sheet::Sheet;
 use cards::Card;
-use deck_objects::{CodedLine, Line, LineFields, ObjectParts};
+use deck_objects::{CodedLine, Line, LineFields, ObjectParts, listed};
 use definitions::DeckKind;
 use operations::Operation;
 use statement_coder::Item;
@@ -73,12 +72,7 @@ fn push_stored(text: &mut Sheet, parts: &ObjectParts, stored: &CodedLine)
     match stored.fields {
         LineFields::Absent | LineFields::Zeros => {}
         LineFields::Known(bits) => {
-            push_fields(
-                text,
-                parts,
-                stored,
-                &[known_field(parts.kind, stored, bits)],
-            );
+            push_fields(text, parts, stored, &[stored.known_field(parts.kind, bits)]);
         }
         LineFields::Listed { first, count } => {
             let fields = listed(parts.items.as_slice(), first, count);

@@ -12,9 +12,8 @@ ghost use Rattle.deck_listing.specs.Joins.Putting.{ArePut, IsReady};
 ghost use Rattle.deck_listing.specs.Joins.Walking.{AreEmpty, DoNamesDiffer, DoesFollow, DoesFollowAll, HasObject, HasRuns, HaveRuns, IsNext, IsNextOfAll};
 
 use crate::fields::put_fields;
-use crate::kept_fields::{known_field, listed};
 use crate::packing::Words;
-use deck_objects::{CodedLine, LineFields, Linking, ObjectParts};
+use deck_objects::{CodedLine, LineFields, Linking, ObjectParts, listed};
 use definitions::DeckKind;
 use statement_coder::Item;
 use std::alloc::AllocError;
@@ -38,7 +37,7 @@ fn put_line<L: Linking>(
     match line.fields {
         LineFields::Absent => Ok(()),
         LineFields::Known(bits) => {
-            let field = [known_field(kind, line, bits)];
+            let field = [line.known_field(kind, bits)];
             put_fields(words, linking, from, is_instruction, &field)
         }
         LineFields::Listed { first, count } => {

@@ -22,7 +22,7 @@ mod shared_object;
 mod linking;
 
 pub use entries::Entry;
-pub use lines::{CodedLine, Line, LineFields};
+pub use lines::{CodedLine, Line, LineFields, listed};
 pub use linking::{Linking, Unlinked, coded_or_zero, linked_bits};
 pub use object::{Object, ObjectParts};
 pub use shared_object::SharedObject;

@@ -1,5 +1,13 @@
-//! The statements of an object, a line each.
+//! The statements of an object, a line each, and the fields that a line keeps.
+ghost use Rattle.std.specs.Prelude.{◌≡◌, ◌≤◌, ◌<◌, ◌+◌, ◌-◌, ◌*◌, ◌^◌, length, map};
+ghost use Rattle.definitions.specs.Kinds.{unit_bits};
+ghost use Rattle.definitions.specs.StatementItems.{known};
+ghost use Rattle.statement_coder.specs.Joins.Items.{item_as};
+ghost use Rattle.deck_objects.specs.Joins.LineItems.{listed};
+
+use definitions::DeckKind;
 use operations::{Letters, Operation};
+use statement_coder::{Content, Item};
 
 /// The fields of a statement, as its object keeps them.
 #[derive(Clone, Copy)]
@@ -26,6 +34,30 @@ pub struct CodedLine {
     /// Whether an ORG begins a new run here.
     pub begins_run: bool,
     pub fields: LineFields,
+}
+
+impl CodedLine {
+    /// Bits that reach from its place to its end, as a field.
+    pub fn known_field(&self, kind: DeckKind, bits: u64) -> Item
+        requires { (self.now.end - self.now.place) * unit_bits kind ≤ 60 }
+        ensures { item_as result ≡ known ((self.now.end - self.now.place) * unit_bits kind) bits }
+    {
+        Item {
+            width: self.end.saturating_sub(self.place) * kind.unit_bits(),
+            content: Content::Known(bits),
+            letter: None,
+        }
+    }
+}
+
+/// So many fields of an object, from the first of them on.
+pub fn listed(items: &[Item], first: u32, count: u32) -> &[Item]
+    requires { first + count ≤ length items.now }
+    ensures fields { map item_as result.now ≡ listed items.now first count }
+    ensures few { length result.now < 2 ^ 32 }
+{
+    let (_, behind) = items.split_at(first as usize);
+    behind.split_at(count as usize).0
 }
 
 /// A statement of the listing: how many cards it has, its letters, and what it stores. A statement
