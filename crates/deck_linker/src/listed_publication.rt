@@ -1,7 +1,10 @@
 //! What is published of decks that have their listings with them: the map of their link and its image
 //! are made for it, the listings are shared with all who hold these objects.
-ghost use Rattle.std.specs.Prelude.{◌≡◌, ◌<◌, ◌≤◌, ◌+◌, ◌^◌, ◌++◌, length, option_map, IfOk, IfErr, OnOk};
+ghost use Rattle.std.specs.Prelude.{◌≡◌, ◌<◌, ◌≤◌, ◌+◌, ◌^◌, ◌++◌, length, map, option_map, IfOk, IfErr, OnOk};
 ghost use Rattle.definitions.specs.Build.{image_of, listing_of};
+ghost use Rattle.definitions.specs.Image.{image_text};
+ghost use Rattle.definitions.specs.Map.{map_text};
+ghost use Rattle.definitions.specs.Objects.{object_of};
 ghost use Rattle.text_ports.specs.Joins.Sending.{Sends, count_after_sending};
 ghost use Rattle.deck_linker.specs.Publishing.{lines_in, listing_named, listings, map_of};
 
@@ -211,6 +214,35 @@ fn check_len(objects: &[ListedObject], map: &Text) -> Result<(), AllocError>
     Ok(())
 }
 
+/// The map of a link and its image.
+#[derive(Drop)]
+struct MapAndImage {
+    map: Text,
+    image: Text,
+}
+
+/// Those of the link of these objects, which keep the sections of their decks. Some memory holds the
+/// listings of the decks with the map.
+fn map_and_image(
+    alloc: Global,
+    layout: &Layout,
+    objects: &mut Vec<ListedObject>,
+) -> Result<MapAndImage, AllocError>
+    requires { map (λ based. based.object) layout.now.decks ≡ map object_of objects.old.items }
+    ensures map { IfOk result (λ texts. texts.map ≡ map_text layout.now) }
+    ensures image { IfOk result (λ texts. texts.image ≡ image_text layout.now) }
+    ensures few { IfOk result (λ texts. length (listings objects.old.items) + length texts.map < 2 ^ 63) }
+    ensures same { OnOk result (objects.new.items ≡ objects.old.items) }
+{
+    let image = kept_image(alloc, layout, objects)?;
+    let mapped = with_map(alloc, Text::new(alloc), layout, image.fits.as_slice())?;
+    check_len(objects.as_slice(), &mapped.text)?;
+    Ok(MapAndImage {
+        map: mapped.text,
+        image: image.text,
+    })
+}
+
 /// Links decks in this order, and publishes them under a version with the listings that they have. A deck that
 /// stands where it stood when its section was made has that section, and what is known of its fields; else a new
 /// one is made, which the object in the publication keeps.
@@ -223,13 +255,11 @@ pub fn publish(
 {
     let layout = Layout::new(alloc, shared(alloc, objects.as_slice())?)?;
     let mut objects = objects;
-    let image = kept_image(alloc, &layout, &mut objects)?;
-    let mapped = with_map(alloc, Text::new(alloc), &layout, image.fits.as_slice())?;
-    check_len(objects.as_slice(), &mapped.text)?;
+    let texts = map_and_image(alloc, &layout, &mut objects)?;
     Ok(ListedPublication {
         version,
         objects,
-        map: mapped.text,
-        image: image.text,
+        map: texts.map,
+        image: texts.image,
     })
 }

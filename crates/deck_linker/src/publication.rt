@@ -1,13 +1,16 @@
 //! What is published of decks: their listings with the map of their link, their octal image, and what
 //! they count.
-ghost use Rattle.std.specs.Prelude.{◌≡◌, ◌<◌, ◌+◌, ◌^◌, length, map, IfOk};
+ghost use Rattle.std.specs.Prelude.{◌≡◌, ◌<◌, ◌+◌, ◌^◌, ◌++◌, length, map, IfOk};
 ghost use Rattle.definitions.specs.Build.{build_of, errors_in, image_of, listing_of};
+ghost use Rattle.definitions.specs.Image.{image_text};
+ghost use Rattle.definitions.specs.Link.{link_lines};
+ghost use Rattle.definitions.specs.Map.{map_text};
 ghost use Rattle.definitions.specs.Objects.{object_of};
 ghost use Rattle.deck_linker.specs.Publishing.{listings, map_of};
 
 use crate::Layout;
 use crate::image::image;
-use crate::map::with_map;
+use crate::map::{Mapped, with_map};
 use deck_listing::{Sheet, errors, push_listing};
 use deck_objects::SharedObject;
 use std::alloc::{AllocError, Global};
@@ -142,6 +145,57 @@ pub(crate) fn sum(count: u64, more: u64) -> Result<u64, AllocError>
     }
 }
 
+/// The listings of decks with the map of their link behind them, and where the map begins.
+#[derive(Drop)]
+struct MappedListings {
+    map_at: usize,
+    mapped: Mapped,
+}
+
+fn mapped_listings(
+    alloc: Global,
+    layout: &Layout,
+    objects: &[SharedObject],
+) -> Result<MappedListings, AllocError>
+    ensures text { IfOk result (λ all. all.mapped.text ≡ listings objects.now ++ map_text layout.now) }
+    ensures map_at { IfOk result (λ all. all.map_at ≡ length (listings objects.now)) }
+    ensures links { IfOk result (λ all. all.mapped.links ≡ length (link_lines layout.now)) }
+{
+    let front = listings(alloc, objects)?;
+    let map_at = front.as_slice().len();
+    let mapped = with_map(alloc, front, layout, &[])?;
+    Ok(MappedListings { map_at, mapped })
+}
+
+/// The texts of linked decks, and what they count.
+#[derive(Drop)]
+struct LinkTexts {
+    listings: MappedListings,
+    image: Text,
+    errors: u64,
+}
+
+fn link_texts(
+    alloc: Global,
+    layout: &Layout,
+    objects: &[SharedObject],
+) -> Result<LinkTexts, AllocError>
+    ensures listing { IfOk result (λ texts. texts.listings.mapped.text ≡ listings objects.now ++ map_text layout.now) }
+    ensures map_at { IfOk result (λ texts. texts.listings.map_at ≡ length (listings objects.now)) }
+    ensures links { IfOk result (λ texts. texts.listings.mapped.links ≡ length (link_lines layout.now)) }
+    ensures image { IfOk result (λ texts. texts.image ≡ image_text layout.now) }
+    ensures errors { IfOk result (λ texts. texts.errors ≡ errors_in (map object_of objects.now)) }
+{
+    let errors = errors_in(objects)?;
+    let listings = mapped_listings(alloc, layout, objects)?;
+    let image = image(alloc, layout)?;
+    Ok(LinkTexts {
+        listings,
+        image,
+        errors,
+    })
+}
+
 /// Links decks in this order, and publishes them under a version.
 pub fn link(
     alloc: Global,
@@ -151,18 +205,16 @@ pub fn link(
     ensures { IfOk result (λ publication. publication ≡ record { version = version; decks = objects.items }) }
 {
     let layout = Layout::new(alloc, shared(alloc, objects.as_slice())?)?;
-    let front = listings(alloc, objects.as_slice())?;
-    let map_at = front.as_slice().len();
-    let mapped = with_map(alloc, front, &layout, &[])?;
-    let image = image(alloc, &layout)?;
-    let errors = errors_in(objects.as_slice())?;
+    let texts = link_texts(alloc, &layout, objects.as_slice())?;
+    let map_at = texts.listings.map_at;
+    let mapped = texts.listings.mapped;
     Ok(Publication {
         version,
         objects,
         listing: mapped.text,
         map_at,
-        image,
-        errors,
+        image: texts.image,
+        errors: texts.errors,
         links: mapped.links,
     })
 }

@@ -1,4 +1,4 @@
-use Rattle.std.proofs.Common.{◌<◌, ◌∙◌, Bool, List, ap, arith, length, refl, rules, subst, sym}
+use Rattle.std.proofs.Common.{◌<◌, ◌∙◌, List, ap, arith, length, refl, rules, subst, sym}
 use Rattle.std.specs.Prelude.{flat_map, slice_index_or, slice_set}
 use Rattle.std.proofs.lemmas.List.{set-get_or}
 use Rattle.definitions.specs.DeckInput.{Deck}
