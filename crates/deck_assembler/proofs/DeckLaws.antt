@@ -59,7 +59,7 @@ all-numbered cards spans e = subst AreNumbered (sym (all-statements cards spans 
 
 -- what is kept of a deck
 abbrev pub kept_of : DeckKind → Sizer → List ℕ → DeckParts
-kept_of kind sizer behind = record { kind = kind; pieces = sizer.pieces.items; behind = behind; symbols = sizer.symbols; literals = sizer.literals; lengths = sizer.lengths }
+kept_of kind sizer behind = record { kind = kind; pieces = sizer.pieces.items; behind = behind; symbols = sizer.symbols; externals = sizer.externals.items; literals = sizer.literals; lengths = sizer.lengths }
 
 -- and it is what the cards make
 pub deck-made : (cards : List Card) (spans : List Span) (count : ℕ) (kind : DeckKind) (sizer : Sizer) (behind : List ℕ) →
@@ -81,6 +81,7 @@ deck-made cards spans count kind sizer behind e are made ending is b =
     let told : IsSizedUp cards first (reverse (statements_at cards left)) deck = record {
       kind = made ∙ ap kind_of_statements ending.front;
       symbols = is.symbols;
+      externals = is.externals;
       literals = is.literals;
       lengths = is.lengths;
       sized = all-forward kind cards first sizer.pieces.items behind others is.sized listed';

@@ -99,7 +99,7 @@ pub or_form-none : (o : Option Form) → or_form o None ≡ o
 or_form-none None = refl
 or_form-none (Some form) = refl
 
-or_form-some : (o other : Option Form) → is_some o ≡ true → or_form o other ≡ o
+pub or_form-some : (o other : Option Form) → is_some o ≡ true → or_form o other ≡ o
 or_form-some None other h = absurd (true≢false (sym h))
 or_form-some (Some form) other h = refl
 

@@ -44,7 +44,6 @@ pub mod ResultLaws
 pub mod BlockLaws
 -- One statement more.
 pub mod WalkLaws
-pub mod UnlistedLaws
 -- The blocks that statements use.
 pub mod UsedLaws
 -- All statements of a deck.

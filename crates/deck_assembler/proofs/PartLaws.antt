@@ -31,7 +31,6 @@ use Rattle.deck_assembler.specs.Joins.Walks.{Whole, IsWhole, all_settled, contex
 use Rattle.deck_assembler.specs.Joins.DeckWalks.{IsDone, IsListing, shown_with}
 use Rattle.deck_assembler.specs.declared.deck_lines.DeckLines.{DeckLines}
 use Rattle.deck_assembler.specs.declared.deck_walk.Making.{Making}
-use Rattle.deck_assembler.proofs.UnlistedLaws.{all-listed}
 
 -- lines behind which no card is left
 shown-all : (kind : DeckKind) (rows : List BlockRow) (items : List code.Item) (before : ℕ) (cards : List Card) (lines : List Line) (shown : List Shown) (stood : ℕ) (ahead : List Card) →
@@ -128,8 +127,8 @@ pub record AreMade (whole : Whole) (made : Making) (parts : ObjectParts) : Type 
   pub literals : parts.literals.items ≡ whole.deck.literals
   pub lines : parts.lines.items ≡ made.lines.lines.items
   pub items : parts.items.items ≡ made.lines.items.items
-  pub entries : parts.entries.items ≡ made.names.entries.entries.items
-  pub externals : parts.externals.items ≡ made.names.externals.names.items
+  pub entries : parts.entries.items ≡ made.names.entries.items
+  pub externals : parts.externals.items ≡ whole.deck.externals
 
 made-parts : (name : List ℕ) (whole : Whole) (made : Making) (parts : ObjectParts) → IsWhole whole → IsDone whole made → AreMade whole made parts →
     ArePartsOf whole.cards parts (object_in name (context_of whole.deck.kind (all_settled whole)) whole.others)
@@ -151,7 +150,7 @@ made-parts name whole made parts is done are =
       rows = are.rows ∙ is.rows;
       literals = are.literals ∙ is.sized.literals;
       entries = are.entries ∙ done.noted.entries ∙ entries-all kind settled;
-      externals = are.externals ∙ all-listed whole made.names is done.noted;
+      externals = are.externals ∙ is.sized.externals;
       shown = moved (λ k r i l. AreShown k r i 0 whole.cards l (reverse (map only_listed whole.others ++ map (shown_of context) settled)))
           (subst (AreShown kind whole.rows made.lines.items.items 0 whole.cards made.lines.lines.items) listing shown);
       coded = moved (λ k r i l. AreCoded k r i l (reverse (map (coded_of context) settled)))

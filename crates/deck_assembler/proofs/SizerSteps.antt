@@ -26,10 +26,12 @@ use Rattle.statement_coder.proofs.ReadLaws.{settled-sizing}
 use Rattle.deck_assembler.specs.Joins.FirstSymbols.{with_defined}
 use Rattle.deck_assembler.specs.Joins.PieceSteps.{with_statement, sized_newest}
 use Rattle.deck_assembler.specs.Joins.Sizers.{stood, ahead, IsNext, IsNoted, AreSized, HaveStates, AreFilledNewest, IsSizer}
+use Rattle.deck_assembler.specs.Joins.SharedNames.{with_new_by}
 use Rattle.deck_assembler.specs.Joins.SizedDecks.{IsSizedStatement}
 use Rattle.deck_assembler.specs.declared.sized_statement.SizedStatement.{SizedStatement}
 use Rattle.deck_assembler.specs.declared.sizer.Sizer.{Sizer}
 use Rattle.deck_assembler.proofs.DefinitionLaws.{defined-step}
+use Rattle.deck_assembler.proofs.ExternalLaws.{externals-step}
 use Rattle.deck_assembler.proofs.PieceSteps.{sized-step, states-step, filled-step}
 
 -- the operand that the code reads of a statement
@@ -92,6 +94,9 @@ sizer-step kind cards earlier given effect sized old new next is step =
       symbols =
           step.noted.symbols ∙ ap (with_defined settled.read.fields.location settled.read.operand sized.sizing.defines) is.symbols
           ∙ defined-step kind all given sized.sizing.defines step.noted.lawful step.sizing.definitions;
+      externals =
+          step.noted.externals ∙ (λ i. with_new_by settled.read.operand sized.sizing.defines (is.symbols i) (is.externals i))
+          ∙ externals-step all settled sized.sizing.defines step.noted.lawful step.sizing.definitions step.sizing.externals;
       literals = step.noted.literals ∙ ap (with_literals (operand_literals settled.read.operand)) is.literals;
       lengths =
           step.noted.lengths ∙ (λ i. lengths_advanced (block_in_use (is.state i).open_names) (step.made i) (is.lengths i))

@@ -1,5 +1,5 @@
 -- A table by number gives each name its own value.
-use Rattle.std.proofs.Common.{◌≡◌, ℕ, ◌<◌, ◌==◌, ◌&&◌, Bool, true, false, true≢false, suc, zero, List, [], ◌∷◌, Option, Some, None, nat_lt, cond, inl, inr, refl, sym, ap, ◌∙◌, subst, arith, if◌then◌else◌}
+use Rattle.std.proofs.Common.{◌≡◌, ℕ, ◌<◌, ◌==◌, ◌&&◌, not, Bool, true, false, true≢false, suc, zero, List, [], ◌∷◌, Option, Some, None, nat_lt, cond, inl, inr, refl, sym, ap, ◌∙◌, subst, arith, if◌then◌else◌}
 use Rattle.std.specs.Prelude.{nat_eq, slice_index_or}
 use Rattle.std.specs.List.{list_all}
 use Rattle.std.specs.Map.{lookup}
@@ -120,6 +120,13 @@ lookup-ordered code [] = refl
 lookup-ordered code (entry ∷ forms) =
     ap (λ b. cond b (Some entry.1) (lookup (λ other. is_eq (nat_cmp code other)) forms)) (same_order code entry.0)
     ∙ ap (λ r. cond (nat_eq code entry.0) (Some entry.1) r) (lookup-ordered code forms)
+
+-- whether a name has no value
+pub is-first : (forms : List (ℕ × Form)) (code : ℕ) → lookup (λ other. is_eq (nat_cmp code other)) forms ≡ None → true ≡ not (is_some (lookup (nat_eq code) forms))
+is-first forms code h = ap (λ (o : Option Form). not (is_some o)) (sym h ∙ lookup-ordered code forms)
+
+pub is-later : (forms : List (ℕ × Form)) (code : ℕ) → is_some (lookup (λ other. is_eq (nat_cmp code other)) forms) ≡ true → false ≡ not (is_some (lookup (nat_eq code) forms))
+is-later forms code h = ap not (sym h ∙ ap (λ (o : Option Form). is_some o) (lookup-ordered code forms))
 
 -- a name that has no value gets this one
 keep-new : (old new : List (ℕ × Form)) (code : ℕ) (form : Form) → is_some (lookup (λ other. is_eq (nat_cmp code other)) old) ≡ false →

@@ -30,6 +30,7 @@ use Rattle.statement_coder.specs.declared.kept_readings.KeptReading.TheVariants 
 use Rattle.statement_coder.proofs.LawfulLaws.{data-lawful}
 use Rattle.deck_assembler.specs.Joins.FirstSymbols.{with_defined}
 use Rattle.deck_assembler.specs.Joins.LiteralsRead.{is_data_words, is_told, kept_literals, shape_literals, IsTold}
+use Rattle.deck_assembler.specs.Joins.SharedNames.{with_new_by}
 
 -- the literals of an instruction, if there is one
 literals_found : Option Instruction → List Literal
@@ -54,11 +55,13 @@ shape-told : (shape : Shape) (operand : Operand) (told : readings.KeptReading) �
 shape-told shape (CentralOperand instruction) told e h = record {
   literals = central-literals shape.digits shape.digit_count shape.field instruction h ∙ sym e;
   names = λ v. refl;
+  externals = λ v so_far. refl;
   lawful = tt;
 }
 shape-told shape (PeripheralOperand row values) told e h = record {
   literals = peripheral-literals shape.field row.form values h.2 ∙ sym e;
   names = λ v. refl;
+  externals = λ v so_far. refl;
   lawful = tt;
 }
 shape-told shape _ told e h = absurd h
@@ -85,22 +88,22 @@ data-told operation words operand kind base name text e is read =
     (sym is ∙ read ∙ ap (λ (o : Operation). operand_of kind base o name text) (is-data operation e))
 
 use-told : (x : uses.UseField) → IsTold (kept.Use x) (use_as x)
-use-told (use_field.UseName name) = record { literals = refl; names = λ v. refl; lawful = tt }
-use-told use_field.UseBefore = record { literals = refl; names = λ v. refl; lawful = tt }
-use-told use_field.Refused = record { literals = refl; names = λ v. refl; lawful = tt }
-use-told use_field.Bad = record { literals = refl; names = λ v. refl; lawful = tt }
+use-told (use_field.UseName name) = record { literals = refl; names = λ v. refl; externals = λ v so_far. refl; lawful = tt }
+use-told use_field.UseBefore = record { literals = refl; names = λ v. refl; externals = λ v so_far. refl; lawful = tt }
+use-told use_field.Refused = record { literals = refl; names = λ v. refl; externals = λ v so_far. refl; lawful = tt }
+use-told use_field.Bad = record { literals = refl; names = λ v. refl; externals = λ v so_far. refl; lawful = tt }
 
 -- whatever was kept
 pub all-told : (operation : Operation) (told : readings.KeptReading) (operand : Operand) (kind : DeckKind) (base : NumberBase) (name text : List ℕ) → is_told operation told ≡ true → IsKeptReading told operand →
     operand ≡ operand_of kind base operation name text → IsTold told operand
 all-told operation kept.Again operand kind base name text e h read = absurd (true≢false (sym e))
-all-told operation kept.Unread operand kind base name text e h read = subst (IsTold kept.Unread) (sym h) (record { literals = refl; names = λ v. refl; lawful = tt })
-all-told operation kept.Bad operand kind base name text e h read = subst (IsTold kept.Bad) (sym h) (record { literals = refl; names = λ v. refl; lawful = tt })
+all-told operation kept.Unread operand kind base name text e h read = subst (IsTold kept.Unread) (sym h) (record { literals = refl; names = λ v. refl; externals = λ v so_far. refl; lawful = tt })
+all-told operation kept.Bad operand kind base name text e h read = subst (IsTold kept.Bad) (sym h) (record { literals = refl; names = λ v. refl; externals = λ v so_far. refl; lawful = tt })
 all-told operation (kept.Instruction shape) operand kind base name text e h read = shape-told (shape_of shape) operand (kept.Instruction shape) refl h
 all-told operation (kept.Data words) operand kind base name text e h read =
-    subst (IsTold (kept.Data words)) (sym h) (record { literals = data-told operation words operand kind base name text e h read; names = λ v. refl; lawful = tt })
-all-told operation (kept.Vfd fields) operand kind base name text e h read = subst (IsTold (kept.Vfd fields)) (sym h) (record { literals = refl; names = λ v. refl; lawful = tt })
-all-told operation (kept.Value x) operand kind base name text e h read = subst (IsTold (kept.Value x)) (sym h) (record { literals = refl; names = λ v. refl; lawful = tt })
+    subst (IsTold (kept.Data words)) (sym h) (record { literals = data-told operation words operand kind base name text e h read; names = λ v. refl; externals = λ v so_far. refl; lawful = tt })
+all-told operation (kept.Vfd fields) operand kind base name text e h read = subst (IsTold (kept.Vfd fields)) (sym h) (record { literals = refl; names = λ v. refl; externals = λ v so_far. refl; lawful = tt })
+all-told operation (kept.Value x) operand kind base name text e h read = subst (IsTold (kept.Value x)) (sym h) (record { literals = refl; names = λ v. refl; externals = λ v so_far. refl; lawful = tt })
 all-told operation (kept.Use x) operand kind base name text e h read = subst (IsTold (kept.Use x)) (sym h) (use-told x)
 
 -- what a statement defines does not come from such an operand
@@ -108,3 +111,9 @@ pub told-defined : (told : readings.KeptReading) (location : List ℕ) (operand 
 told-defined told location operand defines.Nothing v is = refl
 told-defined told location operand (defines.Symbol form) v is = refl
 told-defined told location operand defines.Externals v is = sym (is.names v)
+
+-- nor do the externals that it defines
+pub told-externals : (told : readings.KeptReading) (operand : Operand) (what : made.Defines) (v : View) (so_far : List (List ℕ)) → IsTold told operand → so_far ≡ with_new_by operand what v so_far
+told-externals told operand defines.Nothing v so_far is = refl
+told-externals told operand (defines.Symbol form) v so_far is = refl
+told-externals told operand defines.Externals v so_far is = sym (is.externals v so_far)

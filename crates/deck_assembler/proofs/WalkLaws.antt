@@ -4,7 +4,6 @@ use Rattle.std.specs.Prelude.{slice_get}
 use Rattle.std.proofs.lemmas.List.{drop-drop, length-drop, reverse-append}
 use Rattle.definitions.specs.Cards.{Card}
 use Rattle.definitions.specs.Entries.{entries_by, entries_among}
-use Rattle.definitions.specs.Forms.{Form}
 use Rattle.definitions.specs.Lengths.{BlockRow}
 use Rattle.definitions.specs.Objects.{Shown}
 use Rattle.definitions.specs.Operands.{Operand}
@@ -27,12 +26,10 @@ use Rattle.statement_coder.proofs.CodingLaws.{codable}
 use Rattle.deck_objects.specs.Joins.CodedLines.{IsNamed, IsShown, IsStored}
 use Rattle.deck_objects.specs.declared.lines.CodedLine.{CodedLine}
 use Rattle.deck_objects.specs.declared.lines.Line.{Line}
-use Rattle.deck_assembler.specs.Joins.FirstSymbols.{symbol_in, with_symbol}
-use Rattle.deck_assembler.specs.Joins.SharedNames.{enters, entries_to, is_ext}
+use Rattle.deck_assembler.specs.Joins.SharedNames.{AreSeen, enters, entries_to}
 use Rattle.deck_assembler.specs.Joins.Walks.{Whole, all_settled, has_row, AreNoted, AreShownTo, AreLinedAs}
 use Rattle.deck_assembler.specs.declared.deck_lines.DeckLines.{DeckLines}
-use Rattle.deck_assembler.specs.declared.deck_names.DeckNames.{DeckNames}
-use Rattle.deck_assembler.proofs.ExternalLaws.{nothing-followed, symbol-followed}
+use Rattle.deck_assembler.specs.declared.entry_names.EntryNames.{EntryNames}
 use Rattle.deck_assembler.proofs.KeptLaws.{coded-longer}
 
 -- a statement that was read, as it is settled
@@ -64,49 +61,24 @@ not-entered Periph all settled before e = refl
 not-entered Rel all settled before e = passed-over all settled.read.operation settled.read.operand (entries_among all before) e
 not-entered Abs all settled before e = passed-over all settled.read.operation settled.read.operand (entries_among all before) e
 
--- and one that defines nothing either leaves the names as they are
-pub silent-noted : (whole : Whole) (earlier : List Statement) (given : Statement) (names : DeckNames) → let settled = settle whole.deck.kind (settled_all whole.deck.kind earlier) given in
-    enters whole.deck.kind settled.read.operation ≡ false → is_ext settled.read.operation ≡ false → [] ≡ settled.definitions → AreNoted whole earlier names → AreNoted whole (given ∷ earlier) names
-silent-noted whole earlier given names silent other defines noted =
-    let kind = whole.deck.kind in
-    let before = settled_all kind earlier in
-    record {
-      entries = noted.entries ∙ not-entered kind (all_settled whole) (settle kind before given) before silent;
-      seen = noted.seen;
-      lists = noted.lists;
-      externals = λ on. nothing-followed kind before given names.externals.seen names.externals.names.items other defines (noted.externals on);
-      none = noted.none;
-    }
+-- no statement enters names
+pub none-noted : (whole : Whole) (names : EntryNames) → names.entries.items ≡ [] → AreSeen names.seen names.entries.items → AreNoted whole [] names
+none-noted whole names none seen = record { entries = none ∙ none-entered whole.deck.kind (all_settled whole); seen = seen }
+  where
+    none-entered : (kind : DeckKind) (all : List Settled) → [] ≡ entries_to kind all []
+    none-entered Rel all = refl
+    none-entered Abs all = refl
+    none-entered Periph all = refl
 
--- one that defines the symbol of its location field alone leaves the entries as they are
-pub symbol-noted : (whole : Whole) (earlier : List Statement) (given : Statement) (names : DeckNames) (new : List (ℕ × Form)) (form : Form) → let settled = settle whole.deck.kind (settled_all whole.deck.kind earlier) given in
-    enters whole.deck.kind settled.read.operation ≡ false → is_ext settled.read.operation ≡ false → record { name = settled.read.fields.location; form = form } ∷ [] ≡ settled.definitions →
-    symbol_in new ≡ with_symbol settled.read.fields.location form (symbol_in names.externals.seen) → AreNoted whole earlier names →
-    AreNoted whole (given ∷ earlier) (record { entries = names.entries; externals = record { seen = new; names = names.externals.names }; lists = names.lists })
-symbol-noted whole earlier given names new form silent other defines symbols noted =
-    let kind = whole.deck.kind in
-    let before = settled_all kind earlier in
-    let settled = settle kind before given in
-    record {
-      entries = noted.entries ∙ not-entered kind (all_settled whole) settled before silent;
-      seen = noted.seen;
-      lists = noted.lists;
-      externals = λ on. symbol-followed kind before given names.externals.seen new names.externals.names.items settled.read.fields.location form other defines symbols (noted.externals on);
-      none = noted.none;
-    }
-
--- one of a deck that has no EXT gives no external
-pub unlisted-noted : (whole : Whole) (earlier : List Statement) (given : Statement) (names : DeckNames) → names.lists ≡ false →
+-- behind a statement that enters none the names are as they were
+pub silent-noted : (whole : Whole) (earlier : List Statement) (given : Statement) (names : EntryNames) →
     enters whole.deck.kind (settle whole.deck.kind (settled_all whole.deck.kind earlier) given).read.operation ≡ false → AreNoted whole earlier names → AreNoted whole (given ∷ earlier) names
-unlisted-noted whole earlier given names off silent noted =
+silent-noted whole earlier given names silent noted =
     let kind = whole.deck.kind in
     let before = settled_all kind earlier in
     record {
       entries = noted.entries ∙ not-entered kind (all_settled whole) (settle kind before given) before silent;
       seen = noted.seen;
-      lists = noted.lists;
-      externals = λ on. absurd (true≢false (sym on ∙ off));
-      none = noted.none;
     }
 
 -- a line stays what it is where fields are put behind those that there are

@@ -1,4 +1,4 @@
-//! All statements of a deck, one after the other: their lines and their names.
+//! All statements of a deck, one after the other: their lines, and the names that they enter.
 ghost use Rattle.std.specs.Prelude.{ℕ, ◌≡◌, ◌≤◌, ◌+◌, ◌-◌, ◌^◌, ◌++◌, [], List, IfOk, IfSome, None, Some, OnOk, true, length, min, reverse};
 ghost use Rattle.definitions.specs.Statements as statements;
 ghost use Rattle.statement_coder.specs.Joins.Meters.{RisesBy};
@@ -11,19 +11,20 @@ ghost use Rattle.deck_assembler.specs.Joins.DeckWalks.{IsDone, IsListing};
 ghost use Rattle.deck_assembler.specs.Joins.FormerLines.{IsBare, IsBeside, IsWalkedBeside, MeanAsViewed};
 
 use crate::deck_lines::{DeckLines, next_cards};
-use crate::deck_names::{DeckNames, have_ext};
+use crate::deck_names::{enter, enters};
 use crate::deck_view::DeckView;
+use crate::entry_names::EntryNames;
 use crate::former_lines::{FormerLine, FormerLines};
 use crate::{Piece, SizedDeck, SizedStatement};
 use cards::StatementRoom;
 use statement_coder::{Meter, Statement, kept_operand};
 use std::alloc::{AllocError, Global};
 
-/// The lines and the names of the statements so far.
+/// The lines of the statements so far, and the names that they enter.
 #[derive(Drop)]
 pub(crate) struct Making {
     pub(crate) lines: DeckLines,
-    pub(crate) names: DeckNames,
+    pub(crate) names: EntryNames,
 }
 
 /// For how many lines there is to be memory: a piece has 128 statements at most.
@@ -41,7 +42,7 @@ impl Making {
     {
         Ok(Making {
             lines: DeckLines::new(alloc, line_room(view.deck), items)?,
-            names: DeckNames::new(alloc, have_ext(view.deck.pieces())),
+            names: EntryNames::new(alloc),
         })
     }
 
@@ -64,13 +65,13 @@ impl Making {
     {
         let cards = next_cards(view.cards, self.lines.stood, sized.cards);
         let statement = Statement::read(view.deck.kind(), cards, room);
-        self.names.note(view, &statement, &sized.sizing)?;
+        enter(&mut self.names, view, &statement, &sized.sizing)?;
         let read = statement.read_operand(sized.sizing.number_base());
         self.lines.put(view, &read, sized, found, meter)
     }
 
-    /// One statement more: its cards are read once more where it gives or takes names, or where its
-    /// operand was not kept. Where memory runs out what was made is of no use.
+    /// One statement more: its cards are read once more where it enters names, or where its operand was
+    /// not kept. Where memory runs out what was made is of no use.
     fn add_read(
         &mut self,
         view: &DeckView<'_>,
@@ -88,22 +89,18 @@ impl Making {
         ensures sized { meter.new.sized ≡ meter.old.sized }
     {
         let kind = view.deck.kind();
+        if enters(kind, sized.operation) {
+            return self.add_again(view, room, sized, found, meter);
+        }
         match kept_operand(kind, sized.operation, &sized.kept) {
             None => self.add_again(view, room, sized, found, meter),
-            Some(read) => {
-                if self.names.note_kept(kind, sized)? {
-                    self.lines.put(view, &read, sized, found, meter)
-                } else {
-                    self.add_again(view, room, sized, found, meter)
-                }
-            }
+            Some(read) => self.lines.put(view, &read, sized, found, meter),
         }
     }
 
     /// One statement more, where all names mean what they did in the object before: a line that was found
-    /// there is taken over. The cards are read once more where the statement gives or takes names, or
-    /// where it has no such line and its operand was not kept. Where memory runs out what was made is of
-    /// no use.
+    /// there is taken over. The cards are read once more where the statement enters names, or where it has
+    /// no such line and its operand was not kept. Where memory runs out what was made is of no use.
     fn add_same(
         &mut self,
         view: &DeckView<'_>,
@@ -124,11 +121,10 @@ impl Making {
         match found {
             None => self.add_read(view, room, sized, found, meter),
             Some(line) => {
-                if self.names.note_kept(view.deck.kind(), sized)? {
-                    self.lines.copy_same(view, &line, sized)
-                } else {
-                    self.add_again(view, room, sized, found, meter)
+                if enters(view.deck.kind(), sized.operation) {
+                    return self.add_again(view, room, sized, found, meter);
                 }
+                self.lines.copy_same(view, &line, sized)
             }
         }
     }
@@ -228,7 +224,7 @@ fn list_all(lines: &mut DeckLines, counts: &[u32]) -> Result<(), AllocError>
     Ok(())
 }
 
-/// The lines and the names of a deck. The statements up to END are coded, each once, but for those
+/// The lines of a deck, and the names that it enters. The statements up to END are coded, each once, but for those
 /// whose lines are taken over from the object before, so that no more are coded than are due; where
 /// memory runs out, some of them.
 pub(crate) fn walk(

@@ -6,11 +6,10 @@ ghost use Rattle.definitions.specs.Operands as operands;
 ghost use Rattle.definitions.specs.Agreement.{Agree, defines_location, lawful_names, own_symbols, operand_symbols, symbols_in};
 ghost use Rattle.operations.specs.Joins.OperationsAs.{operation_as};
 ghost use Rattle.statement_coder.specs.Joins.Readings.{IsReading};
+ghost use Rattle.statement_coder.specs.Joins.Definitions.{is_ext};
 ghost use Rattle.deck_assembler.specs.Joins.FirstSymbols.{symbol_in};
 ghost use Rattle.deck_assembler.specs.Joins.Agreements.{AreExternalsAlike, is_externals};
-ghost use Rattle.deck_assembler.specs.Joins.SharedNames.{is_ext};
 
-use crate::external_names::is_ext;
 use crate::symbol_table::SymbolTable;
 use expr_forms::{Expr, Form, LinkedNames, is_symbol};
 use operations::Operation;
@@ -90,6 +89,13 @@ pub(crate) fn is_own_alike(
         return is_alike(first, second, location);
     }
     true
+}
+
+/// Whether an operation is EXT.
+fn is_ext(operation: Operation) -> bool
+    ensures { result ≡ is_ext (operation_as operation) }
+{
+    matches!(operation, Operation::Ext)
 }
 
 /// Whether a statement defines the names that it has, or may define them.

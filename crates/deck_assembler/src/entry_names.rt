@@ -56,8 +56,7 @@ impl EntryNames {
         ensures entries { OnOk result (AreSeen self.old.seen self.old.entries.items → self.new.entries.items ≡ with_entry name.now [] (Some form) self.old.entries.items) }
         ensures seen { OnOk result (AreSeen self.old.seen self.old.entries.items → AreSeen self.new.seen self.new.entries.items) }
     {
-        if self.seen.value(name).is_none() {
-            self.seen.define(name, form)?;
+        if self.seen.define(name, form)? {
             self.entries.push(Entry::new(Name::new(name), form))?;
         }
         Ok(())

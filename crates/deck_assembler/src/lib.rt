@@ -1,12 +1,12 @@
 //! One deck, from its cards to its object: its statements sized in pieces, with the state before each
-//! piece, its symbols, literals and the lengths of its blocks; then its lines with their fields, its
-//! entries and its externals. What an object is, `deck_objects` says.
+//! piece, its symbols, externals, literals and the lengths of its blocks; then its lines with their fields
+//! and its entries. What an object is, `deck_objects` says.
 //!
 //! `SizedDeck::new` takes one statement after the other: reads it, sizes it behind the state so
 //! far, takes in its literals and what it defines, and steps lengths and state by its effect. A
 //! `Piece` has up to 128 statements, with the state before the first. `object_parts` goes over
 //! pieces and cards together and makes a `Line` of each; cards are read again only where what was
-//! read was not kept, or names are given or taken. Behind END a line has cards alone. Of an edited deck,
+//! read was not kept, or names are entered. Behind END a line has cards alone. Of an edited deck,
 //! `SizedDeck::edited` keeps the statements in front of the edited card, and all those from where the
 //! deck agrees again with the one before; `edited_parts` takes the lines of both over from the object
 //! before, but for those of which `Rebinding` finds a name bound otherwise, and counts no more than those
@@ -19,7 +19,7 @@
 mod pieces;
 mod sized_statement;
 
-// The first definition of each symbol, and the literals.
+// The first definition of each symbol, the externals among them, and the literals.
 mod definitions_kept;
 mod literal_words;
 mod operand_names;
@@ -41,15 +41,14 @@ mod known_bits;
 mod line_fields;
 mod statement_lines;
 
-// The names that a deck gives to others, and those that it takes.
+// The names that a deck gives to others.
+mod deck_names;
 mod entry_names;
-mod external_names;
 
 // All statements of a deck, coded.
 mod block_index;
 mod copied_lines;
 mod deck_lines;
-mod deck_names;
 mod deck_view;
 mod deck_walk;
 mod former;

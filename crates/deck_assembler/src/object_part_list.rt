@@ -66,6 +66,7 @@ fn parts_beside<'a>(
     ensures sized { meter.new.sized ≡ meter.old.sized }
 {
     let literals = Vec::from_slice(alloc, deck.literals().words())?;
+    let externals = Vec::from_slice(alloc, deck.externals())?;
     let bases = Bases::new(alloc, deck.lengths(), deck.literals())?;
     let view = DeckView {
         cards,
@@ -76,16 +77,14 @@ fn parts_beside<'a>(
     let made = walk(alloc, &view, lines_or_none(former, &view), same, meter)?;
     let lines = made.lines;
     let names = made.names;
-    let entries = names.entries;
-    let externals = names.externals;
     Ok(ObjectParts {
         kind: deck.kind(),
         lines: lines.lines,
         items: lines.items,
         bases,
         literals,
-        entries: entries.entries,
-        externals: externals.names,
+        entries: names.entries,
+        externals,
     })
 }
 

@@ -116,8 +116,13 @@ impl<'a> OldDeck<'a> {
         self.statements.pop_front()
     }
 
-    /// Goes behind a statement, which was the next one.
-    fn pass(&mut self, sized: &SizedStatement, room: &mut StatementRoom) -> Result<(), AllocError>
+    /// Goes behind a statement, which was the next one. Its externals are not asked for.
+    fn pass(
+        &mut self,
+        alloc: Global,
+        sized: &SizedStatement,
+        room: &mut StatementRoom,
+    ) -> Result<(), AllocError>
         requires front { (cards : List deck_cards.Card) × (later : List code.SizedStatement) × HasFront cards (sized.now ∷ later) self.old }
         ensures front { OnOk result ((cards : List deck_cards.Card) (later : List code.SizedStatement) → HasFront cards (sized.now ∷ later) self.old → HasFront cards later self.new) }
         ensures rest { left self.new ≡ left self.old }
@@ -132,6 +137,7 @@ impl<'a> OldDeck<'a> {
         let defines = sized.sizing.defines();
         define(
             &mut self.symbols,
+            &mut Vec::new(alloc),
             statement.location,
             &read.reading,
             defines,
@@ -142,7 +148,12 @@ impl<'a> OldDeck<'a> {
     }
 
     /// Goes on to where at most so many cards are left, or to the end of its statements.
-    fn pass_to(&mut self, count: usize, room: &mut StatementRoom) -> Result<(), AllocError>
+    fn pass_to(
+        &mut self,
+        alloc: Global,
+        count: usize,
+        room: &mut StatementRoom,
+    ) -> Result<(), AllocError>
         requires front { (cards : List deck_cards.Card) × HasFront cards (left self.old) self.old }
         ensures front { OnOk result ((cards : List deck_cards.Card) → HasFront cards (left self.old) self.old → HasFront cards (left self.new) self.new) }
         ensures piece { OnOk result ((tail : List code.SizedStatement) (rest : ℕ) → rest ≤ count → HasPiece self.old tail rest → HasPiece self.new tail rest) }
@@ -156,7 +167,7 @@ impl<'a> OldDeck<'a> {
             }
             match self.next() {
                 None => return Ok(()),
-                Some(sized) => self.pass(&sized, room)?,
+                Some(sized) => self.pass(alloc, &sized, room)?,
             }
         }
     }
@@ -268,7 +279,7 @@ impl<'a> OldDeck<'a> {
         self.state = state;
         self.symbols = symbols;
         self.stage = Stage::Between;
-        self.pass(sized, room)
+        self.pass(alloc, sized, room)
     }
 
     /// The next of its statements, if it ends before the edited card and has the cards of a span.
@@ -334,6 +345,7 @@ impl<'a> OldDeck<'a> {
     /// those behind it have.
     fn kept_between(
         &mut self,
+        alloc: Global,
         cards: &[Card],
         span: Span,
         sizer: &Sizer,
@@ -347,7 +359,7 @@ impl<'a> OldDeck<'a> {
         ensures due { IfOk result (KeepsDue cards.now span sizer.now self.old self.new) }
     {
         let count = cards.len() - span.start;
-        self.pass_to(count, room)?;
+        self.pass_to(alloc, count, room)?;
         if !self.is_met(count, sizer, room) {
             return Ok(None);
         }
@@ -376,7 +388,7 @@ impl<'a> OldDeck<'a> {
     {
         match self.stage {
             Stage::Front => self.kept_in_front(alloc, span, sizer, room),
-            Stage::Between => self.kept_between(cards, span, sizer, room),
+            Stage::Between => self.kept_between(alloc, cards, span, sizer, room),
             Stage::Tail => Ok(self.kept_in_tail(span)),
             Stage::Over => Ok(None),
         }

@@ -26,19 +26,21 @@ use crate::symbol_table::SymbolTable;
 use crate::up_to_end::{card_counts, kind_of};
 use cards::{Card, Span, statements};
 use definitions::DeckKind;
+use expr_forms::Name;
 use statement_coder::Meter;
 use std::alloc::{AllocError, Global};
 use std::marker::Model;
 use use_blocks::{Lengths, Literals};
 
 /// What is kept of a deck: its kind, its statements up to END in pieces, how many cards each statement
-/// behind END has, its symbols, its literals and the lengths of its blocks.
+/// behind END has, its symbols, its externals, its literals and the lengths of its blocks.
 #[derive(Drop)]
 pub struct SizedDeck {
     kind: DeckKind,
     pieces: Vec<Piece>,
     behind: Vec<u32>,
     symbols: SymbolTable,
+    externals: Vec<Name>,
     literals: Literals,
     lengths: Lengths,
 }
@@ -48,7 +50,7 @@ impl Model for SizedDeck {
 
     ghost Value = { DeckParts };
 
-    ghost view = { λ d. record { kind = d.kind; pieces = d.pieces.items; behind = d.behind.items; symbols = d.symbols; literals = d.literals; lengths = d.lengths } };
+    ghost view = { λ d. record { kind = d.kind; pieces = d.pieces.items; behind = d.behind.items; symbols = d.symbols; externals = d.externals.items; literals = d.literals; lengths = d.lengths } };
 }
 
 impl SizedDeck {
@@ -168,6 +170,13 @@ impl SizedDeck {
         &self.symbols
     }
 
+    /// The names that it takes from others, in the order in which its EXT statements define them.
+    pub(crate) fn externals(&self) -> &[Name]
+        ensures { result.now ≡ self.now.externals }
+    {
+        self.externals.as_slice()
+    }
+
     pub fn literals(&self) -> &Literals
         ensures { result.now ≡ self.now.literals }
     {
@@ -249,6 +258,7 @@ fn made(
         pieces: sizer.pieces,
         behind,
         symbols: sizer.symbols,
+        externals: sizer.externals,
         literals: sizer.literals,
         lengths: sizer.lengths,
     };

@@ -24,6 +24,7 @@ use crate::literal_words::{add_literals, add_told_literals, is_told};
 use crate::pieces::{Piece, add_statement};
 use crate::sized_statement::{SizedStatement, label_of};
 use crate::symbol_table::SymbolTable;
+use expr_forms::Name;
 use statement_coder::{Defines, KeptSizing, Meter, Reading, Statement, read_operand, size_reading};
 use std::alloc::{AllocError, Global};
 use use_blocks::{BlockState, Effect, Lengths, Literals};
@@ -35,6 +36,7 @@ pub(crate) struct Sizer {
     pub(crate) state: BlockState,
     pub(crate) pieces: Vec<Piece>,
     pub(crate) symbols: SymbolTable,
+    pub(crate) externals: Vec<Name>,
     pub(crate) literals: Literals,
     pub(crate) lengths: Lengths,
 }
@@ -48,6 +50,7 @@ impl Sizer {
             state: BlockState::new(alloc)?,
             pieces: Vec::new(alloc),
             symbols: SymbolTable::new(alloc),
+            externals: Vec::new(alloc),
             literals: Literals::new(alloc),
             lengths: Lengths::new(alloc)?,
         })
@@ -126,6 +129,7 @@ impl Sizer {
         ensures pieces { OnOk result (reverse self.new.pieces.items ≡ with_statement self.old.state sized (reverse self.old.pieces.items)) }
         ensures state { OnOk result (self.new.state ≡ advanced (effect_as effect.now) self.old.state) }
         ensures symbols { self.new.symbols ≡ self.old.symbols }
+        ensures externals { self.new.externals.items ≡ self.old.externals.items }
         ensures literals { self.new.literals ≡ self.old.literals }
         ensures lengths { self.new.lengths ≡ self.old.lengths }
     {
@@ -218,7 +222,13 @@ impl Sizer {
         ensures pieces { self.new.pieces ≡ self.old.pieces }
     {
         let is_bare = add_literals(&mut self.literals, reading)?;
-        define(&mut self.symbols, location, reading, defines)?;
+        define(
+            &mut self.symbols,
+            &mut self.externals,
+            location,
+            reading,
+            defines,
+        )?;
         self.lengths.follow(&self.state, effect)?;
         Ok(is_bare)
     }

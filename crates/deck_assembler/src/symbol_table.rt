@@ -1,6 +1,6 @@
 //! The symbols of a deck, each with the value of its first definition (COMPASS 60492600, location
 //! field, EQU, EXT).
-ghost use Rattle.std.specs.Prelude.{◌≡◌, ℕ, ◌==◌, nat_eq, true, Some, None, IfOk, OnOk, OnErr, if◌then◌else◌};
+ghost use Rattle.std.specs.Prelude.{◌≡◌, ℕ, ◌==◌, nat_eq, not, is_some, true, Some, None, IfOk, OnOk, OnErr, if◌then◌else◌};
 ghost use Rattle.std.specs.Map.{lookup};
 ghost use Rattle.definitions.specs.Settled.{or_form};
 ghost use Rattle.deck_assembler.specs.Joins.FirstSymbols.{symbol_in, with_symbol};
@@ -64,29 +64,32 @@ impl SymbolTable {
         are_entries_same(&self.forms, &other.forms)
     }
 
-    /// Defines a symbol, if the text is a name that has no value yet. Without memory the symbols are
-    /// as before.
-    pub fn define(&mut self, name: &[u8], form: Form) -> Result<(), AllocError>
+    /// Defines a symbol, if the text is a name that has no value yet, and tells whether it had none.
+    /// Without memory the symbols are as before.
+    pub fn define(&mut self, name: &[u8], form: Form) -> Result<bool, AllocError>
         ensures defined { OnOk result (symbol_in self.new ≡ with_symbol name.now form (symbol_in self.old)) }
+        ensures first { IfOk result (λ first. first ≡ not (is_some (symbol_in self.old name.now))) }
         ensures without_memory { OnErr result (self.new ≡ self.old) }
     {
         match SymbolKey::of(name) {
-            None => Ok(()),
+            None => Ok(true),
             Some(name) => keep(&mut self.forms, name.code, form),
         }
     }
 }
 
-/// Gives a name its value, unless it has one. Without memory all is as before.
-fn keep(forms: &mut BTreeMap<u64, Form>, code: u64, form: Form) -> Result<(), AllocError>
+/// Gives a name its value, unless it has one, and tells whether it had none. Without memory all is as
+/// before.
+fn keep(forms: &mut BTreeMap<u64, Form>, code: u64, form: Form) -> Result<bool, AllocError>
     ensures kept { OnOk result ((other : ℕ) → lookup (nat_eq other) forms.new.entries ≡ or_form (lookup (nat_eq other) forms.old.entries) (if other == code then Some form else None)) }
+    ensures first { IfOk result (λ first. first ≡ not (is_some (lookup (nat_eq code) forms.old.entries))) }
     ensures without_memory { OnErr result (forms.new.entries ≡ forms.old.entries) }
 {
     match forms.entry(code)? {
-        Entry::Occupied(_) => Ok(()),
+        Entry::Occupied(_) => Ok(false),
         Entry::Vacant(place) => {
             place.insert(form);
-            Ok(())
+            Ok(true)
         }
     }
 }

@@ -1,12 +1,12 @@
 //! What a statement defines (COMPASS 60492600, location field, EQU, EXT).
-ghost use Rattle.std.specs.Prelude.{◌≡◌, ℕ, List, is_some};
+ghost use Rattle.std.specs.Prelude.{◌≡◌, ℕ, List, false, is_some};
 ghost use Rattle.definitions.specs.Forms as forms;
 ghost use Rattle.definitions.specs.Operations as op;
 ghost use Rattle.definitions.specs.Operands as operands;
 ghost use Rattle.definitions.specs.Settling.{View, first_definition, definitions_of};
 ghost use Rattle.operations.specs.Joins.OperationsAs.{operation_as};
 ghost use Rattle.statement_coder.specs.Joins.Readings.{IsReading};
-ghost use Rattle.statement_coder.specs.Joins.Definitions.{has_names, defined_by, IsOfExt};
+ghost use Rattle.statement_coder.specs.Joins.Definitions.{has_names, defined_by, is_ext, IsOfExt};
 
 use crate::readings::Reading;
 use definitions::DeckKind;
@@ -28,7 +28,7 @@ pub enum Defines {
 fn first_definition(location: &[u8], form: Form, is_defined: bool) -> Defines
     ensures definitions { (view : View) (operand : operands.Operand) → is_some (view location.now) ≡ is_defined →
         defined_by view location.now operand result ≡ first_definition location.now form (view location.now) }
-    ensures externals { (operation : op.Operation) → IsOfExt operation result }
+    ensures externals { (operation : op.Operation) → is_ext operation ≡ false → IsOfExt operation result }
 {
     if is_symbol(location) && !is_defined {
         Defines::Symbol(form)

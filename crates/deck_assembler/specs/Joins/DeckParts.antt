@@ -18,6 +18,8 @@ pub record DeckParts : Type 0 where
   pub behind : List ℕ
   -- each symbol with its value, the name as a number
   pub symbols : List (ℕ × Form)
+  -- the names that it takes from others
+  pub externals : List (List ℕ)
   pub literals : List ℕ
   pub lengths : List BlockLength
 

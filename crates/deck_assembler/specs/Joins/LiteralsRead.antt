@@ -1,5 +1,5 @@
 -- The literals of what was read in a variable field.
-use Rattle.std.specs.Prelude.{◌≡◌, Bool, true, false, List, [], flat_map}
+use Rattle.std.specs.Prelude.{ℕ, ◌≡◌, Bool, true, false, List, [], flat_map}
 use Rattle.definitions.specs.Expressions.{Literal}
 use Rattle.definitions.specs.Literals.{literals_in, operand_literals, value_literals}
 use Rattle.definitions.specs.Operands.{BitField, Operand}
@@ -7,6 +7,7 @@ use Rattle.definitions.specs.Operations as op
 use Rattle.definitions.specs.Operations.{Operation}
 use Rattle.definitions.specs.Settling.{View}
 use Rattle.deck_assembler.specs.Joins.FirstSymbols.{with_names, IsLawfulOperand}
+use Rattle.deck_assembler.specs.Joins.SharedNames.{with_new_of}
 use Rattle.expr_forms.specs.Joins.Kept.{field_of}
 use Rattle.expr_forms.specs.declared.shapes.Field as code
 use Rattle.expr_forms.specs.declared.shapes.Field.TheVariants as field
@@ -44,4 +45,5 @@ is_told operation told = true
 pub record IsTold (told : readings.KeptReading) (operand : Operand) : Type 0 where
   pub literals : operand_literals operand ≡ kept_literals told
   pub names : (v : View) → with_names operand v ≡ v
+  pub externals : (v : View) (so_far : List (List ℕ)) → with_new_of operand v so_far ≡ so_far
   pub lawful : IsLawfulOperand operand

@@ -1,19 +1,17 @@
 -- Entries and externals, as they are found in the order of the deck.
 use Rattle.std.specs.Prelude.{ℕ, ◌≡◌, ◌∷◌, ◌++◌, List, [], Bool, true, false, Option, Some, None, is_some, if◌then◌else◌}
-use Rattle.std.specs.List.{list_any}
 use Rattle.definitions.specs.Forms.{Form}
 use Rattle.definitions.specs.Operands.{Operand, NamesOperand}
 use Rattle.definitions.specs.Operations as op
 use Rattle.definitions.specs.Operations.{Operation}
-use Rattle.definitions.specs.Entries.{entries_among, externals_of}
-use Rattle.definitions.specs.Settled.{Settled, Definition, defined, defined_in}
+use Rattle.definitions.specs.Entries.{entries_among}
+use Rattle.definitions.specs.Settled.{Settled, Definition, defined_in}
 use Rattle.definitions.specs.Settling.{View, external}
 use Rattle.definitions.specs.declared.deck_kind.DeckKind.{DeckKind}
 use Rattle.definitions.specs.declared.deck_kind.DeckKind.TheVariants.{Periph}
-use Rattle.operations.specs.Joins.OperationsAs.{operation_as}
-use Rattle.deck_assembler.specs.Joins.DeckParts.{DeckPiece}
+use Rattle.statement_coder.specs.declared.definitions_made.Defines as code
+use Rattle.statement_coder.specs.declared.definitions_made.Defines.TheVariants as defines
 use Rattle.deck_assembler.specs.Joins.FirstSymbols.{symbol_in, with_symbol}
-use Rattle.deck_assembler.specs.declared.sized_statement.SizedStatement.{SizedStatement}
 
 -- the names that are seen are those of the entries, each with its value
 abbrev pub AreSeen : List (ℕ × Form) → List Definition → Type 0
@@ -30,23 +28,11 @@ abbrev pub with_new_of : Operand → View → List (List ℕ) → List (List ℕ
 with_new_of (NamesOperand names) symbols so_far = with_new names symbols so_far
 with_new_of operand symbols so_far = so_far
 
--- whether an operation is EXT
-abbrev pub is_ext : Operation → Bool
-is_ext op.Ext = true
-is_ext operation = false
-
--- whether one of these statements is an EXT
-abbrev pub has_ext : List SizedStatement → Bool
-has_ext statements = list_any (λ (sized : SizedStatement). is_ext (operation_as sized.operation)) statements
-
--- whether one of those of some pieces is
-abbrev pub have_ext : List DeckPiece → Bool
-have_ext pieces = list_any (λ (piece : DeckPiece). has_ext piece.statements) pieces
-
--- what statements define is seen, and the externals among it are these
-pub record AreExternals (settled : List Settled) (seen : List (ℕ × Form)) (names : List (List ℕ)) : Type 0 where
-  pub symbols : symbol_in seen ≡ (λ name. defined name settled)
-  pub externals : names ≡ externals_of settled
+-- the externals so far with those that a statement with this operand defines
+abbrev pub with_new_by : Operand → code.Defines → View → List (List ℕ) → List (List ℕ)
+with_new_by operand defines.Nothing symbols so_far = so_far
+with_new_by operand (defines.Symbol form) symbols so_far = so_far
+with_new_by operand defines.Externals symbols so_far = with_new_of operand symbols so_far
 
 -- whether a statement enters names; in a peripheral deck none does
 abbrev pub enters : DeckKind → Operation → Bool

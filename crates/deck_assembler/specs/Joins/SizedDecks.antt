@@ -2,6 +2,7 @@
 use Rattle.std.specs.Prelude.{ℕ, ◌≡◌, ⊤, ◌+◌, ◌<◌, ◌≤◌, List, [], ◌∷◌, ◌++◌, IfSome, true, take, drop, length, reverse}
 use Rattle.definitions.specs.Cards.{Card}
 use Rattle.definitions.specs.DeckKinds.{up_to_end, behind_end, kind_of_statements}
+use Rattle.definitions.specs.Entries.{externals_of}
 use Rattle.definitions.specs.Lengths.{lengths_of}
 use Rattle.definitions.specs.Literals.{literal_words, operand_literals}
 use Rattle.definitions.specs.Settled.{defined}
@@ -74,6 +75,7 @@ AreFilled (piece ∷ next ∷ pieces) = (length piece.statements ≡ 128) × Are
 pub record IsSizedUp (cards : List Card) (statements others : List Statement) (deck : DeckParts) : Type 0 where
   pub kind : deck.kind ≡ kind_of_statements statements
   pub symbols : symbol_in deck.symbols ≡ (λ name. defined name (settled_all deck.kind statements))
+  pub externals : deck.externals ≡ externals_of (settled_all deck.kind statements)
   pub literals : deck.literals ≡ literal_words (settled_all deck.kind statements)
   pub lengths : deck.lengths ≡ lengths_of deck.kind (settled_all deck.kind statements)
   pub sized : AreSizedFrom deck.kind [] 0 cards (sized_in deck.pieces) (reverse statements) deck.behind (reverse others)

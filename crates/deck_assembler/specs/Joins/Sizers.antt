@@ -2,6 +2,7 @@
 use Rattle.std.specs.Prelude.{ℕ, ◌≡◌, ⊤, ◌<◌, ◌≤◌, List, [], ◌∷◌, drop, length, reverse}
 use Rattle.std.specs.List.{AllByRecursion}
 use Rattle.definitions.specs.Cards.{Card}
+use Rattle.definitions.specs.Entries.{externals_of}
 use Rattle.definitions.specs.Lengths.{lengths_of}
 use Rattle.definitions.specs.Blocks.{block_in_use}
 use Rattle.definitions.specs.Literals.{literal_words, operand_literals, with_literals}
@@ -16,6 +17,7 @@ use Rattle.use_blocks.specs.Joins.BlockLengths.{block_names}
 use Rattle.deck_assembler.specs.Joins.DeckParts.{DeckPiece}
 use Rattle.deck_assembler.specs.Joins.FirstSymbols.{symbol_in, with_defined, IsLawfulOperand}
 use Rattle.deck_assembler.specs.Joins.PieceSteps.{most_statements, sized_newest}
+use Rattle.deck_assembler.specs.Joins.SharedNames.{with_new_by}
 use Rattle.deck_assembler.specs.Joins.SizedDecks.{IsSizedStatement, IsListedStatement}
 use Rattle.deck_assembler.specs.declared.sized_statement.SizedStatement.{SizedStatement}
 use Rattle.deck_assembler.specs.declared.sizer.Sizer.{Sizer}
@@ -59,6 +61,7 @@ AreFilledNewest (latest ∷ before) = IsFilled latest × AllByRecursion (λ (pie
 pub record IsSizer (kind : DeckKind) (cards : List Card) (statements : List Statement) (sizer : Sizer) : Type 0 where
   pub state : sizer.state ≡ state_after (settled_all kind statements)
   pub symbols : symbol_in sizer.symbols ≡ (λ name. defined name (settled_all kind statements))
+  pub externals : sizer.externals.items ≡ externals_of (settled_all kind statements)
   pub literals : sizer.literals ≡ literal_words (settled_all kind statements)
   pub lengths : sizer.lengths ≡ lengths_of kind (settled_all kind statements)
   pub same_blocks : block_names sizer.lengths ≡ names_of_blocks sizer.state.blocks
@@ -71,5 +74,6 @@ pub record IsNoted (location : List ℕ) (operand : Operand) (defines : Defines)
   pub lawful : IsLawfulOperand operand
   pub literals : new.literals ≡ with_literals (operand_literals operand) old.literals
   pub symbols : symbol_in new.symbols ≡ with_defined location operand defines (symbol_in old.symbols)
+  pub externals : new.externals.items ≡ with_new_by operand defines (symbol_in old.symbols) old.externals.items
   pub lengths : new.lengths ≡ lengths_advanced (block_in_use old.state.open_names) effect old.lengths
   pub same_blocks : block_names new.lengths ≡ names_of_blocks (advanced effect old.state).blocks

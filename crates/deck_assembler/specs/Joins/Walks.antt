@@ -17,10 +17,10 @@ use Rattle.deck_objects.specs.Joins.CodedLines.{IsShown}
 use Rattle.deck_objects.specs.declared.lines.Line.{Line}
 use Rattle.deck_assembler.specs.Joins.DeckParts.{DeckParts}
 use Rattle.deck_assembler.specs.Joins.SizedDecks.{IsSizedUp}
-use Rattle.deck_assembler.specs.Joins.SharedNames.{AreSeen, AreExternals, entries_to, have_ext}
+use Rattle.deck_assembler.specs.Joins.SharedNames.{AreSeen, entries_to}
 use Rattle.deck_assembler.specs.declared.deck_lines.DeckLines.{DeckLines}
-use Rattle.deck_assembler.specs.declared.deck_names.DeckNames.{DeckNames}
 use Rattle.deck_assembler.specs.declared.deck_view.DeckView.{DeckView}
+use Rattle.deck_assembler.specs.declared.entry_names.EntryNames.{EntryNames}
 
 -- whether a literal is a number that is too great
 abbrev pub is_too_great : Literal → Bool
@@ -73,10 +73,7 @@ AreLinedAs whole shown lines = AreShownTo whole.deck.kind whole.rows lines.items
 abbrev pub AreLined : Whole → List Statement → DeckLines → Type 0
 AreLined whole earlier lines = AreLinedAs whole (reverse (map (shown_of (context_in whole)) (settled_all whole.deck.kind earlier))) lines
 
--- the names are those of statements up to END, read newest first; externals are looked for where the deck has an EXT
-pub record AreNoted (whole : Whole) (earlier : List Statement) (names : DeckNames) : Type 0 where
-  pub entries : names.entries.entries.items ≡ entries_to whole.deck.kind (all_settled whole) (settled_all whole.deck.kind earlier)
-  pub seen : AreSeen names.entries.seen names.entries.entries.items
-  pub lists : names.lists ≡ have_ext whole.deck.pieces
-  pub externals : names.lists ≡ true → AreExternals (settled_all whole.deck.kind earlier) names.externals.seen names.externals.names.items
-  pub none : names.lists ≡ false → names.externals.names.items ≡ []
+-- the names are those that statements up to END enter, read newest first
+pub record AreNoted (whole : Whole) (earlier : List Statement) (names : EntryNames) : Type 0 where
+  pub entries : names.entries.items ≡ entries_to whole.deck.kind (all_settled whole) (settled_all whole.deck.kind earlier)
+  pub seen : AreSeen names.seen names.entries.items

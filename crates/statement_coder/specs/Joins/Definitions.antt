@@ -24,7 +24,13 @@ defined_by view location operand defines.Nothing = []
 defined_by view location operand (defines.Symbol form) = record { name = location; form = form } ∷ []
 defined_by view location operand defines.Externals = externals_of view operand
 
--- names are defined by an EXT alone
+-- whether an operation is EXT
+abbrev pub is_ext : Operation → Bool
+is_ext op.Ext = true
+is_ext operation = false
+
+-- names are defined by an EXT alone, which defines no symbol of its location field
 abbrev pub IsOfExt : Operation → code.Defines → Type 0
+IsOfExt operation defines.Nothing = ⊤
+IsOfExt operation (defines.Symbol form) = is_ext operation ≡ false
 IsOfExt operation defines.Externals = operation ≡ op.Ext
-IsOfExt operation what = ⊤

@@ -54,8 +54,8 @@ returns-clause-parts c =
       items = made.lines.items;
       bases = c.in_ok-bases.bases;
       literals = c.in_ok-literals.literals;
-      entries = made.names.entries.entries;
-      externals = made.names.externals.names;
+      entries = made.names.entries;
+      externals = c.in_ok-externals.externals;
     } in
     let is : IsWhole whole = record {
       sized = sized;
@@ -69,7 +69,7 @@ returns-clause-parts c =
       lines = refl;
       items = refl;
       entries = refl;
-      externals = refl;
+      externals = c.in_ok-externals.ensures.items ∙ c.externals.ensures;
     } in
     let beside = chosen-beside whole.deck.kind whole.cards whole.known c.args.former c.lines_or_none.result c.requires.beside c.lines_or_none.ensures.some c.lines_or_none.ensures.none in
     parts-of name whole made parts is (c.in_ok-made.ensures.done (up_to_end all) (behind_end all) is beside) are refl refl

@@ -1,4 +1,3 @@
-use Rattle.std.proofs.Common.{refl}
 use Rattle.deck_assembler.proofs.KeptLaws.{line-coded}
 use Rattle.deck_assembler.proofs.statement_lines.coded_line.Goals as goal
 

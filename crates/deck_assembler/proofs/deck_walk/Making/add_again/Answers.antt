@@ -19,7 +19,7 @@ returns-clause-walked c =
     let whole = whole_of c.args.view.now known others in
     let sized = c.args.sized.now in
     let old = c.args.self.now in
-    beside-step whole left sized old (record { lines = c.put.new.self; names = c.note.new.self }) c.args.found before after is walked next_line (λ earlier given next has was so_far noted.
+    beside-step whole left sized old (record { lines = c.put.new.self; names = c.enter.new.names }) c.args.found before after is walked next_line (λ earlier given next has was so_far noted.
     let read : IsRead whole.deck.kind given.cards c.read-statement.result =
     subst (λ (cards : List Card). IsRead whole.deck.kind cards c.read-statement.result) (c.next_cards-cards.ensures.cards next.few next.within ∙ next.cards)
     (subst (λ (kind : DeckKind). IsRead kind c.next_cards-cards.result.now c.read-statement.result) c.kind.ensures c.read-statement.ensures) in
@@ -29,7 +29,7 @@ returns-clause-walked c =
     (subst (λ b. IsReading c.read_operand-read.result.reading (operand_of code.kind b (operation_as code.operation) code.name.now code.variable.now)) c.number_base.ensures c.read_operand-read.ensures.reading) in
     record {
       lined = lined known others earlier given is (c.read_operand-read.ensures.kind ∙ read.kind) again next has was so_far;
-      noted = c.in_ok-note.ensures known others earlier given is read next.number_base next.sizing noted;
+      noted = c.in_ok-enter.ensures known others earlier given is read next.number_base noted;
       stood = stood ∙ stood-step old.lines.stood sized.cards whole.cards next.some next.within is.few;
     })) c.put.ensures.lined c.put.ensures.stood
 

@@ -40,4 +40,4 @@ returns-clause-front c = λ cards later has.
     (c.effect.ensures.effect old.kind next.statement (number_base_of all) _ settled read refl next.is.sizing)
     c.in_ok-advance.ensures.advanced
     (lawful-shape settled.read.operand c.read_operand-read.result.reading operand c.read_operand-read.ensures.lawful)
-    (c.in_ok-define.ensures settled.read.operand operand ∙ (λ i. with_defined (read.location i) settled.read.operand (c.defines-defines.ensures i) (symbol_in old.symbols)))
+    (c.in_ok-define.ensures.symbols settled.read.operand operand ∙ (λ i. with_defined (read.location i) settled.read.operand (c.defines-defines.ensures i) (symbol_in old.symbols)))

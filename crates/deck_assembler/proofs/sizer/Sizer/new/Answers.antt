@@ -11,7 +11,8 @@ returns c = λ kind cards.
     record {
       state = c.in_ok-new.ensures;
       symbols = c.new-3.ensures;
-      literals = c.new-4.ensures;
+      externals = c.new-4.ensures.items;
+      literals = c.new-5.ensures;
       lengths = c.in_ok-new-2.ensures.lengths kind;
       same_blocks = c.in_ok-new-2.ensures.same_blocks ∙ ap (λ (state : BlockState). names_of_blocks state.blocks) (sym c.in_ok-new.ensures);
       sized = subst (λ pieces. AreSized kind cards [] (sized_newest pieces)) (sym none) tt;

@@ -44,6 +44,7 @@ returns-clause-taken c = λ kind cards earlier given read next is.
         lawful = noted.lawful;
         literals = c.put.ensures.literals ∙ noted.literals;
         symbols = ap (λ forms. symbol_in forms) c.put.ensures.symbols ∙ noted.symbols;
+        externals = c.put.ensures.externals ∙ noted.externals;
         lengths = c.put.ensures.lengths ∙ noted.lengths;
         same_blocks = ap (λ lengths. block_names lengths) c.put.ensures.lengths ∙ noted.same_blocks;
       };
