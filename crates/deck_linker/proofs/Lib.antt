@@ -22,3 +22,4 @@ pub mod CommonSteps
 mod InPieceLaws
 mod TakenLaws
 mod KnownFitLaws
+mod SectionLaws

@@ -1,23 +1,19 @@
--- Listings one behind the other: their bytes, their lines, and what of them went out.
-use Rattle.std.proofs.Common.{ℕ, ◌≡◌, ◌+◌, ◌<◌, ◌≤◌, Bool, true, false, cond, List, [], ◌∷◌, ◌++◌, Option, length, filter, take, drop, get_or, refl, sym, ap, ap₂, subst, ◌∙◌, arith, length-append, take-append-drop}
+-- Texts one behind the other: their bytes, their lines, and what of them went out.
+use Rattle.std.proofs.Common.{ℕ, ◌≡◌, ◌+◌, ◌<◌, ◌≤◌, Bool, true, false, cond, List, [], ◌∷◌, ◌++◌, Option, length, filter, take, drop, get_or, refl, sym, ap, ap₂, subst, ◌∙◌, arith, length-append}
 use Rattle.std.specs.Prelude.{◌==◌, flat_map}
 use Rattle.std.specs.Io.KnownBytes.{Appends}
-use Rattle.std.proofs.lemmas.Grind.{flat_map-append}
 use Rattle.std.proofs.lemmas.List.{at_drop_more}
 use Rattle.std.proofs.lemmas.List.Elements.{filter-append}
+use Rattle.definitions.specs.Build.{listing_of}
 use Rattle.definitions.specs.Characters.{line_feed}
 use Rattle.definitions.specs.DeckInput.{Deck}
-use Rattle.definitions.specs.Listing.{deck_listing}
-use Rattle.definitions.specs.Objects.{object_of}
-use Rattle.text_ports.proofs.SendSteps.{IsPart, Appends-text, part-text, part-second, texts-more}
-use Rattle.deck_linker.specs.Publishing.{lines_in, listings}
-
--- the listing of a deck
-abbrev deck_text : Deck → List ℕ
-deck_text deck = deck_listing (object_of deck)
+use Rattle.text_ports.proofs.SendSteps.{IsPart, Appends-text, part-text, part-second}
+use Rattle.deck_linker.specs.Joins.InPieces.{deck_text}
+use Rattle.deck_linker.specs.Publishing.{lines_in, listings, map_of}
+use Rattle.deck_linker.proofs.InPieceLaws.{sent-more, sent-within}
 
 -- the listings, deck by deck
-listings-flat : (decks : List Deck) → flat_map deck_text decks ≡ listings decks
+pub listings-flat : (decks : List Deck) → flat_map deck_text decks ≡ listings decks
 listings-flat [] = refl
 listings-flat (deck ∷ decks) = ap (λ (l : List ℕ). deck_text deck ++ l) (listings-flat decks)
 
@@ -37,22 +33,15 @@ pub lines-within : (text : List ℕ) → lines_in text ≤ length text
 lines-within [] = omega arith
 lines-within (c ∷ text) = let rest = one-more (c == line_feed) c (length text) (filter (λ c. c == line_feed) text) (lines-within text) in omega (arith, rest)
 
--- what is counted of the listings that are left, where two texts have what both have
-pub count-split : (count : List ℕ → ℕ) → ((xs ys : List ℕ) → count (xs ++ ys) ≡ count xs + count ys) → (decks : List Deck) (i : ℕ) (deck : Deck) (text : List ℕ) → i < length decks → deck ≡ get_or decks i deck →
-    text ≡ deck_text deck → count (listings (drop i decks)) ≡ count text + count (listings (drop (i + 1) decks))
-count-split count both decks i deck text within is same =
-    let left = listings (drop (i + 1) decks) in
-    at_drop_more (λ (l : List Deck). count (listings l)) decks i deck within
-    ∙ ap (λ (d : Deck). count (deck_text d ++ left)) (sym is)
-    ∙ both (deck_text deck) left
+-- what is counted of the texts that are left, where two texts have what both have
+pub count-split : {A : Type 0} (f : A → List ℕ) (count : List ℕ → ℕ) → ((xs ys : List ℕ) → count (xs ++ ys) ≡ count xs + count ys) → (parts : List A) (i : ℕ) (part : A) (text : List ℕ) → i < length parts → part ≡ get_or parts i part →
+    text ≡ f part → count (flat_map f (drop i parts)) ≡ count text + count (flat_map f (drop (i + 1) parts))
+count-split {A = A} f count both parts i part text within is same =
+    let left = flat_map f (drop (i + 1) parts) in
+    at_drop_more (λ (l : List A). count (flat_map f l)) parts i part within
+    ∙ ap (λ (p : A). count (f p ++ left)) (sym is)
+    ∙ both (f part) left
     ∙ ap (λ (t : List ℕ). count t + count left) (sym same)
-
--- the listings so far and one more
-listings-more : (decks : List Deck) (i : ℕ) (deck : Deck) → i < length decks → deck ≡ get_or decks i deck → listings (take (i + 1) decks) ≡ listings (take i decks) ++ deck_text deck
-listings-more decks i deck within is =
-    sym (listings-flat (take (i + 1) decks))
-    ∙ texts-more deck_text decks i deck within is
-    ∙ ap (λ (l : List ℕ). l ++ deck_text deck) (listings-flat (take i decks))
 
 -- a listing that went out
 pub Appends-listing : (old mid new : Option (List ℕ)) (decks : List Deck) (i : ℕ) (deck : Deck) (text : List ℕ) → i < length decks → deck ≡ get_or decks i deck → text ≡ deck_text deck →
@@ -73,23 +62,20 @@ part-listing old mid new decks i sent more deck text within is same count first 
 pub listing-sent : (decks : List Deck) (i sent : ℕ) (deck : Deck) (text : List ℕ) → i < length decks → deck ≡ get_or decks i deck → text ≡ deck_text deck →
     sent ≡ length (listings (take i decks)) → sent + length text ≡ length (listings (take (i + 1) decks))
 listing-sent decks i sent deck text within is same count =
-    let front = listings (take i decks) in
-    ap (λ (n : ℕ). n + length text) count
-    ∙ ap (λ (l : List ℕ). length front + length l) same
-    ∙ sym (length-append front (deck_text deck))
-    ∙ ap length (sym (listings-more decks i deck within is))
+    ap (λ (l : List ℕ). sent + length l) same
+    ∙ sent-more deck_text decks i sent deck within is (count ∙ ap length (sym (listings-flat (take i decks))))
+    ∙ ap length (listings-flat (take (i + 1) decks))
 
 -- the first listings have no more bytes than all
 pub listings-within : (n : ℕ) (decks : List Deck) → length (listings (take n decks)) ≤ length (listings decks)
-listings-within n decks =
-    let whole : listings decks ≡ listings (take n decks) ++ listings (drop n decks) =
-    sym (listings-flat decks)
-    ∙ ap (flat_map deck_text) (sym (take-append-drop n decks))
-    ∙ flat_map-append deck_text (take n decks) (drop n decks)
-    ∙ ap₂ (λ (a b : List ℕ). a ++ b) (listings-flat (take n decks)) (listings-flat (drop n decks)) in
-    omega (arith, ap length whole, length-append (listings (take n decks)) (listings (drop n decks)))
+listings-within n decks = let few = sent-within deck_text n decks in omega (arith, few, ap length (listings-flat (take n decks)), ap length (listings-flat decks))
 
 -- a part of a text behind another that went out
 pub part-behind-all : (old mid new : Option (List ℕ)) (head body : List ℕ) (sent more : ℕ) → sent ≡ length head → Appends old mid head → IsPart mid new body more → IsPart old new (head ++ body) (sent + more)
 part-behind-all old mid new head body sent more count first part =
     subst (λ (n : ℕ). IsPart old new (head ++ body) (n + more)) (sym count) (part-second old mid new head head body more refl first part)
+
+-- the listings and the map of decks, where both are told otherwise
+pub listing-told : (decks told : List Deck) (mapped : List ℕ) → told ≡ decks → mapped ≡ map_of decks → flat_map deck_text told ++ mapped ≡ listing_of decks
+listing-told decks told mapped same maps =
+    ap₂ (λ (ds : List Deck) (m : List ℕ). flat_map deck_text ds ++ m) same maps ∙ ap (λ (l : List ℕ). l ++ map_of decks) (listings-flat decks)

@@ -1,12 +1,15 @@
 -- What is published of decks.
-use Rattle.std.specs.Prelude.{ℕ, ◌≡◌, ◌<◌, ◌+◌, ◌^◌, ◌==◌, List, [], ◌∷◌, Option, None, Some, filter, flat_map, length, map, if◌then◌else◌}
+use Rattle.std.specs.Prelude.{ℕ, ◌≡◌, ◌==◌, Bool, true, List, [], ◌∷◌, Option, None, Some, filter, flat_map, length, map, if◌then◌else◌}
 use Rattle.definitions.specs.Build.{build_of, image_of, listing_of}
 use Rattle.definitions.specs.Characters.{line_feed, same_text}
 use Rattle.definitions.specs.DeckInput.{Deck}
-use Rattle.definitions.specs.Link.{layout_of}
+use Rattle.definitions.specs.Image.{section}
+use Rattle.definitions.specs.Link.{Based, Layout, layout_of}
 use Rattle.definitions.specs.Listing.{deck_listing}
 use Rattle.definitions.specs.Map.{map_text}
 use Rattle.definitions.specs.Objects.{object_of}
+use Rattle.definitions.specs.declared.deck_kind.DeckKind.{DeckKind}
+use Rattle.definitions.specs.declared.deck_kind.DeckKind.TheVariants.{Rel}
 
 -- decks under a version
 pub record Published : Type 0 where
@@ -34,12 +37,23 @@ abbrev pub listing_named : List ℕ → List Deck → Option (List ℕ)
 listing_named name [] = None
 listing_named name (deck ∷ decks) = if same_text deck.name name then Some (deck_listing (object_of deck)) else listing_named name decks
 
+-- the section of a deck in a link, if it has one: a REL deck that passes the end of memory has none
+abbrev pub section_if : DeckKind → Bool → Layout → Based → Option (List ℕ)
+section_if Rel true layout based = None
+section_if kind is_past layout based = Some (section layout based)
+
+abbrev pub section_of : Layout → Based → Option (List ℕ)
+section_of layout based = section_if based.object.kind based.is_past layout based
+
+-- the section of the first of these decks of a link that has a name, if one has it and has a section
+abbrev pub section_in : List ℕ → Layout → List Based → Option (List ℕ)
+section_in name layout [] = None
+section_in name layout (based ∷ others) = if same_text based.object.name name then section_of layout based else section_in name layout others
+
+-- the section of a name in the image of decks
+abbrev pub section_named : List ℕ → List Deck → Option (List ℕ)
+section_named name decks = section_in name (layout_of (map object_of decks)) (layout_of (map object_of decks)).decks
+
 -- how many lines a text has
 abbrev pub lines_in : List ℕ → ℕ
 lines_in text = length (filter (λ c. c == line_feed) text)
-
--- these are map and image of decks; some memory holds the listings with the map
-pub record IsListed (decks : List Deck) (mapped image : List ℕ) : Type 0 where
-  pub map_is : mapped ≡ map_of decks
-  pub image_is : image ≡ image_of decks
-  pub few : length (listings decks) + length mapped < 2 ^ 63

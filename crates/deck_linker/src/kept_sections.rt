@@ -1,20 +1,19 @@
 //! Sections of decks that are kept with their objects: each is taken again where its deck stands as before,
 //! and made anew where it does not.
-ghost use Rattle.std.specs.Prelude.{◌≡◌, ◌++◌, true, flat_map, map, IfOk, IfSome, OnOk};
+ghost use Rattle.std.specs.Prelude.{◌≡◌, ◌++◌, ◌∷◌, [], true, map, None, Some, IfOk, IfSome, OnOk};
 ghost use Rattle.std.specs.List.{All};
-ghost use Rattle.definitions.specs.Image.{image_text, section};
+ghost use Rattle.definitions.specs.Image.{section};
 ghost use Rattle.definitions.specs.Objects.{object_of};
 ghost use Rattle.deck_listing.specs.KeptSections.{DoAllFit, DoAllFitAt, IsPlaced, IsSection, worth_in};
-ghost use Rattle.deck_linker.specs.Joins.Sections.{deck_section};
 ghost use Rattle.deck_linker.specs.Joins.UnfitLines.{AreKnownToFit};
+ghost use Rattle.deck_linker.specs.Publishing.{section_of};
 
-use crate::common_words::words_of_commons;
-use crate::image::{deck_words, push_end};
+use crate::image::deck_words;
 use crate::linked_deck::kind;
 use crate::taken_values::{taken_values, worth_in};
 use crate::unfit_fields::do_all_fit;
 use crate::{Based, Layout};
-use deck_listing::{LinkValue, ListedObject, PlacedSection, Sheet, push_section};
+use deck_listing::{LinkValue, ListedObject, PlacedSection, SharedText, Sheet, push_section};
 use definitions::DeckKind;
 use std::alloc::{AllocError, Global};
 use text_ports::Text;
@@ -66,7 +65,7 @@ fn placed_section(
     alloc: Global,
     layout: &Layout,
     based: &Based,
-    text: Option<Text>,
+    text: Option<SharedText>,
 ) -> Result<PlacedSection, AllocError>
     requires { IfSome text (λ text. text ≡ section layout.now based.now) }
     ensures fits { IfOk result (λ made. made.fits ≡ true → DoAllFit layout.now based.now) }
@@ -85,7 +84,7 @@ fn keep_placed(
     layout: &Layout,
     based: &Based,
     object: &mut ListedObject,
-    text: Option<Text>,
+    text: Option<SharedText>,
 ) -> Result<bool, AllocError>
     requires object { object_of object.old ≡ based.now.object }
     requires text { IfSome text (λ text. text ≡ section layout.now based.now) }
@@ -116,126 +115,180 @@ fn kept_here<'a>(
     }
 }
 
-/// Puts the section of a deck: that which its object keeps, where the deck stands as it stood there; else
-/// one that is made here, and kept. Tells whether it is known that all fields of the deck fit.
-fn push_placed(
+/// What a publication has of a deck in a link: its section, where it has one, and whether it is known that all its
+/// fields fit.
+#[derive(Drop)]
+struct DeckSection {
+    text: Option<SharedText>,
+    fits: bool,
+}
+
+/// The section that an object keeps of its deck, where the deck stands in a link as it stood there: shared with it.
+fn shared_section(
+    layout: &Layout,
+    based: &Based,
+    object: &ListedObject,
+) -> Result<Option<DeckSection>, AllocError>
+    requires { object_of object.now ≡ based.now.object }
+    ensures text { IfOk result (λ found. IfSome found (λ deck. deck.text ≡ Some (section layout.now based.now))) }
+    ensures fits { IfOk result (λ found. IfSome found (λ deck. deck.fits ≡ true → DoAllFit layout.now based.now)) }
+{
+    if let Some(kept) = kept_here(layout, based, object) {
+        if let Some(text) = kept.text() {
+            return Ok(Some(DeckSection {
+                text: Some(text.share()?),
+                fits: kept.fits(),
+            }));
+        }
+    }
+    Ok(None)
+}
+
+/// The section of a deck in a link, made here: its object keeps it, and shares it.
+fn new_section(
     alloc: Global,
-    text: &mut Sheet,
     layout: &Layout,
     based: &Based,
     object: &mut ListedObject,
-) -> Result<bool, AllocError>
+) -> Result<DeckSection, AllocError>
     requires { object_of object.old ≡ based.now.object }
     ensures same { OnOk result (object.new ≡ object.old) }
-    ensures text { OnOk result (text.new ≡ text.old ++ section layout.now based.now) }
-    ensures fits { IfOk result (λ fits. fits ≡ true → DoAllFit layout.now based.now) }
+    ensures text { IfOk result (λ deck. deck.text ≡ Some (section layout.now based.now)) }
+    ensures fits { IfOk result (λ deck. deck.fits ≡ true → DoAllFit layout.now based.now) }
 {
-    if let Some(kept) = kept_here(layout, based, object) {
-        if let Some(section) = kept.text() {
-            text.put(section);
-            return Ok(kept.fits());
-        }
+    let text = SharedText::new(alloc, made_section(alloc, layout, based)?)?;
+    let fits = keep_placed(alloc, layout, based, object, Some(text.share()?))?;
+    Ok(DeckSection {
+        text: Some(text),
+        fits,
+    })
+}
+
+/// The section of a deck that has one: that which its object keeps, where the deck stands as it stood there; else
+/// one that is made here, and kept.
+fn placed_deck(
+    alloc: Global,
+    layout: &Layout,
+    based: &Based,
+    object: &mut ListedObject,
+) -> Result<DeckSection, AllocError>
+    requires { object_of object.old ≡ based.now.object }
+    ensures same { OnOk result (object.new ≡ object.old) }
+    ensures text { IfOk result (λ deck. deck.text ≡ Some (section layout.now based.now)) }
+    ensures fits { IfOk result (λ deck. deck.fits ≡ true → DoAllFit layout.now based.now) }
+{
+    match shared_section(layout, based, object)? {
+        Some(deck) => Ok(deck),
+        None => new_section(alloc, layout, based, object),
     }
-    let section = made_section(alloc, layout, based)?;
-    text.put(section.as_slice());
-    keep_placed(alloc, layout, based, object, Some(section))
 }
 
 /// Tells of a deck without a section whether it is known that all its fields fit: as its object keeps it,
 /// where the deck stands as it stood there; else it is found out here, and kept.
-fn pass_by(
+fn past_deck(
     alloc: Global,
     layout: &Layout,
     based: &Based,
     object: &mut ListedObject,
-) -> Result<bool, AllocError>
+) -> Result<DeckSection, AllocError>
     requires { object_of object.old ≡ based.now.object }
     ensures same { OnOk result (object.new ≡ object.old) }
-    ensures fits { IfOk result (λ fits. fits ≡ true → DoAllFit layout.now based.now) }
+    ensures text { IfOk result (λ deck. deck.text ≡ None) }
+    ensures fits { IfOk result (λ deck. deck.fits ≡ true → DoAllFit layout.now based.now) }
 {
     if let Some(kept) = kept_here(layout, based, object) {
-        return Ok(kept.fits());
+        return Ok(DeckSection {
+            text: None,
+            fits: kept.fits(),
+        });
     }
-    keep_placed(alloc, layout, based, object, None)
+    let fits = keep_placed(alloc, layout, based, object, None)?;
+    Ok(DeckSection { text: None, fits })
 }
 
-/// Puts the section of a deck, where it has one; a REL deck that passes the end of memory has none. Tells
-/// whether it is known that all fields of the deck fit.
-fn push_deck(
+/// The section of a deck, where it has one; a REL deck that passes the end of memory has none.
+fn deck_section(
     alloc: Global,
-    text: &mut Sheet,
     layout: &Layout,
     based: &Based,
     object: &mut ListedObject,
-) -> Result<bool, AllocError>
+) -> Result<DeckSection, AllocError>
     requires { object_of object.old ≡ based.now.object }
     ensures same { OnOk result (object.new ≡ object.old) }
-    ensures text { OnOk result (text.new ≡ text.old ++ deck_section layout.now based.now) }
-    ensures fits { IfOk result (λ fits. fits ≡ true → DoAllFit layout.now based.now) }
+    ensures text { IfOk result (λ deck. deck.text ≡ section_of layout.now based.now) }
+    ensures fits { IfOk result (λ deck. deck.fits ≡ true → DoAllFit layout.now based.now) }
 {
     match kind(based) {
         DeckKind::Rel => {
             if based.is_past() {
-                return pass_by(alloc, layout, based, object);
+                return past_deck(alloc, layout, based, object);
             }
         }
         DeckKind::Abs | DeckKind::Periph => {}
     }
-    push_placed(alloc, text, layout, based, object)
+    placed_deck(alloc, layout, based, object)
 }
 
-/// Puts the sections of decks in order, each as its object keeps it or as it is made here. Tells of which
-/// decks it is known that all their fields fit.
-fn push_decks(
-    alloc: Global,
-    text: &mut Sheet,
-    layout: &Layout,
-    decks: &[Based],
-    objects: &mut [ListedObject],
-) -> Result<Vec<bool>, AllocError>
-    requires { map (λ based. based.object) decks.now ≡ map object_of objects.old }
-    ensures same { OnOk result (objects.new ≡ objects.old) }
-    ensures text { OnOk result (text.new ≡ text.old ++ flat_map (deck_section layout.now) decks.now) }
-    ensures fits { IfOk result (λ fits. AreKnownToFit layout.now decks.now fits.items) }
-{
-    let mut fits = Vec::with_capacity(alloc, decks.len())?;
-    for (index, based) in decks.iter().enumerate() {
-        let fit = push_deck(alloc, text, layout, based, &mut objects[index])?;
-        fits.push(fit)?;
-    }
-    Ok(fits)
-}
-
-/// The octal image of a link, and of which of its decks it is known that all their fields fit.
+/// The sections of decks in order, of those that have one; and of which decks it is known that all their fields
+/// fit.
 #[derive(Drop)]
-pub(crate) struct KeptImage {
-    pub(crate) text: Text,
+pub(crate) struct KeptSections {
+    pub(crate) texts: Vec<Option<SharedText>>,
     pub(crate) fits: Vec<bool>,
 }
 
-/// The octal image of the link of these objects, which keep the sections of their decks.
-pub(crate) fn kept_image(
+impl KeptSections {
+    /// Those of no deck, with room for so many.
+    fn with_room(alloc: Global, decks: usize) -> Result<KeptSections, AllocError>
+        ensures texts { IfOk result (λ kept. kept.texts.items ≡ []) }
+        ensures fits { IfOk result (λ kept. kept.fits.items ≡ []) }
+    {
+        let texts = Vec::with_capacity(alloc, decks)?;
+        let fits = Vec::with_capacity(alloc, decks)?;
+        Ok(KeptSections { texts, fits })
+    }
+
+    /// Those of a deck more.
+    fn push(&mut self, deck: DeckSection) -> Result<(), AllocError>
+        ensures texts { OnOk result (self.new.texts.items ≡ self.old.texts.items ++ deck.text ∷ []) }
+        ensures fits { OnOk result (self.new.fits.items ≡ self.old.fits.items ++ deck.fits ∷ []) }
+    {
+        self.texts.push(deck.text)?;
+        self.fits.push(deck.fits)?;
+        Ok(())
+    }
+}
+
+/// The sections of decks in order, each as its object keeps it or as it is made here.
+fn sections_of(
+    alloc: Global,
+    layout: &Layout,
+    decks: &[Based],
+    objects: &mut [ListedObject],
+) -> Result<KeptSections, AllocError>
+    requires { map (λ based. based.object) decks.now ≡ map object_of objects.old }
+    ensures same { OnOk result (objects.new ≡ objects.old) }
+    ensures texts { IfOk result (λ kept. kept.texts.items ≡ map (section_of layout.now) decks.now) }
+    ensures fits { IfOk result (λ kept. AreKnownToFit layout.now decks.now kept.fits.items) }
+{
+    let mut kept = KeptSections::with_room(alloc, decks.len())?;
+    for (index, based) in decks.iter().enumerate() {
+        let deck = deck_section(alloc, layout, based, &mut objects[index])?;
+        kept.push(deck)?;
+    }
+    Ok(kept)
+}
+
+/// The sections of all decks of the link of these objects, which keep them.
+pub(crate) fn kept_sections(
     alloc: Global,
     layout: &Layout,
     objects: &mut Vec<ListedObject>,
-) -> Result<KeptImage, AllocError>
+) -> Result<KeptSections, AllocError>
     requires { map (λ based. based.object) layout.now.decks ≡ map object_of objects.old.items }
-    ensures text { IfOk result (λ image. image.text ≡ image_text layout.now) }
-    ensures fits { IfOk result (λ image. AreKnownToFit layout.now layout.now.decks image.fits.items) }
+    ensures texts { IfOk result (λ kept. kept.texts.items ≡ map (section_of layout.now) layout.now.decks) }
+    ensures fits { IfOk result (λ kept. AreKnownToFit layout.now layout.now.decks kept.fits.items) }
     ensures same { OnOk result (objects.new.items ≡ objects.old.items) }
 {
-    let commons = words_of_commons(alloc, layout)?;
-    let mut text = Sheet::new(alloc);
-    let fits = push_decks(
-        alloc,
-        &mut text,
-        layout,
-        layout.decks(),
-        objects.as_mut_slice(),
-    )?;
-    push_end(&mut text, layout, commons.as_slice());
-    Ok(KeptImage {
-        text: text.into_text()?,
-        fits,
-    })
+    sections_of(alloc, layout, layout.decks(), objects.as_mut_slice())
 }

@@ -8,7 +8,8 @@
 //! its field is 0. A common block's words are each the last deck's. A `Publication` is seen by
 //! contracts as its version and decks: that its texts and counts are those of the build of these
 //! decks is the invariant of its type. A `ListedPublication` is the same of decks that have their
-//! listings with them: it holds map and image, and shares the listings.
+//! listings with them: it holds the map and the end of the image, and shares listings and sections with its
+//! objects; its texts are written part by part.
 #![tactic(auto)]
 
 // Where decks and common blocks stand.
@@ -47,6 +48,7 @@ mod listed_publication;
 mod measuring;
 mod publication;
 mod sending;
+mod text_parts;
 
 pub use based::Based;
 pub use commons::Common;

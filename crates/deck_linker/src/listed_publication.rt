@@ -1,27 +1,28 @@
-//! What is published of decks that have their listings with them: the map of their link and its image
-//! are made for it, the listings are shared with all who hold these objects.
-ghost use Rattle.std.specs.Prelude.{◌≡◌, ◌<◌, ◌≤◌, ◌+◌, ◌^◌, ◌++◌, length, map, option_map, IfOk, IfErr, OnOk};
+//! What is published of decks that have their listings with them: the map of their link and the end of its image
+//! are made for it, listings and sections are shared with all who hold these objects.
+ghost use Rattle.std.specs.Prelude.{◌≡◌, ◌<◌, ◌+◌, ◌^◌, flat_map, length, map, option_map, IfOk, IfErr, OnOk};
 ghost use Rattle.definitions.specs.Build.{image_of, listing_of};
-ghost use Rattle.definitions.specs.Image.{image_text};
+ghost use Rattle.definitions.specs.Characters.{same_text};
 ghost use Rattle.definitions.specs.Map.{map_text};
 ghost use Rattle.definitions.specs.Objects.{object_of};
 ghost use Rattle.text_ports.specs.Joins.Sending.{Sends, count_after_sending};
-ghost use Rattle.deck_linker.specs.Publishing.{lines_in, listing_named, listings, map_of};
+ghost use Rattle.deck_linker.specs.Joins.InPieces.{deck_text, end_text};
+ghost use Rattle.deck_linker.specs.Joins.Listed.{end_of, sections_of, section_with};
+ghost use Rattle.deck_linker.specs.Joins.Sections.{section_text};
+ghost use Rattle.deck_linker.specs.Publishing.{lines_in, listing_named, map_of, section_named, section_of};
 
 use crate::Layout;
-use crate::kept_sections::kept_image;
+use crate::image::image_end;
+use crate::kept_sections::kept_sections;
 use crate::map::with_map;
-use crate::publication::sum;
-use deck_listing::ListedObject;
+use crate::text_parts::{all_lines, check_len, write_all};
+use deck_listing::{ListedObject, SharedText};
 use deck_objects::SharedObject;
 use definitions::is_same_text;
 use std::alloc::{AllocError, Global};
 use std::io::Write;
 use std::marker::Model;
-use text_ports::{Broken, Counted, Text, put_all};
-
-/// No memory holds so many bytes.
-const TOO_MANY: u64 = 1 << 63;
+use text_ports::{Broken, Counted, Text};
 
 /// What is published of decks under a version, each with its listing. Contracts see the version and the
 /// decks: all else is what the definitions give for these decks.
@@ -30,17 +31,21 @@ pub struct ListedPublication {
     version: u64,
     objects: Vec<ListedObject>,
     map: Text,
-    image: Text,
+    /// Those of the decks that have one; each is the one that its object keeps.
+    sections: Vec<Option<SharedText>>,
+    /// What is behind them in the image.
+    end: Text,
 }
 
 impl Model for ListedPublication {
-    ghost use Rattle.deck_linker.specs.Publishing.{Published, IsListed};
+    ghost use Rattle.deck_linker.specs.Publishing.{Published};
+    ghost use Rattle.deck_linker.specs.Joins.Listed.{IsListed};
 
     ghost Value = { Published };
 
     ghost view = { λ p. record { version = p.version; decks = p.objects.items } };
 
-    ghost invariant = { λ p. IsListed p.objects.items p.map p.image };
+    ghost invariant = { λ p. IsListed p.objects.items p.map p.sections.items p.end };
 }
 
 impl ListedPublication {
@@ -64,13 +69,6 @@ impl ListedPublication {
         self.map.as_slice()
     }
 
-    /// The octal image of the link.
-    pub fn image(&self) -> &[u8]
-        ensures { result.now ≡ image_of self.now.decks }
-    {
-        self.image.as_slice()
-    }
-
     /// The listing of the deck of a name, where there is one.
     pub fn listing_named(&self, name: &[u8]) -> Option<&[u8]>
         ensures { option_map (λ text. text.now) result ≡ listing_named name.now self.now.decks }
@@ -78,11 +76,25 @@ impl ListedPublication {
         listing_named(self.objects.as_slice(), name)
     }
 
+    /// The section of the deck of a name, where there is one that has a section.
+    pub fn section_named(&self, name: &[u8]) -> Option<&[u8]>
+        ensures { option_map (λ text. text.now) result ≡ section_named name.now self.now.decks }
+    {
+        section_named(self.objects.as_slice(), self.sections.as_slice(), name)
+    }
+
     /// How many lines the listings of the decks and the map have.
     pub fn listing_lines(&self) -> usize
         ensures { result ≡ lines_in (listing_of self.now.decks) }
     {
         all_lines(self.objects.as_slice(), self.map.as_slice())
+    }
+
+    /// How many lines the octal image of the link has.
+    pub fn image_lines(&self) -> usize
+        ensures { result ≡ lines_in (image_of self.now.decks) }
+    {
+        all_lines(self.sections.as_slice(), self.end.as_slice())
     }
 
     /// Writes the listings of the decks in order, and behind them the map, or exactly the first `sent`
@@ -94,6 +106,23 @@ impl ListedPublication {
     {
         write_all(output, self.objects.as_slice(), self.map.as_slice())
     }
+
+    /// Writes the octal image of the link, or exactly the first `sent` bytes of it up to the first fault.
+    /// Takes no memory.
+    pub fn write_image<W: Write>(&self, output: &mut Counted<W>) -> Result<(), Broken>
+        ensures sends { Sends (W.contents output.old.0) (W.contents output.new.0) (image_of self.now.decks) result }
+        ensures count { output.new.1 ≡ count_after_sending result output.old.1 }
+        ensures few { IfErr result (λ broken. broken.sent < 2 ^ 63) }
+    {
+        write_all(output, self.sections.as_slice(), self.end.as_slice())
+    }
+}
+
+/// Whether the deck of an object has a name.
+fn is_named(object: &ListedObject, name: &[u8]) -> bool
+    ensures { result ≡ same_text object.now.name name.now }
+{
+    is_same_text(object.object().name().as_slice(), name)
 }
 
 /// The listing of the first deck of a name, where there is one.
@@ -102,7 +131,7 @@ fn listing_named<'a>(objects: &'a [ListedObject], name: &[u8]) -> Option<&'a [u8
 {
     let mut rest = objects;
     while let Some((object, others)) = rest.split_first() {
-        if is_same_text(object.object().name().as_slice(), name) {
+        if is_named(object, name) {
             return Some(object.listing());
         }
         rest = others;
@@ -110,75 +139,35 @@ fn listing_named<'a>(objects: &'a [ListedObject], name: &[u8]) -> Option<&'a [u8
     None
 }
 
-/// How many lines a text has.
-fn lines_in(text: &[u8]) -> usize
-    ensures { result ≡ lines_in text.now }
+/// The bytes of a section, where it is there.
+fn section_bytes(section: &Option<SharedText>) -> Option<&[u8]>
+    ensures { option_map (λ text. text.now) result ≡ section.now }
 {
-    text.iter().filter(|c| **c == b'\n').count()
-}
-
-/// How many lines the listings of decks have.
-fn listed_lines(objects: &[ListedObject]) -> usize
-    requires { length (listings objects.now) < 2 ^ 63 }
-    ensures lines { result ≡ lines_in (listings objects.now) }
-    ensures few { result ≤ length (listings objects.now) }
-{
-    let mut lines = 0;
-    for object in objects {
-        lines += lines_in(object.listing());
+    match section {
+        Some(text) => Some(text.as_slice()),
+        None => None,
     }
-    lines
 }
 
-/// How many lines the listings of decks have with a text behind them.
-fn all_lines(objects: &[ListedObject], map: &[u8]) -> usize
-    requires { length (listings objects.now) + length map.now < 2 ^ 63 }
-    ensures { result ≡ lines_in (listings objects.now ++ map.now) }
-{
-    listed_lines(objects) + lines_in(map)
-}
-
-/// Writes the listings of decks one after the other, and tells how many bytes they have.
-fn write_listings<W: Write>(
-    output: &mut Counted<W>,
+/// The section that stands with the first deck of a name, where there is one that has a section.
+fn section_named<'a>(
     objects: &[ListedObject],
-) -> Result<usize, Broken>
-    requires { length (listings objects.now) < 2 ^ 63 }
-    ensures sends { Sends (W.contents output.old.0) (W.contents output.new.0) (listings objects.now) result }
-    ensures count { output.new.1 ≡ count_after_sending result output.old.1 }
-    ensures len { IfOk result (λ sent. sent ≡ length (listings objects.now)) }
+    sections: &'a [Option<SharedText>],
+    name: &[u8],
+) -> Option<&'a [u8]>
+    ensures { option_map (λ text. text.now) result ≡ section_with name.now objects.now sections.now }
 {
-    let mut sent = 0;
-    for object in objects {
-        let bytes = object.listing();
-        if let Err(broken) = put_all(output, bytes) {
-            return Err(Broken {
-                sent: sent + broken.sent,
-            });
+    let mut decks = objects;
+    let mut rest = sections;
+    while let Some((object, others)) = decks.split_first() {
+        let (section, behind) = rest.split_first()?;
+        if is_named(object, name) {
+            return section_bytes(section);
         }
-        sent += bytes.len();
+        decks = others;
+        rest = behind;
     }
-    Ok(sent)
-}
-
-/// Writes the listings of decks one after the other, and a text behind them.
-fn write_all<W: Write>(
-    output: &mut Counted<W>,
-    objects: &[ListedObject],
-    map: &[u8],
-) -> Result<(), Broken>
-    requires { length (listings objects.now) + length map.now < 2 ^ 63 }
-    ensures sends { Sends (W.contents output.old.0) (W.contents output.new.0) (listings objects.now ++ map.now) result }
-    ensures count { output.new.1 ≡ count_after_sending result output.old.1 }
-    ensures few { IfErr result (λ broken. broken.sent < 2 ^ 63) }
-{
-    let listed = write_listings(output, objects)?;
-    match put_all(output, map) {
-        Ok(()) => Ok(()),
-        Err(broken) => Err(Broken {
-            sent: listed + broken.sent,
-        }),
-    }
+    None
 }
 
 /// The objects of decks once more, without their listings.
@@ -192,55 +181,56 @@ fn shared(alloc: Global, objects: &[ListedObject]) -> Result<Vec<SharedObject>, 
     Ok(same)
 }
 
-/// How many bytes the listings of decks have, where their number fits.
-fn listed_len(objects: &[ListedObject]) -> Result<u64, AllocError>
-    ensures { IfOk result (λ len. len ≡ length (listings objects.now)) }
-{
-    let mut len = 0;
-    for object in objects {
-        len = sum(len, object.listing().len() as u64)?;
-    }
-    Ok(len)
-}
-
-/// Whether some memory holds the listings of decks and a text behind them; else there is none for them.
-fn check_len(objects: &[ListedObject], map: &Text) -> Result<(), AllocError>
-    ensures { OnOk result (length (listings objects.now) + length map.now < 2 ^ 63) }
-{
-    let len = sum(listed_len(objects)?, map.len() as u64)?;
-    if len >= TOO_MANY {
-        return Err(AllocError);
-    }
-    Ok(())
-}
-
-/// The map of a link and its image.
+/// The texts of a link beside the listings of its decks: its map, the sections of its image, and what is behind
+/// them.
 #[derive(Drop)]
-struct MapAndImage {
+struct ListedTexts {
     map: Text,
-    image: Text,
+    sections: Vec<Option<SharedText>>,
+    end: Text,
 }
 
-/// Those of the link of these objects, which keep the sections of their decks. Some memory holds the
-/// listings of the decks with the map.
-fn map_and_image(
+/// Whether some memory holds the listings of decks with the map, and the image; else there is none for them.
+fn check_texts(objects: &[ListedObject], texts: &ListedTexts) -> Result<(), AllocError>
+    ensures listing { OnOk result (length (flat_map deck_text objects.now) + length texts.now.map < 2 ^ 63) }
+    ensures image { OnOk result (length (flat_map section_text texts.now.sections.items) + length texts.now.end < 2 ^ 63) }
+{
+    check_len(objects, &texts.map)?;
+    check_len(texts.sections.as_slice(), &texts.end)
+}
+
+/// The texts of the link of these objects, whose decks stand in this layout. The objects keep the sections that are
+/// made here.
+fn texts_in(
     alloc: Global,
     layout: &Layout,
     objects: &mut Vec<ListedObject>,
-) -> Result<MapAndImage, AllocError>
+) -> Result<ListedTexts, AllocError>
     requires { map (λ based. based.object) layout.now.decks ≡ map object_of objects.old.items }
     ensures map { IfOk result (λ texts. texts.map ≡ map_text layout.now) }
-    ensures image { IfOk result (λ texts. texts.image ≡ image_text layout.now) }
-    ensures few { IfOk result (λ texts. length (listings objects.old.items) + length texts.map < 2 ^ 63) }
+    ensures sections { IfOk result (λ texts. texts.sections.items ≡ map (section_of layout.now) layout.now.decks) }
+    ensures end { IfOk result (λ texts. texts.end ≡ end_text layout.now) }
     ensures same { OnOk result (objects.new.items ≡ objects.old.items) }
 {
-    let image = kept_image(alloc, layout, objects)?;
-    let mapped = with_map(alloc, Text::new(alloc), layout, image.fits.as_slice())?;
-    check_len(objects.as_slice(), &mapped.text)?;
-    Ok(MapAndImage {
+    let end = image_end(alloc, layout)?;
+    let kept = kept_sections(alloc, layout, objects)?;
+    let mapped = with_map(alloc, Text::new(alloc), layout, kept.fits.as_slice())?;
+    Ok(ListedTexts {
         map: mapped.text,
-        image: image.text,
+        sections: kept.texts,
+        end,
     })
+}
+
+/// The texts of the link of these objects, which keep the sections that are made here.
+fn listed_texts(alloc: Global, objects: &mut Vec<ListedObject>) -> Result<ListedTexts, AllocError>
+    ensures map { IfOk result (λ texts. texts.map ≡ map_of objects.old.items) }
+    ensures sections { IfOk result (λ texts. texts.sections.items ≡ sections_of objects.old.items) }
+    ensures end { IfOk result (λ texts. texts.end ≡ end_of objects.old.items) }
+    ensures same { OnOk result (objects.new.items ≡ objects.old.items) }
+{
+    let layout = Layout::new(alloc, shared(alloc, objects.as_slice())?)?;
+    texts_in(alloc, &layout, objects)
 }
 
 /// Links decks in this order, and publishes them under a version with the listings that they have. A deck that
@@ -253,13 +243,14 @@ pub fn publish(
 ) -> Result<ListedPublication, AllocError>
     ensures { IfOk result (λ publication. publication ≡ record { version = version; decks = objects.items }) }
 {
-    let layout = Layout::new(alloc, shared(alloc, objects.as_slice())?)?;
     let mut objects = objects;
-    let texts = map_and_image(alloc, &layout, &mut objects)?;
+    let texts = listed_texts(alloc, &mut objects)?;
+    check_texts(objects.as_slice(), &texts)?;
     Ok(ListedPublication {
         version,
         objects,
         map: texts.map,
-        image: texts.image,
+        sections: texts.sections,
+        end: texts.end,
     })
 }

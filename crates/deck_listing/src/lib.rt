@@ -11,7 +11,8 @@
 //! a sheet that grows tells at its end where it lacked some.
 #![tactic(auto)]
 
-// What lines are put to.
+// What lines are put to, and what texts are held in.
+mod shared_text;
 mod sheet;
 
 // The listing.
@@ -43,5 +44,6 @@ pub use kept_laws::{fields_fit_by_values, sections_follow_values};
 pub use listed_object::ListedObject;
 pub use placed_section::{LinkValue, PlacedSection};
 pub use sections::{image, push_section};
+pub use shared_text::SharedText;
 pub use sheet::Sheet;
 pub use whole::{errors, listing, push_listing};

@@ -5,12 +5,12 @@ ghost use Rattle.definitions.specs.Objects.{object_of};
 ghost use Rattle.deck_listing.specs.KeptSections.{IsSectionOf};
 
 use crate::placed_section::PlacedSection;
+use crate::shared_text::SharedText;
 use crate::whole::listing;
 use deck_objects::{Object, SharedObject};
 use std::alloc::{AllocError, Global};
 use std::marker::Model;
 use std::sync::Arc;
-use text_ports::Text;
 
 /// An object with its listing, which several hold, each as its own; and the section that it has had in an
 /// image, where one is kept. Contracts see the deck: that the listing is that of this deck, and the section
@@ -18,7 +18,7 @@ use text_ports::Text;
 #[derive(Drop)]
 pub struct ListedObject {
     object: SharedObject,
-    text: Arc<Text>,
+    text: SharedText,
     section: Option<Arc<PlacedSection>>,
 }
 
@@ -31,7 +31,7 @@ impl Model for ListedObject {
 
     ghost view = { λ l. l.object };
 
-    ghost invariant = { λ l. IsListed l.object l.text.value (option_map (λ s. s.value) l.section) };
+    ghost invariant = { λ l. IsListed l.object l.text (option_map (λ s. s.value) l.section) };
 }
 
 impl ListedObject {
@@ -42,7 +42,7 @@ impl ListedObject {
         let text = listing(alloc, object.object())?;
         Ok(ListedObject {
             object,
-            text: Arc::new(alloc, text)?,
+            text: SharedText::new(alloc, text)?,
             section: None,
         })
     }
@@ -53,7 +53,7 @@ impl ListedObject {
     {
         Ok(ListedObject {
             object: self.object.share()?,
-            text: Arc::clone(&self.text)?,
+            text: self.text.share()?,
             section: shared_section(&self.section)?,
         })
     }
@@ -75,8 +75,7 @@ impl ListedObject {
     pub fn listing(&self) -> &[u8]
         ensures { result.now ≡ deck_listing (object_of self.now) }
     {
-        let text: &Text = &self.text;
-        text.as_slice()
+        self.text.as_slice()
     }
 
     /// The section that is kept, if one is.

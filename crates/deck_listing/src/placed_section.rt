@@ -2,9 +2,9 @@
 ghost use Rattle.std.specs.Prelude.{◌≡◌, option_map};
 ghost use Rattle.expr_forms.specs.Joins.FormsAs.{relocation_as};
 
+use crate::shared_text::SharedText;
 use expr_forms::Relocation;
 use std::marker::Model;
-use text_ports::Text;
 
 /// A block or an external of a deck, with what it is worth in a link. Contracts see the two as the
 /// definitions have them.
@@ -52,7 +52,7 @@ impl LinkValue {
 pub struct PlacedSection {
     base: u32,
     values: Vec<LinkValue>,
-    text: Option<Text>,
+    text: Option<SharedText>,
     fits: bool,
 }
 
@@ -65,7 +65,12 @@ impl Model for PlacedSection {
 }
 
 impl PlacedSection {
-    pub fn new(base: u32, values: Vec<LinkValue>, text: Option<Text>, fits: bool) -> PlacedSection
+    pub fn new(
+        base: u32,
+        values: Vec<LinkValue>,
+        text: Option<SharedText>,
+        fits: bool,
+    ) -> PlacedSection
         ensures { result ≡ record { base = base; values = values.items; text = text; fits = fits } }
     {
         PlacedSection {
@@ -90,12 +95,12 @@ impl PlacedSection {
         self.values.as_slice()
     }
 
-    /// The section, if the deck had one.
-    pub fn text(&self) -> Option<&[u8]>
+    /// The section, if the deck had one, to be shared.
+    pub fn text(&self) -> Option<&SharedText>
         ensures { option_map (λ text. text.now) result ≡ self.now.text }
     {
         match &self.text {
-            Some(text) => Some(text.as_slice()),
+            Some(text) => Some(text),
             None => None,
         }
     }

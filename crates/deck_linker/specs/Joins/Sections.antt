@@ -1,5 +1,5 @@
 -- The sections of an image.
-use Rattle.std.specs.Prelude.{ℕ, ◌+◌, List, ◌++◌, codes, flat_map}
+use Rattle.std.specs.Prelude.{ℕ, ◌+◌, List, [], ◌++◌, Option, codes, flat_map, unwrap_or}
 use Rattle.definitions.specs.Numerals.{octal_of}
 use Rattle.definitions.specs.Listing.{line}
 use Rattle.definitions.specs.Link.{Layout, Based}
@@ -10,6 +10,10 @@ use Rattle.definitions.specs.declared.deck_kind.DeckKind.TheVariants.{Rel}
 -- the section of a deck, where it has one
 abbrev pub deck_section : Layout → Based → List ℕ
 deck_section layout based = section_by based.object.kind based.is_past layout based
+
+-- the text of a section; one that is not there has none
+abbrev pub section_text : Option (List ℕ) → List ℕ
+section_text section = unwrap_or section []
 
 -- the first line of the section of a common block
 unfoldable pub common_head : List ℕ → ℕ → List ℕ

@@ -1,9 +1,9 @@
-use Rattle.std.proofs.Common.{◌∙◌, ap, arith, subst, length, length-append, refl}
+use Rattle.std.proofs.Common.{◌+◌, ◌∙◌, List, ap, arith, drop, length, subst, sym, ℕ}
 use Rattle.definitions.specs.DeckInput.{Deck}
 use Rattle.deck_linker.specs.Joins.InPieces.{DoFit, deck_text}
 use Rattle.std.proofs.lemmas.List.{take_all}
-use Rattle.deck_linker.proofs.InPieceLaws.{fit-more}
-use Rattle.deck_linker.proofs.ListedLaws.{count-split}
+use Rattle.deck_linker.proofs.InPieceLaws.{fit-more, left-split}
+use Rattle.deck_linker.proofs.ListedLaws.{listings-flat}
 use Rattle.deck_linker.proofs.measuring.measure_listings.Goals as goal
 
 pub loop-object-preserved : goal.loop-object-preserved
@@ -11,7 +11,10 @@ loop-object-preserved c =
     let objects = c.args.objects.now in
     let i = c.loop-object.object-index in
     let deck = c.object-item.result in
-    let split = count-split length length-append objects i deck (deck_text deck) c.loop-object-test.true c.object-item.is refl in
+    let split =
+    ap length (sym (listings-flat (drop i objects)))
+    ∙ left-split deck_text objects i deck c.loop-object-test.true c.object-item.is
+    ∙ ap (λ (l : List ℕ). length (deck_text deck) + length l) (listings-flat (drop (i + 1) objects)) in
     let long = c.in_ok-len.ensures ∙ ap (λ (d : Deck). length (deck_text d)) c.object.ensures in
     record {
       all = omega (arith, c.loop-object.invariant.all, c.in_ok-measure.ensures.all, split, long);

@@ -6,6 +6,6 @@ use Rattle.deck_listing.proofs.listed_object.ListedObject.new.Goals as goal
 
 pub invariant_of-result : goal.invariant_of-result
 invariant_of-result c = record {
-  text_is = c.in_ok-new.ensures.ok ∙ c.in_ok-text.ensures ∙ ap (λ (deck : Deck). deck_listing (object_of deck)) (c.object-2.ensures ∙ sym c.object.view_is);
+  text_is = c.in_ok-new.ensures ∙ c.in_ok-text.ensures ∙ ap (λ (deck : Deck). deck_listing (object_of deck)) (c.object-2.ensures ∙ sym c.object.view_is);
   section_is = tt;
 }

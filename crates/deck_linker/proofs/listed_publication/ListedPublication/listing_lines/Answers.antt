@@ -1,0 +1,12 @@
+use Rattle.std.proofs.Common.{ℕ, List, ◌∙◌, ap}
+use Rattle.definitions.specs.DeckInput.{Deck}
+use Rattle.deck_linker.specs.Publishing.{Published, lines_in, map_of}
+use Rattle.deck_linker.proofs.ListedLaws.{listing-told}
+use Rattle.deck_linker.proofs.listed_publication.ListedPublication.listing_lines.Goals as goal
+
+pub returns : goal.returns
+returns c =
+    let decks = ap (λ (p : Published). p.decks) c.self.view_is in
+    c.all_lines.ensures
+    ∙ ap (λ (text : List ℕ). lines_in text)
+    (listing-told _ c.as_slice.result.now c.as_slice-2.result.now (c.as_slice.ensures.value ∙ decks) (c.as_slice-2.ensures ∙ c.self.invariant.map_is ∙ ap (λ (ds : List Deck). map_of ds) decks))
