@@ -7,7 +7,8 @@ use Rattle.session_line.specs.declared.refusals.Refusal.TheVariants as refusal
 use Rattle.session_line.specs.declared.replies.Reply.TheVariants as reply
 use Rattle.desk_core.specs.declared.replies.State.TheVariants.{Behind}
 use Rattle.session_line.specs.UnknownWords.{told_word}
-use Rattle.session_line.specs.Replies.{text_of_reply, row_text, marked_text, saved_text, published_text, counted_text, line_count, numbers_text}
+use Rattle.session_line.specs.PublishedTexts.{line_count}
+use Rattle.session_line.specs.Replies.{text_of_reply, row_text, marked_text, saved_text, published_text, counted_text, numbers_text}
 use Rattle.session_line.specs.FileLines.{file_line}
 use Rattle.session_line.specs.declared.rights.Rights.TheVariants.{Edits, Reads}
 use Rattle.session_line.specs.Greetings.{connected_text, service_text}

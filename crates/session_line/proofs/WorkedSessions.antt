@@ -15,11 +15,11 @@ use Rattle.session_line.specs.UnknownWords.{told_word}
 use Rattle.session_line.specs.Commands.{command_of}
 use Rattle.session_line.specs.declared.errors.ErrorsView.TheVariants.{Every, Of}
 use Rattle.session_line.specs.declared.views.CardsView.TheVariants.{All, From, With}
-use Rattle.session_line.specs.declared.tasks.PublishedText.TheVariants.{Image, Listing, Map}
+use Rattle.session_line.specs.declared.published_texts.DeckText.TheVariants as part
+use Rattle.session_line.specs.declared.published_texts.PublishedText.TheVariants.{Image, Listing, Map}
 use Rattle.session_line.specs.declared.tasks.Task.TheVariants.{Ask, AwaitVersion, ShowCards, ShowCardsAt, ShowText, ShowPart, ShowErrors, LoadDeck, SaveDeck, SaveAll, ShowFiles, ShowFileStatus, Greet, Leave, Refuse}
 use Rattle.session_line.specs.Tasks.{lines_due, nobody, task_of}
 use Rattle.session_line.specs.Answers.{told_of_call, told_of_wait, told_of_greeting, told_of_cards, told_of_cards_at, told_of_publication, told_of_part, told_of_errors, told_text}
-use Rattle.session_line.specs.Parts.{part_of}
 use Rattle.session_line.specs.FileStatus.{marked}
 use Rattle.session_line.specs.SavingAll.{saved_deck}
 use Rattle.session_line.specs.declared.answers.Told.TheVariants as told
@@ -64,10 +64,10 @@ image = refl
 pub map : task_of (codes "MAP") [] ≡ ShowText Map
 map = refl
 
-pub image_of : task_of (codes "IMAGE M") [] ≡ ShowPart Image (codes "M")
+pub image_of : task_of (codes "IMAGE M") [] ≡ ShowPart part.Section (codes "M")
 image_of = refl
 
-pub list_of : task_of (codes "LIST M") [] ≡ ShowPart Listing (codes "M")
+pub list_of : task_of (codes "LIST M") [] ≡ ShowPart part.Listing (codes "M")
 list_of = refl
 
 pub errors : task_of (codes "ERRORS") [] ≡ ShowErrors Every
@@ -198,21 +198,12 @@ touched = unfold digits in refl
 pub forgotten : told_text (told_of_call (reply.Refused (desk.Forgotten 12))) ≡ codes "NO Forgotten 12\n"
 forgotten = unfold digits in refl
 
--- the part of a deck: from the first line of it up to the next deck, common block, map or end
-pub first_part_of_two : part_of (codes "M") (codes "DECK M REL\n00001 DECK N \nERRORS 0\nDECK N REL\nMAP\nDECK M REL 000100\nEND\n") ≡ Some (codes "DECK M REL\n00001 DECK N \nERRORS 0\n")
-first_part_of_two = refl
-
-pub last_part_of_two : part_of (codes "N") (codes "DECK M REL\n00001 DECK N \nERRORS 0\nDECK N REL\nMAP\nDECK M REL 000100\nEND\n") ≡ Some (codes "DECK N REL\n")
-last_part_of_two = refl
-
-pub part_of_the_image : part_of (codes "M") (codes "DECK MM REL 000100\nDECK M REL 000100\n000100 61\nCOMMON M 000101\nEND\n") ≡ Some (codes "DECK M REL 000100\n000100 61\n")
-part_of_the_image = refl
-
-pub no_part : part_of (codes "M") (codes "DECK MM REL 000100\nEND\n") ≡ None
-no_part = refl
-
-pub no_part_told : told_text (told_of_part Listing (codes "M") (reply.Shown (record { version = 0; decks = [] }))) ≡ codes "NO NoDeck\n"
+-- no text of a deck that is not there
+pub no_part_told : told_text (told_of_part part.Listing (codes "M") (reply.Shown (record { version = 0; decks = [] }))) ≡ codes "NO NoDeck\n"
 no_part_told = refl
+
+pub no_section_told : told_text (told_of_part part.Section (codes "M") (reply.Shown (record { version = 0; decks = [] }))) ≡ codes "NO NoDeck\n"
+no_section_told = refl
 
 -- the numbers of the cards that have a text
 pub found : told_text (told_of_cards (With (codes "*B")) (reply.CardsAre 5 four)) ≡ codes "OK 5 1\n2\n"
@@ -238,6 +229,10 @@ all_errors = unfold digits in refl
 
 pub errors_of_one : told_text (told_of_errors (Of (codes "T")) (reply.Shown (record { version = 2; decks = two_decks }))) ≡ codes "OK 2 2\nERR T 3 U           SA1    X\nLINK U T GO\n"
 errors_of_one = unfold digits in refl
+
+-- the section of one of them
+pub section_of_one : told_text (told_of_part part.Section (codes "U") (reply.Shown (record { version = 2; decks = two_decks }))) ≡ codes "OK 2 1\nDECK U REL 000101\n"
+section_of_one = unfold digits in refl
 
 pub no_errors : told_text (told_of_errors (Of (codes "U")) (reply.Shown (record { version = 2; decks = two_decks }))) ≡ codes "OK 2 0\n"
 no_errors = unfold digits in refl

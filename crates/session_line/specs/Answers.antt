@@ -2,9 +2,7 @@
 use Rattle.std.specs.Prelude.{ℕ, ◌≡◌, ◌+◌, ◌≤◌, ◌⊎◌, ⊤, IsTrue, Bool, true, false, nat_le, List, [], ◌++◌, Option, Some, None, length, codes, if◌then◌else◌}
 use Rattle.definitions.specs.Cards.{Card}
 use Rattle.definitions.specs.DeckInput.{Deck}
-use Rattle.deck_linker.specs.Publishing.{listing_named, map_of}
-use Rattle.desk_core.specs.Joins.Language.{listing_of, image_of}
-use Rattle.desk_core.specs.Desks.{Publication}
+use Rattle.deck_linker.specs.Publishing.{map_of}
 use Rattle.desk_core.specs.declared.replies.Reply.{Reply}
 use Rattle.desk_core.specs.declared.replies.Row.{Row}
 use Rattle.desk_core.specs.declared.replies.Reply.TheVariants.{Changed, Carried, CardsAre, ChangesAre, CardsBefore, Shown, StatusIs, Refused}
@@ -13,7 +11,7 @@ use Rattle.deck_files.specs.FileRows.{most_files}
 use Rattle.session_line.specs.declared.refusals.Refusal.{Refusal}
 use Rattle.session_line.specs.declared.refusals.Refusal.TheVariants as refusal
 use Rattle.session_line.specs.Refusals.{refusal_text}
-use Rattle.session_line.specs.Replies.{line_of, line_count, ok_text, counted_text, published_text, rows_text, marks_text, saves_text, sessions_text, numbers_text, text_of_lines}
+use Rattle.session_line.specs.Replies.{line_of, ok_text, counted_text, published_text, rows_text, marks_text, saves_text, sessions_text, numbers_text, text_of_lines}
 use Rattle.session_line.specs.FileLines.{files_text}
 use Rattle.session_line.specs.Reasons.{desk_reason}
 use Rattle.session_line.specs.Greetings.{service_text}
@@ -22,14 +20,14 @@ use Rattle.session_line.specs.declared.greetings.Greeting.{Greeting}
 use Rattle.session_line.specs.declared.views.CardsView.{CardsView}
 use Rattle.session_line.specs.declared.views.CardsView.TheVariants.{All, From, With}
 use Rattle.session_line.specs.Views.{cards_from, numbers_of}
-use Rattle.session_line.specs.Parts.{part_of}
 use Rattle.session_line.specs.ChangeLines.{change_lines}
 use Rattle.cards.specs.declared.edits.Edit.{Edit}
 use Rattle.cards.specs.Edits.{first_fault, edited_by}
 use Rattle.session_line.specs.declared.errors.ErrorsView.{ErrorsView}
 use Rattle.session_line.specs.Errors.{error_lines, shows_any}
-use Rattle.session_line.specs.declared.tasks.PublishedText.{PublishedText}
-use Rattle.session_line.specs.declared.tasks.PublishedText.TheVariants.{Image, Listing, Map}
+use Rattle.session_line.specs.PublishedTexts.{line_count, shown_part, shown_text}
+use Rattle.session_line.specs.declared.published_texts.DeckText.{DeckText}
+use Rattle.session_line.specs.declared.published_texts.PublishedText.{PublishedText}
 use Rattle.session_line.specs.declared.answers.Told.{Told}
 use Rattle.session_line.specs.declared.answers.Told.TheVariants as told
 use Rattle.session_line.specs.declared.answers.Answer.{Answer}
@@ -113,8 +111,8 @@ told_of_publication text (Shown publication) = told.Published publication text
 told_of_publication text (Refused reason) = told.Refused (desk_reason reason)
 told_of_publication text _ = foreign
 
--- what is told of the reply to a call for the publication, of which the part of this text is shown that is the deck's
-abbrev pub told_of_part : PublishedText → List ℕ → Reply → Told
+-- what is told of the reply to a call for the publication, of which this text of the deck of a name is shown
+abbrev pub told_of_part : DeckText → List ℕ → Reply → Told
 told_of_part text name (Shown publication) = told.Part publication text name
 told_of_part text name (Refused reason) = told.Refused (desk_reason reason)
 told_of_part text name _ = foreign
@@ -133,22 +131,11 @@ with_body head body = line_of head ++ body
 abbrev pub refused_text : Refusal → List ℕ
 refused_text reason = with_body (codes "NO " ++ refusal_text reason) []
 
--- the text of a publication that is shown
-abbrev pub shown_text : PublishedText → Publication → List ℕ
-shown_text Image publication = image_of publication.decks
-shown_text Listing publication = listing_of publication.decks
-shown_text Map publication = map_of publication.decks
-
 -- lines behind a version and their count
 abbrev pub lines_text : ℕ → List ℕ → List ℕ
 lines_text version lines = with_body (counted_text version (line_count lines)) lines
 
--- the part of a deck that is shown: its listing, or its part of another text, where there is one
-abbrev pub shown_part : List ℕ → PublishedText → Publication → Option (List ℕ)
-shown_part name Listing publication = listing_named name publication.decks
-shown_part name text publication = part_of name (shown_text text publication)
-
--- the text of a part that is shown; without one there is no such deck
+-- the text of a deck that is shown; without one there is no such deck
 abbrev pub part_text : ℕ → Option (List ℕ) → List ℕ
 part_text version (Some lines) = lines_text version lines
 part_text version None = refused_text refusal.NoDeck
@@ -178,8 +165,8 @@ abbrev pub told_text : Told → List ℕ
 told_text (told.Done version) = with_body (ok_text version) []
 told_text (told.Cards version cards view) = view_text version view cards
 told_text (told.Changes version kept) = with_body (counted_text version (length (change_lines kept))) (text_of_lines (change_lines kept))
-told_text (told.Published publication text) = lines_text publication.version (shown_text text publication)
-told_text (told.Part publication text name) = part_text publication.version (shown_part name text publication)
+told_text (told.Published publication text) = lines_text publication.version (shown_text text publication.decks)
+told_text (told.Part publication text name) = part_text publication.version (shown_part text name publication.decks)
 told_text (told.Errors publication view) = errors_text publication.version view publication.decks (map_of publication.decks)
 told_text (told.Status version published rows) = status_text version published rows
 told_text (told.FileStatus version published decks) = with_body (counted_text version (length decks + 1)) (line_of (published_text published) ++ marks_text decks)

@@ -2,7 +2,7 @@ pub mod Words
 pub mod UnknownWords
 pub mod Verbs
 pub mod Views
-pub mod Parts
+pub mod PublishedTexts
 pub mod Errors
 pub mod Edits
 pub mod Commands

@@ -1,9 +1,9 @@
 -- The texts of replies (ours): a first line, and for some commands as many lines more as it tells.
-use Rattle.std.specs.Prelude.{ℕ, ◌+◌, ◌≤◌, ◌==◌, ⊤, Bool, true, false, List, [], ◌∷◌, ◌++◌, Option, Some, None, Result, Ok, Err, length, filter, flat_map, codes, decimal}
-use Rattle.definitions.specs.Build.{listing_of}
+use Rattle.std.specs.Prelude.{ℕ, ◌+◌, ◌≤◌, ⊤, Bool, true, false, List, [], ◌∷◌, ◌++◌, Option, Some, None, Result, Ok, Err, length, flat_map, codes, decimal}
 use Rattle.definitions.specs.Characters.{line_feed}
 use Rattle.deck_files.specs.DeckFiles.{file_of}
 use Rattle.deck_files.specs.FileRows.{most_files}
+use Rattle.session_line.specs.PublishedTexts.{line_count, shown_text}
 use Rattle.session_line.specs.Refusals.{refusal_text}
 use Rattle.session_line.specs.FileLines.{files_text}
 use Rattle.session_line.specs.Greetings.{service_text, connected_text}
@@ -23,10 +23,6 @@ use Rattle.session_line.specs.declared.replies.Reply.TheVariants as reply
 -- a text and its line feed
 abbrev pub line_of : List ℕ → List ℕ
 line_of text = text ++ line_feed ∷ []
-
--- how many lines a text has
-abbrev pub line_count : List ℕ → ℕ
-line_count text = length (filter (λ c. c == line_feed) text)
 
 -- the word for the state of a deck
 abbrev pub state_text : State → List ℕ
@@ -76,7 +72,7 @@ head_text (reply.Cards version cards) = counted_text version (length cards.now)
 head_text (reply.Changes version kept) = counted_text version (length (change_lines kept.now))
 head_text (reply.Found version cards text) = counted_text version (length (numbers_of text.now cards.now))
 head_text (reply.Text version text) = counted_text version (line_count text.now)
-head_text (reply.Listing publication) = counted_text publication.now.version (line_count (listing_of publication.now.decks))
+head_text (reply.Published publication text) = counted_text publication.now.version (line_count (shown_text text publication.now.decks))
 head_text (reply.Errors version view decks map) = counted_text version (length (error_lines view.now decks.now map.now))
 head_text (reply.Status version published decks) = counted_text version (length decks.now + 1)
 head_text (reply.FileStatus version published decks) = counted_text version (length decks.now + 1)
@@ -117,7 +113,7 @@ body_text (reply.Cards version cards) = file_of cards.now
 body_text (reply.Changes version kept) = text_of_lines (change_lines kept.now)
 body_text (reply.Found version cards text) = numbers_text (numbers_of text.now cards.now)
 body_text (reply.Text version text) = text.now
-body_text (reply.Listing publication) = listing_of publication.now.decks
+body_text (reply.Published publication text) = shown_text text publication.now.decks
 body_text (reply.Errors version view decks map) = text_of_lines (error_lines view.now decks.now map.now)
 body_text (reply.Status version published decks) = line_of (published_text published) ++ rows_text decks.now
 body_text (reply.FileStatus version published decks) = line_of (published_text published) ++ marks_text decks.now
@@ -138,7 +134,7 @@ IsWithinLimits (reply.Cards version cards) = length cards.now ≤ 20000
 IsWithinLimits (reply.Changes version kept) = length kept.now ≤ 2000
 IsWithinLimits (reply.Found version cards text) = length cards.now ≤ 20000
 IsWithinLimits (reply.Text version text) = ⊤
-IsWithinLimits (reply.Listing publication) = ⊤
+IsWithinLimits (reply.Published publication text) = ⊤
 IsWithinLimits (reply.Errors version view decks map) = length decks.now ≤ 64
 IsWithinLimits (reply.Status version published decks) = length decks.now ≤ 64
 IsWithinLimits (reply.FileStatus version published decks) = length decks.now ≤ 64

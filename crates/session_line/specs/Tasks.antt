@@ -11,7 +11,8 @@ use Rattle.session_line.specs.declared.commands.Command.TheVariants as command
 use Rattle.session_line.specs.declared.refusals.Refusal.{Refusal}
 use Rattle.session_line.specs.Edits.{edit_in_batch, card_in_put}
 use Rattle.session_line.specs.Commands.{command_of}
-use Rattle.session_line.specs.declared.tasks.PublishedText.TheVariants.{Image, Listing, Map}
+use Rattle.session_line.specs.declared.published_texts.DeckText.TheVariants as part
+use Rattle.session_line.specs.declared.published_texts.PublishedText.TheVariants.{Image, Listing, Map}
 use Rattle.session_line.specs.declared.tasks.Task.{Task}
 use Rattle.session_line.specs.declared.tasks.Task.TheVariants.{Ask, AwaitVersion, ShowCards, ShowCardsAt, ShowText, ShowPart, ShowErrors, LoadDeck, SaveDeck, SaveAll, ShowFiles, ShowFileStatus, Greet, Leave, Refuse}
 
@@ -98,8 +99,8 @@ task_of_command command.SaveAll lines = SaveAll
 task_of_command command.Image lines = ShowText Image
 task_of_command command.List lines = ShowText Listing
 task_of_command command.Map lines = ShowText Map
-task_of_command (command.ImageOf name) lines = ShowPart Image name
-task_of_command (command.ListOf name) lines = ShowPart Listing name
+task_of_command (command.ImageOf name) lines = ShowPart part.Section name
+task_of_command (command.ListOf name) lines = ShowPart part.Listing name
 task_of_command (command.Errors view) lines = ShowErrors view
 task_of_command command.Status lines = Ask Status
 task_of_command command.FileStatus lines = ShowFileStatus

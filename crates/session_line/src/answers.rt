@@ -1,16 +1,16 @@
 //! What a command is answered, and how the session is told.
-ghost use Rattle.std.specs.Prelude.{◌≡◌, ◌≤◌, ◌⊎◌, length, option_map};
+ghost use Rattle.std.specs.Prelude.{◌≡◌, ◌≤◌, ◌⊎◌, length};
 ghost use Rattle.session_line.specs.Replies.{text_of_reply, IsWithinLimits};
 ghost use Rattle.deck_linker.specs.Publishing.{map_of};
-ghost use Rattle.session_line.specs.Answers.{foreign, told_of_call, told_of_wait, told_of_greeting, told_of_cards, told_of_backs, told_of_part, told_of_errors, told_of_publication, lines_text, part_text, errors_text, status_text, shown_part, shown_text, view_text, told_text, is_bye, IsTellable, IsToldAt};
+ghost use Rattle.session_line.specs.Answers.{foreign, told_of_call, told_of_wait, told_of_greeting, told_of_cards, told_of_backs, told_of_part, told_of_errors, told_of_publication, part_text, errors_text, status_text, view_text, told_text, is_bye, IsTellable, IsToldAt};
+ghost use Rattle.session_line.specs.PublishedTexts.{shown_part};
 
 use crate::Refusal;
 use crate::errors::{ErrorsView, shows_any};
 use crate::greetings::{Connected, Greeting};
 use crate::marked_rows::MarkedRow;
-use crate::parts::part_of;
+use crate::published_texts::{DeckText, PublishedText, shown_part};
 use crate::saved_decks::SavedDeck;
-use crate::tasks::PublishedText;
 use crate::views::{CardsView, cards_from};
 use cards::{Card, DeckName, Edit, MOST_CARDS, edited_copy, first_fault};
 use deck_files::FileRow;
@@ -38,8 +38,8 @@ pub(crate) enum Told {
     Changes(u64, Listed<KeptEdit>),
     /// Of the publication, this text.
     Published(SharedPublication, PublishedText),
-    /// Of the publication, the part of this text that is this deck's.
-    Part(SharedPublication, PublishedText, DeckName),
+    /// Of the publication, this text of the deck of this name.
+    Part(SharedPublication, DeckText, DeckName),
     /// Of the publication, the flagged statements and LINK lines, those of all decks or of one.
     Errors(SharedPublication, ErrorsView),
     /// The desk's version, the published one, and a row for each deck.
@@ -192,9 +192,9 @@ pub(crate) fn told_of_publication(text: PublishedText, reply: Reply) -> Told
     }
 }
 
-/// What is told of the reply to a call for the publication, of which the part of this text is shown that
-/// is the deck's.
-pub(crate) fn told_of_part(text: PublishedText, name: DeckName, reply: Reply) -> Told
+/// What is told of the reply to a call for the publication, of which this text of the deck of a name is
+/// shown.
+pub(crate) fn told_of_part(text: DeckText, name: DeckName, reply: Reply) -> Told
     ensures told { result ≡ told_of_part text name reply }
     ensures fits { IsTellable result }
 {
@@ -224,56 +224,20 @@ pub(crate) fn told_of_errors(view: ErrorsView, reply: Reply) -> Told
     }
 }
 
-/// The reply with a text of its own of a publication.
-fn text_reply<'a>(publication: &'a ListedPublication, text: &'a [u8]) -> crate::Reply<'a>
-    ensures text { text_of_reply result ≡ lines_text publication.now.version text.now }
-    ensures limits { IsWithinLimits result }
-{
-    crate::Reply::Text {
-        version: publication.version(),
-        text,
-    }
-}
-
-/// The reply with this text of a publication.
-fn published_reply<'a>(publication: &'a ListedPublication, text: PublishedText) -> crate::Reply<'a>
-    ensures text { text_of_reply result ≡ lines_text publication.now.version (shown_text text (record { version = publication.now.version; decks = publication.now.decks })) }
-    ensures limits { IsWithinLimits result }
-{
-    match text {
-        PublishedText::Image => text_reply(publication, publication.image()),
-        PublishedText::Listing => crate::Reply::Listing(publication),
-        PublishedText::Map => text_reply(publication, publication.map()),
-    }
-}
-
-/// The part of a deck in this text of a publication, where there is one.
-fn shown_part<'a>(
-    publication: &'a ListedPublication,
-    text: PublishedText,
-    name: &DeckName,
-) -> Option<&'a [u8]>
-    ensures { option_map (λ part. part.now) result ≡ shown_part name.now text (record { version = publication.now.version; decks = publication.now.decks }) }
-{
-    match text {
-        PublishedText::Image => part_of(name, publication.image()),
-        PublishedText::Listing => publication.listing_named(name.as_slice()),
-        PublishedText::Map => part_of(name, publication.map()),
-    }
-}
-
-/// The reply with the part that is a deck's in this text of a publication. Without one there is no such
-/// deck.
+/// The reply with this text of the deck of a name, as a publication has it. Without one there is no such deck.
 fn part_reply<'a>(
     publication: &'a ListedPublication,
-    text: PublishedText,
+    text: DeckText,
     name: &DeckName,
 ) -> crate::Reply<'a>
-    ensures text { text_of_reply result ≡ part_text publication.now.version (shown_part name.now text (record { version = publication.now.version; decks = publication.now.decks })) }
+    ensures text { text_of_reply result ≡ part_text publication.now.version (shown_part text name.now publication.now.decks) }
     ensures limits { IsWithinLimits result }
 {
     match shown_part(publication, text, name) {
-        Some(lines) => text_reply(publication, lines),
+        Some(lines) => crate::Reply::Text {
+            version: publication.version(),
+            text: lines,
+        },
         None => crate::Reply::Refused(Refusal::NoDeck),
     }
 }
@@ -344,7 +308,7 @@ impl Told {
                 version: *version,
                 kept: kept.as_slice(),
             },
-            Told::Published(shared, text) => published_reply(shared.publication(), *text),
+            Told::Published(shared, text) => crate::Reply::Published(shared.publication(), *text),
             Told::Part(shared, text, name) => part_reply(shared.publication(), *text, name),
             Told::Errors(shared, view) => errors_reply(shared.publication(), view),
             Told::Status(version, published, rows) => {

@@ -14,8 +14,9 @@ use crate::calls::Calls;
 use crate::errors::ErrorsView;
 use crate::file_status::show_file_status;
 use crate::file_tasks::show_files;
+use crate::published_texts::{DeckText, PublishedText};
 use crate::saving_all::save_all;
-use crate::tasks::{PublishedText, Task};
+use crate::tasks::Task;
 use crate::views::CardsView;
 use cards::{Card, DeckName};
 use deck_files::{SaveOver, Shelf};
@@ -91,8 +92,8 @@ fn show_text<C: Calls>(desk: &mut C, text: PublishedText) -> Answer
     called(told_of_publication(text, desk.call(Call::Show)))
 }
 
-/// The desk is asked for the publication, and the part of one deck is shown.
-fn show_part<C: Calls>(desk: &mut C, text: PublishedText, name: DeckName) -> Answer
+/// The desk is asked for the publication, and a text of one deck is shown.
+fn show_part<C: Calls>(desk: &mut C, text: DeckText, name: DeckName) -> Answer
     ensures asks { Asks C.makes Show (told_of_part text name) desk.old desk.new result }
     ensures fits { IsTellable result.told }
 {

@@ -3,6 +3,7 @@
 use crate::errors::ErrorsView;
 use crate::greetings::Connected;
 use crate::marked_rows::MarkedRow;
+use crate::published_texts::PublishedText;
 use crate::refusals::Refusal;
 use crate::saved_decks::SavedDeck;
 use cards::Card;
@@ -39,8 +40,8 @@ pub enum Reply<'a> {
         version: u64,
         text: &'a [u8],
     },
-    /// `OK version n`, then the `n` lines of the listings of what is published, and of its map.
-    Listing(&'a ListedPublication),
+    /// `OK version n`, then the `n` lines of this text of what is published.
+    Published(&'a ListedPublication, PublishedText),
     /// `OK version n`, then a line for each flagged statement of these decks, and those LINK lines of the
     /// map, that are shown.
     Errors {

@@ -1,13 +1,14 @@
 //! The lines of replies.
 ghost use Rattle.std.specs.Prelude.{◌≡◌, ◌+◌, ◌≤◌, ◌++◌, length};
-ghost use Rattle.definitions.specs.Build.{listing_of};
 ghost use Rattle.session_line.specs.Greetings.{connected_text, service_text, session_word};
-ghost use Rattle.session_line.specs.Replies.{IsWithinLimits, line_of, line_count, counted_text, ok_text, head_text, numbers_text, published_text, row_text, state_text};
+ghost use Rattle.session_line.specs.PublishedTexts.{line_count, shown_text};
+ghost use Rattle.session_line.specs.Replies.{IsWithinLimits, line_of, counted_text, ok_text, head_text, numbers_text, published_text, row_text, state_text};
 ghost use Rattle.session_line.specs.Views.{has_text, number_where};
 
 use crate::change_lines::change_line_count;
 use crate::errors::error_count;
 use crate::greetings::{Connected, service_version};
+use crate::published_texts::{PublishedText, line_count, shown_lines};
 use crate::refusal_texts::put_refusal;
 use crate::refusals::Refusal;
 use crate::replies::Reply;
@@ -63,18 +64,11 @@ fn refusal_line(refusal: &Refusal) -> ReplyLine
     line
 }
 
-/// How many lines a text has.
-fn line_count(text: &[u8]) -> usize
-    ensures { result ≡ line_count text.now }
+/// `OK version n`, where this text of what is published has `n` lines.
+fn shown_line(publication: &ListedPublication, text: PublishedText) -> ReplyLine
+    ensures { result ≡ line_of (counted_text publication.now.version (line_count (shown_text text publication.now.decks))) }
 {
-    text.iter().filter(|c| **c == b'\n').count()
-}
-
-/// `OK version n`, where the listings of what is published, and its map, have `n` lines.
-fn listing_line(publication: &ListedPublication) -> ReplyLine
-    ensures { result ≡ line_of (counted_text publication.now.version (line_count (listing_of publication.now.decks))) }
-{
-    counted_line(publication.version(), publication.listing_lines())
+    counted_line(publication.version(), shown_lines(publication, text))
 }
 
 /// The first line of a reply.
@@ -92,7 +86,7 @@ pub(crate) fn head_line(reply: &Reply<'_>) -> ReplyLine
             text,
         } => counted_line(*version, count_with(text, cards)),
         Reply::Text { version, text } => counted_line(*version, line_count(text)),
-        Reply::Listing(publication) => listing_line(publication),
+        Reply::Published(publication, text) => shown_line(publication, *text),
         Reply::Errors {
             version,
             view,

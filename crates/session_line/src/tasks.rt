@@ -9,19 +9,12 @@ ghost use Rattle.session_line.specs.Joins.LineItems.{IsRead, is_lacking};
 
 use crate::errors::ErrorsView;
 use crate::line_items::ItemsRead;
+use crate::published_texts::{DeckText, PublishedText};
 use crate::{BatchHead, CardsView, Command, LinesHead, Refusal, Seen};
 use cards::{Card, DeckName, Edit};
 use deck_files::SaveOver;
 use desk_core::{Call, Listed, NewDeck};
 use std::alloc::Global;
-
-/// Which text of a publication is shown.
-#[derive(Clone, Copy)]
-pub(crate) enum PublishedText {
-    Image,
-    Listing,
-    Map,
-}
 
 /// What a command asks for that was read whole.
 #[derive(Drop)]
@@ -37,8 +30,8 @@ pub(crate) enum Task {
     ShowCardsAt(DeckName, u64),
     /// This text of the publication is shown.
     ShowText(PublishedText),
-    /// The part of this text that is this deck's is shown.
-    ShowPart(PublishedText, DeckName),
+    /// This text of the deck of this name is shown, as the publication has it.
+    ShowPart(DeckText, DeckName),
     /// The flagged statements and LINK lines of the publication are shown, those of all decks or of one.
     ShowErrors(ErrorsView),
     /// The shelf's deck of this name is added.
@@ -220,8 +213,8 @@ fn task_of_command(alloc: Global, command: Command, edits: ItemsRead<Edit>) -> T
         Command::Image => Task::ShowText(PublishedText::Image),
         Command::List => Task::ShowText(PublishedText::Listing),
         Command::Map => Task::ShowText(PublishedText::Map),
-        Command::ImageOf { name } => Task::ShowPart(PublishedText::Image, name),
-        Command::ListOf { name } => Task::ShowPart(PublishedText::Listing, name),
+        Command::ImageOf { name } => Task::ShowPart(DeckText::Section, name),
+        Command::ListOf { name } => Task::ShowPart(DeckText::Listing, name),
         Command::Errors(view) => Task::ShowErrors(view),
         Command::Status => Task::Ask(Call::Status),
         Command::FileStatus => Task::ShowFileStatus,

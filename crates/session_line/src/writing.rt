@@ -7,6 +7,7 @@ ghost use Rattle.text_ports.specs.Joins.Sending.{Sends, count_after_sending};
 use crate::change_writing::write_changes;
 use crate::error_writing::write_errors;
 use crate::line_writing::{ReplyRow, write_behind, write_rows};
+use crate::published_texts::write_shown;
 use crate::replies::Reply;
 use crate::reply_line::ReplyLine;
 use crate::reply_texts::{found_line, head_line, published_line, row_line};
@@ -77,7 +78,7 @@ fn write_body<W: Write>(output: &mut Counted<W>, reply: &Reply<'_>) -> Result<()
         Reply::Changes { kept, .. } => write_changes(output, kept),
         Reply::Found { cards, text, .. } => write_found(output, cards, text),
         Reply::Text { text, .. } => put_all(output, text),
-        Reply::Listing(publication) => publication.write_listing(output),
+        Reply::Published(publication, text) => write_shown(output, publication, *text),
         Reply::Errors {
             view,
             decks,
