@@ -23,6 +23,7 @@ pub mod Worked
 pub mod WorkedResults
 pub mod WorkedForeign
 pub mod WorkedLinks
+pub mod WorkedLaid
 pub mod WorkedChanges
 pub mod WorkedPast
 pub mod WorkedCarrying
@@ -44,6 +45,7 @@ pub mod RoundsLeft
 pub mod DeckRounds
 pub mod LinkRounds
 pub mod WorkEnds
+pub mod Compared
 pub mod PastSteps
 pub mod UndoLaws
 pub mod PastLaws

@@ -92,6 +92,13 @@ pub enum Call {
         lease: u64,
         publication: SharedPublication,
     },
+    /// The result of a link job is laid down, to be compared deck by deck.
+    LayLink {
+        lease: u64,
+        publication: SharedPublication,
+    },
+    /// The next deck of what was laid down is compared; where none is left, the publication is stored.
+    CompareLink(u64),
     /// The lease ends without a result, and the record is lost.
     GiveUp(u64),
 }

@@ -9,6 +9,7 @@ ghost use Rattle.desk_core.specs.Joins.OwnNames.{IsPlaceOf, changed_at};
 ghost use Rattle.desk_core.specs.Joins.Turns.{IsAnswer, MayAnswer};
 
 use crate::desk::{Desk, against_next};
+use crate::laid_down::LaidDown;
 use crate::new_deck::NewDeck;
 use crate::replies::{Refusal, Reply};
 use crate::stored_deck::StoredDeck;
@@ -55,7 +56,7 @@ impl Desk {
         let deck = StoredDeck::new(self.alloc, version, deck);
         match self.decks.push(deck) {
             Ok(()) => {
-                self.version = version;
+                come_to(&mut self.version, &mut self.laid, version);
                 Reply::Changed(version)
             }
             Err(_) => Reply::Refused(Refusal::OutOfMemory),
@@ -112,7 +113,7 @@ impl Desk {
     {
         let version = self.version + 1;
         self.decks.replace_at(place, version, cards);
-        self.version = version;
+        come_to(&mut self.version, &mut self.laid, version);
         version
     }
 
@@ -143,11 +144,12 @@ impl Desk {
     fn drop_at(&mut self, place: usize) -> u64
         requires within { place < length self.old.decks }
         requires room { against_next self.old.version ≡ None }
-        ensures desk { self.new ≡ record self.old { version = self.old.version + 1; decks = remove self.old.decks place } }
+        ensures desk { self.new ≡ record self.old { version = self.old.version + 1; decks = remove self.old.decks place; laid = None } }
         ensures version { result ≡ self.old.version + 1 }
     {
         self.version += 1;
         self.decks.remove(place);
+        self.laid = None;
         self.version
     }
 
@@ -202,7 +204,7 @@ impl Desk {
     {
         let version = self.version + 1;
         self.decks.edit_at(self.alloc, place, version, by, edit)?;
-        self.version = version;
+        come_to(&mut self.version, &mut self.laid, version);
         Ok(version)
     }
 
@@ -261,7 +263,16 @@ impl Desk {
         let version = self.version + 1;
         self.decks
             .edit_all_at(self.alloc, place, version, by, edits)?;
-        self.version = version;
+        come_to(&mut self.version, &mut self.laid, version);
         Ok(version)
     }
+}
+
+/// A change makes this version, and takes back what was laid down.
+fn come_to(version: &mut u64, laid: &mut Option<LaidDown>, next: u64)
+    ensures version { version.new ≡ next }
+    ensures laid { laid.new ≡ None }
+{
+    *version = next;
+    *laid = None;
 }

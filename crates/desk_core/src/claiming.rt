@@ -55,6 +55,7 @@ impl Desk {
         let number = self.leases + 1;
         let work = self.decks.give_out_at(self.alloc, place, number)?;
         self.leases = number;
+        self.laid = None;
         Ok(work)
     }
 
@@ -99,6 +100,7 @@ impl Desk {
             number,
             version: self.version,
         });
+        self.laid = None;
         Ok(LinkWork {
             lease: number,
             version: self.version,

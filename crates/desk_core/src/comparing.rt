@@ -1,8 +1,8 @@
 //! Names, cards and decks compared by value.
-ghost use Rattle.std.specs.Prelude.{◌≡◌, length, map};
+ghost use Rattle.std.specs.Prelude.{◌≡◌, ◌+◌, length, map, take};
 ghost use Rattle.desk_core.specs.Joins.Language.{same_text};
 ghost use Rattle.desk_core.specs.Desks.{deck_of};
-ghost use Rattle.desk_core.specs.Delivering.{same_cards, same_decks};
+ghost use Rattle.desk_core.specs.Delivering.{same_cards, same_decks, same_first};
 
 use crate::stored_deck::StoredDeck;
 use cards::{Card, DeckName};
@@ -45,6 +45,20 @@ pub(crate) fn same_decks(objects: &[ListedObject], decks: &[StoredDeck]) -> bool
     ensures { result ≡ same_decks objects.now (map deck_of decks.now) }
 {
     objects.len() == decks.len() && all_decks_same(objects, decks)
+}
+
+/// Whether there are as many objects as decks, and one deck more is the same, behind so many that are.
+pub(crate) fn same_first(objects: &[ListedObject], decks: &[StoredDeck], compared: usize) -> bool
+    requires { take compared objects.now ≡ take compared (map deck_of decks.now) }
+    ensures { result ≡ same_first (compared + 1) objects.now (map deck_of decks.now) }
+{
+    if objects.len() != decks.len() {
+        return false;
+    }
+    if compared >= decks.len() {
+        return true;
+    }
+    decks[compared].is_of_object(&objects[compared])
 }
 
 fn all_decks_same(objects: &[ListedObject], decks: &[StoredDeck]) -> bool

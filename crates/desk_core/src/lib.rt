@@ -28,6 +28,7 @@ mod shared_publication;
 // What the desk keeps.
 mod deck_list;
 mod desk;
+mod laid_down;
 mod leases;
 mod past;
 mod stored_deck;
@@ -53,8 +54,8 @@ pub use desk::Desk;
 pub use held::Held;
 pub use jobs::{DeckWork, LinkWork, Start};
 pub use laws::{
-    every_run, jobs_once, kept_changes, nobody_is_undone, undo_takes_back, work_ends,
-    work_is_handed_out,
+    every_run, jobs_once, kept_changes, laid_is_delivered, nobody_is_undone, undo_takes_back,
+    work_ends, work_is_handed_out,
 };
 pub use leases::Lease;
 pub use listed::Listed;

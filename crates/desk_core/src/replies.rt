@@ -116,6 +116,8 @@ pub enum Reply {
     AllOut,
     /// The result was taken.
     Stored,
+    /// The publication lies there, and is to be compared further, or stored.
+    Laid,
     /// The lease is ended.
     Cleared,
     /// Nothing is done.

@@ -50,6 +50,8 @@ impl Desk {
             Call::Claim => self.claim(),
             Call::DeliverDeck(done) => self.deliver_deck(done),
             Call::DeliverLink { lease, publication } => self.deliver_link(lease, publication),
+            Call::LayLink { lease, publication } => self.lay_link(lease, publication),
+            Call::CompareLink(lease) => self.compare_link(lease),
             Call::GiveUp(lease) => self.give_up(lease),
         }
     }
