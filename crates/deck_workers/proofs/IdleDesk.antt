@@ -71,6 +71,7 @@ idle-claimed (reply.LinkJob work) version e = cc
 idle-claimed (reply.Idle v) version e = cc
 idle-claimed reply.AllOut version e = cc
 idle-claimed reply.Stored version e = cc
+idle-claimed reply.Laid version e = cc
 idle-claimed reply.Cleared version e = cc
 idle-claimed (reply.Refused refusal) version e = cc
 

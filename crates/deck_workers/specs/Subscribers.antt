@@ -1,7 +1,8 @@
 -- What a subscriber hears of rounds (ours): of each publication that the desk took, once, and of nothing else.
 use Rattle.std.specs.Prelude.{◌≡◌, ℕ, List, [], ◌∷◌, ◌++◌, Option, Some, None}
 use Rattle.deck_workers.specs.Joins.Language.{Reply, Stored}
-use Rattle.deck_workers.specs.Rounds.{Round, Resting, Working, published_in}
+use Rattle.deck_workers.specs.Rounds.{Resting, Working, published_in}
+use Rattle.deck_workers.specs.WorkerRounds.{WorkerRound, AtOnce, DeckByDeck, last_of}
 
 module _ {S : Type 0} (hears : S → ℕ → S → Type 0) where
   -- it hears of a publication, where there is one
@@ -15,11 +16,12 @@ module _ {S : Type 0} (hears : S → ℕ → S → Type 0) where
   HearsAfter reply published old new = new ≡ old
 
   -- it hears of a round
-  abbrev pub HearsOf : Round → S → S → Type 0
-  HearsOf (Resting claimed) old new = new ≡ old
-  HearsOf (Working claimed result answered) old new = HearsAfter answered (published_in result) old new
+  abbrev pub HearsOf : WorkerRound → S → S → Type 0
+  HearsOf (AtOnce (Resting claimed)) old new = new ≡ old
+  HearsOf (AtOnce (Working claimed result answered)) old new = HearsAfter answered (published_in result) old new
+  HearsOf (DeckByDeck claimed lease publication laid compared given_up) old new = HearsAfter (last_of laid compared) (Some publication.version) old new
 
   -- it hears of rounds, one after the other
-  pub data HearsAll (first : S) : List Round → S → Type 0 where
+  pub data HearsAll (first : S) : List WorkerRound → S → Type 0 where
     unheard : HearsAll first [] first
-    heard : (rounds : List Round) (round : Round) (middle last : S) → HearsAll first rounds middle → HearsOf round middle last → HearsAll first (rounds ++ round ∷ []) last
+    heard : (rounds : List WorkerRound) (round : WorkerRound) (middle last : S) → HearsAll first rounds middle → HearsOf round middle last → HearsAll first (rounds ++ round ∷ []) last

@@ -44,6 +44,7 @@ pub fn job_in(reply: Reply) -> Option<Job>
         | Reply::Idle(_)
         | Reply::AllOut
         | Reply::Stored
+        | Reply::Laid
         | Reply::Cleared
         | Reply::Refused(_) => None,
     }

@@ -82,6 +82,7 @@ fn end_of_delivery(answered: &Reply) -> Option<Settled>
         | Reply::Idle(_)
         | Reply::AllOut
         | Reply::Stored
+        | Reply::Laid
         | Reply::Cleared => None,
     }
 }
@@ -104,6 +105,7 @@ fn end_of_claim(claimed: &Reply) -> Option<Settled>
         | Reply::DeckJob(_)
         | Reply::LinkJob(_)
         | Reply::Stored
+        | Reply::Laid
         | Reply::Cleared => None,
     }
 }

@@ -9,7 +9,7 @@ pub use Rattle.edit_core.specs.declared.faults.RecordFault.{RecordFault}
 pub use Rattle.edit_core.specs.declared.faults.RecordFault.TheVariants.{OutOfMemory}
 pub use Rattle.desk_core.specs.declared.calls.Done.{Done}
 pub use Rattle.desk_core.specs.declared.calls.Call.{Call}
-pub use Rattle.desk_core.specs.declared.calls.Call.TheVariants.{Claim, DeliverDeck, DeliverLink, GiveUp}
+pub use Rattle.desk_core.specs.declared.calls.Call.TheVariants.{Claim, DeliverDeck, DeliverLink, LayLink, CompareLink, GiveUp}
 pub use Rattle.desk_core.specs.declared.jobs.Start.{Start}
 pub use Rattle.desk_core.specs.declared.jobs.Start.TheVariants.{FromRecord, FromCards}
 pub use Rattle.desk_core.specs.declared.jobs.DeckWork.{DeckWork}

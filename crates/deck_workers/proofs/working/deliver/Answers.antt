@@ -1,0 +1,30 @@
+use Rattle.std.proofs.Common.{[], ◌∷◌, sym, subst}
+use Rattle.turn_office.specs.Histories.{entry}
+use Rattle.desk_core.specs.declared.calls.Call.{Call}
+use Rattle.deck_workers.specs.declared.made.Made.{Made}
+use Rattle.deck_workers.specs.declared.made.Made.TheVariants as made
+use Rattle.deck_workers.specs.Joins.Linking.{Delivers, in_one_call, in_many}
+use Rattle.deck_workers.specs.Working.{Calls}
+use Rattle.deck_workers.proofs.Seen.{one-call}
+use Rattle.deck_workers.proofs.working.deliver.Goals as goal
+
+-- a publication of many cards was laid down
+pub returns-then-is_large-clause-delivered : goal.returns-then-is_large-clause-delivered
+returns-then-is_large-clause-delivered g c =
+    subst (λ (result : Made). Delivers c.args.seat.now.number c.deliver_link.result c.args.seat.now.seen c.deliver_link.new.seat.seen result) (sym c.in-Link.is)
+    (in_many c.in-Link.lease c.in-Link.publication c.deliver_link.ensures.laid)
+
+-- one of fewer was delivered
+pub returns-else-is_large-clause-delivered : goal.returns-else-is_large-clause-delivered
+returns-else-is_large-clause-delivered g c =
+    subst (λ (result : Made). Delivers c.args.seat.now.number c.call.result c.args.seat.now.seen c.call.new.self.seen result) (sym c.in-Link.is)
+    (in_one_call (made.Link c.in-Link.lease c.in-Link.publication) (one-call _ _ _ _ _ _ _ c.call.ensures.history))
+
+-- so was what else was made
+pub returns-in_default : goal.returns-in_default
+returns-in_default g c = record {
+  same = c.call-in_default.ensures.same;
+  delivered = in_one_call c.args.made (subst (λ (call : Call). Calls c.args.seat.now.number (entry c.args.seat.now.number call c.call-in_default.result ∷ []) c.args.seat.now.seen c.call-in_default.new.self.seen) c.into_call.ensures
+      (one-call _ _ _ _ _ _ _ c.call-in_default.ensures.history));
+  legal = c.call-in_default.ensures.history.legal;
+}
