@@ -19,6 +19,7 @@ use desk_core::{
 use edit_core::{Kept, assemble};
 use statement_coder::Meter;
 use std::alloc::{AllocError, Global};
+use text_ports::Counted;
 
 /// The job that is out, and what was done for all.
 #[derive(Drop)]
@@ -118,13 +119,23 @@ fn show_image(desk: &mut Desk, answer: &mut Answer) {
     }
 }
 
+/// The image of a publication.
+fn image_of(alloc: Global, publication: &ListedPublication) -> Result<Vec<u8>, AllocError> {
+    let mut output = Counted::new(Vec::new(alloc));
+    match publication.write_image(&mut output) {
+        Ok(()) => Ok(output.into_inner()),
+        Err(_) => Err(AllocError),
+    }
+}
+
 /// The version of a publication, and the last 32 bytes of its image.
 fn push_image(answer: &mut Answer, publication: &ListedPublication) {
-    let image = publication.image();
-    let end = image.split_at(image.len().saturating_sub(32)).1;
     answer.number("", publication.version());
     answer.push(" ");
-    answer.bytes(end);
+    match image_of(answer.alloc, publication) {
+        Ok(image) => answer.bytes(image.split_at(image.len().saturating_sub(32)).1),
+        Err(error) => answer.keep(Err(error)),
+    }
 }
 
 /// A reply of the desk.
