@@ -78,19 +78,35 @@ pub fn expression(text: &str) -> Result<Expr<'_>, Letter> {
     Expr::parse(bytes, NumberBase::Decimal)
 }
 
-/// An instruction with so many digits and a field of a kind, which an expression gives.
+/// The field of a kind, which an expression gives.
+fn field_of<'a>(kind: &str, first: Expr<'a>) -> Option<Field<'a>> {
+    match kind {
+        "absent" => Some(Field::Absent),
+        "address" => Some(Field::Address(first)),
+        "short" => Some(Field::Short(first)),
+        "mask" => Some(Field::Count(first)),
+        "long" => Some(Field::Long(first, None)),
+        "long,5" => Some(Field::Long(first, expression("5").ok())),
+        _ => None,
+    }
+}
+
+/// The digits in front of a field of a kind, and how many they are.
+fn digits_before(kind: &str) -> (u32, u8) {
+    match kind {
+        "absent" => (0, 5),
+        "address" => (0, 4),
+        "mask" => (0o430, 3),
+        "long" | "long,5" => (0o50, 2),
+        _ => (0, 2),
+    }
+}
+
+/// An instruction with digits and a field of a kind, which an expression gives.
 pub fn shape_of(text: &str) -> Option<Shape<'_>> {
-    let (name, text) = cut(text);
-    let first = expression(text).ok()?;
-    let (digits, digit_count, field) = match name {
-        "absent" => (0, 5, Field::Absent),
-        "address" => (0, 4, Field::Address(first)),
-        "short" => (0, 2, Field::Short(first)),
-        "mask" => (0o430, 3, Field::Count(first)),
-        "long" => (0o50, 2, Field::Long(first, None)),
-        "long,5" => (0o50, 2, Field::Long(first, expression("5").ok())),
-        _ => return None,
-    };
+    let (kind, text) = cut(text);
+    let field = field_of(kind, expression(text).ok()?)?;
+    let (digits, digit_count) = digits_before(kind);
     Some(Shape {
         digits,
         digit_count,

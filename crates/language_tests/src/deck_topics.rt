@@ -30,8 +30,13 @@ pub fn answer(answer: &mut Answer, topic: &str, text: &str) -> Result<bool, Allo
 /// What a topic tells of the deck of these lines.
 fn deck(answer: &mut Answer, topic: &str, text: &str) -> Result<(), AllocError> {
     let cards = repeated_cards(answer.alloc, text)?;
+    deck_of(answer, topic, &cards)
+}
+
+/// What a topic tells of the deck of these cards.
+fn deck_of(answer: &mut Answer, topic: &str, cards: &[Card]) -> Result<(), AllocError> {
     let mut done = Meter { sized: 0, coded: 0 };
-    let deck = SizedDeck::new(answer.alloc, &cards, &mut done)?;
+    let deck = SizedDeck::new(answer.alloc, cards, &mut done)?;
     match topic {
         "sized_decks" => {
             sized(answer, &deck);
@@ -40,7 +45,7 @@ fn deck(answer: &mut Answer, topic: &str, text: &str) -> Result<(), AllocError> 
         "symbols_of_decks" => values(answer, &deck),
         _ if cards.len() > 20_000 => answer.word("too many"),
         _ => {
-            let parts = object_parts(answer.alloc, &cards, &deck, &mut done)?;
+            let parts = object_parts(answer.alloc, cards, &deck, &mut done)?;
             object(answer, topic, &parts, &done);
         }
     }
@@ -55,13 +60,19 @@ pub fn repeated_cards(alloc: Global, text: &str) -> Result<Vec<Card>, AllocError
             Some(counted) => cut(counted),
             None => ("1", line),
         };
-        for _ in 0..size(times) {
-            if let Ok(card) = Card::read(line.as_bytes()) {
-                cards.push(card)?;
-            }
-        }
+        push_cards(&mut cards, size(times), line)?;
     }
     Ok(cards)
+}
+
+/// So many cards of this line more, none where it is no card.
+fn push_cards(cards: &mut Vec<Card>, times: usize, line: &str) -> Result<(), AllocError> {
+    for _ in 0..times {
+        if let Ok(card) = Card::read(line.as_bytes()) {
+            cards.push(card)?;
+        }
+    }
+    Ok(())
 }
 
 /// How many statements a piece has, the state that it begins with, and for few statements the cards
@@ -182,17 +193,14 @@ fn names(answer: &mut Answer, parts: &ObjectParts) {
 }
 
 /// The record of a deck named M, if it has at most 20,000 cards.
-fn record_of(
-    answer: &mut Answer,
+pub fn record_of(
+    alloc: Global,
     cards: Vec<Card>,
     done: &mut Meter,
 ) -> Result<Option<Kept>, AllocError> {
     match DeckName::read(b"M") {
-        Ok(name) if cards.len() <= 20_000 => Ok(Some(Kept::new(answer.alloc, name, cards, done)?)),
-        _ => {
-            answer.word("no record");
-            Ok(None)
-        }
+        Ok(name) if cards.len() <= 20_000 => Ok(Some(Kept::new(alloc, name, cards, done)?)),
+        _ => Ok(None),
     }
 }
 
@@ -211,8 +219,9 @@ fn record_shown(answer: &mut Answer, kept: &Kept, done: &Meter) {
 fn record(answer: &mut Answer, text: &str) -> Result<(), AllocError> {
     let mut done = Meter { sized: 0, coded: 0 };
     let cards = repeated_cards(answer.alloc, text)?;
-    if let Some(kept) = record_of(answer, cards, &mut done)? {
-        record_shown(answer, &kept, &done);
+    match record_of(answer.alloc, cards, &mut done)? {
+        Some(kept) => record_shown(answer, &kept, &done),
+        None => answer.word("no record"),
     }
     Ok(())
 }
@@ -266,19 +275,18 @@ fn record_edits(answer: &mut Answer, text: &str, card: &[u8]) -> Result<(), Allo
     let (count, words) = cut(text);
     let mut done = Meter { sized: 0, coded: 0 };
     let cards = comment_cards(answer.alloc, count)?;
-    match record_of(answer, cards, &mut done)? {
+    match record_of(answer.alloc, cards, &mut done)? {
         Some(mut kept) => make_edits(answer, &mut kept, words, card),
-        None => Ok(()),
+        None => {
+            answer.word("no record");
+            Ok(())
+        }
     }
 }
 
 /// So many comment cards.
 fn comment_cards(alloc: Global, count: &str) -> Result<Vec<Card>, AllocError> {
     let mut cards = Vec::new(alloc);
-    for _ in 0..size(count).min(20_000) {
-        if let Ok(card) = Card::read(b"*A") {
-            cards.push(card)?;
-        }
-    }
+    push_cards(&mut cards, size(count).min(20_000), "*A")?;
     Ok(cards)
 }

@@ -16,15 +16,22 @@ pub fn answer(answer: &mut Answer, topic: &str, text: &str) -> Result<bool, Allo
     Ok(true)
 }
 
-/// The edits of words such as `I20`, this card comes in at place 20, and `R20`, the card at place 20 goes.
+/// The edit of a word, if it is one: `I20`, this card comes in at place 20, `R20`, the card at place 20 goes.
+fn edit_of(word: &str, line: &[u8]) -> Option<Edit> {
+    if let Some(at) = word.strip_prefix("R") {
+        return Some(Edit::Remove { at: decimal(at) });
+    }
+    let at = decimal(word.strip_prefix("I")?);
+    let card = Card::read(line).ok()?;
+    Some(Edit::Insert { at, card })
+}
+
+/// The edits of these words.
 pub fn edits_of(alloc: Global, text: &str, line: &[u8]) -> Result<Vec<Edit>, AllocError> {
     let mut edits = Vec::new(alloc);
     for word in text.split_whitespace() {
-        if let Some(at) = word.strip_prefix("R") {
-            edits.push(Edit::Remove { at: decimal(at) })?;
-        } else if let (Some(at), Ok(card)) = (word.strip_prefix("I"), Card::read(line)) {
-            let at = decimal(at);
-            edits.push(Edit::Insert { at, card })?;
+        if let Some(edit) = edit_of(word, line) {
+            edits.push(edit)?;
         }
     }
     Ok(edits)

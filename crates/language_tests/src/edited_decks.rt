@@ -1,11 +1,10 @@
 //! Decks that are edited: behind each edit a record gives the listing and the image of a new deck of the
 //! same cards.
-ghost use Rattle.std.specs.Prelude.{◌≤◌, length};
 
-use crate::deck_topics::repeated_cards;
+use crate::deck_topics::{record_of, repeated_cards};
 use crate::inputs::{cut, decimal};
 use crate::outputs::Answer;
-use cards::{Card, DeckName, Edit, edited_copy};
+use cards::{Card, Edit, edited_copy};
 use deck_linker::{Publication, link};
 use deck_objects::SharedObject;
 use edit_core::{Kept, RecordFault, assemble};
@@ -18,26 +17,21 @@ pub fn answer(answer: &mut Answer, topic: &str, text: &str) -> Result<bool, Allo
         return Ok(false);
     }
     let (deck, edits) = text.split_once("EDITS\n").unwrap_or((text, ""));
-    let cards = repeated_cards(answer.alloc, deck)?;
-    match DeckName::read(b"M") {
-        Ok(name) if cards.len() <= 20_000 => edited_deck(answer, name, cards, edits)?,
-        _ => answer.word("no deck"),
-    }
+    edited_deck(answer, deck, edits)?;
     Ok(true)
 }
 
 /// Makes the edits of these lines in the record of a deck.
-fn edited_deck(
-    answer: &mut Answer,
-    name: DeckName,
-    cards: Vec<Card>,
-    edits: &str,
-) -> Result<(), AllocError>
-    requires { length cards.items ≤ 20000 }
-{
+fn edited_deck(answer: &mut Answer, deck: &str, edits: &str) -> Result<(), AllocError> {
     let mut done = Meter { sized: 0, coded: 0 };
-    let mut kept = Kept::new(answer.alloc, name, cards, &mut done)?;
-    edited(answer, &mut kept, edits)
+    let cards = repeated_cards(answer.alloc, deck)?;
+    match record_of(answer.alloc, cards, &mut done)? {
+        Some(mut kept) => edited(answer, &mut kept, edits),
+        None => {
+            answer.word("no deck");
+            Ok(())
+        }
+    }
 }
 
 /// Makes the edits of these lines, one after the other, and looks after each.

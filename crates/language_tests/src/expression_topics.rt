@@ -94,14 +94,14 @@ fn valued(answer: &mut Answer, expression: &Expr<'_>, symbol: Option<Form>) {
     }
 }
 
-fn number(answer: &mut Answer, number: &Number) {
+pub fn number(answer: &mut Answer, number: &Number) {
     match number {
         Number::Value(size) => answer.decimal(size.value),
         Number::TooGreat => answer.word("too great"),
     }
 }
 
-fn item(answer: &mut Answer, item: &ItemText<'_>) {
+pub fn item(answer: &mut Answer, item: &ItemText<'_>) {
     answer.debug(&item.letter);
     answer.quoted(item.characters)
 }

@@ -1,10 +1,11 @@
 //! Variable fields that are no instruction's: how a person reads them.
 
+use crate::expression_topics::{item, number};
 use crate::inputs::cut;
 use crate::outputs::Answer;
 use definitions::{DeckKind, Letter, NumberBase};
 use expr_forms::{
-    BitFields, ConWords, DataWords, Datum, DisText, LinkedNames, Number, Operand, Subfields,
+    BitFields, ConWords, DataWords, Datum, DisText, Expr, LinkedNames, Operand, Subfields,
     UseField, dis_text, is_symbol, number_base, operand, use_field,
 };
 
@@ -63,25 +64,22 @@ fn operands(answer: &mut Answer, found: Result<Operand<'_>, Letter>) {
 fn datum(answer: &mut Answer, datum: &Datum<'_>) {
     match datum {
         Datum::Zero => answer.word("zero"),
-        Datum::Number(sign, number) => {
+        Datum::Number(sign, size) => {
             answer.debug(sign);
-            match number {
-                Number::Value(size) => answer.decimal(size.value),
-                Number::TooGreat => answer.word("too great"),
-            }
+            number(answer, size)
         }
-        Datum::Item(item) => {
-            answer.debug(&item.letter);
-            answer.quoted(item.characters)
-        }
-        Datum::Expression(expression) => {
-            let mut links = expression.links();
-            answer.word("links");
-            for _ in 0..MOST {
-                if let Some(link) = links.next() {
-                    answer.debug(&link.operator);
-                }
-            }
+        Datum::Item(text) => item(answer, text),
+        Datum::Expression(expression) => operators(answer, expression),
+    }
+}
+
+/// The operators of an expression.
+fn operators(answer: &mut Answer, expression: &Expr<'_>) {
+    let mut links = expression.links();
+    answer.word("links");
+    for _ in 0..MOST {
+        if let Some(link) = links.next() {
+            answer.debug(&link.operator);
         }
     }
 }

@@ -1,10 +1,8 @@
 //! Expressions as decks often have them, read and valued.
-ghost use Rattle.std.specs.Prelude.{Some, Err, pos};
-ghost use Rattle.definitions.specs.Forms.{absolute};
-ghost use Rattle.definitions.specs.declared.letter.Letter.TheVariants.{A};
 
-use definitions::{Letter, NumberBase};
-use expr_forms::{Expr, Form, Literal, Names, value};
+use crate::known_names::KnownNames;
+use definitions::NumberBase;
+use expr_forms::{Expr, Form, value};
 
 /// One deck has them 2,500 times: 20,000 operands.
 const OPERANDS: [&[u8]; 8] = [
@@ -21,29 +19,6 @@ const OPERANDS: [&[u8]; 8] = [
 /// How often each operand is read in a run.
 const TIMES: u32 = 2500;
 
-/// Names that are all known: each symbol is 3, and both counters are 100.
-struct Known;
-
-impl Names for Known {
-    ghost names = { λ _. record { symbol = λ _. Some (absolute (pos 3)); literal = λ _. Err A; location = absolute (pos 100); origin = absolute (pos 100) } };
-
-    fn symbol(&self, _name: &[u8]) -> Option<Form> {
-        Some(Form::absolute(3))
-    }
-
-    fn literal(&self, _literal: Literal<'_>) -> Result<Form, Letter> {
-        Err(Letter::A)
-    }
-
-    fn location(&self) -> Form {
-        Form::absolute(100)
-    }
-
-    fn origin(&self) -> Form {
-        Form::absolute(100)
-    }
-}
-
 /// 1 where a text is an expression.
 fn parsed(text: &[u8]) -> u64 {
     if text.len() > 711 {
@@ -56,14 +31,14 @@ fn parsed(text: &[u8]) -> u64 {
 }
 
 /// The value of a text without its sign.
-fn valued(text: &[u8]) -> u64 {
+fn valued(text: &[u8], names: &KnownNames) -> u64 {
     if text.len() > 711 {
         return 0;
     }
     let Ok(expression) = Expr::parse(text, NumberBase::Decimal) else {
         return 0;
     };
-    match value(&expression, &Known) {
+    match value(&expression, names) {
         Ok(form) => form.number().unsigned_abs(),
         Err(_letter) => 0,
     }
@@ -71,16 +46,16 @@ fn valued(text: &[u8]) -> u64 {
 
 fn parse_each() -> u64 {
     let mut sum: u64 = 0;
-    for text in OPERANDS {
+    for text in &OPERANDS {
         sum = sum.wrapping_add(parsed(text));
     }
     sum
 }
 
-fn value_each() -> u64 {
+fn value_each(names: &KnownNames) -> u64 {
     let mut sum: u64 = 0;
-    for text in OPERANDS {
-        sum = sum.wrapping_add(valued(text));
+    for text in &OPERANDS {
+        sum = sum.wrapping_add(valued(text, names));
     }
     sum
 }
@@ -94,11 +69,18 @@ pub fn parse_all() -> u64 {
     sum
 }
 
-/// Reads 20,000 operands, and adds their values without signs.
+/// Reads 20,000 operands, and adds their values without signs, where each symbol is 3 and both counters
+/// are 100.
 pub fn value_all() -> u64 {
+    let names = KnownNames {
+        value: Some(Form::absolute(3)),
+        literal: Form::absolute(0),
+        location: Form::absolute(100),
+        origin: Form::absolute(100),
+    };
     let mut sum: u64 = 0;
     for _ in 0..TIMES {
-        sum = sum.wrapping_add(value_each());
+        sum = sum.wrapping_add(value_each(&names));
     }
     sum
 }

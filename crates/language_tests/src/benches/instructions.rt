@@ -33,7 +33,7 @@ fn digits(operation: &[u8], text: &[u8]) -> u64 {
 
 fn find_each() -> u64 {
     let mut sum: u64 = 0;
-    for (operation, text) in INSTRUCTIONS {
+    for (operation, text) in &INSTRUCTIONS {
         sum = sum.wrapping_add(digits(operation, text));
     }
     sum

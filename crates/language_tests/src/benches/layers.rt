@@ -34,19 +34,17 @@ enum Layer {
     Codes,
 }
 
-fn layer_named(word: &str) -> Option<Layer> {
-    match word {
-        "parse" => Some(Layer::Parse),
-        "value" => Some(Layer::Value),
-        "find" => Some(Layer::Find),
-        "words" => Some(Layer::Words),
-        "names" => Some(Layer::Names),
-        "cards" => Some(Layer::Cards),
-        "sizes" => Some(Layer::Sizes),
-        "codes" => Some(Layer::Codes),
-        _ => None,
-    }
-}
+/// All layers with their names.
+const LAYERS: [(&str, Layer); 8] = [
+    ("parse", Layer::Parse),
+    ("value", Layer::Value),
+    ("find", Layer::Find),
+    ("words", Layer::Words),
+    ("names", Layer::Names),
+    ("cards", Layer::Cards),
+    ("sizes", Layer::Sizes),
+    ("codes", Layer::Codes),
+];
 
 /// One run of a layer, which gives a checksum.
 fn run_once(alloc: Global, layer: Layer) -> io::Result<u64> {
@@ -73,25 +71,18 @@ fn run(alloc: Global, layer: Layer, rounds: u32) -> io::Result<u64> {
 
 /// Each layer once.
 pub fn try_out<R: AllocGlobal + Print>(rt: &R) -> io::Result<()> {
-    for layer in [
-        Layer::Parse,
-        Layer::Value,
-        Layer::Find,
-        Layer::Words,
-        Layer::Names,
-        Layer::Cards,
-        Layer::Sizes,
-        Layer::Codes,
-    ] {
-        println!(rt; "{}", run(rt.alloc(), layer, 1)?)?;
+    for (_, layer) in &LAYERS {
+        println!(rt; "{}", run(rt.alloc(), *layer, 1)?)?;
     }
     Ok(())
 }
 
 /// One layer, as often as it takes to measure it.
 pub fn measure<R: AllocGlobal + Print>(rt: &R, word: &str) -> io::Result<()> {
-    match layer_named(word) {
-        Some(layer) => println!(rt; "{}", run(rt.alloc(), layer, ROUNDS)?),
-        None => Err(io::Error::other("no such layer")),
+    for (name, layer) in &LAYERS {
+        if word == *name {
+            return println!(rt; "{}", run(rt.alloc(), *layer, ROUNDS)?);
+        }
     }
+    Err(io::Error::other("no such layer"))
 }

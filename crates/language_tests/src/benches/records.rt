@@ -1,7 +1,9 @@
 //! What an edit of a record costs beside a new record: a card replaced in the middle of a deck, a hundred
 //! cards within a thousand, and twenty all over the deck.
 
-use cards::{Card, DeckName, Edit, MOST_CARDS, edited_copy};
+use crate::card_topics::cards_of;
+use crate::deck_topics;
+use cards::{Card, Edit, edited_copy};
 use edit_core::Kept;
 use statement_coder::Meter;
 use std::alloc::{AllocError, AllocGlobal, Global};
@@ -31,18 +33,6 @@ struct Cost {
     coded: u64,
 }
 
-/// The cards of these lines, up to the first that is none.
-fn cards_of(alloc: Global, text: &str) -> Result<Vec<Card>, AllocError> {
-    let mut cards = Vec::new(alloc);
-    for line in text.lines() {
-        let Ok(card) = Card::read(line.as_bytes()) else {
-            break;
-        };
-        cards.push(card)?;
-    }
-    Ok(cards)
-}
-
 /// The edits that replace these cards.
 fn replacements(alloc: Global, spread: Spread) -> Result<Vec<Edit>, AllocError> {
     let mut edits = Vec::new(alloc);
@@ -59,9 +49,9 @@ fn replacements(alloc: Global, spread: Spread) -> Result<Vec<Edit>, AllocError> 
 /// A new record of these cards, as many as a deck may have.
 fn record_of(alloc: Global, cards: &[Card], meter: &mut Meter) -> io::Result<Kept> {
     let cards = edited_copy(alloc, cards, &[])?;
-    match DeckName::read(b"M") {
-        Ok(name) if cards.len() <= MOST_CARDS => Ok(Kept::new(alloc, name, cards, meter)?),
-        _ => Err(io::Error::other("no such deck")),
+    match deck_topics::record_of(alloc, cards, meter)? {
+        Some(kept) => Ok(kept),
+        None => Err(io::Error::other("no such deck")),
     }
 }
 
@@ -158,12 +148,17 @@ fn spreads(cards: u64) -> [Spread; 4] {
     ]
 }
 
+/// The least that each costs of what is measured, printed.
+fn print_all<R: AllocGlobal + CpuClock + Print>(rt: &R, cards: &[Card]) -> io::Result<()> {
+    for spread in &spreads(cards.len() as u64) {
+        print_least(rt, cards, *spread)?;
+    }
+    Ok(())
+}
+
 /// Measures the record of the deck in a file: new, and with edits.
 pub fn measure<R: AllocGlobal + Files + CpuClock + Print>(rt: &R, path: &str) -> io::Result<()> {
     let text = fs::read_to_string(rt, path)?;
     let cards = cards_of(rt.alloc(), text.as_str())?;
-    for spread in spreads(cards.len() as u64) {
-        print_least(rt, &cards, spread)?;
-    }
-    Ok(())
+    print_all(rt, &cards)
 }

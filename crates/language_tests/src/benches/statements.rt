@@ -1,12 +1,11 @@
 //! Cards as decks often have them, read as statements, sized one behind the other, and coded.
 
+use crate::known_bases::NoBases;
+use crate::known_names::KnownNames;
 use cards::{Card, StatementRoom};
-use definitions::{DeckKind, Letter, is_same_text};
-use expr_forms::{Form, Literal, Name};
-use statement_coder::{
-    BlockBases, CodedItems, EarlySymbols, FinalSymbols, Item, KeptSizing, Meter, Statement, code,
-    size,
-};
+use definitions::{DeckKind, is_same_text};
+use expr_forms::Form;
+use statement_coder::{CodedItems, EarlySymbols, Item, KeptSizing, Meter, Statement, code, size};
 use std::alloc::Global;
 use std::io;
 use use_blocks::BlockState;
@@ -45,39 +44,6 @@ impl EarlySymbols for Known {
     }
 }
 
-/// All symbols have values, and each literal stands at 0.
-struct AllKnown;
-
-impl FinalSymbols for AllKnown {
-    ghost use Rattle.std.specs.Prelude.{Some, Ok, pos};
-    ghost use Rattle.definitions.specs.Forms.{absolute};
-
-    ghost symbols = { λ _ _. Some (absolute (pos 64)) };
-
-    ghost literals = { λ _ _. Ok (absolute (pos 0)) };
-
-    fn symbol(&self, _name: &[u8]) -> Option<Form> {
-        Some(Form::absolute(64))
-    }
-
-    fn literal(&self, _literal: Literal<'_>) -> Result<Form, Letter> {
-        Ok(Form::absolute(0))
-    }
-}
-
-/// Every block stands at 0.
-struct AllAtZero;
-
-impl BlockBases for AllAtZero {
-    ghost use Rattle.std.specs.Prelude.{[]};
-
-    ghost rows = { λ _. [] };
-
-    fn base(&self, _name: &Name) -> u64 {
-        0
-    }
-}
-
 /// How many characters the fields of a card have.
 fn characters(text: &[u8], room: &mut StatementRoom) -> u64 {
     let Ok(card) = Card::read(text) else {
@@ -110,11 +76,12 @@ fn end_of(
 fn fields_of(
     statement: &Statement<'_>,
     sizing: &KeptSizing,
+    symbols: &KnownNames,
     list: &mut Vec<Item>,
     meter: &mut Meter,
 ) -> io::Result<u64> {
     list.truncate(0);
-    match code(statement, sizing, &AllKnown, &AllAtZero, list, meter)?.items {
+    match code(statement, sizing, symbols, &NoBases, list, meter)?.items {
         CodedItems::Absent => Ok(0),
         CodedItems::Instruction(_) => Ok(1),
         CodedItems::Listed(count) => Ok(count as u64),
@@ -128,6 +95,7 @@ fn fields_behind(
     text: &[u8],
     room: &mut StatementRoom,
     state: &mut BlockState,
+    symbols: &KnownNames,
     list: &mut Vec<Item>,
     meter: &mut Meter,
 ) -> io::Result<u64> {
@@ -139,26 +107,27 @@ fn fields_behind(
     let sizing = size(&statement, state, &Known, meter);
     state.advance(&sizing.effect(&statement))?;
     let kept = KeptSizing::new(alloc, statement.kind, true, sizing)?;
-    fields_of(&statement, &kept, list, meter)
+    fields_of(&statement, &kept, symbols, list, meter)
 }
 
 fn code_each(
     alloc: Global,
     room: &mut StatementRoom,
     state: &mut BlockState,
+    symbols: &KnownNames,
     list: &mut Vec<Item>,
     meter: &mut Meter,
 ) -> io::Result<u64> {
     let mut sum: u64 = 0;
-    for text in CARDS {
-        sum = sum.wrapping_add(fields_behind(alloc, text, room, state, list, meter)?);
+    for text in &CARDS {
+        sum = sum.wrapping_add(fields_behind(alloc, text, room, state, symbols, list, meter)?);
     }
     Ok(sum)
 }
 
 fn read_each(room: &mut StatementRoom) -> u64 {
     let mut sum: u64 = 0;
-    for text in CARDS {
+    for text in &CARDS {
         sum = sum.wrapping_add(characters(text, room));
     }
     sum
@@ -170,7 +139,7 @@ fn size_each(
     meter: &mut Meter,
 ) -> io::Result<u64> {
     let mut sum: u64 = 0;
-    for text in CARDS {
+    for text in &CARDS {
         sum = sum.wrapping_add(end_of(text, room, state, meter)?);
     }
     Ok(sum)
@@ -198,15 +167,24 @@ pub fn size_all(alloc: Global) -> io::Result<u64> {
     Ok(sum.wrapping_add(meter.sized))
 }
 
-/// Reads the same cards, sizes each behind the others and codes it, and counts their fields.
+/// Reads the same cards, sizes each behind the others and codes it, where each symbol is 64 and all else
+/// stands at 0, and counts their fields.
 pub fn code_all(alloc: Global) -> io::Result<u64> {
+    let symbols = KnownNames {
+        value: Some(Form::absolute(64)),
+        literal: Form::absolute(0),
+        location: Form::absolute(0),
+        origin: Form::absolute(0),
+    };
     let mut room = StatementRoom::new();
     let mut state = BlockState::new(alloc)?;
     let mut list = Vec::new(alloc);
     let mut meter = Meter { sized: 0, coded: 0 };
     let mut sum: u64 = 0;
     for _ in 0..TIMES {
-        sum = sum.wrapping_add(code_each(alloc, &mut room, &mut state, &mut list, &mut meter)?);
+        sum = sum.wrapping_add(code_each(
+            alloc, &mut room, &mut state, &symbols, &mut list, &mut meter,
+        )?);
     }
     Ok(sum.wrapping_add(meter.coded))
 }
