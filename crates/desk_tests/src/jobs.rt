@@ -3,7 +3,8 @@
 //! `claim`: the job, which is out then; `deliver`: its result is made and handed in; `giveup LEASE`;
 //! `result LEASE DECK VERSION RECORD OBJECT`: a result made of single cards, the record's deck and a colon
 //! in front of its card, or `-` for no record; `link LEASE VERSION CARD ..`: a publication of decks of a
-//! card each; `batch SEEN COUNT`: so many edits; `settle TURNS`; `image`: the version that is shown, and
+//! card each, and `lay LEASE VERSION CARD ..` lays one down; `compare LEASE`: its next deck is compared;
+//! `batch SEEN COUNT`: so many edits; `settle TURNS`; `image`: the version that is shown, and
 //! the last 32 bytes of its image; `meter`: how many statements were sized and coded; `lost`: a job whose
 //! edit does not apply.
 
@@ -59,6 +60,8 @@ impl Jobs {
             "giveup" => Ok(Call::GiveUp(number(rest))),
             "result" => result_of(self.alloc, rest),
             "link" => link_of(self.alloc, rest),
+            "lay" => lay_of(self.alloc, rest),
+            "compare" => Ok(Call::CompareLink(number(rest))),
             "batch" => batch_of(self.alloc, rest),
             _ => return false,
         };
@@ -146,6 +149,7 @@ pub fn push_reply(answer: &mut Answer, reply: &Reply) {
         Reply::Idle(version) => answer.number("idle ", *version),
         Reply::AllOut => answer.push("all out"),
         Reply::Stored => answer.push("stored"),
+        Reply::Laid => answer.push("laid"),
         Reply::Cleared => answer.push("cleared"),
         Reply::Refused(refusal) => answer.debug(refusal),
         Reply::LinkJob(work) => push_out(answer, "link", work.lease, work.version),
@@ -262,6 +266,13 @@ fn link_of(alloc: Global, text: &str) -> Result<Call, AllocError> {
     let (version, lines) = cut_number(rest);
     let publication = publication_of(alloc, lines, version)?;
     Ok(Call::DeliverLink { lease, publication })
+}
+
+fn lay_of(alloc: Global, text: &str) -> Result<Call, AllocError> {
+    let (lease, rest) = cut_number(text);
+    let (version, lines) = cut_number(rest);
+    let publication = publication_of(alloc, lines, version)?;
+    Ok(Call::LayLink { lease, publication })
 }
 
 /// Edits of M by which its second card goes and comes again, so many in all.

@@ -1,7 +1,8 @@
 //! Workers work at the same time, and stop.
 //!
-//! `work_both`: two workers at their seats and the jobs of two decks, the first of which waits for the second; `work
-//! alone`: a worker whose bell can't ring again.
+//! `work_both`: two workers at their seats and the jobs of two decks, the first of which waits for the second;
+//! `work_alone`: a worker whose bell can't ring again; `work_much`: the same with so many cards that it delivers
+//! the publication deck by deck.
 ghost use Rattle.std.specs.Prelude.{◌≡◌, IfOk};
 ghost use Rattle.std.specs.Thread.{IsSync};
 
@@ -27,7 +28,8 @@ pub fn make<R: AllocGlobal + Threads + Wait + Clock + Sync>(
 ) -> bool {
     let done = match word {
         "work_both" => work_both(rt, rt.alloc(), answer),
-        "work_alone" => work_alone(rt, rt.alloc(), answer),
+        "work_alone" => work_alone(rt, rt.alloc(), CARD, answer),
+        "work_much" => work_much(rt, rt.alloc(), answer),
         _ => return false,
     };
     answer.keep(done);
@@ -117,9 +119,15 @@ fn open_three(alloc: Global) -> Result<Opened, AllocError>
     }
 }
 
-/// The call that adds a deck with one card.
-fn addition(alloc: Global, of: &str) -> Result<Call, AllocError> {
-    let cards = cards_of(alloc, "          BX6    X1")?;
+/// The one card of a small deck.
+const CARD: &str = "          BX6    X1";
+
+/// How many cards a deck has of which two have more than are delivered at once.
+const MANY: u32 = 10_001;
+
+/// The call that adds a deck with these cards.
+fn addition(alloc: Global, of: &str, lines: &str) -> Result<Call, AllocError> {
+    let cards = cards_of(alloc, lines)?;
     Ok(Call::AddDeck(NewDeck::new(name_of(of)?, cards)))
 }
 
@@ -138,11 +146,12 @@ fn add<R: Wait>(
     office: &Office<Desk>,
     seat: &mut Seat<Desk>,
     of: &str,
+    lines: &str,
 ) -> Result<(), AllocError>
     requires { seat.old.office ≡ office.now.id }
     ensures { seat.new.office ≡ seat.old.office }
 {
-    let call = addition(alloc, of)?;
+    let call = addition(alloc, of, lines)?;
     ask(rt, office, seat, call);
     Ok(())
 }
@@ -153,12 +162,13 @@ fn add_two<R: Wait>(
     alloc: Global,
     office: &Office<Desk>,
     seat: &mut Seat<Desk>,
+    lines: &str,
 ) -> Result<(), AllocError>
     requires { seat.old.office ≡ office.now.id }
     ensures { seat.new.office ≡ seat.old.office }
 {
-    add(rt, alloc, office, seat, "A")?;
-    add(rt, alloc, office, seat, "B")
+    add(rt, alloc, office, seat, "A", lines)?;
+    add(rt, alloc, office, seat, "B", lines)
 }
 
 /// How many decks a reply shows.
@@ -215,7 +225,7 @@ fn work_both<R: Threads + Wait + Clock + Sync>(
 ) -> Result<(), AllocError> {
     let bells = stopped(rt, alloc)?;
     let (office, first, second, mut third) = open_three(alloc)?;
-    answer.keep(add_two(rt, alloc, &office, &mut third));
+    answer.keep(add_two(rt, alloc, &office, &mut third, CARD));
     let gate = MeetingGate {
         entered: AtomicU64::new(0),
         met: AtomicU64::new(0),
@@ -240,15 +250,28 @@ fn rung_once<R: Wait>(rt: &R, alloc: Global) -> Result<Receiver<Bell>, AllocErro
 fn work_alone<R: Wait + Clock>(
     rt: &R,
     alloc: Global,
+    lines: &str,
     answer: &mut Answer,
 ) -> Result<(), AllocError> {
     let bells = rung_once(rt, alloc)?;
     let (office, first, _, mut third) = open_three(alloc)?;
-    answer.keep(add_two(rt, alloc, &office, &mut third));
+    answer.keep(add_two(rt, alloc, &office, &mut third, lines));
     let none = &mut NoSubscriber;
     let first = worker(rt, alloc, &office, first, &OpenGate, none, bells);
     answer.number("seat ", first.number() as u64);
     answer.push(", ");
     push_published(rt, &office, &mut third, answer);
     Ok(())
+}
+
+fn work_much<R: Wait + Clock>(
+    rt: &R,
+    alloc: Global,
+    answer: &mut Answer,
+) -> Result<(), AllocError> {
+    let mut lines = String::new(alloc);
+    for _ in 0..MANY {
+        lines.push_str("*\n")?;
+    }
+    work_alone(rt, alloc, &lines, answer)
 }
