@@ -12,9 +12,14 @@ use deck_objects::{Line, Object, ObjectParts};
 use std::alloc::{AllocError, Global};
 use text_ports::Text;
 
-/// How many bytes of room are asked for at first for each card. A card has a line of at most 87 bytes,
-/// but seldom one of more than 40, and a word has one of 32.
-const CARD_ROOM: usize = 80;
+/// How many bytes the line of a card has beside the card, at most.
+const CARD_ROOM: usize = 8;
+
+/// How many the line of a word has that one statement makes.
+const STATEMENT_ROOM: usize = 22;
+
+/// How many the line of a word has of which there are several in a list.
+const ITEM_ROOM: usize = 32;
 
 /// The same for what a listing has beside its statements.
 const DECK_ROOM: usize = 256;
@@ -52,12 +57,26 @@ fn push_parts(text: &mut Sheet, name: &DeckName, cards: &[Card], parts: &ObjectP
     push_errors_line(text, flagged_lines(parts.lines.as_slice()));
 }
 
-/// How much room is asked for at first for the listing of a deck.
+/// How much room is asked for at first for the lines of cards.
+fn cards_room(cards: &[Card]) -> usize {
+    let mut room: usize = 0;
+    for card in cards {
+        room = room
+            .saturating_add(CARD_ROOM)
+            .saturating_add(card.as_slice().len());
+    }
+    room
+}
+
+/// How much room is asked for at first for the listing of a deck: what it has, and little more, unless many
+/// statements are flagged or make several words without a list. So a listing that is kept holds no memory for nothing.
 fn listing_room(object: &Object) -> usize {
-    object
-        .cards()
-        .len()
-        .saturating_mul(CARD_ROOM)
+    let parts = object.parts();
+    let statements = parts.lines.len().saturating_mul(STATEMENT_ROOM);
+    let items = parts.items.len().saturating_mul(ITEM_ROOM);
+    cards_room(object.cards())
+        .saturating_add(statements)
+        .saturating_add(items)
         .saturating_add(DECK_ROOM)
 }
 
