@@ -1,12 +1,12 @@
 -- What the code does to the deck at a place with edits that were carried is what the answer says of the deck of its name.
-use Rattle.std.proofs.Common.{◌≡◌, ℕ, ◌+◌, List, [], ◌∷◌, length, zero, suc, refl, arith, sym, ap, ◌∙◌, subst, inl, not, true, Option, Some, None, option_map, Result, Ok, Err}
+use Rattle.std.proofs.Common.{◌≡◌, ℕ, ◌+◌, List, [], ◌∷◌, length, refl, arith, sym, ap, ◌∙◌, subst, inl, not, true, Option, Some, None, option_map, Result, Ok}
 use Rattle.std.specs.Prelude.{slice_get, slice_index_or}
 use Rattle.std.specs.Option.{ForSome}
 use Rattle.cards.specs.declared.carrying.Touched.{Touched}
 use Rattle.desk_core.specs.Joins.Edits.{Edit, first_fault}
 use Rattle.desk_core.specs.Desks.{Desk, DeskDeck, is_named}
 use Rattle.desk_core.specs.Joins.OwnNames.{IsPlaceOf, changed_at}
-use Rattle.desk_core.specs.Joins.Calls.{Reply, Refused, Refusal, Carried, BatchSize, OutOfMemory}
+use Rattle.desk_core.specs.Joins.Calls.{Refused, Refusal, Carried, BatchSize, OutOfMemory}
 use Rattle.desk_core.specs.Joins.Causes.{when}
 use Rattle.desk_core.specs.Earlier.{against_since}
 use Rattle.desk_core.specs.Answers.{Answer, against_next}

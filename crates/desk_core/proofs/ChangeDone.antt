@@ -12,9 +12,9 @@ use Rattle.desk_core.specs.Joins.Turns.{IsAnswer, MayAnswer}
 use Rattle.desk_core.proofs.AnswerLaws.{done}
 use Rattle.desk_core.proofs.PlaceLaws.{element-at, found-with, found-removed}
 
--- a desk with other decks, one version on, and nothing laid down
+-- a desk with other decks, one version on
 abbrev pub next_with : Desk → List DeskDeck → Desk
-next_with desk decks = record desk { version = desk.version + 1; decks = decks; laid = None }
+next_with desk decks = record desk { version = desk.version + 1; decks = decks }
 
 -- a drop
 pub drop-done : (name : List ℕ) (seen : ℕ) (desk : Desk) (place : ℕ) → IsPlaceOf (is_named name) (Some place) desk.decks → against_drop seen desk (slice_get desk.decks place) ≡ None →

@@ -35,4 +35,4 @@ module _ (desk : Desk) (place : ℕ) (behind : list_any is_behind desk.decks ≡
   claim-done work e job =
       let same = named-with (given (desk.leases + 1)) desk.decks place due.0 is.own due.1 in
       subst (λ (a : Answer). MayAnswer desk a (DeckJob work) (changed_at place (given (desk.leases + 1)) (record desk { leases = desk.leases + 1 }))) (sym claimed)
-      (inl (done _ desk (hand_out due.0 desk) _ _ e (ap (λ (w : DeckWork). DeckJob w) (job due.0 due.1), ap (λ (decks : List DeskDeck). record desk { leases = desk.leases + 1; decks = decks; laid = None }) (sym same))))
+      (inl (done _ desk (hand_out due.0 desk) _ _ e (ap (λ (w : DeckWork). DeckJob w) (job due.0 due.1), ap (λ (decks : List DeskDeck). record desk { leases = desk.leases + 1; decks = decks }) (sym same))))

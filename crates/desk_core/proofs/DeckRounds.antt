@@ -66,7 +66,7 @@ module _ (desk : Desk) (resting : IsResting desk) (place : ℕ) (deck : DeskDeck
   went form next names free fewer is =
       let both : DeskDeck → DeskDeck = λ (d : DeskDeck). form (given number d) in
       let base : Desk = record desk { leases = number } in
-      let same : changed_at place form out ≡ changed_at place both base = ap (λ (decks : List DeskDeck). record base { decks = decks; laid = None }) (with-twice (given number) form desk.decks place) in
+      let same : changed_at place form out ≡ changed_at place both base = ap (λ (decks : List DeskDeck). record base { decks = decks }) (with-twice (given number) form desk.decks place) in
       let counted = rounds-with both desk.decks place deck at_place in
       subst (λ (d : Desk). Goes desk d) (sym same ∙ is)
       (record {
@@ -185,7 +185,7 @@ deck_round desk resting behind room =
     let unbuilt = not-true deck.built (and_parts (is_behind deck) (is_none deck.lease) free).0 in
     let n = desk.leases + 1 in
     let base : Desk = record desk { leases = n } in
-    let placed : (hand_out deck desk).desk ≡ changed_at spot.0 (given n) base = ap (λ (decks : List DeskDeck). record base { decks = decks; laid = None }) (named-with (given n) desk.decks spot.0 deck resting.own spot.1) in
+    let placed : (hand_out deck desk).desk ≡ changed_at spot.0 (given n) base = ap (λ (decks : List DeskDeck). record base { decks = decks }) (named-with (given n) desk.decks spot.0 deck resting.own spot.1) in
     let ended = goes_ended desk resting spot.0 deck spot.1 unbuilt in
     subst (λ (a : Answer). Goes desk (after_job a.reply a.desk)) (sym (claimed desk deck behind one.1 room))
     (subst (λ (d : Desk). Goes desk (answer (end_of_deck (deck_work n deck)) d).desk) (sym placed) ended)

@@ -33,7 +33,7 @@ module _ (lease : ℕ) (desk : Desk) (place : ℕ) (is : IsPlaceOf (has_lease le
   leased = element-at desk.decks place (is.some place refl).1
 
   leased-with : (form : DeskDeck → DeskDeck) → changed_at place form desk ≡ with_deck leased.0.name form desk
-  leased-with form = ap (λ (decks : List DeskDeck). record desk { decks = decks; laid = None }) (sym (named-with form desk.decks place leased.0 is.own leased.1))
+  leased-with form = ap (λ (decks : List DeskDeck). record desk { decks = decks }) (sym (named-with form desk.decks place leased.0 is.own leased.1))
 
   -- a lease given up
   pub given-up : IsAnswer (give_up lease desk) Cleared (changed_at place lost desk)

@@ -8,15 +8,15 @@ use Rattle.desk_core.specs.Joins.Language.{Card, Deck}
 use Rattle.desk_core.specs.Joins.Causes.{when}
 use Rattle.desk_core.specs.Joins.Edits.{Edit, most_cards, fault_of, first_fault, edited_by}
 use Rattle.desk_core.specs.Past.{Past, begun_at, past_after}
-use Rattle.desk_core.specs.Desks.{Desk, DeskDeck, Publication, LaidDown, most_decks, is_named, deck_named, put_if_named, is_leased, is_leased_at, decks_of}
-use Rattle.desk_core.specs.Joins.Calls.{Call, AddDeck, PutDeck, DropDeck, EditDeck, Batch, EditSince, BatchSince, Undo, Changes, CardsAt, Cards, Show, Status, Claim, DeliverDeck, DeliverLink, LayLink, CompareLink, GiveUp, Done, Reply, Refusal, NameTaken, TooManyDecks, DeckFull, NoDeck, BatchSize}
+use Rattle.desk_core.specs.Desks.{Desk, DeskDeck, Publication, most_decks, is_named, deck_named, put_if_named, is_leased, is_leased_at, decks_of}
+use Rattle.desk_core.specs.Joins.Calls.{Call, AddDeck, PutDeck, DropDeck, EditDeck, Batch, EditSince, BatchSince, Undo, Changes, CardsAt, Cards, Show, Status, Claim, DeliverDeck, DeliverLink, OfferObject, Publish, GiveUp, Done, Reply, Refusal, NameTaken, TooManyDecks, DeckFull, NoDeck, BatchSize}
 use Rattle.desk_core.specs.Answers.{Answer, unless, against_next}
 use Rattle.desk_core.specs.Changing.{accepted, against_add, added_deck, added, against_put, replaced_deck, put, put_where, against_drop, dropped, edited_deck, edited, against_edit, against_batch, refusal_of, is_batch, against_seen}
 use Rattle.desk_core.specs.Carrying.{carried_since, against_carry, accept_carried, edit_since_of, batch_since_of, bad_edit, alone}
 use Rattle.desk_core.specs.Undoing.{backs_at, against_change, undo_where}
 use Rattle.desk_core.specs.Earlier.{against_since, changes_of, cards_at_of}
 use Rattle.desk_core.specs.Claiming.{claim, claim_deck, claim_link, hand_out, hand_out_link, given, is_behind, is_free, is_published}
-use Rattle.desk_core.specs.Delivering.{deliver_to, take_result, deck_leased, lost, given_back, stored, is_for, is_sound, same_decks, same_first, deliver_link, lay_link, compare_laid, compare_link, give_up_of}
+use Rattle.desk_core.specs.Delivering.{deliver_to, take_result, deck_leased, lost, given_back, stored, is_for, is_sound, same_decks, deliver_link, offer_object, publish, give_up_of}
 use Rattle.desk_core.specs.Joins.OwnNames.{HaveOwnNames}
 use Rattle.desk_core.specs.Steps.{answer, Steps}
 use Rattle.desk_core.specs.Runs.{History}
@@ -189,22 +189,15 @@ module _ (R : ℕ → List ℕ → List Card → Past → Type 0) (desk : Desk) 
       (λ present. cond_both (not (same_decks publication.decks (decks_of desk))) _ _ Told (λ other. all) (λ same. all))))
       (λ unknown. all)
 
-  told-lay : (number : ℕ) (publication : Publication) → Told (lay_link number publication desk)
-  told-lay number publication =
+  told-offer : (number : ℕ) → Told (offer_object number desk)
+  told-offer number = cond_both (is_leased number desk.link) _ _ Told (λ out. all) (λ unknown. all)
+
+  told-publish : (number : ℕ) → Told (publish number desk)
+  told-publish number =
       cond_both (is_leased number desk.link) _ _ Told
-      (λ out. cond_both (not (is_leased_at publication.version desk.link)) _ _ Told (λ other. all)
-      (λ ours. cond_both (not (publication.version == desk.version)) _ _ Told (λ old. all) (λ present. all)))
+      (λ out. cond_both (not (is_leased_at desk.version desk.link)) _ _ Told (λ old. all)
+      (λ present. cond_both (list_any is_behind desk.decks) _ _ Told (λ behind. all) (λ built. all)))
       (λ unknown. all)
-
-  told-compare-laid : (laid : Option LaidDown) → Told (compare_laid laid desk)
-  told-compare-laid None = cond_both (is_leased_at desk.version desk.link) _ _ Told (λ present. all) (λ old. all)
-  told-compare-laid (Some laid) =
-      cond_both (not (laid.publication.version == desk.version)) _ _ Told (λ old. all)
-      (λ present. cond_both (not (same_first (laid.compared + 1) laid.publication.decks (decks_of desk))) _ _ Told (λ other. all)
-      (λ same. cond_both (nat_lt laid.compared (length desk.decks)) _ _ Told (λ more. all) (λ done. all)))
-
-  told-compare : (number : ℕ) → Told (compare_link number desk)
-  told-compare number = cond_both (is_leased number desk.link) _ _ Told (λ out. told-compare-laid desk.laid) (λ unknown. all)
 
   told-give-up : (number : ℕ) (found : Option DeskDeck) → Told (give_up_of number desk found)
   told-give-up number None = cond_both (is_leased number desk.link) _ _ Told (λ out. all) (λ unknown. all)
@@ -228,8 +221,8 @@ module _ (R : ℕ → List ℕ → List Card → Past → Type 0) (desk : Desk) 
   told-answer Claim = told-claim
   told-answer (DeliverDeck done) = told-deliver-to done (deck_leased done.lease desk)
   told-answer (DeliverLink number publication) = told-link number publication
-  told-answer (LayLink number publication) = told-lay number publication
-  told-answer (CompareLink number) = told-compare number
+  told-answer (OfferObject number place object) = told-offer number
+  told-answer (Publish number) = told-publish number
   told-answer (GiveUp number) = told-give-up number (deck_leased number desk)
 
 -- decks with names of their own, of each of which it holds

@@ -6,7 +6,7 @@ use Rattle.turn_office.specs.Histories.{Leads}
 use Rattle.desk_core.specs.Joins.Language.{listing_of, image_of}
 use Rattle.desk_core.specs.Changes.{Change}
 use Rattle.desk_core.specs.Desks.{Desk, Publication, new_desk_at}
-use Rattle.desk_core.specs.Joins.Calls.{Call, Show, Reply, Changed, Shown, Refused, Refusal, OutOfMemory}
+use Rattle.desk_core.specs.Joins.Calls.{Call, Show, Reply, Shown, Refused, Refusal, OutOfMemory}
 use Rattle.desk_core.specs.Reading.{show_reply}
 use Rattle.desk_core.specs.Steps.{Steps}
 use Rattle.desk_core.specs.Runs.{History, Runs, change_asked, accepts, change_in, changes_in, IsBuildOf, IsUnchanged, IsOfItsChanges}
@@ -45,7 +45,7 @@ next_told begun changes desk next entry more told (by_changing by) = record {
 next_told begun changes desk next entry more told (by_publishing by) = record {
   changes_now = changes;
   told = told_publication begun changes desk next entry.reply told by;
-  same = same_when_silent changes entry more (silent_entry entry (ap accepts by.stored));
+  same = same_when_silent changes entry more (silent_entry entry by.silent);
 }
 
 -- what is told of a desk is told of each later one

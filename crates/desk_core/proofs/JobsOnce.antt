@@ -7,7 +7,7 @@ use Rattle.desk_core.specs.Desks.{Desk, DeskDeck, deck_named, new_desk_at}
 use Rattle.desk_core.specs.Past.{backs_of}
 use Rattle.desk_core.specs.Answers.{answers}
 use Rattle.desk_core.specs.Earlier.{against_since, edits_behind, changes_of, cards_at_of}
-use Rattle.desk_core.specs.Joins.Calls.{Call, AddDeck, PutDeck, DropDeck, EditDeck, Batch, EditSince, BatchSince, Undo, Changes, CardsAt, Cards, Show, Status, Claim, DeliverDeck, DeliverLink, LayLink, CompareLink, GiveUp, DeckWork, Reply, DeckJob, ChangesAre, CardsBefore, Refused, OutOfMemory, NoDeck}
+use Rattle.desk_core.specs.Joins.Calls.{Call, AddDeck, PutDeck, DropDeck, EditDeck, Batch, EditSince, BatchSince, Undo, Changes, CardsAt, Cards, Show, Status, Claim, DeliverDeck, DeliverLink, OfferObject, Publish, GiveUp, DeckWork, Reply, DeckJob, ChangesAre, CardsBefore, Refused, OutOfMemory, NoDeck}
 use Rattle.desk_core.specs.Reading.{cards_reply, show_reply}
 use Rattle.desk_core.specs.Steps.{answer, Steps}
 use Rattle.desk_core.specs.Runs.{History, Runs}
@@ -16,7 +16,7 @@ use Rattle.desk_core.proofs.JobsTold.{IsDeskTold, desk_told_first}
 use Rattle.desk_core.proofs.QuietSteps.{quiet, starved_quiet}
 use Rattle.desk_core.proofs.ChangeSteps.{Next, next_quiet, next_unless, add_next, put_next, drop_next, edit_next, batch_next, edit_since_next, batch_since_next, undo_next}
 use Rattle.desk_core.proofs.ClaimSteps.{claim_next, claim_due}
-use Rattle.desk_core.proofs.ResultSteps.{deliver_deck_next, deliver_link_next, lay_link_next, compare_link_next, give_up_next}
+use Rattle.desk_core.proofs.ResultSteps.{deliver_deck_next, deliver_link_next, offer_next, publish_next, give_up_next}
 
 module _ (history : History) (by : ℕ) (desk : Desk) (told : IsDeskTold history desk) where
   -- what reads a past means nothing
@@ -48,8 +48,8 @@ module _ (history : History) (by : ℕ) (desk : Desk) (told : IsDeskTold history
   answer_next Claim = claim_next history by desk told
   answer_next (DeliverDeck done) = deliver_deck_next history by desk told done
   answer_next (DeliverLink number publication) = deliver_link_next history by desk told number publication
-  answer_next (LayLink number publication) = lay_link_next history by desk told number publication
-  answer_next (CompareLink number) = compare_link_next history by desk told number
+  answer_next (OfferObject number place object) = offer_next history by desk told number place object
+  answer_next (Publish number) = publish_next history by desk told number
   answer_next (GiveUp number) = give_up_next history by desk told number
 
   -- what is told after each step

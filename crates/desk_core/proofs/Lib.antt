@@ -4,6 +4,7 @@ pub mod Outcomes
 pub mod Staying
 pub mod Accepting
 pub mod Publishing
+pub mod OwnPublication
 pub mod Told
 pub mod EveryRun
 pub mod IdleClaims
@@ -23,7 +24,6 @@ pub mod Worked
 pub mod WorkedResults
 pub mod WorkedForeign
 pub mod WorkedLinks
-pub mod WorkedLaid
 pub mod WorkedChanges
 pub mod WorkedPast
 pub mod WorkedCarrying
@@ -45,7 +45,6 @@ pub mod RoundsLeft
 pub mod DeckRounds
 pub mod LinkRounds
 pub mod WorkEnds
-pub mod Compared
 pub mod PastSteps
 pub mod UndoLaws
 pub mod PastLaws

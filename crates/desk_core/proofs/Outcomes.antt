@@ -2,7 +2,7 @@
 use Rattle.std.proofs.Common.{◌≡◌, ◌+◌, Bool, true, false, cond, Option, Some, None, refl}
 use Rattle.desk_core.specs.Changes.{Change, changed}
 use Rattle.desk_core.specs.Desks.{Desk, Publication, decks_of}
-use Rattle.desk_core.specs.Joins.Calls.{Call, Reply, Changed, Stored, Refused, Refusal}
+use Rattle.desk_core.specs.Joins.Calls.{Call, Reply, Stored, Published, Refused, Refusal}
 use Rattle.desk_core.specs.Answers.{Answer, answers, unless}
 use Rattle.desk_core.specs.Runs.{IsUnchanged, change_asked, accepts}
 
@@ -20,9 +20,16 @@ pub record Changes (desk : Desk) (call : Call) (reply : Reply) (next : Desk) : T
   pub decks : decks_of next ≡ changed (decks_of desk) change
   pub publication : next.publication ≡ desk.publication
 
+-- whether a reply tells that decks are published
+abbrev pub publishes : Reply → Bool
+publishes Stored = true
+publishes (Published before) = true
+publishes _ = false
+
 -- the publication is of the desk's version and decks
 pub record Publishes (desk : Desk) (reply : Reply) (next : Desk) : Type 0 where
-  pub stored : reply ≡ Stored
+  pub stored : publishes reply ≡ true
+  pub silent : accepts reply ≡ false
   pub version : next.version ≡ desk.version
   pub decks : decks_of next ≡ decks_of desk
   pub publication : Publication

@@ -1,13 +1,13 @@
 -- The decks of a desk have names of their own in every run.
-use Rattle.std.proofs.Common.{◌≡◌, ℕ, ◌+◌, ◌==◌, nat_lt, Bool, true, false, cond, not, ◌||◌, is_none, List, [], ◌∷◌, length, map, filter, find, is_some, Option, Some, None, Result, Ok, Err, option_map, refl, sym, ap, ◌∙◌, subst, inl, inr}
+use Rattle.std.proofs.Common.{◌≡◌, ℕ, ◌+◌, ◌==◌, Bool, true, false, cond, not, ◌||◌, is_none, List, [], ◌∷◌, map, filter, find, is_some, Option, Some, None, Result, Ok, Err, option_map, refl, sym, ap, ◌∙◌, subst, inl, inr}
 use Rattle.std.specs.List.{list_any}
 use Rattle.std.proofs.lemmas.Bool.{cond_both}
 use Rattle.turn_office.specs.Histories.{Leads}
 use Rattle.desk_core.specs.Joins.Language.{Deck, same_text}
 use Rattle.desk_core.specs.Joins.Causes.{when, first_cause}
 use Rattle.desk_core.specs.Joins.Edits.{Edit}
-use Rattle.desk_core.specs.Desks.{Desk, DeskDeck, Publication, LaidDown, new_desk_at, is_named, deck_named, put_if_named, is_leased, is_leased_at, decks_of}
-use Rattle.desk_core.specs.Joins.Calls.{Call, AddDeck, PutDeck, DropDeck, EditDeck, Batch, EditSince, BatchSince, Undo, Changes, CardsAt, Cards, Show, Status, Claim, DeliverDeck, DeliverLink, LayLink, CompareLink, GiveUp, Done, Reply, Refusal, NameTaken}
+use Rattle.desk_core.specs.Desks.{Desk, DeskDeck, Publication, new_desk_at, is_named, deck_named, put_if_named, is_leased, is_leased_at, decks_of}
+use Rattle.desk_core.specs.Joins.Calls.{Call, AddDeck, PutDeck, DropDeck, EditDeck, Batch, EditSince, BatchSince, Undo, Changes, CardsAt, Cards, Show, Status, Claim, DeliverDeck, DeliverLink, OfferObject, Publish, GiveUp, Done, Reply, Refusal, NameTaken}
 use Rattle.desk_core.specs.Answers.{Answer, unless, against_next}
 use Rattle.desk_core.specs.Changing.{accepted, against_add, added_deck, added, add_deck, against_put, replaced_deck, put, put_where, against_drop, dropped, drop_deck, edited_deck, edited, against_edit, edit_deck, against_batch, batch}
 use Rattle.cards.specs.declared.carrying.Touched.{Touched}
@@ -15,7 +15,7 @@ use Rattle.desk_core.specs.Carrying.{carried_since, against_carry, accept_carrie
 use Rattle.desk_core.specs.Undoing.{backs_at, against_change, undo_where}
 use Rattle.desk_core.specs.Earlier.{against_since, changes_of, cards_at_of}
 use Rattle.desk_core.specs.Claiming.{claim, claim_deck, claim_link, hand_out, hand_out_link, given, is_behind, is_free, is_published}
-use Rattle.desk_core.specs.Delivering.{deliver_to, take_result, deck_leased, lost, given_back, stored, is_for, is_sound, same_decks, same_first, deliver_link, lay_link, compare_laid, compare_link, give_up_of}
+use Rattle.desk_core.specs.Delivering.{deliver_to, take_result, deck_leased, lost, given_back, stored, is_for, is_sound, same_decks, deliver_link, offer_object, publish, give_up_of}
 use Rattle.desk_core.specs.Steps.{answer, Steps}
 use Rattle.desk_core.specs.Runs.{History, Runs}
 use Rattle.desk_core.specs.Joins.OwnNames.{HaveOwnNames}
@@ -128,22 +128,15 @@ module _ (desk : Desk) (own : HaveOwnNames desk.decks) where
       (λ present. cond_both (not (same_decks publication.decks (decks_of desk))) _ _ Own (λ other. own) (λ same. own))))
       (λ unknown. own)
 
-  own-lay : (number : ℕ) (publication : Publication) → Own (lay_link number publication desk)
-  own-lay number publication =
+  own-offer : (number : ℕ) → Own (offer_object number desk)
+  own-offer number = cond_both (is_leased number desk.link) _ _ Own (λ out. own) (λ unknown. own)
+
+  own-publish : (number : ℕ) → Own (publish number desk)
+  own-publish number =
       cond_both (is_leased number desk.link) _ _ Own
-      (λ out. cond_both (not (is_leased_at publication.version desk.link)) _ _ Own (λ other. own)
-      (λ ours. cond_both (not (publication.version == desk.version)) _ _ Own (λ old. own) (λ present. own)))
+      (λ out. cond_both (not (is_leased_at desk.version desk.link)) _ _ Own (λ old. own)
+      (λ present. cond_both (list_any is_behind desk.decks) _ _ Own (λ behind. own) (λ built. own)))
       (λ unknown. own)
-
-  own-compare-laid : (laid : Option LaidDown) → Own (compare_laid laid desk)
-  own-compare-laid None = cond_both (is_leased_at desk.version desk.link) _ _ Own (λ present. own) (λ old. own)
-  own-compare-laid (Some laid) =
-      cond_both (not (laid.publication.version == desk.version)) _ _ Own (λ old. own)
-      (λ present. cond_both (not (same_first (laid.compared + 1) laid.publication.decks (decks_of desk))) _ _ Own (λ other. own)
-      (λ same. cond_both (nat_lt laid.compared (length desk.decks)) _ _ Own (λ more. own) (λ all. own)))
-
-  own-compare : (number : ℕ) → Own (compare_link number desk)
-  own-compare number = cond_both (is_leased number desk.link) _ _ Own (λ out. own-compare-laid desk.laid) (λ unknown. own)
 
   own-give-up-of : (number : ℕ) (found : Option DeskDeck) → Own (give_up_of number desk found)
   own-give-up-of number None = cond_both (is_leased number desk.link) _ _ Own (λ out. own) (λ unknown. own)
@@ -191,8 +184,8 @@ module _ (desk : Desk) (own : HaveOwnNames desk.decks) where
   own-answer Claim = own-claim
   own-answer (DeliverDeck done) = own-deliver-to done (deck_leased done.lease desk)
   own-answer (DeliverLink number publication) = own-link number publication
-  own-answer (LayLink number publication) = own-lay number publication
-  own-answer (CompareLink number) = own-compare number
+  own-answer (OfferObject number place object) = own-offer number
+  own-answer (Publish number) = own-publish number
   own-answer (GiveUp number) = own-give-up-of number (deck_leased number desk)
 
 own-next : (desk : Desk) (call : Call) (reply : Reply) (next : Desk) → Steps desk call reply next → HaveOwnNames desk.decks → HaveOwnNames next.decks

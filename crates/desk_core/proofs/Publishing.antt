@@ -1,14 +1,16 @@
 -- The call whose outcome may be a publication, and the outcome of each step.
-use Rattle.std.proofs.Common.{◌≡◌, ◌∙◌, inl, inr, ℕ, ◌+◌, ◌==◌, nat_lt, not, false, List, length, Option, Some, None, refl, arith, subst, sym, eqb-true}
-use Rattle.std.proofs.lemmas.Bool.{cond_both, not-false, ltb-false}
-use Rattle.std.proofs.lemmas.List.{length-map}
-use Rattle.desk_core.specs.Desks.{Desk, Publication, LaidDown, deck_of, decks_of, is_leased, is_leased_at}
-use Rattle.desk_core.specs.Joins.Calls.{Call, AddDeck, PutDeck, DropDeck, EditDeck, Batch, EditSince, BatchSince, Undo, Changes, CardsAt, Cards, Show, Status, Claim, DeliverDeck, DeliverLink, LayLink, CompareLink, GiveUp, Reply, Laid, OutOfMemory}
-use Rattle.desk_core.specs.Delivering.{deliver_link, take_link, same_decks, lay_link, lay, same_first, compare_next, compare_laid, compare_link}
+use Rattle.std.proofs.Common.{inl, inr, ℕ, ◌==◌, not, refl, eqb-true}
+use Rattle.std.specs.List.{list_any}
+use Rattle.std.proofs.lemmas.Bool.{cond_both, not-false}
+use Rattle.desk_core.specs.Desks.{Desk, Publication, decks_of, is_leased, is_leased_at}
+use Rattle.desk_core.specs.Joins.Calls.{Call, AddDeck, PutDeck, DropDeck, EditDeck, Batch, EditSince, BatchSince, Undo, Changes, CardsAt, Cards, Show, Status, Claim, DeliverDeck, DeliverLink, OfferObject, Publish, GiveUp, Reply, OutOfMemory}
+use Rattle.desk_core.specs.Joins.Language.{Deck}
+use Rattle.desk_core.specs.Claiming.{is_behind}
+use Rattle.desk_core.specs.Delivering.{deliver_link, take_link, same_decks, offer_object, publish, own_publication}
 use Rattle.desk_core.specs.Steps.{answer, Steps}
-use Rattle.desk_core.proofs.Same.{equal_lists, equal_all}
+use Rattle.desk_core.proofs.Same.{equal_lists}
 use Rattle.desk_core.proofs.Outcomes.{Outcome, Comes, by_publishing, refused_stays, either_comes}
-use Rattle.desk_core.proofs.Staying.{changes_stay, cards_at_stay, cards_stay, show_stays, status_stays, claim_stays, deliver_deck_stays, give_up_stays, lays, unlinks}
+use Rattle.desk_core.proofs.Staying.{changes_stay, cards_at_stay, cards_stay, show_stays, status_stays, claim_stays, deliver_deck_stays, give_up_stays, unlinks, tells}
 use Rattle.desk_core.proofs.Accepting.{add_comes, put_comes, drop_comes, edit_comes, batch_comes, edit_since_comes, batch_since_comes, undo_comes}
 
 take_link_comes : (number : ℕ) (publication : Publication) (desk : Desk) → Comes desk (DeliverLink number publication) (take_link publication desk)
@@ -19,6 +21,7 @@ take_link_comes number publication desk =
     (λ present. cond_both (not (same_decks publication.decks (decks_of desk))) _ _ (Comes desk call) (λ other. unlinks desk call _ refl)
     (λ same. by_publishing (record {
       stored = refl;
+      silent = refl;
       version = refl;
       decks = refl;
       publication = publication;
@@ -30,39 +33,30 @@ take_link_comes number publication desk =
 link_comes : (number : ℕ) (publication : Publication) (desk : Desk) → Comes desk (DeliverLink number publication) (deliver_link number publication desk)
 link_comes number publication desk = either_comes desk (DeliverLink number publication) (is_leased number desk.link) _ _ (take_link_comes number publication desk) (refused_stays desk (DeliverLink number publication) _)
 
-lay_link_comes : (number : ℕ) (publication : Publication) (desk : Desk) → Comes desk (LayLink number publication) (lay_link number publication desk)
-lay_link_comes number publication desk =
-    let call = LayLink number publication in
-    either_comes desk call (is_leased number desk.link) _ _
-    (either_comes desk call (not (is_leased_at publication.version desk.link)) _ _ (unlinks desk call _ refl)
-    (either_comes desk call (not (publication.version == desk.version)) _ _ (unlinks desk call _ refl) (lays desk call Laid _ refl)))
-    (refused_stays desk call _)
+-- an object that is offered
+offer_comes : (number place : ℕ) (object : Deck) (desk : Desk) → Comes desk (OfferObject number place object) (offer_object number desk)
+offer_comes number place object desk =
+    let call = OfferObject number place object in
+    either_comes desk call (is_leased number desk.link) _ _ (tells desk call _ refl) (refused_stays desk call _)
 
-compare_next_comes : (number : ℕ) (laid : LaidDown) (desk : Desk) → Comes desk (CompareLink number) (compare_next laid desk)
-compare_next_comes number laid desk =
-    let call = CompareLink number in
-    let count = laid.compared + 1 in
-    let publication = laid.publication in
-    cond_both (not (publication.version == desk.version)) _ _ (Comes desk call) (λ old. unlinks desk call _ refl)
-    (λ present. cond_both (not (same_first count publication.decks (decks_of desk))) _ _ (Comes desk call) (λ other. unlinks desk call _ refl)
-    (λ same. cond_both (nat_lt laid.compared (length desk.decks)) _ _ (Comes desk call) (λ more. lays desk call Laid _ refl)
-    (λ all. by_publishing (record {
+-- the desk's own decks, published by the desk
+publish_comes : (number : ℕ) (desk : Desk) → Comes desk (Publish number) (publish number desk)
+publish_comes number desk =
+    let call = Publish number in
+    either_comes desk call (is_leased number desk.link) _ _
+    (either_comes desk call (not (is_leased_at desk.version desk.link)) _ _ (unlinks desk call _ refl)
+    (either_comes desk call (list_any is_behind desk.decks) _ _ (unlinks desk call _ refl)
+    (by_publishing (record {
       stored = refl;
+      silent = refl;
       version = refl;
       decks = refl;
-      publication = publication;
+      publication = own_publication desk;
       shown = refl;
-      version_of = eqb-true publication.version desk.version (not-false (publication.version == desk.version) present);
-      decks_are = equal_all count publication.decks (decks_of desk) (not-false (same_first count publication.decks (decks_of desk)) same)
-          (let few = ltb-false laid.compared (length desk.decks) all in let many = length-map desk.decks deck_of in omega (arith, few, many));
+      version_of = refl;
+      decks_are = refl;
     }))))
-
-compare_laid_comes : (number : ℕ) (desk : Desk) (laid : Option LaidDown) → Comes desk (CompareLink number) (compare_laid laid desk)
-compare_laid_comes number desk None = either_comes desk (CompareLink number) (is_leased_at desk.version desk.link) _ _ (unlinks desk (CompareLink number) _ refl) (unlinks desk (CompareLink number) _ refl)
-compare_laid_comes number desk (Some laid) = compare_next_comes number laid desk
-
-compare_link_comes : (number : ℕ) (desk : Desk) → Comes desk (CompareLink number) (compare_link number desk)
-compare_link_comes number desk = either_comes desk (CompareLink number) (is_leased number desk.link) _ _ (compare_laid_comes number desk desk.laid) (refused_stays desk (CompareLink number) _)
+    (refused_stays desk call _)
 
 -- the outcome of each answer
 pub answer_comes : (call : Call) (desk : Desk) → Comes desk call (answer call desk)
@@ -82,8 +76,8 @@ answer_comes Status desk = status_stays desk
 answer_comes Claim desk = claim_stays desk
 answer_comes (DeliverDeck done) desk = deliver_deck_stays done desk
 answer_comes (DeliverLink number publication) desk = link_comes number publication desk
-answer_comes (LayLink number publication) desk = lay_link_comes number publication desk
-answer_comes (CompareLink number) desk = compare_link_comes number desk
+answer_comes (OfferObject number place object) desk = offer_comes number place object desk
+answer_comes (Publish number) desk = publish_comes number desk
 answer_comes (GiveUp number) desk = give_up_stays number desk
 
 -- the outcome of each step

@@ -4,7 +4,7 @@ use Rattle.std.specs.List.{AllByRecursion}
 use Rattle.turn_office.specs.declared.history.Entry.{Entry}
 use Rattle.turn_office.specs.Histories.{entry}
 use Rattle.desk_core.specs.Desks.{Desk, DeskDeck}
-use Rattle.desk_core.specs.Joins.Calls.{Call, AddDeck, PutDeck, DropDeck, EditDeck, Batch, EditSince, BatchSince, Undo, Changes, CardsAt, Cards, Show, Status, Claim, DeliverDeck, DeliverLink, LayLink, CompareLink, GiveUp, Reply, Refused, OutOfMemory}
+use Rattle.desk_core.specs.Joins.Calls.{Call, AddDeck, PutDeck, DropDeck, EditDeck, Batch, EditSince, BatchSince, Undo, Changes, CardsAt, Cards, Show, Status, Claim, DeliverDeck, DeliverLink, OfferObject, Publish, GiveUp, Reply, Refused, OutOfMemory}
 use Rattle.desk_core.specs.Runs.{History}
 use Rattle.desk_core.specs.Jobs.{identity_in, leased_in, Effect, Leaves, effect_on, after_effect, since_job}
 use Rattle.desk_core.proofs.JobsTold.{name_in, since_of, IsDeckTold, IsUnreached, IsDeskTold, IsLeaseTold, AddsNone, LeasesNone, meant_still, lease_told_still, deck_told_next}
@@ -39,8 +39,8 @@ starved_quiet history leases by Status = quiet _ _ _ (λ n. refl) (λ i. refl) (
 starved_quiet history leases by Claim = quiet _ _ _ (λ n. refl) (λ i. refl) (λ n. refl) (λ d. refl)
 starved_quiet history leases by (DeliverDeck done) = quiet _ _ _ (λ n. refl) (λ i. refl) (λ n. refl) (λ d. refl)
 starved_quiet history leases by (DeliverLink number publication) = quiet _ _ _ (λ n. refl) (λ i. refl) (λ n. refl) (λ d. refl)
-starved_quiet history leases by (LayLink number publication) = quiet _ _ _ (λ n. refl) (λ i. refl) (λ n. refl) (λ d. refl)
-starved_quiet history leases by (CompareLink number) = quiet _ _ _ (λ n. refl) (λ i. refl) (λ n. refl) (λ d. refl)
+starved_quiet history leases by (OfferObject number place object) = quiet _ _ _ (λ n. refl) (λ i. refl) (λ n. refl) (λ d. refl)
+starved_quiet history leases by (Publish number) = quiet _ _ _ (λ n. refl) (λ i. refl) (λ n. refl) (λ d. refl)
 starved_quiet history leases by (GiveUp number) = quiet _ _ _ (λ n. refl) (λ i. refl) (λ n. refl) (λ d. refl)
 
 -- a deck that stays as it is, at a version and a number of leases that may have grown

@@ -1,18 +1,21 @@
 -- What is told of a desk after a call that ends a lease.
-use Rattle.std.proofs.Common.{◌≡◌, ℕ, ◌+◌, ◌==◌, nat_lt, Bool, true, false, cond, not, ◌||◌, List, ◌∷◌, length, is_some, is_none, Option, Some, None, refl, sym, ap, ◌∙◌, arith, eqb-true}
+use Rattle.std.proofs.Common.{◌≡◌, ℕ, ◌==◌, Bool, true, false, cond, not, ◌||◌, List, ◌∷◌, is_some, is_none, Option, Some, None, refl, sym, ap, ◌∙◌, arith, eqb-true}
+use Rattle.std.specs.List.{list_any}
 use Rattle.std.proofs.lemmas.Bool.{cond_both, or_parts}
 use Rattle.turn_office.specs.declared.history.Entry.{Entry}
 use Rattle.turn_office.specs.Histories.{entry}
+use Rattle.desk_core.specs.Joins.Language.{Deck}
 use Rattle.desk_core.specs.Joins.Edits.{Edit}
-use Rattle.desk_core.specs.Desks.{Desk, DeskDeck, Lease, Kept, Publication, LaidDown, decks_of, with_deck, is_leased, is_leased_at}
-use Rattle.desk_core.specs.Joins.Calls.{Call, DeliverDeck, DeliverLink, LayLink, CompareLink, GiveUp, Done, Reply, Stored, Laid, Cleared, Refused, Stale, Foreign}
+use Rattle.desk_core.specs.Desks.{Desk, DeskDeck, Lease, Kept, Publication, decks_of, with_deck, is_leased, is_leased_at}
+use Rattle.desk_core.specs.Joins.Calls.{Call, DeliverDeck, DeliverLink, OfferObject, Publish, GiveUp, Done, Reply, Stored, Cleared, Refused, Stale, Foreign}
 use Rattle.desk_core.specs.Answers.{answers}
-use Rattle.desk_core.specs.Delivering.{deliver_deck, deliver_to, take_result, deck_leased, lost, given_back, stored, is_for, is_sound, same_decks, same_first, deliver_link, lay_link, compare_laid, compare_link, give_up, give_up_of, unlinked}
+use Rattle.desk_core.specs.Claiming.{is_behind}
+use Rattle.desk_core.specs.Delivering.{deliver_deck, deliver_to, take_result, deck_leased, lost, given_back, stored, is_for, is_sound, same_decks, deliver_link, offer_object, publish, give_up, give_up_of, unlinked}
 use Rattle.desk_core.specs.Runs.{History}
 use Rattle.desk_core.specs.Jobs.{deck_of_lease, Loses, Leaves, effect_if, since_job}
 use Rattle.desk_core.proofs.JobsTold.{since_of, IsLeaseTold, IsDeckTold, IsDeskTold}
 use Rattle.desk_core.proofs.TellingDecks.{found_told}
-use Rattle.desk_core.proofs.QuietSteps.{IsQuiet, quiet, told_quiet, told_unlinked}
+use Rattle.desk_core.proofs.QuietSteps.{IsQuiet, quiet, told_unlinked}
 use Rattle.desk_core.proofs.TouchedSteps.{Touches, told_touched, leaves_each}
 use Rattle.desk_core.proofs.ChangeSteps.{Next, next_quiet}
 
@@ -107,38 +110,21 @@ module _ (history : History) (by : ℕ) (desk : Desk) (told : IsDeskTold history
       (λ same. next_unlinked call _ _ (quiet _ _ _ (λ n. refl) (λ i. refl) (λ n. refl) (λ d. refl)) refl refl refl refl))))
       (λ unknown. next_quiet history by desk told call _ (quiet _ _ _ (λ n. refl) (λ i. refl) (λ n. refl) (λ d. refl)))
 
-  -- a reply that means nothing, and something is laid down
-  next_laid : (call : Call) (reply : Reply) (laid : Option LaidDown) → IsQuiet history desk.leases (entry by call reply) → IsDeskTold (entry by call reply ∷ history) (record desk { laid = laid })
-  next_laid call reply laid silent = told_quiet history (entry by call reply) desk (record desk { laid = laid }) silent told (omega arith) refl refl refl
-
-  pub lay_link_next : (number : ℕ) (publication : Publication) → Next history by desk told (LayLink number publication) (lay_link number publication desk)
-  lay_link_next number publication =
-      let call = LayLink number publication in
-      let P = Next history by desk told call in
-      cond_both (is_leased number desk.link) _ _ P
-      (λ out. cond_both (not (is_leased_at publication.version desk.link)) _ _ P (λ other. next_unlinked call _ _ (quiet _ _ _ (λ n. refl) (λ i. refl) (λ n. refl) (λ d. refl)) refl refl refl refl)
-      (λ ours. cond_both (not (publication.version == desk.version)) _ _ P (λ old. next_unlinked call _ _ (quiet _ _ _ (λ n. refl) (λ i. refl) (λ n. refl) (λ d. refl)) refl refl refl refl)
-      (λ present. next_laid call Laid _ (quiet _ _ _ (λ n. refl) (λ i. refl) (λ n. refl) (λ d. refl)))))
+  pub offer_next : (number place : ℕ) (object : Deck) → Next history by desk told (OfferObject number place object) (offer_object number desk)
+  offer_next number place object =
+      let call = OfferObject number place object in
+      cond_both (is_leased number desk.link) _ _ (Next history by desk told call)
+      (λ out. next_quiet history by desk told call _ (quiet _ _ _ (λ n. refl) (λ i. refl) (λ n. refl) (λ d. refl)))
       (λ unknown. next_quiet history by desk told call _ (quiet _ _ _ (λ n. refl) (λ i. refl) (λ n. refl) (λ d. refl)))
 
-  next_compared : (number : ℕ) (laid : Option LaidDown) → Next history by desk told (CompareLink number) (compare_laid laid desk)
-  next_compared number None =
-      let call = CompareLink number in
-      cond_both (is_leased_at desk.version desk.link) _ _ (Next history by desk told call)
-      (λ present. next_unlinked call _ _ (quiet _ _ _ (λ n. refl) (λ i. refl) (λ n. refl) (λ d. refl)) refl refl refl refl)
-      (λ old. next_unlinked call _ _ (quiet _ _ _ (λ n. refl) (λ i. refl) (λ n. refl) (λ d. refl)) refl refl refl refl)
-  next_compared number (Some laid) =
-      let call = CompareLink number in
+  pub publish_next : (number : ℕ) → Next history by desk told (Publish number) (publish number desk)
+  publish_next number =
+      let call = Publish number in
       let P = Next history by desk told call in
-      cond_both (not (laid.publication.version == desk.version)) _ _ P (λ old. next_unlinked call _ _ (quiet _ _ _ (λ n. refl) (λ i. refl) (λ n. refl) (λ d. refl)) refl refl refl refl)
-      (λ present. cond_both (not (same_first (laid.compared + 1) laid.publication.decks (decks_of desk))) _ _ P (λ other. next_unlinked call _ _ (quiet _ _ _ (λ n. refl) (λ i. refl) (λ n. refl) (λ d. refl)) refl refl refl refl)
-      (λ same. cond_both (nat_lt laid.compared (length desk.decks)) _ _ P (λ more. next_laid call Laid _ (quiet _ _ _ (λ n. refl) (λ i. refl) (λ n. refl) (λ d. refl)))
-      (λ all. next_unlinked call _ _ (quiet _ _ _ (λ n. refl) (λ i. refl) (λ n. refl) (λ d. refl)) refl refl refl refl)))
-
-  pub compare_link_next : (number : ℕ) → Next history by desk told (CompareLink number) (compare_link number desk)
-  compare_link_next number =
-      let call = CompareLink number in
-      cond_both (is_leased number desk.link) _ _ (Next history by desk told call) (λ out. next_compared number desk.laid)
+      cond_both (is_leased number desk.link) _ _ P
+      (λ out. cond_both (not (is_leased_at desk.version desk.link)) _ _ P (λ old. next_unlinked call _ _ (quiet _ _ _ (λ n. refl) (λ i. refl) (λ n. refl) (λ d. refl)) refl refl refl refl)
+      (λ present. cond_both (list_any is_behind desk.decks) _ _ P (λ behind. next_unlinked call _ _ (quiet _ _ _ (λ n. refl) (λ i. refl) (λ n. refl) (λ d. refl)) refl refl refl refl)
+      (λ built. next_unlinked call _ _ (quiet _ _ _ (λ n. refl) (λ i. refl) (λ n. refl) (λ d. refl)) refl refl refl refl)))
       (λ unknown. next_quiet history by desk told call _ (quiet _ _ _ (λ n. refl) (λ i. refl) (λ n. refl) (λ d. refl)))
 
   next_give_up : (number : ℕ) (found : Option DeskDeck) → deck_leased number desk ≡ found → Next history by desk told (GiveUp number) (give_up_of number desk found)

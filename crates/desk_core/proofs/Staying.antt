@@ -1,7 +1,7 @@
 -- Calls that leave all that is seen as it is: those that read, claim, bring a deck's result or give up.
 use Rattle.std.proofs.Common.{◌≡◌, ℕ, ◌==◌, false, not, ◌||◌, is_none, List, find, Option, Some, None, refl}
 use Rattle.std.specs.List.{list_any}
-use Rattle.desk_core.specs.Desks.{Desk, DeskDeck, Publication, LaidDown, deck_of, deck_named, with_deck, is_leased, is_leased_at}
+use Rattle.desk_core.specs.Desks.{Desk, DeskDeck, Publication, deck_of, deck_named, with_deck, is_leased, is_leased_at}
 use Rattle.desk_core.specs.Joins.Calls.{Call, Changes, CardsAt, Cards, Show, Status, Claim, DeliverDeck, GiveUp, Done, Reply, NoDeck}
 use Rattle.desk_core.specs.Earlier.{against_since, changes_of, changes, cards_at_of, cards_at}
 use Rattle.desk_core.specs.Answers.{answers, against_next}
@@ -13,7 +13,7 @@ use Rattle.desk_core.proofs.DecksSeen.{decks_of-kept}
 use Rattle.desk_core.proofs.Outcomes.{Comes, by_staying, unchanged_itself, refused_stays, either_comes, unless_comes}
 
 -- a reply with the desk as it is
-tells : (desk : Desk) (call : Call) (reply : Reply) → accepts reply ≡ false → Comes desk call (answers reply desk)
+pub tells : (desk : Desk) (call : Call) (reply : Reply) → accepts reply ≡ false → Comes desk call (answers reply desk)
 tells desk call reply silent = by_staying (record { silent = silent; unchanged = unchanged_itself desk })
 
 -- a deck is put in a form with the same name and cards
@@ -24,10 +24,6 @@ forms desk call reply name form silent same = by_staying (record { silent = sile
 -- the lease of a link goes
 pub unlinks : (desk : Desk) (call : Call) (reply : Reply) → accepts reply ≡ false → Comes desk call (answers reply (unlinked desk))
 unlinks desk call reply silent = by_staying (record { silent = silent; unchanged = record { version = refl; decks = refl; publication = refl } })
-
--- something is laid down, or taken up
-pub lays : (desk : Desk) (call : Call) (reply : Reply) (laid : Option LaidDown) → accepts reply ≡ false → Comes desk call (answers reply (record desk { laid = laid }))
-lays desk call reply laid silent = by_staying (record { silent = silent; unchanged = record { version = refl; decks = refl; publication = refl } })
 
 cards_silent : (found : Option DeskDeck) → accepts (cards_reply found) ≡ false
 cards_silent None = refl

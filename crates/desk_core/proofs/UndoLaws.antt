@@ -1,9 +1,9 @@
 -- What takes an edit back applies to what it leaves, and brings the cards back.
-use Rattle.std.specs.Prelude.{insert, remove, slice_set}
-use Rattle.std.proofs.Common.{◌≡◌, ℕ, zero, suc, ◌+◌, ◌-◌, ◌≤◌, ◌<◌, Bool, true, false, not, ◌&&◌, nat_le, List, [], ◌∷◌, ◌++◌, length, get_or, Option, Some, None, refl, sym, ap, ◌∙◌, subst, arith}
+use Rattle.std.specs.Prelude.{insert, remove}
+use Rattle.std.proofs.Common.{◌≡◌, ℕ, zero, suc, ◌+◌, ◌-◌, ◌≤◌, ◌<◌, Bool, true, false, not, nat_le, List, [], ◌∷◌, length, get_or, Option, Some, None, refl, ap, arith}
 use Rattle.std.proofs.Math.ListN.{set}
 use Rattle.std.proofs.lemmas.Bool.{leb-true, le-leb, false_from_ne_true, and_from}
-use Rattle.std.proofs.lemmas.List.{length-set, set-get_or}
+use Rattle.std.proofs.lemmas.List.{length-set}
 use Rattle.std.proofs.lemmas.List.Edits.{length-insert, length-remove}
 use Rattle.cards.proofs.FaultLaws.{have-places}
 use Rattle.cards.specs.Converging.{HasPlace}

@@ -9,7 +9,7 @@ use Rattle.desk_core.specs.Joins.Causes.{when}
 use Rattle.desk_core.specs.Changes.{Change, Edited}
 use Rattle.desk_core.specs.Past.{KeptEdit, backs_of}
 use Rattle.desk_core.specs.Desks.{Desk, DeskDeck, deck_named}
-use Rattle.desk_core.specs.Joins.Calls.{Call, AddDeck, PutDeck, DropDeck, EditDeck, Batch, EditSince, BatchSince, Undo, Changes, CardsAt, Cards, Show, Status, Claim, DeliverDeck, DeliverLink, LayLink, CompareLink, GiveUp, Reply, Carried, Refused, Refusal, OutOfMemory, OldVersion, Forgotten, NoChange, BatchSize}
+use Rattle.desk_core.specs.Joins.Calls.{Call, AddDeck, PutDeck, DropDeck, EditDeck, Batch, EditSince, BatchSince, Undo, Changes, CardsAt, Cards, Show, Status, Claim, DeliverDeck, DeliverLink, OfferObject, Publish, GiveUp, Reply, Carried, Refused, Refusal, OutOfMemory, OldVersion, Forgotten, NoChange, BatchSize}
 use Rattle.desk_core.specs.Answers.{Answer, unless, against_next}
 use Rattle.desk_core.specs.Changing.{accepted, edited_deck, edited, against_seen, against_edit, against_batch, is_batch, refusal_of}
 use Rattle.desk_core.specs.Earlier.{edits_behind}
@@ -136,8 +136,8 @@ module _ (desk next : Desk) (name : List ℕ) (edits : List Edit) (deck : DeskDe
   by-call Claim reply found told is takes asked = cc
   by-call (DeliverDeck done) reply found told is takes asked = cc
   by-call (DeliverLink number publication) reply found told is takes asked = cc
-  by-call (LayLink number publication) reply found told is takes asked = cc
-  by-call (CompareLink number) reply found told is takes asked = cc
+  by-call (OfferObject number place object) reply found told is takes asked = cc
+  by-call (Publish number) reply found told is takes asked = cc
   by-call (GiveUp number) reply found told is takes asked = cc
 
   by-step : (made : Entry Call Reply) → deck_named name desk ≡ Some deck → Steps desk made.call made.reply next → change_in made ≡ Some (Edited name edits) → MadeEdits desk next name edits deck

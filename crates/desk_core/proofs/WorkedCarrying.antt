@@ -1,5 +1,5 @@
 -- Worked histories: edits that find their card.
-use Rattle.std.proofs.Common.{◌≡◌, List, [], ◌∷◌, codes, replicate, refl}
+use Rattle.std.proofs.Common.{◌≡◌, [], ◌∷◌, codes, replicate, refl}
 use Rattle.desk_core.specs.Joins.Edits.{Insert, Replace, Remove, NoSuchCard, DeckFull}
 use Rattle.desk_core.specs.Desks.{Desk, new_desk}
 use Rattle.desk_core.specs.Joins.Calls.{AddDeck, EditDeck, Batch, EditSince, BatchSince, Cards, Changed, Carried, CardsAre, Refused, NoDeck, OldVersion, BatchSize, BadEdit, Forgotten, TouchedCard}

@@ -54,7 +54,7 @@ full_desk = refl
 
 -- a desk that has come to the last version, or given the last lease
 abbrev pub worn : ℕ → ℕ → Desk
-worn version leases = record { version = version; leases = leases; decks = (record { name = M; cards = []; identity = 1; version = 1; built = false; kept = None; waiting = []; lease = None; past = begun_at 1 }) ∷ []; link = None; publication = None; laid = None }
+worn version leases = record { version = version; leases = leases; decks = (record { name = M; cards = []; identity = 1; version = 1; built = false; kept = None; waiting = []; lease = None; past = begun_at 1 }) ∷ []; link = None; publication = None }
 
 pub spent : replies_to (AddDeck (deck_m []) ∷ AddDeck (record { name = []; cards = [] }) ∷ DropDeck M 2 ∷ DropDeck M 1 ∷ EditDeck M 1 (E.Remove 1) me ∷ EditDeck M 1 (E.Insert 1 []) me ∷ Batch M 1 (E.Remove 1 ∷ []) me ∷ Batch M 1 (E.Insert 1 [] ∷ []) me ∷ Claim ∷ [])
     (worn 4611686018427387904 4611686018427387904)

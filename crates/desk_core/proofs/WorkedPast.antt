@@ -1,11 +1,10 @@
 -- Worked histories: what is kept of a deck's changes, and the cards at earlier versions.
-use Rattle.std.proofs.Common.{◌≡◌, ℕ, ◌+◌, ◌-◌, List, [], ◌∷◌, ◌++◌, map, codes, length, replicate, take, refl}
+use Rattle.std.proofs.Common.{◌≡◌, ℕ, List, [], ◌∷◌, map, codes, length, refl}
 use Rattle.std.specs.List.{range_with_len}
-use Rattle.desk_core.specs.Joins.Language.{Card}
 use Rattle.desk_core.specs.Joins.Edits.{Edit, Insert, Replace, Remove, edited_by}
-use Rattle.desk_core.specs.Past.{Past, KeptEdit, begun_at, kept_edits, with_edits, past_after, trimmed, behind, backs_of}
+use Rattle.desk_core.specs.Past.{Past, KeptEdit, past_after}
 use Rattle.desk_core.specs.Desks.{Desk, new_desk}
-use Rattle.desk_core.specs.Joins.Calls.{Call, AddDeck, PutDeck, DropDeck, EditDeck, Batch, Changes, CardsAt, Reply, Changed, ChangesAre, CardsBefore, Refused, NoDeck, OldVersion, Forgotten}
+use Rattle.desk_core.specs.Joins.Calls.{AddDeck, PutDeck, DropDeck, EditDeck, Batch, Changes, CardsAt, Changed, ChangesAre, CardsBefore, Refused, NoDeck, OldVersion, Forgotten}
 use Rattle.desk_core.proofs.Worked.{replies_to, desk_after, M, me, deck_m}
 
 -- the name of another

@@ -1,9 +1,8 @@
 -- A worked desk: its rounds, where a record that came back late is of other cards.
-use Rattle.std.proofs.Common.{◌≡◌, List, [], ◌∷◌, codes, refl}
-use Rattle.desk_core.specs.Joins.Language.{Card}
+use Rattle.std.proofs.Common.{◌≡◌, [], ◌∷◌, codes, refl}
 use Rattle.desk_core.specs.Joins.Edits.{Replace}
 use Rattle.desk_core.specs.Desks.{Desk, new_desk}
-use Rattle.desk_core.specs.Joins.Calls.{AddDeck, Claim, FromRecord, FromCards, Reply, LinkJob, Idle}
+use Rattle.desk_core.specs.Joins.Calls.{AddDeck, Claim, FromRecord, FromCards, LinkJob, Idle}
 use Rattle.desk_core.specs.Steps.{answer}
 use Rattle.desk_core.specs.Rounds.{after_rounds, most_rounds}
 use Rattle.desk_core.proofs.Worked.{desk_after, deck_m, kept, result, job, A, B, C, replace}

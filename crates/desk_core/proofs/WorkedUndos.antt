@@ -58,7 +58,6 @@ worn version = record {
   leases = 0;
   link = None;
   publication = None;
-  laid = None;
   decks = (record { name = M; cards = [] ∷ []; identity = 1; version = 1902; built = false; kept = None; waiting = []; lease = None; past = record { since = 802; edits = edits_from 802 1101 } }) ∷ [];
 }
 

@@ -31,7 +31,7 @@ added_deck version deck = record { name = deck.name; cards = deck.cards; identit
 
 -- the desk with a deck more
 abbrev pub added : Deck → Desk → Desk
-added deck desk = record desk { version = desk.version + 1; decks = desk.decks ++ added_deck (desk.version + 1) deck ∷ []; laid = None }
+added deck desk = record desk { version = desk.version + 1; decks = desk.decks ++ added_deck (desk.version + 1) deck ∷ [] }
 
 -- Add
 abbrev pub add_deck : Deck → Desk → Answer
@@ -66,7 +66,7 @@ against_drop seen desk (Some deck) = first_cause (against_seen seen deck ∷ aga
 
 -- the desk without the deck of a name, and so without its lease
 abbrev pub dropped : List ℕ → Desk → Desk
-dropped name desk = record desk { version = desk.version + 1; decks = filter (λ deck. not (is_named name deck)) desk.decks; laid = None }
+dropped name desk = record desk { version = desk.version + 1; decks = filter (λ deck. not (is_named name deck)) desk.decks }
 
 -- DropDeck
 abbrev pub drop_deck : List ℕ → ℕ → Desk → Answer

@@ -45,7 +45,7 @@ claim_deck desk (Some deck) = unless (against_next desk.leases) desk (hand_out d
 abbrev pub hand_out_link : Desk → Answer
 hand_out_link desk = answers
     (LinkJob (record { lease = desk.leases + 1; version = desk.version; objects = decks_of desk }))
-    (record desk { leases = desk.leases + 1; link = Some (record { number = desk.leases + 1; version = desk.version }); laid = None })
+    (record desk { leases = desk.leases + 1; link = Some (record { number = desk.leases + 1; version = desk.version }) })
 
 -- whether the publication is of this version
 abbrev pub is_published : ℕ → Option Publication → Bool

@@ -1,9 +1,11 @@
--- Calls that end a lease: DeliverDeck, DeliverLink, GiveUp; and LayLink with CompareLink, which deliver a link deck by deck (ours).
-use Rattle.std.specs.Prelude.{ℕ, ◌+◌, ◌==◌, nat_lt, Bool, true, false, not, ◌&&◌, ◌||◌, List, [], ◌∷◌, length, take, find, is_none, Option, Some, None, if◌then◌else◌}
+-- Calls that end a lease: DeliverDeck, DeliverLink, Publish, GiveUp; and OfferObject, which comes before Publish (ours).
+use Rattle.std.specs.Prelude.{ℕ, ◌==◌, Bool, true, false, not, ◌&&◌, ◌||◌, List, [], ◌∷◌, find, is_none, Option, Some, None, if◌then◌else◌}
+use Rattle.std.specs.List.{list_any}
 use Rattle.desk_core.specs.Joins.Language.{Card, Deck, same_text}
-use Rattle.desk_core.specs.Desks.{Desk, DeskDeck, Kept, Publication, LaidDown, is_leased, is_leased_at, deck_of, decks_of, with_deck}
-use Rattle.desk_core.specs.Joins.Calls.{Done, Reply, Stored, Laid, Cleared, Refused, UnknownJob, Stale, Foreign}
+use Rattle.desk_core.specs.Desks.{Desk, DeskDeck, Kept, Publication, is_leased, is_leased_at, deck_of, decks_of, with_deck}
+use Rattle.desk_core.specs.Joins.Calls.{Done, Stored, Considered, Published, Cleared, Refused, UnknownJob, Stale, Foreign}
 use Rattle.desk_core.specs.Answers.{Answer, answers}
+use Rattle.desk_core.specs.Claiming.{is_behind}
 
 -- whether cards are the same, one by one
 abbrev pub same_cards : List Card → List Card → Bool
@@ -67,9 +69,9 @@ deliver_to done desk (Some deck) = take_result done desk deck
 abbrev pub deliver_deck : Done → Desk → Answer
 deliver_deck done desk = deliver_to done desk (deck_leased done.lease desk)
 
--- the desk without the lease of a link, and without what was laid down under it
+-- the desk without the lease of a link
 abbrev pub unlinked : Desk → Desk
-unlinked desk = record desk { link = None; laid = None }
+unlinked desk = record desk { link = None }
 
 -- what becomes of a publication whose lease was out
 abbrev pub take_link : Publication → Desk → Answer
@@ -83,46 +85,24 @@ take_link publication desk =
 abbrev pub deliver_link : ℕ → Publication → Desk → Answer
 deliver_link number publication desk = if is_leased number desk.link then take_link publication desk else answers (Refused UnknownJob) desk
 
--- the lease of a link ends, since the desk has changed
-abbrev pub too_late : Desk → Answer
-too_late desk = answers (Refused (Stale desk.version)) (unlinked desk)
+-- OfferObject: what an object adds to one of the same deck is not seen here, so the desk is as it was
+abbrev pub offer_object : ℕ → Desk → Answer
+offer_object number desk = if is_leased number desk.link then answers Considered desk else answers (Refused UnknownJob) desk
 
--- a publication whose lease was out is laid down, where it and the desk are of the lease's version; none of its decks is compared yet
-abbrev pub lay : Publication → Desk → Answer
-lay publication desk =
-    if not (is_leased_at publication.version desk.link) then answers (Refused Foreign) (unlinked desk)
-    else if not (publication.version == desk.version) then too_late desk
-    else answers Laid (record desk { laid = Some (record { publication = publication; compared = 0 }) })
+-- the publication of a desk as it is
+abbrev pub own_publication : Desk → Publication
+own_publication desk = record { version = desk.version; decks = decks_of desk }
 
--- LayLink
-abbrev pub lay_link : ℕ → Publication → Desk → Answer
-lay_link number publication desk = if is_leased number desk.link then lay publication desk else answers (Refused UnknownJob) desk
+-- the desk publishes its decks, where the lease of the link was given at its version and each deck has its object; the reply has the publication before
+abbrev pub publish_own : Desk → Answer
+publish_own desk =
+    if not (is_leased_at desk.version desk.link) then answers (Refused (Stale desk.version)) (unlinked desk)
+    else if list_any is_behind desk.decks then answers (Refused Foreign) (unlinked desk)
+    else answers (Published desk.publication) (record (unlinked desk) { publication = Some (own_publication desk) })
 
--- whether a reply tells that a publication lies there, and that there is more to compare
-abbrev pub is_laid : Reply → Bool
-is_laid Laid = true
-is_laid _ = false
-
--- whether so many decks, the first of each list, are the same, and the lists have as many decks
-abbrev pub same_first : ℕ → List Deck → List Deck → Bool
-same_first count a b = (length a == length b) && same_decks (take count a) (take count b)
-
--- the next deck of what was laid down is compared: with all before it, it is the desk's; where none is left to compare, the publication is stored
-abbrev pub compare_next : LaidDown → Desk → Answer
-compare_next laid desk =
-    if not (laid.publication.version == desk.version) then too_late desk
-    else if not (same_first (laid.compared + 1) laid.publication.decks (decks_of desk)) then answers (Refused Foreign) (unlinked desk)
-    else if nat_lt laid.compared (length desk.decks) then answers Laid (record desk { laid = Some (record laid { compared = laid.compared + 1 }) })
-    else answers Stored (record (unlinked desk) { publication = Some laid.publication })
-
--- what lies there is compared; where nothing does, it was taken back by a change of the desk, or the lease has no such call
-abbrev pub compare_laid : Option LaidDown → Desk → Answer
-compare_laid None desk = if is_leased_at desk.version desk.link then answers (Refused Foreign) (unlinked desk) else too_late desk
-compare_laid (Some laid) desk = compare_next laid desk
-
--- CompareLink
-abbrev pub compare_link : ℕ → Desk → Answer
-compare_link number desk = if is_leased number desk.link then compare_laid desk.laid desk else answers (Refused UnknownJob) desk
+-- Publish
+abbrev pub publish : ℕ → Desk → Answer
+publish number desk = if is_leased number desk.link then publish_own desk else answers (Refused UnknownJob) desk
 
 -- a lease of no deck is a link's, or none
 abbrev pub give_up_of : ℕ → Desk → Option DeskDeck → Answer

@@ -14,11 +14,6 @@ pub record Publication : Type 0 where
   pub version : ℕ
   pub decks : List Deck
 
--- a publication that was laid down, and how many of its first decks were found to be the desk's
-pub record LaidDown : Type 0 where
-  pub publication : Publication
-  pub compared : ℕ
-
 -- a deck on the desk: its identity is the version that its addition made, or that of the last deck put in its place, its version that of the last change of it; whether it has an object of that version;
 -- its record, where the desk has one; the edits that the record lacks; the lease, where one is out; and what is kept of its changes
 pub record DeskDeck : Type 0 where
@@ -32,14 +27,13 @@ pub record DeskDeck : Type 0 where
   pub lease : Option Lease
   pub past : Past
 
--- a desk: how many changes it accepted, how many leases it gave, its decks in order of addition, the lease of a link, the last publication, and what was laid down under that lease
+-- a desk: how many changes it accepted, how many leases it gave, its decks in order of addition, the lease of a link, and the last publication
 pub record Desk : Type 0 where
   pub version : ℕ
   pub leases : ℕ
   pub decks : List DeskDeck
   pub link : Option Lease
   pub publication : Option Publication
-  pub laid : Option LaidDown
 
 -- whether a lease is out under this number
 abbrev pub is_leased : ℕ → Option Lease → Bool
@@ -53,7 +47,7 @@ is_leased_at version (Some lease) = lease.version == version
 
 -- a new desk, which goes on behind this version: its first change makes the next one
 abbrev pub new_desk_at : ℕ → Desk
-new_desk_at begun = record { version = begun; leases = 0; decks = []; link = None; publication = None; laid = None }
+new_desk_at begun = record { version = begun; leases = 0; decks = []; link = None; publication = None }
 
 -- a new desk
 abbrev pub new_desk : Desk
@@ -87,6 +81,6 @@ deck_named name desk = find (is_named name) desk.decks
 abbrev pub put_if_named : List ℕ → (DeskDeck → DeskDeck) → DeskDeck → DeskDeck
 put_if_named name form deck = if is_named name deck then form deck else deck
 
--- the desk with the deck of a name in another form; what was laid down is taken back
+-- the desk with the deck of a name in another form
 abbrev pub with_deck : List ℕ → (DeskDeck → DeskDeck) → Desk → Desk
-with_deck name form desk = record desk { decks = map (put_if_named name form) desk.decks; laid = None }
+with_deck name form desk = record desk { decks = map (put_if_named name form) desk.decks }

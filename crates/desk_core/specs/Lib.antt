@@ -11,7 +11,6 @@ pub mod Undoing
 pub mod Claiming
 pub mod Delivering
 pub mod Steps
-pub mod Comparing
 pub mod Making
 pub mod Rounds
 pub mod Runs

@@ -1,7 +1,7 @@
 -- The step of a desk (ours): a function of the call and the desk, and one free choice.
 use Rattle.std.specs.Prelude.{◌≡◌, ◌⊎◌, Bool, true, false, not, ◌&&◌, IsTrue}
 use Rattle.desk_core.specs.Desks.{Desk}
-use Rattle.desk_core.specs.Joins.Calls.{Call, AddDeck, PutDeck, DropDeck, EditDeck, Batch, EditSince, BatchSince, Undo, Changes, CardsAt, Cards, Show, Status, Claim, DeliverDeck, DeliverLink, LayLink, CompareLink, GiveUp, Reply, Changed, Carried, CardsAre, ChangesAre, CardsBefore, Shown, StatusIs, DeckJob, LinkJob, Refused, OutOfMemory}
+use Rattle.desk_core.specs.Joins.Calls.{Call, AddDeck, PutDeck, DropDeck, EditDeck, Batch, EditSince, BatchSince, Undo, Changes, CardsAt, Cards, Show, Status, Claim, DeliverDeck, DeliverLink, OfferObject, Publish, GiveUp, Reply, Changed, Carried, CardsAre, ChangesAre, CardsBefore, Shown, StatusIs, DeckJob, LinkJob, Published, Refused, OutOfMemory}
 use Rattle.desk_core.specs.Answers.{Answer}
 use Rattle.desk_core.specs.Changing.{add_deck, put_deck, drop_deck, edit_deck, batch}
 use Rattle.desk_core.specs.Reading.{cards, show, status}
@@ -9,7 +9,7 @@ use Rattle.desk_core.specs.Earlier.{changes, cards_at}
 use Rattle.desk_core.specs.Carrying.{edit_since, batch_since}
 use Rattle.desk_core.specs.Undoing.{undo}
 use Rattle.desk_core.specs.Claiming.{claim}
-use Rattle.desk_core.specs.Delivering.{deliver_deck, deliver_link, lay_link, compare_link, give_up}
+use Rattle.desk_core.specs.Delivering.{deliver_deck, deliver_link, offer_object, publish, give_up}
 
 -- the answer of a desk to a call, where memory is found
 abbrev pub answer : Call → Desk → Answer
@@ -29,8 +29,8 @@ answer Status desk = status desk
 answer Claim desk = claim desk
 answer (DeliverDeck done) desk = deliver_deck done desk
 answer (DeliverLink number publication) desk = deliver_link number publication desk
-answer (LayLink number publication) desk = lay_link number publication desk
-answer (CompareLink number) desk = compare_link number desk
+answer (OfferObject number place object) desk = offer_object number desk
+answer (Publish number) desk = publish number desk
 answer (GiveUp number) desk = give_up number desk
 
 -- a drop takes no memory
@@ -49,6 +49,7 @@ is_made (Shown publication) = true
 is_made (StatusIs version published rows) = true
 is_made (DeckJob job) = true
 is_made (LinkJob job) = true
+is_made (Published before) = true
 is_made _ = false
 
 -- whether a call with this reply takes memory

@@ -92,13 +92,16 @@ pub enum Call {
         lease: u64,
         publication: SharedPublication,
     },
-    /// The result of a link job is laid down, to be compared deck by deck.
-    LayLink {
+    /// The object of the deck at a place, from 0, with the section that it has in the link job of this lease:
+    /// where both are of the same cards it takes the place of the deck's own, so that `Publish` finds the section
+    /// made.
+    OfferObject {
         lease: u64,
-        publication: SharedPublication,
+        place: usize,
+        object: ListedObject,
     },
-    /// The next deck of what was laid down is compared; where none is left, the publication is stored.
-    CompareLink(u64),
+    /// The desk links its own objects, as this lease was given for, and publishes them.
+    Publish(u64),
     /// The lease ends without a result, and the record is lost.
     GiveUp(u64),
 }

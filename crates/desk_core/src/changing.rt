@@ -9,7 +9,6 @@ ghost use Rattle.desk_core.specs.Joins.OwnNames.{IsPlaceOf, changed_at};
 ghost use Rattle.desk_core.specs.Joins.Turns.{IsAnswer, MayAnswer};
 
 use crate::desk::{Desk, against_next};
-use crate::laid_down::LaidDown;
 use crate::new_deck::NewDeck;
 use crate::replies::{Refusal, Reply};
 use crate::stored_deck::StoredDeck;
@@ -56,7 +55,7 @@ impl Desk {
         let deck = StoredDeck::new(self.alloc, version, deck);
         match self.decks.push(deck) {
             Ok(()) => {
-                come_to(&mut self.version, &mut self.laid, version);
+                self.version = version;
                 Reply::Changed(version)
             }
             Err(_) => Reply::Refused(Refusal::OutOfMemory),
@@ -113,7 +112,7 @@ impl Desk {
     {
         let version = self.version + 1;
         self.decks.replace_at(place, version, cards);
-        come_to(&mut self.version, &mut self.laid, version);
+        self.version = version;
         version
     }
 
@@ -144,12 +143,11 @@ impl Desk {
     fn drop_at(&mut self, place: usize) -> u64
         requires within { place < length self.old.decks }
         requires room { against_next self.old.version ≡ None }
-        ensures desk { self.new ≡ record self.old { version = self.old.version + 1; decks = remove self.old.decks place; laid = None } }
+        ensures desk { self.new ≡ record self.old { version = self.old.version + 1; decks = remove self.old.decks place } }
         ensures version { result ≡ self.old.version + 1 }
     {
         self.version += 1;
         self.decks.remove(place);
-        self.laid = None;
         self.version
     }
 
@@ -204,7 +202,7 @@ impl Desk {
     {
         let version = self.version + 1;
         self.decks.edit_at(self.alloc, place, version, by, edit)?;
-        come_to(&mut self.version, &mut self.laid, version);
+        self.version = version;
         Ok(version)
     }
 
@@ -263,16 +261,7 @@ impl Desk {
         let version = self.version + 1;
         self.decks
             .edit_all_at(self.alloc, place, version, by, edits)?;
-        come_to(&mut self.version, &mut self.laid, version);
+        self.version = version;
         Ok(version)
     }
-}
-
-/// A change makes this version, and takes back what was laid down.
-fn come_to(version: &mut u64, laid: &mut Option<LaidDown>, next: u64)
-    ensures version { version.new ≡ next }
-    ensures laid { laid.new ≡ None }
-{
-    *version = next;
-    *laid = None;
 }

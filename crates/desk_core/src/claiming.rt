@@ -55,7 +55,6 @@ impl Desk {
         let number = self.leases + 1;
         let work = self.decks.give_out_at(self.alloc, place, number)?;
         self.leases = number;
-        self.laid = None;
         Ok(work)
     }
 
@@ -80,7 +79,7 @@ impl Desk {
     }
 
     /// Whether the link of this version is out.
-    fn is_linked(&self) -> bool
+    pub(crate) fn is_linked(&self) -> bool
         ensures { result ≡ is_leased_at self.now.version self.now.link }
     {
         is_leased_at(self.version, self.link)
@@ -100,7 +99,6 @@ impl Desk {
             number,
             version: self.version,
         });
-        self.laid = None;
         Ok(LinkWork {
             lease: number,
             version: self.version,
@@ -108,7 +106,7 @@ impl Desk {
         })
     }
 
-    fn has_behind(&self) -> bool
+    pub(crate) fn has_behind(&self) -> bool
         ensures { result ≡ list_any is_behind self.now.decks }
     {
         self.decks.has_behind()
@@ -122,7 +120,7 @@ impl Desk {
 }
 
 /// The objects of decks that all have one, in order.
-fn objects(alloc: Global, decks: &[StoredDeck]) -> Result<Vec<ListedObject>, AllocError>
+pub(crate) fn objects(alloc: Global, decks: &[StoredDeck]) -> Result<Vec<ListedObject>, AllocError>
     requires { list_any is_behind decks.now ≡ false }
     ensures { IfOk result (λ objects. objects.items ≡ map deck_of decks.now) }
 {

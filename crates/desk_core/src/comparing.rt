@@ -1,12 +1,12 @@
 //! Names, cards and decks compared by value.
-ghost use Rattle.std.specs.Prelude.{◌≡◌, ◌+◌, length, map, take};
+ghost use Rattle.std.specs.Prelude.{◌≡◌, length, map};
 ghost use Rattle.desk_core.specs.Joins.Language.{same_text};
 ghost use Rattle.desk_core.specs.Desks.{deck_of};
-ghost use Rattle.desk_core.specs.Delivering.{same_cards, same_decks, same_first};
+ghost use Rattle.desk_core.specs.Delivering.{same_cards, same_decks};
 
 use crate::stored_deck::StoredDeck;
 use cards::{Card, DeckName};
-use deck_listing::ListedObject;
+use deck_listing::{LinkValue, ListedObject};
 use definitions::is_same_text;
 
 pub(crate) fn same_name(name: &DeckName, other: &DeckName) -> bool
@@ -47,26 +47,38 @@ pub(crate) fn same_decks(objects: &[ListedObject], decks: &[StoredDeck]) -> bool
     objects.len() == decks.len() && all_decks_same(objects, decks)
 }
 
-/// Whether there are as many objects as decks, and one deck more is the same, behind so many that are.
-pub(crate) fn same_first(objects: &[ListedObject], decks: &[StoredDeck], compared: usize) -> bool
-    requires { take compared objects.now ≡ take compared (map deck_of decks.now) }
-    ensures { result ≡ same_first (compared + 1) objects.now (map deck_of decks.now) }
-{
-    if objects.len() != decks.len() {
-        return false;
-    }
-    if compared >= decks.len() {
-        return true;
-    }
-    decks[compared].is_of_object(&objects[compared])
-}
-
 fn all_decks_same(objects: &[ListedObject], decks: &[StoredDeck]) -> bool
     requires { length objects.now ≡ length decks.now }
     ensures { result ≡ same_decks objects.now (map deck_of decks.now) }
 {
     for (place, object) in objects.iter().enumerate() {
         if !decks[place].is_of_object(object) {
+            return false;
+        }
+    }
+    true
+}
+
+/// Whether an object keeps the section that another one of the same deck keeps, told by the places where the two
+/// stood. It saves work, and nothing rests on it: a link looks at the section itself.
+pub(crate) fn is_placed_alike(object: &ListedObject, other: &ListedObject) -> bool {
+    let Some(offered) = other.section() else {
+        return true;
+    };
+    let Some(section) = object.section() else {
+        return false;
+    };
+    section.base() == offered.base()
+        && section.values().len() == offered.values().len()
+        && are_worth_alike(section.values(), offered.values())
+}
+
+/// Whether values are worth the same, one by one.
+fn are_worth_alike(values: &[LinkValue], others: &[LinkValue]) -> bool
+    requires { length values.now ≡ length others.now }
+{
+    for (place, value) in values.iter().enumerate() {
+        if value.value() != others[place].value() {
             return false;
         }
     }

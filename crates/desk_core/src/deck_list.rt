@@ -199,6 +199,16 @@ impl DeckList {
         deck.let_cards_go(alloc, latest);
     }
 
+    /// An object is offered to the deck at a place, if there is one.
+    pub(crate) fn offer_at(&mut self, place: usize, object: ListedObject)
+        ensures { self.new ≡ self.old }
+    {
+        if place < self.decks.len() {
+            let deck = &mut self.decks[place];
+            deck.offer(object);
+        }
+    }
+
     /// The decks take their objects once more, with what the link of a version has added to them.
     pub(crate) fn refresh(&mut self, alloc: Global, version: u64, objects: &[ListedObject])
         requires { objects.now ≡ map deck_of self.old }

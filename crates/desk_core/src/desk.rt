@@ -5,7 +5,6 @@ ghost use Rattle.desk_core.specs.Joins.OwnNames.{IsPlaceOf};
 ghost use Rattle.desk_core.specs.Answers.{against_next};
 
 use crate::deck_list::DeckList;
-use crate::laid_down::LaidDown;
 use crate::leases::Lease;
 use crate::replies::Refusal;
 use crate::shared_publication::SharedPublication;
@@ -18,8 +17,7 @@ use std::marker::Model;
 const GREATEST_NUMBER: u64 = 4_611_686_018_427_387_904;
 
 /// The desk: the version that its last change made, how many leases it gave, its decks in order of addition, the
-/// lease of a link, the last publication, and what was laid down under that lease, of which as many decks as were
-/// compared are the desk's. It keeps where its memory comes from.
+/// lease of a link, and the last publication. It keeps where its memory comes from.
 #[derive(Drop)]
 pub struct Desk {
     pub(crate) alloc: Global,
@@ -28,18 +26,14 @@ pub struct Desk {
     pub(crate) decks: DeckList,
     pub(crate) link: Option<Lease>,
     pub(crate) publication: Option<SharedPublication>,
-    pub(crate) laid: Option<LaidDown>,
 }
 
 impl Model for Desk {
     ghost use Rattle.desk_core.specs.Desks as desks;
-    ghost use Rattle.desk_core.specs.Joins.OwnNames.{AreCompared};
 
     ghost Value = { desks.Desk };
 
-    ghost view = { λ d. record { version = d.version; leases = d.leases; decks = d.decks; link = d.link; publication = d.publication; laid = d.laid } };
-
-    ghost invariant = { λ d. AreCompared d.laid d.decks };
+    ghost view = { λ d. record { version = d.version; leases = d.leases; decks = d.decks; link = d.link; publication = d.publication } };
 }
 
 impl Desk {
@@ -61,7 +55,6 @@ impl Desk {
             decks: DeckList::new(alloc),
             link: None,
             publication: None,
-            laid: None,
         }
     }
 

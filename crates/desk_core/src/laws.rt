@@ -1,5 +1,5 @@
 //! What holds in every run of a desk, each law as the contract of a function that does nothing.
-ghost use Rattle.std.specs.Prelude.{◌≡◌, ℕ, ◌+◌, ◌-◌, ◌≤◌, true, false, List, [], ◌∷◌, length, Some, reverse};
+ghost use Rattle.std.specs.Prelude.{◌≡◌, ℕ, ◌+◌, ◌-◌, ◌≤◌, true, false, List, [], ◌∷◌, Some, reverse};
 ghost use Rattle.cards.specs.Converging.{edits_in, Converge};
 ghost use Rattle.turn_office.specs.declared.history.Entry.{Entry};
 ghost use Rattle.turn_office.specs.Histories.{Leads};
@@ -9,7 +9,8 @@ ghost use Rattle.desk_core.specs.Joins.Edits.{Edit, edited_by};
 ghost use Rattle.desk_core.specs.Past.{KeptEdit};
 ghost use Rattle.desk_core.specs.Led.{HaveLed};
 ghost use Rattle.desk_core.specs.Desks.{Desk, DeskDeck, Publication, decks_of, deck_named, greatest_number};
-ghost use Rattle.desk_core.specs.Joins.Calls.{Call, Refusal, Reply, Show, Shown, Claim, Idle, DeliverLink, LayLink, DeckJob, DeckWork, Refused, EditSince, BatchSince, Undo, Carried, Changes, ChangesAre, CardsAt, CardsBefore};
+ghost use Rattle.desk_core.specs.Joins.Calls.{Call, Refusal, Reply, Show, Shown, Claim, Idle, DeliverLink, Publish, DeckJob, DeckWork, Refused, EditSince, BatchSince, Undo, Carried, Changes, ChangesAre, CardsAt, CardsBefore};
+ghost use Rattle.desk_core.specs.Delivering.{own_publication};
 ghost use Rattle.desk_core.specs.Steps.{answer, Steps};
 ghost use Rattle.desk_core.specs.Runs.{History, Runs, change_in, decks_at, cards_named, IsBuildOf, IsUnchanged, IsOfItsChanges, IsPublishedAt, IsPublishedFrom};
 ghost use Rattle.desk_core.specs.Jobs.{IsDue, IsPartOf, accepted_edits, handed_edits};
@@ -17,7 +18,6 @@ ghost use Rattle.desk_core.specs.Earlier.{edits_behind};
 ghost use Rattle.desk_core.specs.Carrying.{made_in, cards_of};
 ghost use Rattle.desk_core.specs.Undoing.{backs_at};
 ghost use Rattle.desk_core.specs.Rounds.{after_rounds, most_rounds};
-ghost use Rattle.desk_core.specs.Comparing.{compared_on};
 ghost use Rattle.desk_core.specs.Progress.{has_leases, has_work, hands_a_deck, hands_a_link};
 
 /// After every list of calls and replies that a new desk allows one after the other: what is shown
@@ -70,12 +70,11 @@ pub fn work_ends()
         (answer Claim (after_rounds (most_rounds desk) desk)).reply ≡ Idle desk.version }
 {}
 
-/// A publication that is laid down and compared deck by deck comes to what its delivery comes to: the same reply
-/// and the same desk, behind one call for each deck and one more, or behind fewer where one of them tells of no
-/// more to compare. So these calls end, and what they store is what a delivery stores.
-pub fn laid_is_delivered()
-    ensures { (lease : ℕ) (publication : Publication) (desk : Desk) →
-        compared_on (length desk.decks + 1) lease (answer (LayLink lease publication) desk) ≡ answer (DeliverLink lease publication) desk }
+/// What a desk publishes of its own decks, where none is behind, is what is published where they are delivered under
+/// its version: the desk is the same after both. So who has the desk publish does what the link job is for.
+pub fn published_is_delivered()
+    ensures { (lease : ℕ) (desk : Desk) → has_work desk ≡ false →
+        (answer (Publish lease) desk).desk ≡ (answer (DeliverLink lease (own_publication desk)) desk).desk }
 {}
 
 /// An undo takes back what the change did: made on the cards that a deck had at a version, what takes the

@@ -1,13 +1,15 @@
 //! The desk: decks that several people edit, jobs for those who assemble and link them, and the
 //! publication that everybody sees. Its definitions, the laws that hold over each run, and the code
-//! that makes each step. Nothing here assembles, links, reads or writes.
+//! that makes each step. Nothing here assembles, reads or writes, and nothing is linked but a desk's own decks,
+//! where it publishes them by itself.
 //!
 //! `specs/Lib.antt` has what a desk may answer: `Changes` the decks that accepted changes leave,
 //! `Past` what is kept of them, `Answers`, `Changing`, `Reading`, `Earlier`, `Carrying`, `Undoing`,
 //! `Claiming` and `Delivering` the answer to each call, `Steps` a step, which is the answer, or, where
 //! that takes memory, the refusal for want of it; `Runs` and `Jobs` what is promised of each run
 //! (`every_run`, `jobs_once`), `Progress`, `Making` and `Rounds` that work is handed out, and ends
-//! (`work_is_handed_out`, `work_ends`); `undo_takes_back` says what an undo leaves, `kept_changes` that
+//! (`work_is_handed_out`, `work_ends`), `published_is_delivered` what the desk publishes by itself;
+//! `undo_takes_back` says what an undo leaves, `kept_changes` that
 //! what is kept of a deck is what happened, `nobody_is_undone` that edits which are carried undo nothing of
 //! others. `Stored`, `OwnNames`, `Turns` and `Delivered` say how the code keeps a desk, and no law names
 //! them. The code has a method for each call, with its part of the relation as its clause. A deck is found
@@ -28,7 +30,6 @@ mod shared_publication;
 // What the desk keeps.
 mod deck_list;
 mod desk;
-mod laid_down;
 mod leases;
 mod past;
 mod stored_deck;
@@ -41,6 +42,7 @@ mod comparing;
 mod delivering;
 mod earlier;
 mod edit_both;
+mod own_link;
 mod reading;
 mod sequence;
 mod undoing;
@@ -54,7 +56,7 @@ pub use desk::Desk;
 pub use held::Held;
 pub use jobs::{DeckWork, LinkWork, Start};
 pub use laws::{
-    every_run, jobs_once, kept_changes, laid_is_delivered, nobody_is_undone, undo_takes_back,
+    every_run, jobs_once, kept_changes, nobody_is_undone, published_is_delivered, undo_takes_back,
     work_ends, work_is_handed_out,
 };
 pub use leases::Lease;
@@ -62,5 +64,5 @@ pub use listed::Listed;
 pub use new_deck::NewDeck;
 pub use past::KeptEdit;
 pub use replies::{Refusal, Reply, Row, State};
-pub use shared_publication::SharedPublication;
+pub use shared_publication::{PublicationBefore, SharedPublication};
 pub use stored_deck::StoredDeck;

@@ -20,10 +20,13 @@ impl Model for NewDeck {
 }
 
 impl NewDeck {
-    /// A deck of this name and these cards. It may have more cards than a desk takes.
+    /// A deck of this name and these cards, which keep no memory beyond what they need. It may have more cards than
+    /// a desk takes.
     pub fn new(name: DeckName, cards: Vec<Card>) -> NewDeck
         ensures { result ≡ record { name = name; cards = cards.items } }
     {
+        let mut cards = cards;
+        cards.shrink_to_fit();
         NewDeck { name, cards }
     }
 }

@@ -3,7 +3,7 @@
 use crate::jobs::{DeckWork, LinkWork};
 use crate::listed::Listed;
 use crate::past::KeptEdit;
-use crate::shared_publication::SharedPublication;
+use crate::shared_publication::{PublicationBefore, SharedPublication};
 use cards::{Card, DeckName, Edit, EditFault};
 
 /// The state of a deck.
@@ -116,8 +116,11 @@ pub enum Reply {
     AllOut,
     /// The result was taken.
     Stored,
-    /// The publication lies there, and is to be compared further, or stored.
-    Laid,
+    /// The object was looked at.
+    Considered,
+    /// The desk's decks are published; with the publication before, so that who asked lets it go, and no turn
+    /// does.
+    Published(PublicationBefore),
     /// The lease is ended.
     Cleared,
     /// Nothing is done.

@@ -8,7 +8,7 @@ use turn_office::Sequential;
 
 impl Desk {
     /// Answers a call. The refusals come in a fixed order, want of memory last, and a refused call
-    /// changes no card, version or publication. A drop, a delivery, a lease given up and a claim that
+    /// changes no card, version or publication. A drop, a delivery, an offer, a lease given up and a claim that
     /// gives nothing out take no memory.
     pub fn step(&mut self, call: Call) -> Reply
         ensures { Steps self.old call result self.new }
@@ -50,8 +50,12 @@ impl Desk {
             Call::Claim => self.claim(),
             Call::DeliverDeck(done) => self.deliver_deck(done),
             Call::DeliverLink { lease, publication } => self.deliver_link(lease, publication),
-            Call::LayLink { lease, publication } => self.lay_link(lease, publication),
-            Call::CompareLink(lease) => self.compare_link(lease),
+            Call::OfferObject {
+                lease,
+                place,
+                object,
+            } => self.offer_object(lease, place, object),
+            Call::Publish(lease) => self.publish(lease),
             Call::GiveUp(lease) => self.give_up(lease),
         }
     }

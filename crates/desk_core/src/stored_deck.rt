@@ -14,7 +14,7 @@ ghost use Rattle.desk_core.specs.Joins.Stored.{backs_from, cards_held};
 ghost use Rattle.desk_core.specs.Reading.{row_of, state_of};
 
 use crate::calls::Done;
-use crate::comparing::{same_cards, same_name};
+use crate::comparing::{is_placed_alike, same_cards, same_name};
 use crate::deck_cards::DeckCards;
 use crate::edit_both::{edit_waiting, wait_all};
 use crate::held::Held;
@@ -353,13 +353,38 @@ impl StoredDeck {
         requires { object.now ≡ deck_of self.old }
         ensures { self.new ≡ self.old }
     {
-        if self.object.is_none() {
-            return;
-        }
         if let Ok(shared) = object.share() {
-            self.object = Some(shared);
+            self.take_object(shared);
         }
         self.let_cards_go(alloc, version);
+    }
+
+    /// An object of the same cards takes the place of its own, where it keeps a section for another place in a link
+    /// than its own does.
+    pub(crate) fn offer(&mut self, object: ListedObject)
+        ensures { self.new ≡ self.old }
+    {
+        if self.lacks_section_of(&object) && self.is_of_object(&object) {
+            self.take_object(object);
+        }
+    }
+
+    /// The same object takes the place of its own, where it has one.
+    fn take_object(&mut self, object: ListedObject)
+        requires { object ≡ deck_of self.old }
+        ensures { self.new ≡ self.old }
+    {
+        if self.object.is_some() {
+            self.object = Some(object);
+        }
+    }
+
+    /// Whether it has an object, which lacks the section that another one keeps.
+    fn lacks_section_of(&self, object: &ListedObject) -> bool {
+        match &self.object {
+            Some(own) => !is_placed_alike(own, object),
+            None => false,
+        }
     }
 
     /// Where it has an object and another deck's change made the latest version, its cards lie in the object alone

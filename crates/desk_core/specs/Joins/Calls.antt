@@ -1,7 +1,7 @@
 -- The calls of a desk, its replies and its refusals, as the code has them. Declares nothing.
 pub use Rattle.desk_core.specs.declared.calls.Done.{Done}
 pub use Rattle.desk_core.specs.declared.calls.Call.{Call}
-pub use Rattle.desk_core.specs.declared.calls.Call.TheVariants.{AddDeck, PutDeck, DropDeck, EditDeck, Batch, EditSince, BatchSince, Undo, Changes, CardsAt, Cards, Show, Status, Claim, DeliverDeck, DeliverLink, LayLink, CompareLink, GiveUp}
+pub use Rattle.desk_core.specs.declared.calls.Call.TheVariants.{AddDeck, PutDeck, DropDeck, EditDeck, Batch, EditSince, BatchSince, Undo, Changes, CardsAt, Cards, Show, Status, Claim, DeliverDeck, DeliverLink, OfferObject, Publish, GiveUp}
 pub use Rattle.desk_core.specs.declared.jobs.Start.{Start}
 pub use Rattle.desk_core.specs.declared.jobs.Start.TheVariants.{FromRecord, FromCards}
 pub use Rattle.desk_core.specs.declared.jobs.DeckWork.{DeckWork}
@@ -12,4 +12,4 @@ pub use Rattle.desk_core.specs.declared.replies.Row.{Row}
 pub use Rattle.desk_core.specs.declared.replies.Refusal.{Refusal}
 pub use Rattle.desk_core.specs.declared.replies.Refusal.TheVariants.{OutOfMemory, NoSuchCard, DeckFull, NameTaken, NoDeck, OldVersion, TooManyDecks, UnknownJob, Stale, Foreign, NoPublication, VersionsSpent, BadEdit, BatchSize, NotKept, Forgotten, TouchedCard, NoChange}
 pub use Rattle.desk_core.specs.declared.replies.Reply.{Reply}
-pub use Rattle.desk_core.specs.declared.replies.Reply.TheVariants.{Changed, Carried, CardsAre, ChangesAre, CardsBefore, Shown, StatusIs, DeckJob, LinkJob, Idle, AllOut, Stored, Laid, Cleared, Refused}
+pub use Rattle.desk_core.specs.declared.replies.Reply.TheVariants.{Changed, Carried, CardsAre, ChangesAre, CardsBefore, Shown, StatusIs, DeckJob, LinkJob, Idle, AllOut, Stored, Considered, Published, Cleared, Refused}

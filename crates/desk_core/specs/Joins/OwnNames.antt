@@ -1,7 +1,7 @@
 -- What holds of the decks of each desk, and a deck told by its place (ours).
-use Rattle.std.specs.Prelude.{◌≡◌, ⊤, ℕ, suc, zero, ◌<◌, Bool, List, [], ◌∷◌, length, map, take, find, slice_get, Option, None}
+use Rattle.std.specs.Prelude.{◌≡◌, ⊤, ℕ, suc, zero, ◌<◌, Bool, List, [], ◌∷◌, length, find, slice_get, Option, None}
 use Rattle.std.specs.Option.{ForSome}
-use Rattle.desk_core.specs.Desks.{Desk, DeskDeck, LaidDown, is_named, is_leased, deck_of}
+use Rattle.desk_core.specs.Desks.{Desk, DeskDeck, is_named, is_leased}
 
 -- no deck has the name of one before it
 abbrev pub HaveOwnNames : List DeskDeck → Type 0
@@ -14,13 +14,9 @@ with_at place form [] = []
 with_at zero form (deck ∷ decks) = form deck ∷ decks
 with_at (suc place) form (deck ∷ decks) = deck ∷ with_at place form decks
 
--- a desk, its deck at a place in another form; what was laid down is taken back
+-- a desk, its deck at a place in another form
 abbrev pub changed_at : ℕ → (DeskDeck → DeskDeck) → Desk → Desk
-changed_at place form desk = record desk { decks = with_at place form desk.decks; laid = None }
-
--- of what was laid down, as many decks as were compared are the desk's
-abbrev pub AreCompared : Option LaidDown → List DeskDeck → Type 0
-AreCompared laid decks = ForSome laid (λ one. take one.compared one.publication.decks ≡ take one.compared (map deck_of decks))
+changed_at place form desk = record desk { decks = with_at place form desk.decks }
 
 -- whether a deck has the lease of this number
 abbrev pub has_lease : ℕ → DeskDeck → Bool

@@ -1,4 +1,4 @@
-use Rattle.std.proofs.Common.{◌≡◌, ◌<◌, ◌∙◌, List, ap, arith, get_or, length, map, subst, sym}
+use Rattle.std.proofs.Common.{◌≡◌, ◌<◌, ◌∙◌, List, ap, arith, get_or, length, map, sym}
 use Rattle.std.proofs.lemmas.List.{get_or-map, length-map}
 use Rattle.desk_core.specs.Desks.{DeskDeck, deck_of}
 use Rattle.desk_core.specs.Joins.Language.{Deck}

@@ -1,4 +1,4 @@
-use Rattle.std.proofs.Common.{◌≡◌, ◌∙◌, ◌-◌, length, drop, List, ap, sym, subst, arith}
+use Rattle.std.proofs.Common.{◌≡◌, ◌∙◌, drop, List, ap, sym, subst}
 use Rattle.std.specs.Prelude.{IfOk}
 use Rattle.desk_core.specs.Joins.Edits.{Edit}
 use Rattle.desk_core.specs.declared.past.Back.{Back}

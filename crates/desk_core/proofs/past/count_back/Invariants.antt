@@ -1,5 +1,5 @@
-use Rattle.std.proofs.Common.{◌≡◌, ◌-◌, None, drop, length}
-use Rattle.desk_core.specs.Joins.Edits.{first_fault, edited_by}
+use Rattle.std.proofs.Common.{◌≡◌, ◌-◌, drop, length}
+use Rattle.desk_core.specs.Joins.Edits.{edited_by}
 use Rattle.desk_core.specs.Joins.Stored.{backs_from}
 use Rattle.desk_core.proofs.past.count_back.Given as goal
 

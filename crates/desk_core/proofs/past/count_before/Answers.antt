@@ -1,5 +1,4 @@
-use Rattle.std.proofs.Common.{◌≡◌, ◌∙◌, [], drop, length, ℕ, sym, ap, arith}
-use Rattle.desk_core.specs.Joins.Stored.{kept_both}
+use Rattle.std.proofs.Common.{◌∙◌, [], sym, arith}
 use Rattle.desk_core.proofs.PastSteps.{behind-some, behind-none}
 use Rattle.desk_core.proofs.past.count_before.Goals as goal
 

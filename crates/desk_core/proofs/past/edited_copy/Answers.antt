@@ -3,7 +3,6 @@ use Rattle.std.proofs.Common.{ℕ, List, [], ◌∷◌, ◌++◌, ap, ap₂, ◌
 use Rattle.desk_core.specs.Joins.Language.{Card}
 use Rattle.desk_core.specs.Joins.Edits.{Edit}
 use Rattle.desk_core.specs.Past.{undo_of}
-use Rattle.desk_core.specs.declared.past.Back.{Back}
 use Rattle.desk_core.proofs.CopySteps.{one-more}
 use Rattle.desk_core.proofs.past.edited_copy.Goals as goal
 

@@ -1,5 +1,4 @@
 use Rattle.std.proofs.Common.{◌≡◌, ◌∙◌, drop, length, List, None, ap, sym, subst}
-use Rattle.cards.specs.declared.carrying.MadeEdit.{MadeEdit}
 use Rattle.desk_core.specs.Joins.Edits.{Edit, first_fault, edited_by}
 use Rattle.desk_core.specs.declared.past.Back.{Back}
 use Rattle.desk_core.specs.Past.{KeptEdit, behind, backs_of}

@@ -1,11 +1,9 @@
-use Rattle.std.proofs.Common.{rules, ◌≡◌, ◌∙◌, ◌∷◌, [], ◌+◌, ℕ, List, length, Option, Some, None, inl, ap, ap₂, sym, subst, refl, arith}
-use Rattle.std.specs.Prelude.{slice_get, slice_index_or}
-use Rattle.std.specs.Option.{ForSome}
+use Rattle.std.proofs.Common.{rules, ◌≡◌, ◌∙◌, ◌∷◌, [], ◌+◌, ℕ, List, Option, None, inl, ap, ap₂, sym, subst}
+use Rattle.std.specs.Prelude.{slice_index_or}
 use Rattle.desk_core.specs.Joins.Edits.{Edit, fault_of, first_fault}
-use Rattle.desk_core.specs.Desks.{Desk, DeskDeck, is_named}
+use Rattle.desk_core.specs.Desks.{Desk, is_named}
 use Rattle.desk_core.specs.Joins.OwnNames.{IsPlaceOf, changed_at}
 use Rattle.desk_core.specs.Changing.{edited_deck}
-use Rattle.desk_core.specs.Carrying.{carried_since, against_carry}
 use Rattle.desk_core.specs.Joins.Calls.{Carried, Refused, OutOfMemory}
 use Rattle.desk_core.specs.Carrying.{edit_since}
 use Rattle.desk_core.specs.Joins.Turns.{MayAnswer}

@@ -1,8 +1,8 @@
-use Rattle.std.proofs.Common.{◌≡◌, ◌≤◌, ◌∙◌, ℕ, List, length, drop, take, ap, ap₂, sym, arith}
+use Rattle.std.proofs.Common.{◌≡◌, ◌∙◌, ℕ, List, length, take, ap, ap₂, sym, arith}
 use Rattle.cards.specs.declared.carrying.MadeEdit.{MadeEdit}
 use Rattle.desk_core.specs.declared.past.Back.{Back}
 use Rattle.desk_core.specs.Past.{Past, KeptEdit, last_version, without_oldest}
-use Rattle.desk_core.specs.Joins.Stored.{past_of, kept_both}
+use Rattle.desk_core.specs.Joins.Stored.{kept_both}
 use Rattle.desk_core.proofs.PastSteps.{kept-length, kept-drop}
 use Rattle.desk_core.proofs.past.Past.forget.Goals as goal
 

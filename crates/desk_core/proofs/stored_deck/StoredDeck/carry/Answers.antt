@@ -1,4 +1,4 @@
-use Rattle.std.proofs.Common.{rules, ◌≡◌, ◌∙◌, ◌≤◌, List, length, None, ap, sym, subst}
+use Rattle.std.proofs.Common.{◌≡◌, ◌∙◌, List, length, None, ap, sym, subst}
 use Rattle.desk_core.specs.Joins.Language.{Card}
 use Rattle.desk_core.specs.Desks.{DeskDeck}
 use Rattle.desk_core.specs.Joins.Edits.{first_fault, edited_by}

@@ -4,9 +4,9 @@ use Rattle.desk_core.specs.Joins.Language.{Card}
 use Rattle.desk_core.specs.Desks.{DeskDeck}
 use Rattle.desk_core.specs.Joins.Edits.{Edit, first_fault, edited_by}
 use Rattle.desk_core.specs.declared.past.Back.{Back}
-use Rattle.desk_core.specs.Past.{Past, KeptEdit, with_edits, trimmed, kept_edits, past_after}
+use Rattle.desk_core.specs.Past.{Past, KeptEdit, with_edits, trimmed, past_after}
 use Rattle.desk_core.specs.Led.{IsPastOf}
-use Rattle.desk_core.specs.Changing.{edited_deck, waiting_after}
+use Rattle.desk_core.specs.Changing.{edited_deck}
 use Rattle.desk_core.specs.Joins.Stored.{backs_made, cards_held, kept_both}
 use Rattle.desk_core.proofs.CardCounts.{edited_by-few}
 use Rattle.desk_core.proofs.PastSteps.{kept-batch, batch-length}

@@ -1,6 +1,6 @@
-use Rattle.std.proofs.Common.{◌≡◌, ◌≤◌, ◌∙◌, ℕ, Bool, true, false, List, length, Option, Some, ap, refl, subst, sym}
+use Rattle.std.proofs.Common.{◌≡◌, ◌≤◌, ◌∙◌, Bool, true, false, List, length, Option, Some, ap, refl, subst, sym}
 use Rattle.desk_core.specs.Joins.Language.{Card, Deck}
-use Rattle.desk_core.specs.Desks.{DeskDeck, deck_of}
+use Rattle.desk_core.specs.Desks.{deck_of}
 use Rattle.desk_core.specs.Led.{IsPastOf}
 use Rattle.desk_core.specs.Joins.Stored.{cards_held}
 use Rattle.desk_core.proofs.stored_deck.StoredDeck.store.Goals as goal
