@@ -1,22 +1,22 @@
 -- What a seat has seen after its calls.
-use Rattle.std.proofs.Common.{◌≡◌, ℕ, ◌+◌, ◌≤◌, ◌==◌, Bool, true, false, cond, List, [], ◌∷◌, ◌++◌, length, map, is_some, Option, Some, None, refl, sym, ap, ◌∙◌, subst, arith, append_assoc, append-nil, length-append, eq-eqb}
+use Rattle.std.proofs.Common.{◌≡◌, ℕ, ◌+◌, ◌==◌, Bool, true, false, cond, [], ◌∷◌, ◌++◌, length, map, Some, None, refl, sym, ap, ◌∙◌, subst, arith, append_assoc, append-nil, length-append, eq-eqb}
 use Rattle.std.proofs.lemmas.List.{map-append, flat_map_more}
 use Rattle.std.proofs.lemmas.List.Elements.{All-nil, All-push, filter-append}
 use Rattle.turn_office.specs.declared.history.Entry.{Entry}
 use Rattle.turn_office.specs.Histories.{Answers, entry, entries_by}
 use Rattle.desk_core.specs.declared.calls.Call.{Call}
-use Rattle.desk_core.specs.declared.calls.Call.TheVariants.{Claim, LayLink, CompareLink, GiveUp}
+use Rattle.desk_core.specs.declared.calls.Call.TheVariants.{Claim, OfferObject, Publish, GiveUp}
 use Rattle.desk_core.specs.declared.replies.Reply.{Reply}
+use Rattle.definitions.specs.DeckInput.{Deck}
 use Rattle.desk_core.specs.Desks.{Desk, Publication}
-use Rattle.desk_core.specs.Delivering.{is_laid}
 use Rattle.desk_core.specs.Steps.{Steps}
 use Rattle.desk_core.specs.Runs.{History}
 use Rattle.deck_workers.specs.declared.jobs.Job.{Job}
 use Rattle.deck_workers.specs.declared.made.Made.{Made}
 use Rattle.deck_workers.specs.Jobs.{MayMake}
 use Rattle.deck_workers.specs.Rounds.{Working, job_in, call_of, published_in, entries_of}
-use Rattle.deck_workers.specs.WorkerRounds.{WorkerRound, AtOnce, DeckByDeck, IsWorkerRound, GoOn, last_of, up_entries, compare_entries, worker_entries, worker_entries_in}
-use Rattle.deck_workers.specs.Joins.Linking.{Compares, LaysDown, Delivers, in_one_call, in_many}
+use Rattle.deck_workers.specs.WorkerRounds.{AtOnce, ByDesk, IsWorkerRound, is_starved, offer_entry, desk_entries, worker_entries, worker_entries_in}
+use Rattle.deck_workers.specs.Joins.Linking.{Offers, HasPublished, Delivers, in_one_call, by_desk}
 use Rattle.deck_workers.specs.Subscribers.{HearsAfter, unheard, heard}
 use Rattle.deck_workers.specs.Working.{Calls, MakesRound, Works}
 
@@ -56,71 +56,53 @@ worked number other claimed answered result call seen middle now same is earlier
     more-calls number (entry number Claim claimed ∷ []) (entry number (call_of result) answered ∷ []) seen middle now earlier
     (subst (λ (n : ℕ). Calls n (entry n (call_of result) answered ∷ []) middle now) same ends)
 
--- a publication that was laid down, and no deck of it compared yet
-pub first-laid : (number lease : ℕ) (publication : Publication) (answered : Reply) (seen now : History) → Calls number (entry number (LayLink lease publication) answered ∷ []) seen now → Compares 0 number lease publication answered seen now
-first-laid number lease publication answered seen now calls = record { laid = answered; compared = []; go_on = tt; few = omega arith; last = refl; made = calls }
+-- nothing is offered
+pub none-offered : (most number lease : ℕ) (seen : History) → Offers most number lease seen seen
+none-offered most number lease seen = record { offers = []; few = omega arith; made = record { begins = ([], append-nil seen); calls = sym (append-nil (entries_by number seen)) } }
 
-go-on-more : (first : Reply) (compared : List Reply) (answered : Reply) → GoOn first compared → is_laid (last_of first compared) ≡ true → GoOn first (compared ++ answered ∷ [])
-go-on-more first [] answered goes last = (last, tt)
-go-on-more first (reply ∷ compared) answered goes last = (goes.0, go-on-more reply compared answered goes.1 last)
+-- one object is offered
+pub one-offered : (number lease place : ℕ) (object : Deck) (reply : Reply) (seen now : History) → Calls number (entry number (OfferObject lease place object) reply ∷ []) seen now → Offers 1 number lease seen now
+one-offered number lease place object reply seen now calls = record { offers = record { place = place; object = object; reply = reply } ∷ []; few = omega arith; made = calls }
 
-last-more : (first : Reply) (compared : List Reply) (answered : Reply) → last_of first (compared ++ answered ∷ []) ≡ answered
-last-more first [] answered = refl
-last-more first (reply ∷ compared) answered = last-more reply compared answered
-
--- one deck more is compared
-pub more-laid : (most number other lease : ℕ) (publication : Publication) (before answered : Reply) (seen middle now : History) → other ≡ number → is_laid before ≡ true → Compares most number lease publication before seen middle →
-    Calls other (entry other (CompareLink lease) answered ∷ []) middle now → Compares (most + 1) number lease publication answered seen now
-more-laid most number other lease publication before answered seen middle now same more lays calls =
-    let one = subst (λ (n : ℕ). Calls n (entry n (CompareLink lease) answered ∷ []) middle now) same calls in
-    let joined = more-calls number (compare_entries number lease publication lays.laid lays.compared) (entry number (CompareLink lease) answered ∷ []) seen middle now lays.made one in
-    let count = length-append lays.compared (answered ∷ []) in
-    let few = lays.few in
+-- one more is offered, or not
+pub more-offered : (most number other lease : ℕ) (seen middle now : History) → other ≡ number → Offers most number lease seen middle → Offers 1 other lease middle now → Offers (most + 1) number lease seen now
+more-offered most number other lease seen middle now same offered more =
+    let later = subst (λ (n : ℕ). Calls n (map (offer_entry n lease) more.offers) middle now) same more.made in
+    let joined = more-calls number (map (offer_entry number lease) offered.offers) (map (offer_entry number lease) more.offers) seen middle now offered.made later in
+    let count = length-append offered.offers more.offers in
+    let few = offered.few in
+    let one = more.few in
     record {
-      laid = lays.laid;
-      compared = lays.compared ++ answered ∷ [];
-      go_on = go-on-more lays.laid lays.compared answered lays.go_on (ap is_laid lays.last ∙ more);
-      few = omega (arith, count, few);
-      last = last-more lays.laid lays.compared answered;
-      made = subst (λ (entries : History). Calls number entries seen now)
-          (ap (λ (entries : History). entry number (LayLink lease publication) lays.laid ∷ entries) (sym (map-append (entry number (CompareLink lease)) lays.compared (answered ∷ [])))) joined;
+      offers = offered.offers ++ more.offers;
+      few = omega (arith, count, few, one);
+      made = subst (λ (entries : History). Calls number entries seen now) (sym (map-append (offer_entry number lease) offered.offers more.offers)) joined;
     }
 
--- more calls are allowed
-pub compares-within : (most more number lease : ℕ) (publication : Publication) (answered : Reply) (seen now : History) → most ≤ more → Compares most number lease publication answered seen now → Compares more number lease publication answered seen now
-compares-within most more number lease publication answered seen now within lays =
-    let few = lays.few in
-    record { laid = lays.laid; compared = lays.compared; go_on = lays.go_on; few = omega (arith, few); last = lays.last; made = lays.made }
+-- the desk answered, and not that it had no memory
+pub has-published : (number other lease : ℕ) (publication : Publication) (answered : Reply) (seen middle now : History) → other ≡ number → is_starved answered ≡ false → Offers (length publication.decks) number lease seen middle →
+    Calls other (entry other (Publish lease) answered ∷ []) middle now → HasPublished number lease publication answered seen now
+has-published number other lease publication answered seen middle now same fed offered calls = record {
+  offers = offered.offers;
+  given_up = None;
+  few = offered.few;
+  ended = sym fed;
+  made = more-calls number (map (offer_entry number lease) offered.offers) (entry number (Publish lease) answered ∷ []) seen middle now offered.made (subst (λ (n : ℕ). Calls n (entry n (Publish lease) answered ∷ []) middle now) same calls);
+}
 
--- there is no more to compare
-pub laid-wholly : (number lease : ℕ) (publication : Publication) (answered : Reply) (seen now : History) → is_laid answered ≡ false → Compares 65 number lease publication answered seen now → LaysDown number lease publication answered seen now
-laid-wholly number lease publication answered seen now done lays =
-    let entries = compare_entries number lease publication lays.laid lays.compared in
+-- it had none, and the lease was given up
+pub has-given_up : (number other another lease : ℕ) (publication : Publication) (answered cleared : Reply) (seen middle later now : History) → other ≡ number → another ≡ number → is_starved answered ≡ true → Offers (length publication.decks) number lease seen middle →
+    Calls other (entry other (Publish lease) answered ∷ []) middle later → Calls another (entry another (GiveUp lease) cleared ∷ []) later now → HasPublished number lease publication answered seen now
+has-given_up number other another lease publication answered cleared seen middle later now same again starved offered asked given =
+    let offers : History = map (offer_entry number lease) offered.offers in
+    let asks = subst (λ (n : ℕ). Calls n (entry n (Publish lease) answered ∷ []) middle later) same asked in
+    let gives = subst (λ (n : ℕ). Calls n (entry n (GiveUp lease) cleared ∷ []) later now) again given in
     record {
-      laid = lays.laid;
-      compared = lays.compared;
-      given_up = None;
-      go_on = lays.go_on;
-      few = lays.few;
-      last = lays.last;
-      ended = sym done;
-      made = subst (λ (all : History). Calls number all seen now) (sym (append-nil entries)) lays.made;
-    }
-
--- there is, and the lease is given up
-pub laid-given_up : (number other lease : ℕ) (publication : Publication) (answered cleared : Reply) (seen middle now : History) → other ≡ number → is_laid answered ≡ true → Compares 65 number lease publication answered seen middle →
-    Calls other (entry other (GiveUp lease) cleared ∷ []) middle now → LaysDown number lease publication answered seen now
-laid-given_up number other lease publication answered cleared seen middle now same more lays calls =
-    let one = subst (λ (n : ℕ). Calls n (entry n (GiveUp lease) cleared ∷ []) middle now) same calls in
-    record {
-      laid = lays.laid;
-      compared = lays.compared;
+      offers = offered.offers;
       given_up = Some cleared;
-      go_on = lays.go_on;
-      few = lays.few;
-      last = lays.last;
-      ended = sym more;
-      made = more-calls number (compare_entries number lease publication lays.laid lays.compared) (entry number (GiveUp lease) cleared ∷ []) seen middle now lays.made one;
+      few = offered.few;
+      ended = sym starved;
+      made = more-calls number offers (entry number (Publish lease) answered ∷ entry number (GiveUp lease) cleared ∷ []) seen middle now offered.made
+          (more-calls number (entry number (Publish lease) answered ∷ []) (entry number (GiveUp lease) cleared ∷ []) middle later now asks gives);
     }
 
 module _ {S : Type 0} (hears : S → ℕ → S → Type 0) where
@@ -133,12 +115,12 @@ module _ {S : Type 0} (hears : S → ℕ → S → Type 0) where
     made = worked number other claimed answered delivered (call_of delivered) seen middle now same refl earlier later;
     heard = hear;
   }
-  worked-round number other claimed answered given result seen middle now old new same is may earlier (in_many lease publication lays) hear = record {
-    round = DeckByDeck claimed lease publication lays.laid lays.compared lays.given_up;
-    is_round = record { given = given; claims = is; may_make = may; go_on = lays.go_on; few = lays.few; ended = lays.ended ∙ sym (ap is_laid lays.last) };
-    made = more-calls number (entry number Claim claimed ∷ []) (compare_entries number lease publication lays.laid lays.compared ++ up_entries number lease lays.given_up) seen middle now earlier
-        (subst (λ (n : ℕ). Calls n (compare_entries n lease publication lays.laid lays.compared ++ up_entries n lease lays.given_up) middle now) same lays.made);
-    heard = subst (λ (reply : Reply). HearsAfter hears reply (Some publication.version) old new) (sym lays.last) hear;
+  worked-round number other claimed answered given result seen middle now old new same is may earlier (by_desk lease publication has) hear = record {
+    round = ByDesk claimed lease publication has.offers answered has.given_up;
+    is_round = record { given = given; claims = is; may_make = may; few = has.few; ended = has.ended };
+    made = more-calls number (entry number Claim claimed ∷ []) (desk_entries number lease has.offers answered has.given_up) seen middle now earlier
+        (subst (λ (n : ℕ). Calls n (desk_entries n lease has.offers answered has.given_up) middle now) same has.made);
+    heard = hear;
   }
 
   -- no calls yet

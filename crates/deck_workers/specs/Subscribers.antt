@@ -1,8 +1,8 @@
 -- What a subscriber hears of rounds (ours): of each publication that the desk took, once, and of nothing else.
 use Rattle.std.specs.Prelude.{◌≡◌, ℕ, List, [], ◌∷◌, ◌++◌, Option, Some, None}
-use Rattle.deck_workers.specs.Joins.Language.{Reply, Stored}
+use Rattle.deck_workers.specs.Joins.Language.{Reply, Stored, Published}
 use Rattle.deck_workers.specs.Rounds.{Resting, Working, published_in}
-use Rattle.deck_workers.specs.WorkerRounds.{WorkerRound, AtOnce, DeckByDeck, last_of}
+use Rattle.deck_workers.specs.WorkerRounds.{WorkerRound, AtOnce, ByDesk}
 
 module _ {S : Type 0} (hears : S → ℕ → S → Type 0) where
   -- it hears of a publication, where there is one
@@ -10,16 +10,17 @@ module _ {S : Type 0} (hears : S → ℕ → S → Type 0) where
   HearsIf (Some version) old new = hears old version new
   HearsIf None old new = new ≡ old
 
-  -- it hears of what was delivered once the desk took it
+  -- it hears of what was made once the desk took it, or published it itself
   abbrev pub HearsAfter : Reply → Option ℕ → S → S → Type 0
   HearsAfter Stored published old new = HearsIf published old new
+  HearsAfter (Published before) published old new = HearsIf published old new
   HearsAfter reply published old new = new ≡ old
 
   -- it hears of a round
   abbrev pub HearsOf : WorkerRound → S → S → Type 0
   HearsOf (AtOnce (Resting claimed)) old new = new ≡ old
   HearsOf (AtOnce (Working claimed result answered)) old new = HearsAfter answered (published_in result) old new
-  HearsOf (DeckByDeck claimed lease publication laid compared given_up) old new = HearsAfter (last_of laid compared) (Some publication.version) old new
+  HearsOf (ByDesk claimed lease publication offers answered given_up) old new = HearsAfter answered (Some publication.version) old new
 
   -- it hears of rounds, one after the other
   pub data HearsAll (first : S) : List WorkerRound → S → Type 0 where

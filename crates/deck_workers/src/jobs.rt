@@ -44,7 +44,8 @@ pub fn job_in(reply: Reply) -> Option<Job>
         | Reply::Idle(_)
         | Reply::AllOut
         | Reply::Stored
-        | Reply::Laid
+        | Reply::Considered
+        | Reply::Published(_)
         | Reply::Cleared
         | Reply::Refused(_) => None,
     }

@@ -2,10 +2,11 @@
 //! worker that claims what is due, runs it outside of any turn, delivers it, and sleeps on a bell where
 //! nothing is due.
 //!
-//! A turn at the desk is one claim, one delivery or the comparison of one deck, or one lease given up; decks
-//! are assembled, and objects linked, between two turns. A bell says that there may be work, or that the
-//! worker is to stop. Not promised: that a bell arrives, that a worker gets on, or when a job is run: that two
-//! run at once is tested. `settle` does all jobs on the thread of whoever holds the desk.
+//! A turn at the desk is one claim, one delivery, one object that is offered, one publication that the desk makes of
+//! objects whose sections are made, or one lease given up; decks are assembled, and objects linked, between two
+//! turns. A bell says that there may be work, or that the worker is to stop. Not promised: that a bell arrives, that
+//! a worker gets on, or when a job is run: that two run at once is tested. `settle` does all jobs on the thread of
+//! whoever holds the desk.
 #![tactic(auto)]
 
 // What is made of a job; no threads here, and nothing waits.

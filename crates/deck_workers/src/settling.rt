@@ -82,7 +82,8 @@ fn end_of_delivery(answered: &Reply) -> Option<Settled>
         | Reply::Idle(_)
         | Reply::AllOut
         | Reply::Stored
-        | Reply::Laid
+        | Reply::Considered
+        | Reply::Published(_)
         | Reply::Cleared => None,
     }
 }
@@ -105,7 +106,8 @@ fn end_of_claim(claimed: &Reply) -> Option<Settled>
         | Reply::DeckJob(_)
         | Reply::LinkJob(_)
         | Reply::Stored
-        | Reply::Laid
+        | Reply::Considered
+        | Reply::Published(_)
         | Reply::Cleared => None,
     }
 }

@@ -39,11 +39,11 @@ fn tell_if<S: Subscriber>(subscriber: &mut S, published: Option<u64>)
     }
 }
 
-/// Tells a subscriber of a publication that was delivered, where the desk took it, which its reply tells.
+/// Tells a subscriber of a publication, where the desk took it or published it itself, which its reply tells.
 pub(crate) fn tell_after<S: Subscriber>(subscriber: &mut S, published: Option<u64>, reply: &Reply)
     ensures { HearsAfter S.hears reply.now published subscriber.old subscriber.new }
 {
-    if let Reply::Stored = reply {
+    if matches!(reply, Reply::Stored | Reply::Published(_)) {
         tell_if(subscriber, published);
     }
 }

@@ -1,10 +1,10 @@
 //! A worker at its seat.
-ghost use Rattle.std.specs.Prelude.{◌≡◌};
+ghost use Rattle.std.specs.Prelude.{◌≡◌, length};
 ghost use Rattle.turn_office.specs.Histories.{IsLegal};
-ghost use Rattle.desk_core.specs.Delivering.{is_laid};
 ghost use Rattle.desk_core.specs.Steps.{Steps};
 ghost use Rattle.deck_workers.specs.Jobs.{MayMake};
-ghost use Rattle.deck_workers.specs.Joins.Linking.{Compares, Delivers, LaysDown};
+ghost use Rattle.deck_workers.specs.Joins.Linking.{Delivers, HasPublished, Offers};
+ghost use Rattle.deck_workers.specs.WorkerRounds.{is_starved};
 ghost use Rattle.deck_workers.specs.Working.{MakesRound, Works};
 
 use crate::bells::{Bell, Patience, Round, goes_on};
@@ -12,7 +12,8 @@ use crate::gates::Gate;
 use crate::subscribers::{Subscriber, tell_after};
 use crate::{Job, Made, Runs, job_in};
 use crossbeam_channel::Receiver;
-use desk_core::{Call, Desk, Reply, SharedPublication};
+use deck_listing::ListedObject;
+use desk_core::{Call, Desk, Refusal, Reply, SharedPublication};
 use statement_coder::Meter;
 use std::alloc::Global;
 use std::sync::Wait;
@@ -27,10 +28,10 @@ use turn_office::{Office, Seat};
 ///
 /// What the seat had seen begins what it has seen then, and its calls since are rounds: each is a
 /// claim, followed by one call that ends the job, where the claim gave one; or, where a publication of many
-/// cards was made, by one that lays it down, and by one for each of its decks and one more at most, each as
-/// long as the reply before told of more to compare; if that tells of more still, the lease is given up. Of
-/// each publication that the desk took from it the subscriber hears once, behind the delivery, and of nothing
-/// else.
+/// cards was made, by one for each of its decks at most, which offers the object of the deck, and by the one that
+/// has the desk publish its own decks; where that was refused for want of memory, the lease is given up. Of
+/// each publication that the desk took from it or made so the subscriber hears once, behind the reply, and of
+/// nothing else.
 pub fn worker<R: Wait + Clock, G: Gate, S: Subscriber>(
     rt: &R,
     alloc: Global,
@@ -80,7 +81,7 @@ fn make_round<R: Wait, G: Gate, S: Subscriber>(
             let published = made.published();
             let answered = deliver(rt, office, seat, made);
             tell_after(subscriber, published, &answered);
-            Round::with_job(is_result)
+            Round::with_job(went_well(is_result, &answered))
         }
         None => Round::without_job(is_refused),
     }
@@ -88,9 +89,6 @@ fn make_round<R: Wait, G: Gate, S: Subscriber>(
 
 /// How many cards a publication has at most that is delivered in one turn.
 const MOST_AT_ONCE: usize = 20_000;
-
-/// How many calls compare at most: one for each deck of as many as a desk has, and one that stores.
-const MOST_COMPARING: u32 = 65;
 
 /// Whether the decks of a publication have more cards together than are compared in one turn.
 fn is_large(publication: &SharedPublication) -> bool {
@@ -101,8 +99,8 @@ fn is_large(publication: &SharedPublication) -> bool {
     count > MOST_AT_ONCE
 }
 
-/// Delivers what was made of a job, or gives its lease up; a publication of many cards is delivered deck by
-/// deck, so that no turn is long.
+/// Delivers what was made of a job, or gives its lease up; where it is a publication of many cards the desk is to
+/// publish its own decks, so that no turn is long.
 fn deliver<R: Wait>(rt: &R, office: &Office<Desk>, seat: &mut Seat<Desk>, made: Made) -> Reply
     requires { seat.old.office ≡ office.now.id }
     ensures same { (seat.new.office ≡ seat.old.office) × (seat.new.number ≡ seat.old.number) }
@@ -112,7 +110,7 @@ fn deliver<R: Wait>(rt: &R, office: &Office<Desk>, seat: &mut Seat<Desk>, made: 
     match made {
         Made::Link { lease, publication } => {
             if is_large(&publication) {
-                deliver_link(rt, office, seat, lease, publication)
+                publish_at_desk(rt, office, seat, lease, publication)
             } else {
                 seat.call(rt, office, Call::DeliverLink { lease, publication })
             }
@@ -121,9 +119,9 @@ fn deliver<R: Wait>(rt: &R, office: &Office<Desk>, seat: &mut Seat<Desk>, made: 
     }
 }
 
-/// Lays a publication down, has its decks compared, one in each turn, and has it stored. Where the calls for
-/// that are used up, which no desk lets happen that nobody else lays something down at, the lease is given up.
-fn deliver_link<R: Wait>(
+/// Offers the objects of a publication to the desk, which then links and publishes its own. Where it has no memory
+/// for that, the lease is given up.
+fn publish_at_desk<R: Wait>(
     rt: &R,
     office: &Office<Desk>,
     seat: &mut Seat<Desk>,
@@ -132,44 +130,73 @@ fn deliver_link<R: Wait>(
 ) -> Reply
     requires { seat.old.office ≡ office.now.id }
     ensures same { (seat.new.office ≡ seat.old.office) × (seat.new.number ≡ seat.old.number) }
-    ensures laid { LaysDown seat.old.number lease publication result seat.old.seen seat.new.seen }
+    ensures published { HasPublished seat.old.number lease publication result seat.old.seen seat.new.seen }
     ensures legal { IsLegal Steps office.now.seats office.now.first seat.new.seen }
 {
-    let answered = lay_and_compare(rt, office, seat, lease, publication);
-    if is_laid(&answered) {
-        let _ = seat.call(rt, office, Call::GiveUp(lease));
+    offer_objects(rt, office, seat, lease, &publication);
+    let answered = seat.call(rt, office, Call::Publish(lease));
+    if is_starved(&answered) {
+        let_go(seat.call(rt, office, Call::GiveUp(lease)));
     }
     answered
 }
 
-/// Lays a publication down, and has its decks compared as long as there is more to compare.
-fn lay_and_compare<R: Wait>(
+/// Offers the objects of a publication to the desk, each in a turn of its own: those of its decks that lack their
+/// section in this link have it then.
+fn offer_objects<R: Wait>(
     rt: &R,
     office: &Office<Desk>,
     seat: &mut Seat<Desk>,
     lease: u64,
-    publication: SharedPublication,
-) -> Reply
+    publication: &SharedPublication,
+)
     requires { seat.old.office ≡ office.now.id }
     ensures same { (seat.new.office ≡ seat.old.office) × (seat.new.number ≡ seat.old.number) }
-    ensures compared { Compares 65 seat.old.number lease publication result seat.old.seen seat.new.seen }
-    ensures legal { IsLegal Steps office.now.seats office.now.first seat.new.seen }
+    ensures offered { Offers (length publication.now.decks) seat.old.number lease seat.old.seen seat.new.seen }
 {
-    let mut answered = seat.call(rt, office, Call::LayLink { lease, publication });
-    for call in 0..MOST_COMPARING {
-        if !is_laid(&answered) {
-            return answered;
-        }
-        answered = seat.call(rt, office, Call::CompareLink(lease));
+    for (place, object) in publication.publication().objects().iter().enumerate() {
+        offer_object(rt, office, seat, lease, place, object);
     }
-    answered
 }
 
-/// Whether a reply tells that there is more to compare.
-fn is_laid(reply: &Reply) -> bool
-    ensures { result ≡ is_laid reply.now }
+/// Offers an object to the desk; none where it can't be shared once more.
+fn offer_object<R: Wait>(
+    rt: &R,
+    office: &Office<Desk>,
+    seat: &mut Seat<Desk>,
+    lease: u64,
+    place: usize,
+    object: &ListedObject,
+)
+    requires { seat.old.office ≡ office.now.id }
+    ensures same { (seat.new.office ≡ seat.old.office) × (seat.new.number ≡ seat.old.number) }
+    ensures offered { Offers 1 seat.old.number lease seat.old.seen seat.new.seen }
 {
-    matches!(reply, Reply::Laid)
+    if let Ok(object) = object.share() {
+        let offered = Call::OfferObject {
+            lease,
+            place,
+            object,
+        };
+        let_go(seat.call(rt, office, offered));
+    }
+}
+
+/// Lets a reply go that nobody looks at.
+fn let_go(reply: Reply) {
+    let _ = reply;
+}
+
+/// Whether something was made of a job, and the desk had the memory that it takes to publish.
+fn went_well(is_result: bool, answered: &Reply) -> bool {
+    is_result && !is_starved(answered)
+}
+
+/// Whether a reply tells want of memory.
+fn is_starved(reply: &Reply) -> bool
+    ensures { result ≡ is_starved reply.now }
+{
+    matches!(reply, Reply::Refused(Refusal::OutOfMemory))
 }
 
 /// Runs a job behind the gate.
