@@ -15,7 +15,8 @@ use deck_linker::{ListedPublication, publish};
 use deck_listing::ListedObject;
 use deck_workers::{Job, Made, Runs, job_in, settle};
 use desk_core::{
-    Call, DeckCards, DeckWork, Desk, Done, Held, Listed, Reply, SharedPublication, Start,
+    Call, DeckCards, DeckWork, Desk, Done, Held, Listed, PublicationBefore, Reply,
+    SharedPublication, Start,
 };
 use edit_core::{Kept, assemble};
 use statement_coder::Meter;
@@ -60,8 +61,8 @@ impl Jobs {
             "giveup" => Ok(Call::GiveUp(number(rest))),
             "result" => result_of(self.alloc, rest),
             "link" => link_of(self.alloc, rest),
-            "lay" => lay_of(self.alloc, rest),
-            "compare" => Ok(Call::CompareLink(number(rest))),
+            "offer" => offer_of(self.alloc, rest),
+            "publish" => Ok(Call::Publish(number(rest))),
             "batch" => batch_of(self.alloc, rest),
             _ => return false,
         };
@@ -149,7 +150,8 @@ pub fn push_reply(answer: &mut Answer, reply: &Reply) {
         Reply::Idle(version) => answer.number("idle ", *version),
         Reply::AllOut => answer.push("all out"),
         Reply::Stored => answer.push("stored"),
-        Reply::Laid => answer.push("laid"),
+        Reply::Considered => answer.push("considered"),
+        Reply::Published(before) => push_before(answer, before),
         Reply::Cleared => answer.push("cleared"),
         Reply::Refused(refusal) => answer.debug(refusal),
         Reply::LinkJob(work) => push_out(answer, "link", work.lease, work.version),
@@ -159,6 +161,14 @@ pub fn push_reply(answer: &mut Answer, reply: &Reply) {
             push_cards(answer, cards.as_slice());
         }
         _ => answer.push("what a session asks for"),
+    }
+}
+
+/// That the desk published its decks, and the version that was published before.
+fn push_before(answer: &mut Answer, before: &PublicationBefore) {
+    match before.publication() {
+        Some(before) => answer.number("published behind ", before.publication().version()),
+        None => answer.push("published, the first"),
     }
 }
 
@@ -268,11 +278,15 @@ fn link_of(alloc: Global, text: &str) -> Result<Call, AllocError> {
     Ok(Call::DeliverLink { lease, publication })
 }
 
-fn lay_of(alloc: Global, text: &str) -> Result<Call, AllocError> {
+/// The offer of an object of these cards, for the deck at a place.
+fn offer_of(alloc: Global, text: &str) -> Result<Call, AllocError> {
     let (lease, rest) = cut_number(text);
-    let (version, lines) = cut_number(rest);
-    let publication = publication_of(alloc, lines, version)?;
-    Ok(Call::LayLink { lease, publication })
+    let (place, line) = cut_number(rest);
+    Ok(Call::OfferObject {
+        lease,
+        place: place as usize,
+        object: object_of(alloc, line)?,
+    })
 }
 
 /// Edits of M by which its second card goes and comes again, so many in all.

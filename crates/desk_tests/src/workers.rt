@@ -1,8 +1,8 @@
 //! Workers work at the same time, and stop.
 //!
 //! `work_both`: two workers at their seats and the jobs of two decks, the first of which waits for the second;
-//! `work_alone`: a worker whose bell can't ring again; `work_much`: the same with so many cards that it delivers
-//! the publication deck by deck.
+//! `work_alone`: a worker whose bell can't ring again; `work_much`: the same with so many cards that the desk
+//! publishes by itself.
 ghost use Rattle.std.specs.Prelude.{◌≡◌, IfOk};
 ghost use Rattle.std.specs.Thread.{IsSync};
 

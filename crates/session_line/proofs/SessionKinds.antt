@@ -88,8 +88,8 @@ answer-fits call.Status desk h = refl
 answer-fits call.Claim desk h = cc
 answer-fits (call.DeliverDeck done) desk h = cc
 answer-fits (call.DeliverLink lease publication) desk h = cc
-answer-fits (call.LayLink lease publication) desk h = cc
-answer-fits (call.CompareLink lease) desk h = cc
+answer-fits (call.OfferObject lease place object) desk h = cc
+answer-fits (call.Publish lease) desk h = cc
 answer-fits (call.GiveUp lease) desk h = cc
 
 -- a refusal fits each call
@@ -110,8 +110,8 @@ refused-fits call.Status reason h = refl
 refused-fits call.Claim reason h = cc
 refused-fits (call.DeliverDeck done) reason h = cc
 refused-fits (call.DeliverLink lease publication) reason h = cc
-refused-fits (call.LayLink lease publication) reason h = cc
-refused-fits (call.CompareLink lease) reason h = cc
+refused-fits (call.OfferObject lease place object) reason h = cc
+refused-fits (call.Publish lease) reason h = cc
 refused-fits (call.GiveUp lease) reason h = cc
 
 -- each step

@@ -4,7 +4,7 @@ use crate::jobs::ask;
 use crate::sweeps::notes::Called;
 use crate::sweeps::scene::Scene;
 use deck_workers::{Job, Made, Runs, job_in};
-use desk_core::{Call, Desk, Refusal, Reply};
+use desk_core::{Call, Desk, Refusal, Reply, SharedPublication};
 use edit_core::RecordFault;
 use statement_coder::Meter;
 
@@ -59,30 +59,47 @@ fn is_lost(made: &Made) -> bool {
     )
 }
 
-/// How many calls compare the decks of a publication at most: as many as a desk has decks, and one that stores.
-const MOST_COMPARING: u32 = 65;
-
-/// Ends a job: a publication is laid down and compared deck by deck, as a worker hands in one of many cards.
+/// Ends a job: the objects of a publication are offered and the desk publishes, as a worker has it do with one of
+/// many cards. Where memory lacks for that the lease is given up.
 fn end_made(desk: &mut Desk, made: Made) -> Reply {
     let (lease, publication) = match made {
         Made::Link { lease, publication } => (lease, publication),
         other => return ask(desk, other.into_call()),
     };
-    let mut reply = ask(desk, Call::LayLink { lease, publication });
-    for _ in 0..MOST_COMPARING {
-        if !matches!(reply, Reply::Laid) {
-            return reply;
-        }
-        reply = ask(desk, Call::CompareLink(lease));
+    offer_all(desk, lease, &publication);
+    let reply = ask(desk, Call::Publish(lease));
+    if let Reply::Refused(Refusal::OutOfMemory) = reply {
+        return ask(desk, Call::GiveUp(lease));
     }
     reply
+}
+
+/// Offers the objects of a publication.
+fn offer_all(desk: &mut Desk, lease: u64, publication: &SharedPublication) {
+    for (place, object) in publication.publication().objects().iter().enumerate() {
+        if let Ok(object) = object.share() {
+            let _ = ask(
+                desk,
+                Call::OfferObject {
+                    lease,
+                    place,
+                    object,
+                },
+            );
+        }
+    }
 }
 
 /// Hands in what was made of a job, or gives up its lease: names, versions and cards stay as they are
 /// whatever the reply is.
 fn hand_in(scene: &mut Scene, made: Made, is_foreign: bool) {
     let before = scene.state();
-    let told = told_in(&end_made(&mut scene.desk, made));
+    let reply = if is_foreign {
+        ask(&mut scene.desk, made.into_call())
+    } else {
+        end_made(&mut scene.desk, made)
+    };
+    let told = told_in(&reply);
     let is_kept = scene.state() == before;
     let is_wanted = match told {
         Told::Refused(Refusal::Foreign) => is_foreign,

@@ -78,7 +78,7 @@ const NAMES: [&str; 40] = [
     "LIST, IMAGE, MAP or ERRORS",
     "Claim",
     "Job::run",
-    "DeliverDeck, LayLink with CompareLink, or GiveUp",
+    "DeliverDeck, OfferObject with Publish, or GiveUp",
     "settle",
     "reply_text",
     "write_reply",

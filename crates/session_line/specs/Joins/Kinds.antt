@@ -23,8 +23,8 @@ is_session_call call.Status = true
 is_session_call call.Claim = false
 is_session_call (call.DeliverDeck done) = false
 is_session_call (call.DeliverLink lease publication) = false
-is_session_call (call.LayLink lease publication) = false
-is_session_call (call.CompareLink lease) = false
+is_session_call (call.OfferObject lease place object) = false
+is_session_call (call.Publish lease) = false
 is_session_call (call.GiveUp lease) = false
 
 -- whether a reply tells a change, or refuses
@@ -87,6 +87,6 @@ fits_call call.Status reply = is_status reply
 fits_call call.Claim reply = false
 fits_call (call.DeliverDeck done) reply = false
 fits_call (call.DeliverLink lease publication) reply = false
-fits_call (call.LayLink lease publication) reply = false
-fits_call (call.CompareLink lease) reply = false
+fits_call (call.OfferObject lease place object) reply = false
+fits_call (call.Publish lease) reply = false
 fits_call (call.GiveUp lease) reply = false
