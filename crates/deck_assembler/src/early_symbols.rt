@@ -13,7 +13,8 @@ ghost use Rattle.deck_assembler.specs.Joins.Agreements.{AreExternalsAlike, is_ex
 use crate::symbol_table::SymbolTable;
 use expr_forms::{Expr, Form, LinkedNames, is_symbol};
 use operations::Operation;
-use statement_coder::{Defines, Reading, is_same_form};
+use statement_coder::{Defines, Reading};
+use use_blocks::is_same_form;
 
 /// Whether both values are the same, or both are absent.
 fn is_same_value(value: Option<Form>, other: Option<Form>) -> bool

@@ -7,11 +7,12 @@ ghost use Rattle.deck_assembler.specs.Joins.FirstSymbols.{symbol_in, with_symbol
 
 use crate::symbol_key::SymbolKey;
 use expr_forms::Form;
-use statement_coder::{EarlySymbols, is_same_form};
+use statement_coder::EarlySymbols;
 use std::alloc::{AllocError, Global};
 use std::collections::BTreeMap;
 use std::collections::btree_map::Entry;
 use std::marker::Model;
+use use_blocks::is_same_form;
 
 /// The values of symbols by name. Contracts see each name as a number with its value. A look-up takes
 /// about as long whatever the names are.

@@ -17,7 +17,6 @@ ghost use Rattle.statement_coder.specs.Joins.StatementsRead.{IsRead};
 ghost use Rattle.statement_coder.specs.Joins.KeptSizings.{counter_of, defined_as, recounted, usual_as, IsTaken, IsUnmoved, IsUsual};
 
 use crate::definitions_made::Defines;
-use crate::same_forms::is_same_form;
 use crate::sizing::Sizing;
 use crate::statement::Statement;
 use crate::usual_sizing::{UsualDefinition, UsualSizing};
@@ -26,7 +25,7 @@ use expr_forms::{Form, Name};
 use operations::Letters;
 use std::alloc::{AllocError, Global};
 use std::marker::Model;
-use use_blocks::{BlockChange, Effect, LocationSetting, origin};
+use use_blocks::{BlockChange, Effect, LocationSetting, is_same_form, origin};
 
 fn is_nothing(change: BlockChange) -> bool
     ensures { Decides result (change ≡ changes.Nothing) }

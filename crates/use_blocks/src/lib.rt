@@ -31,5 +31,5 @@ pub use effects::{BlockChange, Effect, LocationSetting};
 pub use laws::{blocks_are_bounded, blocks_are_few};
 pub use lengths::{BlockLength, Lengths};
 pub use literals::Literals;
-pub use positions::{Counting, Position};
+pub use positions::{Counting, Position, is_same_form};
 pub use used_block::UsedBlock;

@@ -129,7 +129,7 @@ impl Counting {
 }
 
 /// Whether both forms are the same.
-fn is_same_form(form: Form, other: Form) -> bool
+pub fn is_same_form(form: Form, other: Form) -> bool
     ensures { Decides result (form ≡ other) }
 {
     form.number() == other.number() && is_same_part(form.part(), other.part())
