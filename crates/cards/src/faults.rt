@@ -48,7 +48,7 @@ pub fn fault_of(edit: &Edit, count: usize) -> Option<EditFault>
 }
 
 /// How many cards there are after an edit that applies.
-fn count_after(edit: &Edit, count: usize) -> usize
+pub fn count_after(edit: &Edit, count: usize) -> usize
     requires { fault_at edit.now count ≡ None }
     ensures { result ≡ count_after edit.now count }
 {

@@ -40,7 +40,7 @@ pub use carrying::{MOST_CARRIED, MadeEdit, Touched, carry};
 pub use copies::{copied_cards, copied_edits, edited_copy};
 pub use deck_name::{BadName, DeckName};
 pub use edits::{Edit, EditFault};
-pub use faults::{MOST_CARDS, fault_of, first_fault};
+pub use faults::{MOST_CARDS, count_after, fault_of, first_fault};
 pub use laws::{carried_edits_converge, touched_cards_were_changed};
 pub use statement_fields::Fields;
 pub use statement_list::{Span, StatementList, statements};

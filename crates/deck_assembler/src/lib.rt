@@ -30,7 +30,6 @@ mod symbol_table;
 mod early_symbols;
 mod early_trial;
 mod head_deck;
-mod known_statements;
 mod old_deck;
 mod sized_deck;
 mod sizer;

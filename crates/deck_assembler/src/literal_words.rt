@@ -1,9 +1,9 @@
 //! The literals of a statement, taken into the literals block (COMPASS 60492600, literals).
-ghost use Rattle.std.specs.Prelude.{◌≡◌, ◌<◌, ◌^◌, [], IfOk, OnOk, flat_map, true};
+ghost use Rattle.std.specs.Prelude.{◌≡◌, [], IfOk, OnOk, flat_map, true};
 ghost use Rattle.definitions.specs.Literals as literals;
-ghost use Rattle.definitions.specs.Literals.{literals_in, value_literals, datum_literals, operand_literals, with_literals, signed_number};
+ghost use Rattle.definitions.specs.Literals.{literals_in, value_literals, datum_literals, operand_literals, with_literals};
 ghost use Rattle.definitions.specs.Operands as operands;
-ghost use Rattle.expr_forms.specs.Joins.Elements.{literal_as, sign_as};
+ghost use Rattle.expr_forms.specs.Joins.Elements.{literal_as};
 ghost use Rattle.expr_forms.specs.Joins.Readings.{datum_as, bit_field_as};
 ghost use Rattle.operations.specs.Joins.OperationsAs.{operation_as};
 ghost use Rattle.statement_coder.specs.Joins.Readings.{IsReading, IsLawful};
@@ -13,24 +13,12 @@ ghost use Rattle.expr_forms.specs.Joins.Kept.{field_of};
 use crate::sized_statement::SizedStatement;
 use expr_forms::{
     BitField, BitFields, ConWords, CountedItem, Datum, Expr, Field, KeptField, Literal,
-    Literals as LiteralsLeft, Number, Shape, Sign, item_literal, number_literal,
+    Literals as LiteralsLeft, Number, Shape, item_literal, number_literal,
 };
 use operations::Operation;
-use statement_coder::{KeptReading, Reading};
+use statement_coder::{KeptReading, Reading, signed};
 use std::alloc::AllocError;
 use use_blocks::Literals;
-
-/// The number that a sign and a size make.
-fn signed(sign: Sign, size: u64) -> i64
-    requires { size < 2 ^ 60 }
-    ensures { result ≡ signed_number (sign_as sign) size }
-{
-    match sign {
-        Sign::Absent => size as i64,
-        Sign::Plus => size as i64,
-        Sign::Minus => -(size as i64),
-    }
-}
 
 /// The word of a literal: that of DATA, and 0 where its number is too great.
 pub fn literal_word(literal: &Literal<'_>) -> u64

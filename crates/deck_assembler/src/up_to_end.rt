@@ -23,14 +23,13 @@ ghost use Rattle.deck_assembler.specs.Joins.Sizers.{stood, ahead, IsNext, IsSize
 ghost use Rattle.deck_assembler.specs.Joins.Tails.{HasTailIfAny, HasTailWithin};
 ghost use Rattle.deck_assembler.specs.declared.old_deck.Stage.TheVariants as stages;
 
-use crate::known_statements::known_statement;
 use crate::old_deck::OldDeck;
 use crate::sized_statement::SizedStatement;
 use crate::sizer::Sizer;
 use cards::{Card, Span, StatementRoom, fields};
 use definitions::DeckKind;
 use operations::{KindSearch, is_end};
-use statement_coder::{Meter, Statement};
+use statement_coder::{Meter, Statement, known_statement};
 use std::alloc::{AllocError, Global};
 
 /// The kind that the operation field of the statement of these cards leaves a search with.

@@ -59,7 +59,7 @@ pub(crate) fn known_if(width: u32, bits: Option<u64>) -> Item
 }
 
 /// The number that a sign and a size make.
-fn signed(sign: Sign, size: u64) -> i64
+pub fn signed(sign: Sign, size: u64) -> i64
     requires { size < 2 ^ 60 }
     ensures { result ≡ signed_number (sign_as sign) size }
 {

@@ -65,3 +65,26 @@ impl<'a> Statement<'a> {
         }
     }
 }
+
+/// The statement of at most ten cards in a deck of this kind, where this is its operation: that is not
+/// looked up.
+pub fn known_statement<'a>(
+    kind: DeckKind,
+    operation: Operation,
+    cards: &'a [Card],
+    room: &'a mut StatementRoom,
+) -> Statement<'a>
+    requires few { length cards.now ≤ 10 }
+    requires operation { operation_as operation ≡ operation_of kind (fields_of cards.now).operation }
+    ensures { IsRead kind cards.now result }
+{
+    let known = fields(cards, room);
+    Statement {
+        kind,
+        location: known.location(),
+        name: known.operation(),
+        variable: known.variable(),
+        operation,
+        is_stray: is_stray(cards),
+    }
+}
