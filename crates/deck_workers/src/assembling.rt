@@ -1,10 +1,10 @@
 //! A deck assembled from what a job begins with, and objects published.
-ghost use Rattle.std.specs.Prelude.{◌≡◌, ◌+◌, ◌⊎◌, false, None, Some, length, IfOk, IfErr, OnOk};
+ghost use Rattle.std.specs.Prelude.{◌≡◌, ◌+◌, ◌≤◌, ◌⊎◌, false, None, Some, length, IfOk, IfErr, OnOk};
 ghost use Rattle.statement_coder.specs.Joins.Meters.{CountsAtMost, RisesBy};
-ghost use Rattle.deck_workers.specs.Joins.Language.{edits_fault, statements_sum};
+ghost use Rattle.deck_workers.specs.Joins.Language.{edits_fault, statement_count, statements_sum};
 ghost use Rattle.deck_workers.specs.Jobs.{start_deck, start_cards, start_bound, deck_edited, CountsDue, CountsWithin};
 
-use cards::{DeckName, Edit, first_fault};
+use cards::{Card, DeckName, Edit, first_fault};
 use deck_linker::publish;
 use deck_listing::ListedObject;
 use desk_core::{Held, SharedPublication, Start};
@@ -74,10 +74,30 @@ fn begun(
 {
     match start {
         Start::FromRecord(held) => Ok(held.into_kept()),
-        Start::FromCards(cards) => match Kept::new(alloc, name, cards.into_items(), meter) {
-            Ok(kept) => Ok(kept),
+        Start::FromCards(cards) => match cards.into_items(alloc) {
+            Ok(cards) => begun_anew(alloc, name, cards, meter),
             Err(_) => Err(RecordFault::OutOfMemory),
         },
+    }
+}
+
+/// A new record of cards.
+fn begun_anew(
+    alloc: Global,
+    name: DeckName,
+    cards: Vec<Card>,
+    meter: &mut Meter,
+) -> Result<Kept, RecordFault>
+    requires { length cards.items ≤ 20000 }
+    ensures deck { IfOk result (λ kept. (kept.name ≡ name) × (kept.cards ≡ cards.items)) }
+    ensures unspent { IfOk result (λ kept. kept.is_spent ≡ false) }
+    ensures fault { IfErr result (λ fault. fault ≡ RecordFault.OutOfMemory) }
+    ensures meter { CountsAtMost (statement_count cards.items) meter.old meter.new }
+    ensures all { OnOk result (RisesBy (statement_count cards.items) meter.old.sized meter.new.sized × RisesBy (statement_count cards.items) meter.old.coded meter.new.coded) }
+{
+    match Kept::new(alloc, name, cards, meter) {
+        Ok(kept) => Ok(kept),
+        Err(_) => Err(RecordFault::OutOfMemory),
     }
 }
 

@@ -55,3 +55,4 @@ pub mod NobodyUndone
 pub mod CardsThen
 pub mod BackSteps
 pub mod CopySteps
+pub mod PieceLaws

@@ -1,9 +1,9 @@
 -- What takes an edit back applies to what it leaves, and brings the cards back.
 use Rattle.std.specs.Prelude.{insert, remove}
-use Rattle.std.proofs.Common.{◌≡◌, ℕ, zero, suc, ◌+◌, ◌-◌, ◌≤◌, ◌<◌, Bool, true, false, not, nat_le, List, [], ◌∷◌, length, get_or, Option, Some, None, refl, ap, arith}
+use Rattle.std.proofs.Common.{◌≡◌, ℕ, zero, suc, ◌+◌, ◌-◌, ◌≤◌, ◌<◌, Bool, true, false, not, nat_le, List, [], ◌∷◌, length, get_or, Option, Some, None, refl, ap, ◌∙◌, arith}
 use Rattle.std.proofs.Math.ListN.{set}
 use Rattle.std.proofs.lemmas.Bool.{leb-true, le-leb, false_from_ne_true, and_from}
-use Rattle.std.proofs.lemmas.List.{length-set}
+use Rattle.std.proofs.lemmas.List.{length-set, set-get_or}
 use Rattle.std.proofs.lemmas.List.Edits.{length-insert, length-remove}
 use Rattle.cards.proofs.FaultLaws.{have-places}
 use Rattle.cards.specs.Converging.{HasPlace}
@@ -12,10 +12,10 @@ use Rattle.desk_core.specs.Joins.Edits.{Edit, Insert, Replace, Remove, EditFault
 use Rattle.desk_core.specs.Joins.Causes.{when, first_cause}
 use Rattle.desk_core.specs.Past.{undo_of}
 
-insert-removed : {X : Type 0} (xs : List X) (i : ℕ) (d : X) → i < length xs → insert (remove xs i) i (get_or xs i d) ≡ xs
-insert-removed [] i d within = absurd (omega (arith, within))
-insert-removed (x ∷ xs) zero d within = refl
-insert-removed (x ∷ xs) (suc i) d within = ap (λ ys. x ∷ ys) (insert-removed xs i d (omega (arith, within)))
+pub insert-removed : {X : Type 0} (xs : List X) (i : ℕ) (y : X) → i < length xs → insert (remove xs i) i y ≡ set xs i y
+insert-removed [] i y within = absurd (omega (arith, within))
+insert-removed (x ∷ xs) zero y within = refl
+insert-removed (x ∷ xs) (suc i) y within = ap (λ ys. x ∷ ys) (insert-removed xs i y (omega (arith, within)))
 
 remove-inserted : {X : Type 0} (xs : List X) (i : ℕ) (y : X) → i ≤ length xs → remove (insert xs i y) i ≡ xs
 remove-inserted xs zero y within = refl
@@ -36,7 +36,7 @@ has-place edit cards none =
 pub undo-made : (edit : Edit) (cards : List Card) → HasPlace edit cards → edited (edited cards edit) (undo_of edit cards) ≡ cards
 undo-made (Insert place card) cards has = let low = has.0 in let high = has.1 in remove-inserted cards (place - 1) card (omega (arith, low, high))
 undo-made (Replace place card) cards has = set-again cards (place - 1) card []
-undo-made (Remove place) cards has = let low = has.0 in let high = has.1 in insert-removed cards (place - 1) [] (omega (arith, low, high))
+undo-made (Remove place) cards has = let low = has.0 in let high = has.1 in insert-removed cards (place - 1) (get_or cards (place - 1) []) (omega (arith, low, high)) ∙ set-get_or cards (place - 1) []
 
 not-less : (a b : ℕ) → b < a → nat_le a b ≡ false
 not-less a b less = false_from_ne_true (nat_le a b) (λ is. let at_most = leb-true a b is in absurd (omega (arith, less, at_most)))

@@ -8,3 +8,4 @@ pub mod Stored
 pub mod OwnNames
 pub mod Turns
 pub mod Delivered
+pub mod Pieces

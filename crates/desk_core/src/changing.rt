@@ -8,6 +8,7 @@ ghost use Rattle.desk_core.specs.Changing.{add_deck, added, accepted, against_ad
 ghost use Rattle.desk_core.specs.Joins.OwnNames.{IsPlaceOf, changed_at};
 ghost use Rattle.desk_core.specs.Joins.Turns.{IsAnswer, MayAnswer};
 
+use crate::accepted::Accepted;
 use crate::desk::{Desk, against_next};
 use crate::new_deck::NewDeck;
 use crate::replies::{Refusal, Reply};
@@ -51,15 +52,23 @@ impl Desk {
         requires { against_add deck self.old ≡ None }
         ensures { MayAnswer self.old (accepted (added deck self.old)) result self.new }
     {
-        let version = self.version + 1;
-        let deck = StoredDeck::new(self.alloc, version, deck);
-        match self.decks.push(deck) {
-            Ok(()) => {
-                self.version = version;
-                Reply::Changed(version)
-            }
+        match self.push(deck) {
+            Ok(version) => Reply::Changed(Accepted::new(version)),
             Err(_) => Reply::Refused(Refusal::OutOfMemory),
         }
+    }
+
+    /// A deck comes in behind the others, as the next change.
+    fn push(&mut self, deck: NewDeck) -> Result<u64, AllocError>
+        requires { against_add deck self.old ≡ None }
+        ensures desk { self.new ≡ (if is_ok result then added deck self.old else self.old) }
+        ensures version { IfOk result (λ version. version ≡ self.old.version + 1) }
+    {
+        let version = self.version + 1;
+        let deck = StoredDeck::new(self.alloc, version, deck)?;
+        self.decks.push(deck)?;
+        self.version = version;
+        Ok(version)
     }
 
     /// The deck takes the place of the one of its name, whose lease goes with it; or it is one more where
@@ -72,7 +81,7 @@ impl Desk {
         };
         match self.against_put(place, seen, &deck) {
             Some(refusal) => Reply::Refused(refusal),
-            None => Reply::Changed(self.put_at(place, deck.cards)),
+            None => self.put(place, deck.cards),
         }
     }
 
@@ -102,18 +111,31 @@ impl Desk {
         against_next(self.version)
     }
 
-    /// Puts cards in place of those of the deck at a place, as the next change.
-    fn put_at(&mut self, place: usize, cards: Vec<Card>) -> u64
+    /// Puts cards in place of those of the deck at a place.
+    fn put(&mut self, place: usize, cards: Vec<Card>) -> Reply
         requires within { place < length self.old.decks }
         requires few { length cards.items ≤ 20000 }
         requires room { against_next self.old.version ≡ None }
-        ensures desk { self.new ≡ changed_at place (replaced_deck (self.old.version + 1) cards.items) (record self.old { version = self.old.version + 1 }) }
-        ensures version { result ≡ self.old.version + 1 }
+        ensures { MayAnswer self.old (accepted (changed_at place (replaced_deck (self.old.version + 1) cards.items) (record self.old { version = self.old.version + 1 }))) result self.new }
+    {
+        match self.put_at(place, cards) {
+            Ok(made) => Reply::Changed(made),
+            Err(_) => Reply::Refused(Refusal::OutOfMemory),
+        }
+    }
+
+    /// Puts cards in place of those of the deck at a place, as the next change.
+    fn put_at(&mut self, place: usize, cards: Vec<Card>) -> Result<Accepted, AllocError>
+        requires within { place < length self.old.decks }
+        requires few { length cards.items ≤ 20000 }
+        requires room { against_next self.old.version ≡ None }
+        ensures desk { self.new ≡ (if is_ok result then changed_at place (replaced_deck (self.old.version + 1) cards.items) (record self.old { version = self.old.version + 1 }) else self.old) }
+        ensures version { IfOk result (λ version. version ≡ self.old.version + 1) }
     {
         let version = self.version + 1;
-        self.decks.replace_at(place, version, cards);
+        let before = self.decks.replace_at(self.alloc, place, version, cards)?;
         self.version = version;
-        version
+        Ok(Accepted::without(version, before))
     }
 
     /// The deck goes, and its lease with it.
@@ -140,15 +162,15 @@ impl Desk {
         against_next(self.version)
     }
 
-    fn drop_at(&mut self, place: usize) -> u64
+    fn drop_at(&mut self, place: usize) -> Accepted
         requires within { place < length self.old.decks }
         requires room { against_next self.old.version ≡ None }
         ensures desk { self.new ≡ record self.old { version = self.old.version + 1; decks = remove self.old.decks place } }
         ensures version { result ≡ self.old.version + 1 }
     {
         self.version += 1;
-        self.decks.remove(place);
-        self.version
+        let deck = self.decks.remove(place);
+        Accepted::without(self.version, deck)
     }
 
     /// One edit of the deck.
@@ -168,7 +190,7 @@ impl Desk {
             return Reply::Refused(refusal);
         }
         match self.edit_at(place, by, edit) {
-            Ok(version) => Reply::Changed(version),
+            Ok(version) => Reply::Changed(Accepted::new(version)),
             Err(_) => Reply::Refused(Refusal::OutOfMemory),
         }
     }
@@ -223,7 +245,7 @@ impl Desk {
             return Reply::Refused(refusal);
         }
         match self.edit_all_at(place, by, edits) {
-            Ok(version) => Reply::Changed(version),
+            Ok(version) => Reply::Changed(Accepted::new(version)),
             Err(_) => Reply::Refused(Refusal::OutOfMemory),
         }
     }

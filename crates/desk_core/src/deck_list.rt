@@ -96,22 +96,28 @@ impl DeckList {
         Ok(())
     }
 
-    /// The deck at a place goes.
-    pub(crate) fn remove(&mut self, place: usize)
+    /// The deck at a place goes: this one.
+    pub(crate) fn remove(&mut self, place: usize) -> StoredDeck
         requires { place < length self.old }
         ensures { self.new ≡ remove self.old place }
     {
-        self.decks.remove(place);
+        self.decks.remove(place)
     }
 
-    /// The deck at a place has other cards from this version on.
-    pub(crate) fn replace_at(&mut self, place: usize, version: u64, cards: Vec<Card>)
+    /// The deck at a place has other cards from this version on: the deck as it was.
+    pub(crate) fn replace_at(
+        &mut self,
+        alloc: Global,
+        place: usize,
+        version: u64,
+        cards: Vec<Card>,
+    ) -> Result<StoredDeck, AllocError>
         requires within { place < length self.old }
         requires few { length cards.items ≤ 20000 }
-        ensures { self.new ≡ with_at place (replaced_deck version cards.items) self.old }
+        ensures { self.new ≡ (if is_ok result then with_at place (replaced_deck version cards.items) self.old else self.old) }
     {
         let deck = &mut self.decks[place];
-        deck.replace(version, cards);
+        deck.replace(alloc, version, cards)
     }
 
     /// Makes an edit that applies to the deck at a place.

@@ -2,17 +2,23 @@
 ghost use Rattle.std.specs.Prelude.{◌≡◌, None, [], ◌∷◌, ◌++◌, is_ok, if◌then◌else◌};
 ghost use Rattle.desk_core.specs.Joins.Edits.{fault_of, edited};
 
-use cards::{Card, Edit, apply, copied_edits};
+use crate::shared_cards::SharedCards;
+use cards::{Edit, copied_edits};
 use std::alloc::{AllocError, Global};
 
 /// Makes an edit that applies, and keeps it with those that wait. Without memory nothing changes.
-fn edit_both(cards: &mut Vec<Card>, waiting: &mut Vec<Edit>, edit: &Edit) -> Result<(), AllocError>
-    requires { fault_of edit.now cards.old.items ≡ None }
-    ensures cards { cards.new.items ≡ (if is_ok result then edited cards.old.items edit.now else cards.old.items) }
+fn edit_both(
+    alloc: Global,
+    cards: &mut SharedCards,
+    waiting: &mut Vec<Edit>,
+    edit: &Edit,
+) -> Result<(), AllocError>
+    requires { fault_of edit.now cards.old ≡ None }
+    ensures cards { cards.new ≡ (if is_ok result then edited cards.old edit.now else cards.old) }
     ensures waiting { waiting.new.items ≡ (if is_ok result then waiting.old.items ++ edit.now ∷ [] else waiting.old.items) }
 {
     waiting.push(edit.copied())?;
-    match apply(cards, edit) {
+    match cards.edit(alloc, edit) {
         Ok(()) => Ok(()),
         Err(fault) => {
             waiting.pop();
@@ -23,19 +29,20 @@ fn edit_both(cards: &mut Vec<Card>, waiting: &mut Vec<Edit>, edit: &Edit) -> Res
 
 /// Makes an edit that applies, and keeps it for later where edits wait. Without memory nothing changes.
 pub(crate) fn edit_waiting(
-    cards: &mut Vec<Card>,
+    alloc: Global,
+    cards: &mut SharedCards,
     waiting: &mut Vec<Edit>,
     keeps: bool,
     edit: &Edit,
 ) -> Result<(), AllocError>
-    requires { fault_of edit.now cards.old.items ≡ None }
-    ensures cards { cards.new.items ≡ (if is_ok result then edited cards.old.items edit.now else cards.old.items) }
+    requires { fault_of edit.now cards.old ≡ None }
+    ensures cards { cards.new ≡ (if is_ok result then edited cards.old edit.now else cards.old) }
     ensures waiting { waiting.new.items ≡ (if is_ok result then (if keeps then waiting.old.items ++ edit.now ∷ [] else waiting.old.items) else waiting.old.items) }
 {
     if keeps {
-        edit_both(cards, waiting, edit)
+        edit_both(alloc, cards, waiting, edit)
     } else {
-        apply(cards, edit)
+        cards.edit(alloc, edit)
     }
 }
 

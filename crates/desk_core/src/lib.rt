@@ -11,13 +11,14 @@
 //! (`work_is_handed_out`, `work_ends`), `published_is_delivered` what the desk publishes by itself;
 //! `undo_takes_back` says what an undo leaves, `kept_changes` that
 //! what is kept of a deck is what happened, `nobody_is_undone` that edits which are carried undo nothing of
-//! others. `Stored`, `OwnNames`, `Turns` and `Delivered` say how the code keeps a desk, and no law names
+//! others. `Stored`, `Pieces`, `OwnNames`, `Turns` and `Delivered` say how the code keeps a desk, and no law names
 //! them. The code has a method for each call, with its part of the relation as its clause. A deck is found
 //! by its name and changed at its place; a delivery compares cards by value; growth comes first. Not
 //! promised: that a job comes back, or that the desk becomes idle while others change it.
 #![tactic(auto)]
 
 // What is asked and answered.
+mod accepted;
 mod calls;
 mod deck_cards;
 mod held;
@@ -28,10 +29,12 @@ mod replies;
 mod shared_publication;
 
 // What the desk keeps.
+mod card_pieces;
 mod deck_list;
 mod desk;
 mod leases;
 mod past;
+mod shared_cards;
 mod stored_deck;
 
 // Calls.
@@ -50,6 +53,7 @@ mod undoing;
 // What holds in every run.
 mod laws;
 
+pub use accepted::Accepted;
 pub use calls::{Call, Done};
 pub use deck_cards::DeckCards;
 pub use desk::Desk;

@@ -1,13 +1,13 @@
 //! The changes of a deck that are kept.
 ghost use Rattle.std.specs.Prelude.{◌≡◌, ◌≤◌, ℕ, List, nat_lt, [], ◌∷◌, length, take, drop, position, is_ok, None, IfOk, if◌then◌else◌};
-ghost use Rattle.cards.specs.Counts.{fault_at, count_after};
 ghost use Rattle.desk_core.specs.Joins.Edits.{fault_of, first_fault, edited_by};
 ghost use Rattle.desk_core.specs.Past.{begun_at, with_edits, undo_of, last_version, without_oldest, trimmed, behind, change_at, backs_of};
 ghost use Rattle.desk_core.specs.declared.past.Back.{Back};
 ghost use Rattle.desk_core.specs.Carrying.{made_in};
 ghost use Rattle.desk_core.specs.Joins.Stored.{kept_both, made_edits, backs_made, backs_from};
 
-use cards::{Card, DeckName, Edit, MadeEdit, apply, copied_cards};
+use crate::card_pieces::CardPieces;
+use cards::{Card, DeckName, Edit, MadeEdit, count_after};
 use std::alloc::{AllocError, Global};
 use std::marker::Model;
 
@@ -66,15 +66,6 @@ impl Past {
             made: Vec::new(alloc),
             backs: Vec::new(alloc),
         }
-    }
-
-    /// It begins anew at this version.
-    pub(crate) fn begin(&mut self, version: u64)
-        ensures { self.new ≡ begun_at version }
-    {
-        self.since = version;
-        self.made.clear();
-        self.backs.clear();
     }
 
     /// The version behind which all changes are kept.
@@ -305,18 +296,6 @@ fn count_back(backs: &[Back], cards: &[Card]) -> usize
     count
 }
 
-/// How many cards there are after an edit that applies.
-fn count_after(edit: &Edit, count: usize) -> usize
-    requires { fault_at edit.now count ≡ None }
-    ensures { result ≡ count_after edit.now count }
-{
-    match edit {
-        Edit::Insert { .. } => count + 1,
-        Edit::Replace { .. } => count,
-        Edit::Remove { .. } => count - 1,
-    }
-}
-
 /// Edits with what takes them back.
 fn kept_edits(alloc: Global, made: &[MadeEdit], backs: &[Back]) -> Result<Vec<KeptEdit>, AllocError>
     requires { length backs.now ≡ length made.now }
@@ -410,14 +389,14 @@ pub(crate) fn edited_copy(
     ensures cards { IfOk result (λ both. both.0.items ≡ edited_by edits.now cards.now) }
     ensures backs { IfOk result (λ both. both.1.items ≡ backs_made by.now edits.now cards.now) }
 {
-    let mut copies = copied_cards(alloc, cards)?;
+    let mut pieces = CardPieces::of(alloc, cards)?;
     let mut backs = Vec::with_capacity(alloc, edits.len())?;
     for edit in edits {
+        let back = pieces.edit(edit)?;
         backs.push(Back {
-            edit: undo_of(edit, &copies),
+            edit: back,
             by: by.copied(),
         })?;
-        apply(&mut copies, edit)?;
     }
-    Ok((copies, backs))
+    Ok((pieces.joined(alloc)?, backs))
 }

@@ -1,5 +1,6 @@
 //! What a desk answers.
 
+use crate::accepted::Accepted;
 use crate::jobs::{DeckWork, LinkWork};
 use crate::listed::Listed;
 use crate::past::KeptEdit;
@@ -87,7 +88,7 @@ impl From<EditFault> for Refusal {
 #[derive(Drop)]
 pub enum Reply {
     /// The change is made: the desk's new version.
-    Changed(u64),
+    Changed(Accepted),
     /// The change is made: the desk's new version, the deck's version before it, and the edits as they
     /// were made.
     Carried {

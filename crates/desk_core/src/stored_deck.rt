@@ -24,6 +24,7 @@ use crate::listed::Listed;
 use crate::new_deck::NewDeck;
 use crate::past::{Back, KeptEdit, Past, edited_copy, made_edits, undo_of};
 use crate::replies::{Refusal, Row, State};
+use crate::shared_cards::SharedCards;
 use cards::{Card, DeckName, Edit, carry, copied_cards, first_fault};
 use deck_listing::ListedObject;
 use std::alloc::{AllocError, Global};
@@ -39,7 +40,7 @@ use std::mem::replace;
 pub struct StoredDeck {
     name: DeckName,
     /// Its cards, where it holds them; else they lie in its object, and these are not read.
-    own_cards: Vec<Card>,
+    own_cards: SharedCards,
     holds_cards: bool,
     identity: u64,
     version: u64,
@@ -56,20 +57,20 @@ impl Model for StoredDeck {
 
     ghost Value = { DeskDeck };
 
-    ghost view = { λ d. stored_deck d.name (cards_held d.holds_cards d.own_cards.items d.object) d.identity d.version d.object d.kept d.waiting.items d.lease d.past };
+    ghost view = { λ d. stored_deck d.name (cards_held d.holds_cards d.own_cards d.object) d.identity d.version d.object d.kept d.waiting.items d.lease d.past };
 
-    ghost invariant = { λ d. IsStored d.name (cards_held d.holds_cards d.own_cards.items d.object) d.object d.past };
+    ghost invariant = { λ d. IsStored d.name (cards_held d.holds_cards d.own_cards d.object) d.object d.past };
 }
 
 impl StoredDeck {
     /// The deck that an addition makes.
-    pub(crate) fn new(alloc: Global, version: u64, deck: NewDeck) -> StoredDeck
+    pub(crate) fn new(alloc: Global, version: u64, deck: NewDeck) -> Result<StoredDeck, AllocError>
         requires { length deck.cards ≤ 20000 }
-        ensures { result ≡ added_deck version deck }
+        ensures { IfOk result (λ stored. stored ≡ added_deck version deck) }
     {
-        StoredDeck {
+        Ok(StoredDeck {
             name: deck.name,
-            own_cards: deck.cards,
+            own_cards: SharedCards::common(alloc, deck.cards)?,
             holds_cards: true,
             identity: version,
             version,
@@ -78,7 +79,7 @@ impl StoredDeck {
             waiting: Vec::new(alloc),
             lease: None,
             past: Past::begun_at(alloc, version),
-        }
+        })
     }
 
     /// Whether it has this name.
@@ -143,11 +144,17 @@ impl StoredDeck {
         hold_cards(alloc, self.holds_cards, &mut self.own_cards, &self.object)?;
         self.holds_cards = true;
         let back = Back {
-            edit: undo_of(edit, &self.own_cards),
+            edit: undo_of(edit, self.own_cards.as_slice()),
             by: by.copied(),
         };
         self.past.push(version, edit.copied(), back)?;
-        if let Err(fault) = edit_waiting(&mut self.own_cards, &mut self.waiting, keeps, edit) {
+        if let Err(fault) = edit_waiting(
+            alloc,
+            &mut self.own_cards,
+            &mut self.waiting,
+            keeps,
+            edit,
+        ) {
             self.past.truncate(count);
             return Err(fault);
         }
@@ -179,27 +186,30 @@ impl StoredDeck {
             return Err(fault);
         }
         self.past.trim();
-        self.own_cards = cards;
+        self.own_cards = SharedCards::own(cards);
         self.holds_cards = true;
         self.version = version;
         self.object = None;
         Ok(())
     }
 
-    /// Other cards take the place of its own, and it is as a deck that was added at this version.
-    pub(crate) fn replace(&mut self, version: u64, cards: Vec<Card>)
+    /// Other cards take the place of its own, and it is as a deck that was added at this version: the deck as it
+    /// was. Without memory nothing changes.
+    pub(crate) fn replace(
+        &mut self,
+        alloc: Global,
+        version: u64,
+        cards: Vec<Card>,
+    ) -> Result<StoredDeck, AllocError>
         requires { length cards.items ≤ 20000 }
-        ensures { self.new ≡ replaced_deck version cards.items self.old }
+        ensures { self.new ≡ (if is_ok result then replaced_deck version cards.items self.old else self.old) }
     {
-        self.own_cards = cards;
-        self.holds_cards = true;
-        self.identity = version;
-        self.version = version;
-        self.object = None;
-        self.kept = None;
-        self.waiting.clear();
-        self.lease = None;
-        self.past.begin(version);
+        let deck = NewDeck {
+            name: self.name.copied(),
+            cards,
+        };
+        let added = StoredDeck::new(alloc, version, deck)?;
+        Ok(replace(self, added))
     }
 
     /// The version behind which all its changes are kept.
@@ -393,22 +403,22 @@ impl StoredDeck {
         ensures { self.new ≡ self.old }
     {
         if self.object.is_some() && self.version != latest {
-            self.own_cards = Vec::new(alloc);
+            self.own_cards = SharedCards::own(Vec::new(alloc));
             self.holds_cards = false;
         }
     }
 
-    /// Its job under this lease: record and edits move into it, or a copy of the cards. Without memory
+    /// Its job under this lease: record and edits move into it, or its cards are shared. Without memory
     /// nothing changes.
     pub(crate) fn give_out(&mut self, alloc: Global, number: u64) -> Result<DeckWork, AllocError>
         ensures deck { self.new ≡ (if is_ok result then given number self.old else self.old) }
         ensures work { IfOk result (λ work. work ≡ deck_work number self.old) }
     {
-        let copies = self.copies_for_job(alloc)?;
+        let cards = self.cards_for_job(alloc)?;
         let waiting = replace(&mut self.waiting, Vec::new(alloc));
         let (start, edits) = match self.kept.take() {
             Some(kept) => (Start::FromRecord(kept), waiting),
-            None => (Start::FromCards(copies), Vec::new(alloc)),
+            None => (Start::FromCards(cards), Vec::new(alloc)),
         };
         self.lease = Some(Lease {
             number,
@@ -424,14 +434,24 @@ impl StoredDeck {
         })
     }
 
-    /// A copy of the cards where a job begins with them.
-    fn copies_for_job(&self, alloc: Global) -> Result<DeckCards, AllocError>
-        ensures { IfOk result (λ copies. copies ≡ (if is_some self.now.kept then [] else self.now.cards)) }
+    /// The cards once more where a job begins with them.
+    fn cards_for_job(&self, alloc: Global) -> Result<DeckCards, AllocError>
+        ensures { IfOk result (λ cards. cards ≡ (if is_some self.now.kept then [] else self.now.cards)) }
     {
         if self.kept.is_some() {
             return Ok(DeckCards::new(Vec::new(alloc)));
         }
-        Ok(DeckCards::new(copied_cards(alloc, self.cards())?))
+        Ok(DeckCards::shared(self.share_cards(alloc)?))
+    }
+
+    /// Its cards once more, in common where they are held so.
+    fn share_cards(&self, alloc: Global) -> Result<SharedCards, AllocError>
+        ensures { IfOk result (λ cards. cards ≡ self.now.cards) }
+    {
+        if !self.holds_cards {
+            return Ok(SharedCards::own(copied_cards(alloc, self.cards())?));
+        }
+        self.own_cards.share(alloc)
     }
 
     /// The record is lost, and with it what waited for it; the lease ends.
@@ -467,16 +487,16 @@ impl StoredDeck {
 fn hold_cards(
     alloc: Global,
     holds: bool,
-    own: &mut Vec<Card>,
+    own: &mut SharedCards,
     object: &Option<ListedObject>,
 ) -> Result<(), AllocError>
-    ensures { own.new.items ≡ (if is_ok result then cards_held holds own.old.items object.now else own.old.items) }
+    ensures { own.new ≡ (if is_ok result then cards_held holds own.old object.now else own.old) }
 {
     if holds {
         return Ok(());
     }
     if let Some(object) = object {
-        *own = copied_cards(alloc, object.object().cards())?;
+        *own = SharedCards::own(copied_cards(alloc, object.object().cards())?);
     }
     Ok(())
 }

@@ -145,7 +145,7 @@ fn push_image(answer: &mut Answer, publication: &ListedPublication) {
 /// A reply of the desk.
 pub fn push_reply(answer: &mut Answer, reply: &Reply) {
     match reply {
-        Reply::Changed(version) => answer.number("changed ", *version),
+        Reply::Changed(made) => answer.number("changed ", made.version()),
         Reply::Carried { version, .. } => answer.number("carried ", *version),
         Reply::Idle(version) => answer.number("idle ", *version),
         Reply::AllOut => answer.push("all out"),

@@ -6,7 +6,7 @@ ghost use Rattle.journal.specs.Keeping.{MakesCarried, MakesChange, TellsCarried,
 use crate::changes::{Asked, Carry, Change, asked_of};
 use crate::drafts::{Draft, Stamp, draft_carried};
 use cards::DeckName;
-use desk_core::{Call, Refusal, Reply};
+use desk_core::{Accepted, Call, Refusal, Reply};
 use session_line::{Calls, Greeting};
 use std::alloc::Global;
 use std::marker::Model;
@@ -81,11 +81,11 @@ impl<C, K> Keeping<C, K> {
 }
 
 /// What is told of a change whose record was kept, or was not.
-fn told_of(version: u64, kept: bool) -> Reply
-    ensures { result ≡ told_of version kept }
+fn told_of(made: Accepted, kept: bool) -> Reply
+    ensures { result ≡ told_of made kept }
 {
     if kept {
-        Reply::Changed(version)
+        Reply::Changed(made)
     } else {
         Reply::Refused(Refusal::NotKept)
     }
@@ -96,7 +96,10 @@ fn kept_reply<K: Keep>(keeper: &mut K, reply: Reply, draft: Draft) -> Reply
     ensures { TellsKept K.keeps draft reply keeper.old result keeper.new }
 {
     match reply {
-        Reply::Changed(version) => told_of(version, keeper.keep(version, draft)),
+        Reply::Changed(made) => {
+            let kept = keeper.keep(made.version(), draft);
+            told_of(made, kept)
+        }
         Reply::Carried { .. } => Reply::Refused(Refusal::Foreign),
         reply => reply,
     }
@@ -113,7 +116,8 @@ fn carried_reply<K: Keep>(keeper: &mut K, reply: Reply, stamp: Stamp, name: Deck
             edits,
         } => {
             let draft = draft_carried(stamp, name, seen, edits);
-            told_of(version, keeper.keep(version, draft))
+            let kept = keeper.keep(version, draft);
+            told_of(Accepted::new(version), kept)
         }
         Reply::Changed(_) => Reply::Refused(Refusal::Foreign),
         reply => reply,

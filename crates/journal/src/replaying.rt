@@ -84,7 +84,13 @@ fn make_again(
     ensures { OnOk result (MakesAgain version by change desk.old desk.new) }
 {
     match desk.step(change.into_call(by)) {
-        Reply::Changed(made) if made == version => Ok(()),
+        Reply::Changed(made) => {
+            if made.version() == version {
+                Ok(())
+            } else {
+                Err(unmade)
+            }
+        }
         Reply::Refused(Refusal::OutOfMemory) => Err(ReplayFault::OutOfMemory),
         _ => Err(unmade),
     }

@@ -159,9 +159,9 @@ struct Versions {
 /// What a reply to a change makes of them.
 fn behind(versions: &mut Versions, reply: &Reply) {
     match reply {
-        Reply::Changed(version) => {
-            versions.seen = *version;
-            versions.made = *version;
+        Reply::Changed(made) => {
+            versions.seen = made.version();
+            versions.made = made.version();
         }
         Reply::Refused(Refusal::OldVersion(seen)) => versions.seen = *seen,
         Reply::Refused(Refusal::NameTaken) => versions.seen = 1,

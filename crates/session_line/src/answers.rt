@@ -2,7 +2,7 @@
 ghost use Rattle.std.specs.Prelude.{◌≡◌, ◌≤◌, ◌⊎◌, length};
 ghost use Rattle.session_line.specs.Replies.{text_of_reply, IsWithinLimits};
 ghost use Rattle.deck_linker.specs.Publishing.{map_of};
-ghost use Rattle.session_line.specs.Answers.{foreign, told_of_call, told_of_wait, told_of_greeting, told_of_cards, told_of_backs, told_of_part, told_of_errors, told_of_publication, part_text, errors_text, status_text, view_text, told_text, is_bye, IsTellable, IsToldAt};
+ghost use Rattle.session_line.specs.Answers.{foreign, told_of_call, told_of_wait, told_of_greeting, told_of_sessions, told_of_cards, told_of_backs, told_of_part, told_of_errors, told_of_publication, part_text, errors_text, status_text, view_text, told_text, is_bye, IsTellable, IsToldAt};
 ghost use Rattle.session_line.specs.PublishedTexts.{shown_part};
 
 use crate::Refusal;
@@ -80,7 +80,8 @@ pub(crate) fn told_of_call(reply: Reply) -> Told
     ensures fits { IsTellable result }
 {
     match reply {
-        Reply::Changed(version) | Reply::Carried { version, .. } => Told::Done(version),
+        Reply::Changed(made) => Told::Done(made.version()),
+        Reply::Carried { version, .. } => Told::Done(version),
         Reply::ChangesAre(version, kept) => {
             if kept.as_slice().len() <= MOST_KEPT {
                 Told::Changes(version, kept)
@@ -117,10 +118,19 @@ pub(crate) fn told_of_greeting(greeting: Greeting) -> Told
     ensures told { result ≡ told_of_greeting greeting }
     ensures fits { IsTellable result }
 {
-    match greeting.status {
+    let Greeting { status, sessions } = greeting;
+    told_of_sessions(status, sessions)
+}
+
+/// What is told of a status to who greets, with those who are connected.
+fn told_of_sessions(status: Reply, sessions: Listed<Connected>) -> Told
+    ensures told { result ≡ told_of_sessions status sessions }
+    ensures fits { IsTellable result }
+{
+    match status {
         Reply::StatusIs(version, _, _) => {
-            if greeting.sessions.as_slice().len() <= MOST_SESSIONS {
-                Told::Sessions(version, greeting.sessions)
+            if sessions.as_slice().len() <= MOST_SESSIONS {
+                Told::Sessions(version, sessions)
             } else {
                 foreign()
             }

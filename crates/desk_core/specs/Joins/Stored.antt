@@ -9,6 +9,11 @@ use Rattle.desk_core.specs.declared.past.Back.{Back}
 use Rattle.desk_core.specs.Led.{IsPastOf}
 use Rattle.desk_core.specs.Desks.{DeskDeck, Kept, Lease}
 
+-- cards of one's own; or those that are held in common, where there are such
+abbrev pub cards_lying : List Card → Option (List Card) → List Card
+cards_lying own None = own
+cards_lying own (Some common) = common
+
 -- the cards of a deck: those that it holds; else those of its object, where it has one
 abbrev pub cards_held : Bool → List Card → Option Deck → List Card
 cards_held true own object = own

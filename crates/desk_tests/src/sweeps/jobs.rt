@@ -23,7 +23,7 @@ pub enum Told {
 pub fn told_in(reply: &Reply) -> Told {
     match reply {
         Reply::StatusIs(version, _, _) => Told::Version(*version),
-        Reply::Changed(version) => Told::Version(*version),
+        Reply::Changed(made) => Told::Version(made.version()),
         Reply::Idle(_) => Told::Idle,
         Reply::Refused(refusal) => Told::Refused(*refusal),
         _ => Told::Other,

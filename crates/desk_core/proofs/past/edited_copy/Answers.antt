@@ -1,16 +1,13 @@
 -- One edit more is made, and what takes it back is kept.
-use Rattle.std.proofs.Common.{ℕ, List, [], ◌∷◌, ◌++◌, ap, ap₂, ◌∙◌}
-use Rattle.desk_core.specs.Joins.Language.{Card}
+use Rattle.std.proofs.Common.{List, [], ◌∷◌, ◌++◌, ℕ, ap₂, ◌∙◌}
 use Rattle.desk_core.specs.Joins.Edits.{Edit}
-use Rattle.desk_core.specs.Past.{undo_of}
 use Rattle.desk_core.proofs.CopySteps.{one-more}
 use Rattle.desk_core.proofs.past.edited_copy.Goals as goal
 
 pub loop-edit-preserved : goal.loop-edit-preserved
 loop-edit-preserved c =
     let held = c.loop-edit.invariant in
-    let undo = c.undo_of.ensures ∙ ap (λ (cards : List Card). undo_of c.edit-item.result cards) c.deref.ensures.value in
-    let back = ap₂ (λ (edit : Edit) (by : List ℕ). c.loop-edit.backs.items ++ record { edit = edit; by = by } ∷ []) undo c.copied.ensures in
-    let next = one-more c.args.by.now c.args.edits.now c.loop-edit.edit-index c.edit-item.result c.args.cards.now c.loop-edit.copies.items c.apply.new.cards.items c.loop-edit.backs.items c.push.new.self.items
-    c.loop-edit-test.true c.edit-item.is c.in_ok-apply.ensures.cards (c.in_ok-push.ensures.items ∙ back) held.applies held.made held.kept in
+    let back = ap₂ (λ (edit : Edit) (by : List ℕ). c.loop-edit.backs.items ++ record { edit = edit; by = by } ∷ []) c.in_ok-back.ensures.back c.copied.ensures in
+    let next = one-more c.args.by.now c.args.edits.now c.loop-edit.edit-index c.edit-item.result c.args.cards.now c.loop-edit.pieces c.edit.new.self c.loop-edit.backs.items c.push.new.self.items
+    c.loop-edit-test.true c.edit-item.is c.in_ok-back.ensures.cards (c.in_ok-push.ensures.items ∙ back) held.applies held.made held.kept in
     record { applies = next.applies; made = next.made; kept = next.kept }

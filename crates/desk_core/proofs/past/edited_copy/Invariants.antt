@@ -5,7 +5,7 @@ use Rattle.desk_core.proofs.past.edited_copy.Given as goal
 
 abbrev pub invariant-loop-edit : goal.invariant-loop-edit
 invariant-loop-edit l = record {
-  applies : first_fault (drop l.edit-index l.edits) l.copies.items ≡ None;
-  made : edited_by (drop l.edit-index l.edits) l.copies.items ≡ edited_by l.edits l.cards;
-  kept : l.backs.items ++ backs_made l.by (drop l.edit-index l.edits) l.copies.items ≡ backs_made l.by l.edits l.cards;
+  applies : first_fault (drop l.edit-index l.edits) l.pieces ≡ None;
+  made : edited_by (drop l.edit-index l.edits) l.pieces ≡ edited_by l.edits l.cards;
+  kept : l.backs.items ++ backs_made l.by (drop l.edit-index l.edits) l.pieces ≡ backs_made l.by l.edits l.cards;
 }

@@ -1,15 +1,15 @@
-use Rattle.std.proofs.Common.{◌∙◌, List, ap, refl, arith, length}
+use Rattle.std.proofs.Common.{◌∙◌, List, ap, refl, arith, length, is_ok, cond}
 use Rattle.desk_core.specs.Desks.{DeskDeck}
 use Rattle.desk_core.specs.Changing.{replaced_deck}
 use Rattle.desk_core.specs.Joins.OwnNames.{with_at}
-use Rattle.desk_core.proofs.PlaceLaws.{formed-at}
+use Rattle.desk_core.proofs.PlaceLaws.{formed-if}
 use Rattle.desk_core.proofs.deck_list.DeckList.replace_at.Goals as goal
 
 pub invariant_of-self : goal.invariant_of-self
 invariant_of-self c =
-    (formed-at (replaced_deck c.args.version c.args.cards.items) c.self.inside.decks.items c.args.place c.index_mut-deck.result.now c.replace.new.self (λ d. refl) c.self.invariant (omega (arith, ap length c.self.view_is)) c.index_mut-deck.ensures.value c.replace.ensures).0
+    (formed-if (is_ok c.replace.result) (replaced_deck c.args.version c.args.cards.items) c.self.inside.decks.items c.args.place c.index_mut-deck.result.now c.replace.new.self (λ d. refl) c.self.invariant (omega (arith, ap length c.self.view_is)) c.index_mut-deck.ensures.value c.replace.ensures).0
 
 pub returns : goal.returns
 returns c =
-    (formed-at (replaced_deck c.args.version c.args.cards.items) c.self.inside.decks.items c.args.place c.index_mut-deck.result.now c.replace.new.self (λ d. refl) c.self.invariant (omega (arith, ap length c.self.view_is)) c.index_mut-deck.ensures.value c.replace.ensures).1
-    ∙ ap (λ (decks : List DeskDeck). with_at c.args.place (replaced_deck c.args.version c.args.cards.items) decks) c.self.view_is
+    (formed-if (is_ok c.replace.result) (replaced_deck c.args.version c.args.cards.items) c.self.inside.decks.items c.args.place c.index_mut-deck.result.now c.replace.new.self (λ d. refl) c.self.invariant (omega (arith, ap length c.self.view_is)) c.index_mut-deck.ensures.value c.replace.ensures).1
+    ∙ ap (λ (decks : List DeskDeck). cond (is_ok c.replace.result) (with_at c.args.place (replaced_deck c.args.version c.args.cards.items) decks) decks) c.self.view_is

@@ -11,7 +11,7 @@ use Rattle.desk_core.proofs.stored_deck.StoredDeck.carry.Goals as goal
 pub seen_at-count-requires : goal.seen_at-count-requires
 seen_at-count-requires c =
     let inside = c.self.inside in
-    let held = cards_held inside.holds_cards inside.own_cards.items inside.object in
+    let held = cards_held inside.holds_cards inside.own_cards inside.object in
     let told = c.cards.ensures ∙ sym (ap (λ (deck : DeskDeck). deck.cards) c.self.view_is) in
     subst (λ (cards : List Card). first_fault (backs_of (behind c.args.seen inside.past.edits)) cards ≡ None) (sym told)
     (backs-apply (behind c.args.seen inside.past.edits) held (past-behind c.args.seen inside.past.edits held c.self.invariant.led))
@@ -20,7 +20,7 @@ seen_at-count-requires c =
 pub carry-requires-clause-applies : goal.carry-requires-clause-applies
 carry-requires-clause-applies c =
     let inside = c.self.inside in
-    let held = cards_held inside.holds_cards inside.own_cards.items inside.object in
+    let held = cards_held inside.holds_cards inside.own_cards inside.object in
     let told = c.cards.ensures ∙ sym (ap (λ (deck : DeskDeck). deck.cards) c.self.view_is) in
     let backs = backs_of (behind c.args.seen inside.past.edits) in
     let apply = backs-apply (behind c.args.seen inside.past.edits) held (past-behind c.args.seen inside.past.edits held c.self.invariant.led) in

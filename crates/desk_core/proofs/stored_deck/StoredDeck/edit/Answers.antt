@@ -13,7 +13,7 @@ use Rattle.desk_core.proofs.stored_deck.StoredDeck.edit.Goals as goal
 pub invariant_of-self-2 : goal.invariant_of-self-2
 invariant_of-self-2 c =
     let inside = c.self.inside in
-    let cards = cards_held inside.holds_cards inside.own_cards.items inside.object in
+    let cards = cards_held inside.holds_cards inside.own_cards inside.object in
     let edit = c.args.edit.now in
     let same : c.args.self.now.cards ≡ cards = sym (ap (λ (deck : DeskDeck). deck.cards) c.self.view_is) in
     let applies = subst (λ (cards : List Card). fault_of edit cards ≡ None) same c.requires in
@@ -22,7 +22,7 @@ invariant_of-self-2 c =
     record {
       few = subst (λ (after : List Card). length after ≤ 20000) (sym after) (edited-few edit cards applies c.self.invariant.few);
       its_object = search rules;
-      led = subst (λ (p : Past). IsPastOf p.edits c.edit_waiting.new.cards.items) (sym past)
+      led = subst (λ (p : Past). IsPastOf p.edits c.edit_waiting.new.cards) (sym past)
           (subst (λ (after : List Card). IsPastOf (past_after c.args.version c.args.by.now (edit ∷ []) cards inside.past).edits after) (sym after)
           (past-more c.args.version c.args.by.now (edit ∷ []) cards inside.past c.self.invariant.led (one-applies edit cards applies)));
     }

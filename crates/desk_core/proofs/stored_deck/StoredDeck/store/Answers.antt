@@ -14,8 +14,8 @@ pub invariant_of-self : goal.invariant_of-self
 invariant_of-self c =
     let inside = c.self.inside in
     let deck : List Card → Deck = λ cards. record { name = inside.name; cards = cards } in
-    let is : c.args.object ≡ deck (cards_held inside.holds_cards inside.own_cards.items inside.object) = c.requires ∙ sym (ap deck_of c.self.view_is) in
-    let same = stored-cards inside.holds_cards inside.own_cards.items inside.object c.args.object (ap (λ (d : Deck). d.cards) is) in
+    let is : c.args.object ≡ deck (cards_held inside.holds_cards inside.own_cards inside.object) = c.requires ∙ sym (ap deck_of c.self.view_is) in
+    let same = stored-cards inside.holds_cards inside.own_cards inside.object c.args.object (ap (λ (d : Deck). d.cards) is) in
     record {
       few = subst (λ (cards : List Card). length cards ≤ 20000) (sym same) c.self.invariant.few;
       its_object = λ x e. let here : x ≡ c.args.object = cc in here ∙ is ∙ ap deck (sym same);
