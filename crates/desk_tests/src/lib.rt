@@ -18,6 +18,9 @@ mod refusing;
 mod shelves;
 mod workers;
 
+// What turns take, where a desk is full.
+mod turns;
+
 // Scenarios, in which any request for memory, read or write may fail.
 mod sweeps;
 
@@ -32,6 +35,7 @@ use std::sync::{Mutex, Wait};
 use std::thread::Threads;
 use std::time::Clock;
 pub use sweeps::{Ended, run_chosen};
+pub use turns::measure_turns;
 
 /// Makes a step that stands in no place, and answers whether there is one of this word.
 fn make_alone<R: AllocGlobal + Threads + Wait + Sync + Files + Clock + Clone + Drop>(

@@ -2,7 +2,8 @@
 //! with each reply, and threads, sockets and files as they run. A line tells how many steps a transcript
 //! has and that what comes of them is what stands there, or where the first line stands that differs;
 //! the status is 1 where one differs, and 2 where one can't be read. Then, or alone where the one argument
-//! names one, it goes through the scenarios of `desk_tests`, whose status it then has.
+//! names one, it goes through the scenarios of `desk_tests`, whose status it then has. Where the argument is
+//! `turns` it measures those of a full desk and does nothing else.
 //!
 //! A transcript is a file of `data/`. A line that begins with `> ` is a step, and the lines below it are
 //! what comes of it. A line that begins with `# ` says something of the steps below, which have a new desk
@@ -16,14 +17,14 @@ mod replies;
 mod sockets;
 
 use deck_files::KnownFiles;
-use desk_tests::{Answer, Place, cut, plain_text, run_chosen};
+use desk_tests::{Answer, Place, cut, measure_turns, plain_text, run_chosen};
 use std::alloc::AllocGlobal;
 use std::net::{Net, TcpListener, TcpStream};
 use std::process::ExitCode;
 use std::rt::{Env, Files};
 use std::sync::{Mutex, Wait};
 use std::thread::Threads;
-use std::time::Clock;
+use std::time::{Clock, CpuClock};
 use std::{env, fs, io};
 
 /// The transcripts, lowest first.
@@ -205,6 +206,18 @@ where
     })
 }
 
+/// Measures turns where that is the word, or else goes through the scenarios that it names: the status.
+fn run_named<R>(rt: &R, word: &str) -> io::Result<u8>
+where
+    R: AllocGlobal + Wait + Files + Drop + Clone + CpuClock + Print + Eprint,
+{
+    if word == "turns" {
+        measure_turns(rt)?;
+        return Ok(0);
+    }
+    Ok(run_chosen(rt, word)?.status())
+}
+
 /// Goes through what the arguments name: the status.
 fn run<R>(rt: &R) -> io::Result<u8>
 where
@@ -217,6 +230,7 @@ where
         + Drop
         + Clone
         + Clock
+        + CpuClock
         + Print
         + Eprint
         + Net<Stream = TcpStream, Listener = TcpListener>,
@@ -225,7 +239,7 @@ where
 {
     let words: Vec<String> = env::args(rt)?.collect(rt.alloc())?;
     match words.get(1) {
-        Some(word) => Ok(run_chosen(rt, word.as_str())?.status()),
+        Some(word) => run_named(rt, word.as_str()),
         None => run_all(rt),
     }
 }

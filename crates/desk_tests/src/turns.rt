@@ -1,0 +1,338 @@
+//! The longest turns of a desk with as much on it as it may have: 64 decks of 20,000 cards, which are edited, read,
+//! replaced and dropped, and each time assembled, linked and published as workers do it. A line for each kind of
+//! calls tells how many turns there were, and the longest of them in microseconds of processor time.
+
+use crate::inputs::{card_of, name_of};
+use crate::jobs::ask;
+use cards::{Card, DeckName, Edit};
+use deck_workers::{Job, Made, Runs, job_in};
+use desk_core::{Call, Desk, Listed, NewDeck, Reply, SharedPublication};
+use statement_coder::Meter;
+use std::alloc::{AllocError, AllocGlobal, Global};
+use std::io;
+use std::time::{CpuClock, Duration};
+
+/// How many decks there are.
+const DECKS: usize = 64;
+
+/// How many cards each has.
+const CARDS: usize = 20_000;
+
+/// How many edits a batch has at most.
+const MOST_EDITS: usize = 100;
+
+/// How many jobs a desk has at once at most: its decks and their link.
+const MOST_JOBS: usize = DECKS + 1;
+
+/// The statements of a deck.
+const STATEMENTS: [&str; 5] = [
+    "          SB1    1",
+    "          BX6    X1",
+    "          SX2    B3+1234B",
+    "          BX7    X1*X2",
+    "          EQ     100B",
+];
+
+/// The turns of one kind of calls.
+#[derive(Clone, Copy)]
+struct Row {
+    kind: &'static str,
+    count: u64,
+    longest: Duration,
+}
+
+/// A desk, and what its turns take.
+#[derive(Drop)]
+struct Timed {
+    alloc: Global,
+    desk: Desk,
+    meter: Meter,
+    rows: Vec<Row>,
+}
+
+impl Timed {
+    fn new(alloc: Global) -> Timed {
+        Timed {
+            alloc,
+            desk: Desk::new(alloc),
+            meter: Meter { sized: 0, coded: 0 },
+            rows: Vec::new(alloc),
+        }
+    }
+
+    /// Notes a turn of this kind.
+    fn note(&mut self, kind: &'static str, spent: Duration) -> Result<(), AllocError> {
+        for row in self.rows.iter_mut() {
+            if row.kind == kind {
+                row.count = row.count.saturating_add(1);
+                row.longest = row.longest.max(spent);
+                return Ok(());
+            }
+        }
+        let longest = spent;
+        self.rows.push(Row {
+            kind,
+            count: 1,
+            longest,
+        })?;
+        Ok(())
+    }
+
+    /// Asks the desk.
+    fn ask<R: CpuClock>(&mut self, rt: &R, kind: &'static str, call: Call) -> io::Result<Reply> {
+        let before = rt.process_cpu_time()?;
+        let reply = ask(&mut self.desk, call);
+        let spent = rt.process_cpu_time()?.saturating_sub(before);
+        self.note(kind, spent)?;
+        Ok(reply)
+    }
+
+    /// Has all decks assembled and published.
+    fn settle<R: CpuClock>(&mut self, rt: &R) -> io::Result<()> {
+        for _ in 0..MOST_JOBS {
+            match self.claim(rt)? {
+                Some(job) => self.end(rt, job)?,
+                None => return Ok(()),
+            }
+        }
+        Ok(())
+    }
+
+    /// The job that is due next, if one is.
+    fn claim<R: CpuClock>(&mut self, rt: &R) -> io::Result<Option<Job>> {
+        Ok(job_in(self.ask(rt, "claim", Call::Claim)?))
+    }
+
+    /// Does a job, and hands in what is made of it.
+    fn end<R: CpuClock>(&mut self, rt: &R, job: Job) -> io::Result<()> {
+        match job.run(self.alloc, &mut self.meter) {
+            Made::Link { lease, publication } => self.publish(rt, lease, &publication),
+            made => {
+                let_go(self.ask(rt, "delivery", made.into_call())?);
+                Ok(())
+            }
+        }
+    }
+
+    /// Offers the objects of a publication, and has the desk publish its own.
+    fn publish<R: CpuClock>(
+        &mut self,
+        rt: &R,
+        lease: u64,
+        publication: &SharedPublication,
+    ) -> io::Result<()> {
+        for (place, object) in publication.publication().objects().iter().enumerate() {
+            let object = object.share()?;
+            let offer = Call::OfferObject {
+                lease,
+                place,
+                object,
+            };
+            let_go(self.ask(rt, "offer", offer)?);
+        }
+        let_go(self.ask(rt, "publish", Call::Publish(lease))?);
+        Ok(())
+    }
+}
+
+/// Lets a reply go that nobody looks at.
+fn let_go(reply: Reply) {
+    let _ = reply;
+}
+
+/// The name of a deck.
+fn name_at(alloc: Global, number: usize) -> Result<DeckName, AllocError> {
+    let name = format!(in alloc; "D{number}")?;
+    name_of(name.as_str())
+}
+
+/// The cards of a deck.
+fn cards_at(alloc: Global, number: usize) -> Result<Vec<Card>, AllocError> {
+    let first = format!(in alloc; "          IDENT  D{number}")?;
+    let mut cards = Vec::with_capacity(alloc, CARDS)?;
+    cards.push(card_of(first.as_str())?)?;
+    for statement in STATEMENTS.iter().cycle().take(CARDS - 2) {
+        cards.push(card_of(statement)?)?;
+    }
+    cards.push(card_of("          END")?)?;
+    Ok(cards)
+}
+
+/// A deck.
+fn deck_at(alloc: Global, number: usize) -> Result<NewDeck, AllocError> {
+    Ok(NewDeck::new(name_at(alloc, number)?, cards_at(alloc, number)?))
+}
+
+/// An edit in front of a card of the deck.
+fn insertion(at: u64) -> Result<Edit, AllocError> {
+    let card = card_of("          SB2    2")?;
+    Ok(Edit::Insert { at, card })
+}
+
+/// An edit of a card in the middle of a deck.
+fn replacement() -> Result<Edit, AllocError> {
+    let at = (CARDS / 2) as u64;
+    let card = card_of("          SB3    3")?;
+    Ok(Edit::Replace { at, card })
+}
+
+/// A hundred edits of a deck: cards come in at its front, and as many go at its end.
+fn edits_of(alloc: Global) -> Result<Listed<Edit>, AllocError> {
+    let mut edits = Vec::with_capacity(alloc, MOST_EDITS)?;
+    for _ in 0..MOST_EDITS / 2 {
+        edits.push(Edit::Remove {
+            at: (CARDS - 1) as u64,
+        })?;
+        edits.push(insertion(2)?)?;
+    }
+    Ok(Listed::new(edits))
+}
+
+/// What is asked of a desk of full decks.
+#[derive(Clone, Copy)]
+enum Asked {
+    Edit,
+    Batch,
+    Undo,
+    Cards,
+    CardsAt,
+    Changes,
+    Status,
+    Put,
+    Drop,
+}
+
+/// What is asked, what that is called, of how many decks in turn, and how often in all.
+const ROUNDS: [(Asked, &str, usize, usize); 11] = [
+    (Asked::Edit, "edit of one deck", 1, 20),
+    (
+        Asked::Edit,
+        "edit of one deck after the other",
+        DECKS,
+        DECKS,
+    ),
+    (Asked::Batch, "batch of 100", 8, 8),
+    (Asked::Undo, "batch of 100 taken back", 8, 8),
+    (Asked::Batch, "batch of 100 of one deck", 1, 8),
+    (Asked::Cards, "cards", 8, 8),
+    (Asked::CardsAt, "cards of an older version", 8, 8),
+    (Asked::Changes, "changes", 8, 8),
+    (Asked::Status, "status", 8, 8),
+    (Asked::Put, "deck put", 8, 8),
+    (Asked::Drop, "deck dropped", 8, 8),
+];
+
+/// What is asked of a deck that has this version.
+fn call_of(alloc: Global, asked: Asked, number: usize, seen: u64) -> Result<Call, AllocError> {
+    let name = name_at(alloc, number)?;
+    let by = name_of("KEEPER")?;
+    Ok(match asked {
+        Asked::Edit => {
+            let edit = replacement()?;
+            Call::EditDeck {
+                name,
+                seen,
+                edit,
+                by,
+            }
+        }
+        Asked::Batch => {
+            let edits = edits_of(alloc)?;
+            Call::Batch {
+                name,
+                seen,
+                edits,
+                by,
+            }
+        }
+        Asked::Undo => {
+            let version = seen;
+            Call::Undo { name, version, by }
+        }
+        Asked::Cards => Call::Cards(name),
+        Asked::CardsAt => {
+            let version = seen.saturating_sub(1);
+            Call::CardsAt { name, version }
+        }
+        Asked::Changes => {
+            let since = seen.saturating_sub(1);
+            Call::Changes { name, since }
+        }
+        Asked::Status => Call::Status,
+        Asked::Put => {
+            let deck = deck_at(alloc, number)?;
+            Call::PutDeck { deck, seen }
+        }
+        Asked::Drop => Call::DropDeck { name, seen },
+    })
+}
+
+/// Adds all decks, two at a time, and answers the version of each.
+fn add_all<R: CpuClock>(rt: &R, timed: &mut Timed) -> io::Result<Vec<u64>> {
+    let mut seen = Vec::with_capacity(timed.alloc, DECKS)?;
+    for number in 0..DECKS {
+        let deck = deck_at(timed.alloc, number)?;
+        let_go(timed.ask(rt, "deck added", Call::AddDeck(deck))?);
+        seen.push(timed.desk.version())?;
+        if number % 2 == 1 {
+            timed.settle(rt)?;
+        }
+    }
+    Ok(seen)
+}
+
+/// Asks once, of the deck of a number, and notes the version that it has then.
+fn ask_once<R: CpuClock>(
+    rt: &R,
+    timed: &mut Timed,
+    asked: Asked,
+    kind: &'static str,
+    number: usize,
+    seen: &mut [u64],
+) -> io::Result<()> {
+    let Some(version) = seen.get_mut(number) else {
+        return Ok(());
+    };
+    let before = timed.desk.version();
+    let call = call_of(timed.alloc, asked, number, *version)?;
+    let_go(timed.ask(rt, kind, call)?);
+    if timed.desk.version() != before {
+        *version = timed.desk.version();
+    }
+    timed.settle(rt)
+}
+
+/// Asks of some decks in turn, so often in all.
+fn ask_often<R: CpuClock>(
+    rt: &R,
+    timed: &mut Timed,
+    round: &(Asked, &'static str, usize, usize),
+    seen: &mut [u64],
+) -> io::Result<()> {
+    let (asked, kind, decks, times) = *round;
+    for time in 0..times {
+        ask_once(rt, timed, asked, kind, time % decks.max(1), seen)?;
+    }
+    Ok(())
+}
+
+/// Measures, and prints the table.
+pub fn measure_turns<R: AllocGlobal + CpuClock + Print>(rt: &R) -> io::Result<()> {
+    let mut timed = Timed::new(rt.alloc());
+    let mut seen = add_all(rt, &mut timed)?;
+    for round in &ROUNDS {
+        ask_often(rt, &mut timed, round, seen.as_mut_slice())?;
+    }
+    for row in &timed.rows {
+        let Row {
+            kind,
+            count,
+            longest,
+        } = row;
+        println!(rt;
+            "{kind}: {count} turns, {} microseconds at most",
+            longest.as_micros()
+        )?;
+    }
+    Ok(())
+}
