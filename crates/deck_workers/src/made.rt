@@ -3,6 +3,7 @@ ghost use Rattle.std.specs.Prelude.{◌≡◌};
 ghost use Rattle.deck_workers.specs.Jobs.{is_result};
 ghost use Rattle.deck_workers.specs.Rounds.{call_of, published_in};
 
+use deck_listing::ListedObject;
 use desk_core::{Call, Done, SharedPublication};
 use edit_core::RecordFault;
 
@@ -41,6 +42,18 @@ impl Made {
         match self {
             Made::Link { publication, .. } => Some(publication.publication().version()),
             Made::Deck(_) | Made::Lost { .. } => None,
+        }
+    }
+
+    /// The object of the deck once more: who holds it lets it go, and not the desk where it takes no result of an
+    /// older version. None where it can't be shared.
+    pub(crate) fn object(&self) -> Option<ListedObject> {
+        match self {
+            Made::Deck(done) => match done.object.share() {
+                Ok(object) => Some(object),
+                Err(_) => None,
+            },
+            Made::Link { .. } | Made::Lost { .. } => None,
         }
     }
 

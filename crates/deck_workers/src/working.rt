@@ -115,7 +115,12 @@ fn deliver<R: Wait>(rt: &R, office: &Office<Desk>, seat: &mut Seat<Desk>, made: 
                 seat.call(rt, office, Call::DeliverLink { lease, publication })
             }
         }
-        made => seat.call(rt, office, made.into_call()),
+        made => {
+            let object = made.object();
+            let answered = seat.call(rt, office, made.into_call());
+            drop(object);
+            answered
+        }
     }
 }
 

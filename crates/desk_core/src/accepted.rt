@@ -2,14 +2,16 @@
 ghost use Rattle.std.specs.Prelude.{◌≡◌};
 
 use crate::stored_deck::StoredDeck;
+use deck_listing::ListedObject;
 use std::marker::Model;
 
-/// The desk's new version, which a change made; with the deck as it was that is not there any more by it, so that
-/// who asked for the change lets it go, and no turn does. Contracts see the version.
+/// The desk's new version, which a change made; with what is not there any more by it, so that who asked for the
+/// change lets it go, and no turn does: the deck as it was, or its object. Contracts see the version.
 #[derive(Drop)]
 pub struct Accepted {
     version: u64,
     gone: Option<StoredDeck>,
+    object: Option<ListedObject>,
 }
 
 impl Model for Accepted {
@@ -28,6 +30,7 @@ impl Accepted {
         Accepted {
             version,
             gone: None,
+            object: None,
         }
     }
 
@@ -38,6 +41,18 @@ impl Accepted {
         Accepted {
             version,
             gone: Some(deck),
+            object: None,
+        }
+    }
+
+    /// A change by which the object of a deck goes, if it had one.
+    pub(crate) fn behind(version: u64, object: Option<ListedObject>) -> Accepted
+        ensures { result ≡ version }
+    {
+        Accepted {
+            version,
+            gone: None,
+            object,
         }
     }
 

@@ -189,8 +189,9 @@ impl Desk {
         if let Some(refusal) = self.against_edit(place, seen, edit) {
             return Reply::Refused(refusal);
         }
+        let object = self.decks.object_at(place);
         match self.edit_at(place, by, edit) {
-            Ok(version) => Reply::Changed(Accepted::new(version)),
+            Ok(version) => Reply::Changed(Accepted::behind(version, object)),
             Err(_) => Reply::Refused(Refusal::OutOfMemory),
         }
     }
@@ -244,8 +245,9 @@ impl Desk {
         if let Some(refusal) = self.against_batch(place, seen, edits) {
             return Reply::Refused(refusal);
         }
+        let object = self.decks.object_at(place);
         match self.edit_all_at(place, by, edits) {
-            Ok(version) => Reply::Changed(Accepted::new(version)),
+            Ok(version) => Reply::Changed(Accepted::behind(version, object)),
             Err(_) => Reply::Refused(Refusal::OutOfMemory),
         }
     }

@@ -1,5 +1,5 @@
 //! Names, cards and decks compared by value.
-ghost use Rattle.std.specs.Prelude.{◌≡◌, length, map};
+ghost use Rattle.std.specs.Prelude.{◌≡◌, ◌&&◌, length, map};
 ghost use Rattle.desk_core.specs.Joins.Language.{same_text};
 ghost use Rattle.desk_core.specs.Desks.{deck_of};
 ghost use Rattle.desk_core.specs.Delivering.{same_cards, same_decks};
@@ -26,6 +26,33 @@ pub(crate) fn same_cards(cards: &[Card], others: &[Card]) -> bool
     ensures { result ≡ same_cards cards.now others.now }
 {
     cards.len() == others.len() && all_cards_same(cards, others)
+}
+
+/// Whether cards and others are both the same as these, one by one: two copies that share what they have are
+/// read once. Where their numbers differ none is looked at.
+pub(crate) fn both_same_cards(cards: &[Card], others: &[Card], these: &[Card]) -> bool
+    ensures { result ≡ (same_cards cards.now these.now && same_cards others.now these.now) }
+{
+    if cards.len() != these.len() || others.len() != these.len() {
+        return same_cards(cards, these) && same_cards(others, these);
+    }
+    all_cards_both_same(cards, others, these)
+}
+
+fn all_cards_both_same(cards: &[Card], others: &[Card], these: &[Card]) -> bool
+    requires cards { length cards.now ≡ length these.now }
+    requires others { length others.now ≡ length these.now }
+    ensures { result ≡ (same_cards cards.now these.now && same_cards others.now these.now) }
+{
+    for (place, card) in these.iter().enumerate() {
+        if !same_card(&cards[place], card) {
+            return false;
+        }
+        if !same_card(&others[place], card) {
+            return false;
+        }
+    }
+    true
 }
 
 fn all_cards_same(cards: &[Card], others: &[Card]) -> bool

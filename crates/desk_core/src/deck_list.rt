@@ -87,6 +87,11 @@ impl DeckList {
         &self.decks[place]
     }
 
+    /// The object of the deck at a place once more, if there is one that can be shared.
+    pub(crate) fn object_at(&self, place: usize) -> Option<ListedObject> {
+        self.decks.get(place)?.object_once_more()
+    }
+
     /// A deck of a new name comes in behind them.
     pub(crate) fn push(&mut self, deck: StoredDeck) -> Result<(), AllocError>
         requires { find (is_named deck.name) self.old ≡ None }

@@ -77,7 +77,7 @@ impl Desk {
         ensures { ForSome (slice_get self.now.decks place) (λ deck. result ≡ (same_deck kept.now.deck (deck_of deck) && same_deck object.now (deck_of deck))) }
     {
         let deck = self.decks.deck_at(place);
-        deck.is_of_record(kept) && deck.is_of_object(object)
+        deck.is_of_result(kept, object)
     }
 
     /// The deck at a place loses its record to a result that is not the deck's.

@@ -1,5 +1,5 @@
 //! A deck as the desk keeps it.
-ghost use Rattle.std.specs.Prelude.{◌≡◌, ◌≤◌, ◌||◌, length, None, Some, [], ◌∷◌, is_ok, is_some, option_map, Ok, true, IfOk, if◌then◌else◌};
+ghost use Rattle.std.specs.Prelude.{◌≡◌, ◌≤◌, ◌||◌, ◌&&◌, length, None, Some, [], ◌∷◌, is_ok, is_some, option_map, Ok, true, IfOk, if◌then◌else◌};
 ghost use Rattle.desk_core.specs.Desks.{is_named, is_leased, deck_of};
 ghost use Rattle.desk_core.specs.Joins.Edits.{fault_of, first_fault};
 ghost use Rattle.desk_core.specs.Changing.{added_deck, replaced_deck, edited_deck};
@@ -14,7 +14,7 @@ ghost use Rattle.desk_core.specs.Joins.Stored.{backs_from, cards_held};
 ghost use Rattle.desk_core.specs.Reading.{row_of, state_of};
 
 use crate::calls::Done;
-use crate::comparing::{is_placed_alike, same_cards, same_name};
+use crate::comparing::{both_same_cards, is_placed_alike, same_cards, same_name};
 use crate::deck_cards::DeckCards;
 use crate::edit_both::{edit_waiting, wait_all};
 use crate::held::Held;
@@ -322,12 +322,31 @@ impl StoredDeck {
         }
     }
 
-    /// Whether a record is of it, by name and cards.
-    pub(crate) fn is_of_record(&self, held: &Held) -> bool
-        ensures { result ≡ same_deck held.now.deck (deck_of self.now) }
+    /// Whether record and object are of it, by name and cards.
+    pub(crate) fn is_of_result(&self, held: &Held, object: &ListedObject) -> bool
+        ensures { result ≡ (same_deck held.now.deck (deck_of self.now) && same_deck object.now (deck_of self.now)) }
     {
         let kept = held.kept();
-        same_name(kept.name(), &self.name) && same_cards(kept.cards(), self.cards())
+        let object = object.object();
+        if !same_name(kept.name(), &self.name) {
+            return false;
+        }
+        if !same_name(object.name(), &self.name) {
+            return false;
+        }
+        both_same_cards(kept.cards(), object.cards(), self.cards())
+    }
+
+    /// Its object once more, so that it outlives a change of the deck; none where there is none, or it can't be
+    /// shared.
+    pub(crate) fn object_once_more(&self) -> Option<ListedObject> {
+        match &self.object {
+            Some(object) => match object.share() {
+                Ok(object) => Some(object),
+                Err(_) => None,
+            },
+            None => None,
+        }
     }
 
     /// Whether a result names it and the version of its lease.

@@ -23,8 +23,8 @@ returns-else-is_large-clause-delivered g c =
 -- so was what else was made
 pub returns-in_default : goal.returns-in_default
 returns-in_default g c = record {
-  same = c.call-in_default.ensures.same;
-  delivered = in_one_call c.args.made (subst (λ (call : Call). Calls c.args.seat.now.number (entry c.args.seat.now.number call c.call-in_default.result ∷ []) c.args.seat.now.seen c.call-in_default.new.self.seen) c.into_call.ensures
-      (one-call _ _ _ _ _ _ _ c.call-in_default.ensures.history));
-  legal = c.call-in_default.ensures.history.legal;
+  same = c.call-answered.ensures.same;
+  delivered = in_one_call c.args.made (subst (λ (call : Call). Calls c.args.seat.now.number (entry c.args.seat.now.number call c.call-answered.result ∷ []) c.args.seat.now.seen c.call-answered.new.self.seen) c.into_call.ensures
+      (one-call _ _ _ _ _ _ _ c.call-answered.ensures.history));
+  legal = c.call-answered.ensures.history.legal;
 }

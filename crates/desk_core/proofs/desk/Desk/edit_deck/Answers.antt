@@ -12,4 +12,4 @@ pub returns-in-Ok : goal.returns-in-Ok
 returns-in-Ok c =
     let is = subst (λ (place : Option ℕ). IsPlaceOf (is_named c.args.name.now) place c.args.self.now.decks) c.in-Some.is c.place_of.ensures in
     let both = edit-done c.args.name.now c.args.seen c.args.edit.now c.args.by.now c.args.self.now c.in-Some.place is (sym c.against_edit.ensures ∙ c.in_default-against_edit.is) in
-    inl (ap (λ (version : ℕ). Changed version) (c.new.ensures ∙ c.in-Ok.ensures.version) ∙ both.0, c.in-Ok.ensures.desk ∙ both.1)
+    inl (ap (λ (version : ℕ). Changed version) (c.behind.ensures ∙ c.in-Ok.ensures.version) ∙ both.0, c.in-Ok.ensures.desk ∙ both.1)
