@@ -38,9 +38,8 @@ class Service:
 
     def processor_time(self):
         """The processor time of the service so far, in seconds."""
-        with open(f"/proc/{self.process.pid}/stat") as stat:
-            fields = stat.read().rpartition(")")[2].split()
-        return (int(fields[11]) + int(fields[12])) / os.sysconf("SC_CLK_TCK")
+        # the clock of another process, as clock_getcpuclockid names it; /proc tells hundredths of a second alone
+        return time.clock_gettime(~self.process.pid << 3 | 2)
 
     def memory(self):
         """The memory that the service holds, in megabytes."""
