@@ -18,7 +18,7 @@ fn start_len(start: &Start) -> usize
 {
     match start {
         Start::FromRecord(held) => held.kept().cards().len(),
-        Start::FromCards(cards) => cards.as_slice().len(),
+        Start::FromCards(cards) => cards.len(),
     }
 }
 

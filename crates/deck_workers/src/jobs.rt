@@ -1,9 +1,10 @@
 //! A job, as a desk gives it out.
-ghost use Rattle.std.specs.Prelude.{◌≡◌};
-ghost use Rattle.deck_workers.specs.Jobs.{lease_of};
+ghost use Rattle.std.specs.Prelude.{◌≡◌, IfOk};
+ghost use Rattle.deck_workers.specs.Jobs.{lease_of, start_cards};
 ghost use Rattle.deck_workers.specs.Rounds.{job_in};
 
-use desk_core::{DeckWork, LinkWork, Reply};
+use desk_core::{DeckCards, DeckWork, LinkWork, Reply, Start};
+use std::alloc::{AllocError, Global};
 
 /// A job. Its type keeps what running it needs: a deck has at most 20,000 cards, and a record is not
 /// spent.
@@ -24,6 +25,28 @@ impl Job {
             Job::Deck(work) => work.lease,
             Job::Link(work) => work.lease,
         }
+    }
+
+    /// The cards that a deck job begins with, once more: until it is delivered the desk's cards lie where these do, and
+    /// who holds them lets them go, and not the desk. None where there are none, or no memory.
+    pub(crate) fn cards_before(&self, alloc: Global) -> Option<DeckCards> {
+        match self {
+            Job::Deck(work) => match start_cards(alloc, &work.start) {
+                Ok(cards) => Some(cards),
+                Err(_) => None,
+            },
+            Job::Link(_) => None,
+        }
+    }
+}
+
+/// The cards that a deck job begins with, once more; none of them is copied.
+fn start_cards(alloc: Global, start: &Start) -> Result<DeckCards, AllocError>
+    ensures { IfOk result (λ cards. cards ≡ start_cards start.now) }
+{
+    match start {
+        Start::FromRecord(held) => held.share_cards(alloc),
+        Start::FromCards(cards) => cards.share(alloc),
     }
 }
 

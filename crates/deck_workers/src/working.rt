@@ -76,11 +76,13 @@ fn make_round<R: Wait, G: Gate, S: Subscriber>(
     let is_refused = matches!(reply, Reply::Refused(_));
     match job_in(reply) {
         Some(job) => {
+            let before = job.cards_before(alloc);
             let made = run(alloc, gate, job, meter);
             let is_result = made.is_result();
             let published = made.published();
             let answered = deliver(rt, office, seat, made);
             tell_after(subscriber, published, &answered);
+            drop(before);
             Round::with_job(went_well(is_result, &answered))
         }
         None => Round::without_job(is_refused),
@@ -88,7 +90,7 @@ fn make_round<R: Wait, G: Gate, S: Subscriber>(
 }
 
 /// How many cards a publication has at most that is delivered in one turn.
-const MOST_AT_ONCE: usize = 20_000;
+const MOST_AT_ONCE: usize = 2_000;
 
 /// Whether the decks of a publication have more cards together than are compared in one turn.
 fn is_large(publication: &SharedPublication) -> bool {

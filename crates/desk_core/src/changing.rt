@@ -204,7 +204,7 @@ impl Desk {
         if seen != deck.version() {
             return Some(Refusal::OldVersion(deck.version()));
         }
-        match fault_of(edit, deck.cards().len()) {
+        match fault_of(edit, deck.card_count()) {
             Some(fault) => Some(Refusal::from(fault)),
             None => against_next(self.version),
         }
@@ -263,7 +263,7 @@ impl Desk {
         if edits.is_empty() || edits.len() > MOST_EDITS {
             return Some(Refusal::BatchSize);
         }
-        match first_fault(edits, deck.cards().len()) {
+        match first_fault(edits, deck.card_count()) {
             Some((number, fault)) => Some(Refusal::BadEdit(number, fault)),
             None => against_next(self.version),
         }

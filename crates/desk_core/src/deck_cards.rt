@@ -1,7 +1,7 @@
 //! The cards that a job of a deck begins with.
 ghost use Rattle.std.specs.Prelude.{◌≡◌, ◌≤◌, length, IfOk};
 
-use crate::shared_cards::SharedCards;
+use crate::card_pieces::CardPieces;
 use cards::Card;
 use std::alloc::{AllocError, Global};
 use std::marker::Model;
@@ -9,7 +9,7 @@ use std::marker::Model;
 /// The cards of a deck, of which there are at most 20,000. Contracts see them in order.
 #[derive(Drop)]
 pub struct DeckCards {
-    cards: SharedCards,
+    cards: CardPieces,
 }
 
 impl Model for DeckCards {
@@ -25,33 +25,43 @@ impl Model for DeckCards {
 
 impl DeckCards {
     /// These cards, at most 20,000.
-    pub fn new(cards: Vec<Card>) -> DeckCards
+    pub fn new(alloc: Global, cards: Vec<Card>) -> Result<DeckCards, AllocError>
         requires { length cards.items ≤ 20000 }
-        ensures { result ≡ cards.items }
+        ensures { IfOk result (λ made. made ≡ cards.items) }
     {
-        DeckCards::shared(SharedCards::own(cards))
+        Ok(DeckCards::shared(CardPieces::of_cards(alloc, cards)?))
     }
 
-    /// These cards, at most 20,000, which may be held in common.
-    pub(crate) fn shared(cards: SharedCards) -> DeckCards
+    /// These cards, at most 20,000, which the desk has, too.
+    pub(crate) fn shared(cards: CardPieces) -> DeckCards
         requires { length cards ≤ 20000 }
         ensures { result ≡ cards }
     {
         DeckCards { cards }
     }
 
-    pub fn as_slice(&self) -> &[Card]
-        ensures cards { result.now ≡ self.now }
-        ensures few { length self.now ≤ 20000 }
+    /// The same cards once more; none of them is copied.
+    pub fn share(&self, alloc: Global) -> Result<DeckCards, AllocError>
+        ensures { IfOk result (λ shared. shared ≡ self.now) }
     {
-        self.cards.as_slice()
+        Ok(DeckCards {
+            cards: self.cards.share(alloc)?,
+        })
     }
 
-    /// The cards as a vector of one's own: a copy, where the desk has them too.
+    /// How many cards there are.
+    pub fn len(&self) -> usize
+        ensures count { result ≡ length self.now }
+        ensures few { length self.now ≤ 20000 }
+    {
+        self.cards.len()
+    }
+
+    /// A copy of the cards, as a vector of one's own.
     pub fn into_items(self, alloc: Global) -> Result<Vec<Card>, AllocError>
         ensures cards { IfOk result (λ cards. cards.items ≡ self) }
         ensures few { length self ≤ 20000 }
     {
-        self.cards.into_items(alloc)
+        self.cards.joined(alloc)
     }
 }

@@ -192,22 +192,14 @@ impl DeckList {
         deck.give_back(kept);
     }
 
-    /// The deck at a place gets its record and its object, at a desk whose latest change made this version.
-    pub(crate) fn store_at(
-        &mut self,
-        alloc: Global,
-        latest: u64,
-        place: usize,
-        kept: Held,
-        object: ListedObject,
-    )
+    /// The deck at a place gets its record and its object.
+    pub(crate) fn store_at(&mut self, alloc: Global, place: usize, kept: Held, object: ListedObject)
         requires within { place < length self.old }
         requires object { ForSome (slice_get self.old place) (λ deck. object ≡ deck_of deck) }
         ensures { self.new ≡ with_at place (stored (Some kept)) self.old }
     {
         let deck = &mut self.decks[place];
-        deck.store(kept, object);
-        deck.let_cards_go(alloc, latest);
+        deck.store(alloc, kept, object);
     }
 
     /// An object is offered to the deck at a place, if there is one.
@@ -220,23 +212,23 @@ impl DeckList {
         }
     }
 
-    /// The decks take their objects once more, with what the link of a version has added to them.
-    pub(crate) fn refresh(&mut self, alloc: Global, version: u64, objects: &[ListedObject])
+    /// The decks take their objects once more, with what a link has added to them.
+    pub(crate) fn refresh(&mut self, objects: &[ListedObject])
         requires { objects.now ≡ map deck_of self.old }
         ensures { self.new ≡ self.old }
     {
-        refresh_all(alloc, version, self.decks.as_mut_slice(), objects);
+        refresh_all(self.decks.as_mut_slice(), objects);
     }
 }
 
-/// Each deck takes the object at its place once more, with what the link of a version has added to it.
-fn refresh_all(alloc: Global, version: u64, decks: &mut [StoredDeck], objects: &[ListedObject])
+/// Each deck takes the object at its place once more, with what a link has added to it.
+fn refresh_all(decks: &mut [StoredDeck], objects: &[ListedObject])
     requires { objects.now ≡ map deck_of decks.old }
     ensures { decks.new ≡ decks.old }
 {
     for (place, object) in objects.iter().enumerate() {
         let deck = &mut decks[place];
-        deck.refresh(alloc, version, object);
+        deck.refresh(object);
     }
 }
 

@@ -1,4 +1,4 @@
-//! Calls that end a lease. None but `Publish` takes memory.
+//! Calls that end a lease. None but `Publish` is refused for want of memory.
 ghost use Rattle.std.specs.Prelude.{◌≡◌, ◌<◌, ◌&&◌, None, length, slice_get};
 ghost use Rattle.std.specs.Option.{ForSome};
 ghost use Rattle.desk_core.specs.Desks.{deck_of};
@@ -66,8 +66,7 @@ impl Desk {
         if !self.is_sound(place, &kept, &object) {
             return self.lose_foreign(place);
         }
-        self.decks
-            .store_at(self.alloc, self.version, place, kept, object);
+        self.decks.store_at(self.alloc, place, kept, object);
         Reply::Stored
     }
 
@@ -116,8 +115,7 @@ impl Desk {
         if !same_decks(publication.publication().objects(), self.decks.as_slice()) {
             return Reply::Refused(Refusal::Foreign);
         }
-        self.decks
-            .refresh(self.alloc, version, publication.publication().objects());
+        self.decks.refresh(publication.publication().objects());
         self.publication = Some(publication);
         Reply::Stored
     }

@@ -8,7 +8,8 @@ use crate::desk::Desk;
 use crate::listed::Listed;
 use crate::replies::{Refusal, Reply};
 use crate::stored_deck::StoredDeck;
-use cards::{Card, DeckName, Edit, copied_cards};
+use crate::told_cards::ToldCards;
+use cards::{DeckName, Edit};
 use std::alloc::{AllocError, Global};
 
 impl Desk {
@@ -55,9 +56,7 @@ impl Desk {
             return Reply::Refused(refusal);
         }
         match cards_and_backs(self.alloc, deck, version) {
-            Ok((cards, backs)) => {
-                Reply::CardsBefore(version, Listed::new(cards), Listed::new(backs))
-            }
+            Ok((cards, backs)) => { Reply::CardsBefore(version, cards, Listed::new(backs)) }
             Err(_) => Reply::Refused(Refusal::OutOfMemory),
         }
     }
@@ -68,11 +67,11 @@ fn cards_and_backs(
     alloc: Global,
     deck: &StoredDeck,
     version: u64,
-) -> Result<(Vec<Card>, Vec<Edit>), AllocError>
-    ensures cards { IfOk result (λ both. both.0.items ≡ deck.now.cards) }
+) -> Result<(ToldCards, Vec<Edit>), AllocError>
+    ensures cards { IfOk result (λ both. both.0 ≡ deck.now.cards) }
     ensures backs { IfOk result (λ both. both.1.items ≡ backs_of (edits_behind version deck.now)) }
 {
-    let cards = copied_cards(alloc, deck.cards())?;
+    let cards = deck.told_cards(alloc)?;
     let backs = deck.backs_behind(alloc, version)?;
     Ok((cards, backs))
 }

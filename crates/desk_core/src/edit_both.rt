@@ -2,14 +2,14 @@
 ghost use Rattle.std.specs.Prelude.{◌≡◌, None, [], ◌∷◌, ◌++◌, is_ok, if◌then◌else◌};
 ghost use Rattle.desk_core.specs.Joins.Edits.{fault_of, edited};
 
-use crate::shared_cards::SharedCards;
+use crate::card_pieces::CardPieces;
 use cards::{Edit, copied_edits};
 use std::alloc::{AllocError, Global};
 
 /// Makes an edit that applies, and keeps it with those that wait. Without memory nothing changes.
 fn edit_both(
     alloc: Global,
-    cards: &mut SharedCards,
+    cards: &mut CardPieces,
     waiting: &mut Vec<Edit>,
     edit: &Edit,
 ) -> Result<(), AllocError>
@@ -30,7 +30,7 @@ fn edit_both(
 /// Makes an edit that applies, and keeps it for later where edits wait. Without memory nothing changes.
 pub(crate) fn edit_waiting(
     alloc: Global,
-    cards: &mut SharedCards,
+    cards: &mut CardPieces,
     waiting: &mut Vec<Edit>,
     keeps: bool,
     edit: &Edit,

@@ -1,7 +1,11 @@
 //! The record of a deck, as long as it is of use.
-ghost use Rattle.std.specs.Prelude.{◌≡◌, false, Some, None, if◌then◌else◌};
+ghost use Rattle.std.specs.Prelude.{◌≡◌, ◌≤◌, length, false, Some, None, IfOk, if◌then◌else◌};
 
+use crate::card_pieces::CardPieces;
+use crate::deck_cards::DeckCards;
+use deck_objects::SharedObject;
 use edit_core::Kept;
+use std::alloc::{AllocError, Global};
 use std::marker::Model;
 
 /// A record that is not spent. Contracts see the deck that it is of.
@@ -41,6 +45,18 @@ impl Held {
         &self.kept
     }
 
+    /// The cards of the record, which lie in its object.
+    pub fn share_cards(&self, alloc: Global) -> Result<DeckCards, AllocError>
+        ensures { IfOk result (λ cards. cards ≡ self.now.deck.cards) }
+    {
+        // they are no more than a deck may have
+        let _ = self.kept.cards();
+        match self.kept.finish() {
+            Ok(object) => cards_in(alloc, object),
+            Err(_) => Err(AllocError),
+        }
+    }
+
     /// The record, to be edited.
     pub fn into_kept(self) -> Kept
         ensures deck { self ≡ record { deck = record { name = result.name; cards = result.cards } } }
@@ -48,4 +64,12 @@ impl Held {
     {
         self.kept
     }
+}
+
+/// The cards of an object, of which there are at most 20,000.
+fn cards_in(alloc: Global, object: SharedObject) -> Result<DeckCards, AllocError>
+    requires { length object.cards ≤ 20000 }
+    ensures { IfOk result (λ cards. cards ≡ object.cards) }
+{
+    Ok(DeckCards::shared(CardPieces::of_object(alloc, object)?))
 }

@@ -27,6 +27,7 @@ mod listed;
 mod new_deck;
 mod replies;
 mod shared_publication;
+mod told_cards;
 
 // What the desk keeps.
 mod card_pieces;
@@ -34,7 +35,7 @@ mod deck_list;
 mod desk;
 mod leases;
 mod past;
-mod shared_cards;
+mod piece;
 mod stored_deck;
 
 // Calls.
@@ -70,3 +71,4 @@ pub use past::KeptEdit;
 pub use replies::{Refusal, Reply, Row, State};
 pub use shared_publication::{PublicationBefore, SharedPublication};
 pub use stored_deck::StoredDeck;
+pub use told_cards::ToldCards;

@@ -75,11 +75,7 @@ impl Desk {
         ensures { IsAnswer (answers (Published self.old.publication) (record (unlinked self.old) { publication = Some publication })) result self.new }
     {
         self.link = None;
-        self.decks.refresh(
-            self.alloc,
-            self.version,
-            publication.publication().objects(),
-        );
+        self.decks.refresh(publication.publication().objects());
         let before = replace(&mut self.publication, Some(publication));
         Reply::Published(PublicationBefore::new(before))
     }

@@ -7,7 +7,7 @@ ghost use Rattle.desk_core.specs.Carrying.{made_in};
 ghost use Rattle.desk_core.specs.Joins.Stored.{kept_both, made_edits, backs_made, backs_from};
 
 use crate::card_pieces::CardPieces;
-use cards::{Card, DeckName, Edit, MadeEdit, count_after};
+use cards::{DeckName, Edit, MadeEdit, count_after};
 use std::alloc::{AllocError, Global};
 use std::marker::Model;
 
@@ -145,8 +145,9 @@ impl Past {
     }
 
     /// How many cards the deck with these cards had at a version, and the edits that were made behind it.
-    pub(crate) fn seen_at(&self, version: u64, cards: &[Card]) -> (usize, &[MadeEdit])
-        requires { first_fault (backs_of (behind version self.now.edits)) cards.now ≡ None }
+    pub(crate) fn seen_at(&self, version: u64, cards: &CardPieces) -> (usize, &[MadeEdit])
+        requires few { length cards.now ≤ 20000 }
+        requires applies { first_fault (backs_of (behind version self.now.edits)) cards.now ≡ None }
         ensures count { result.0 ≡ length (edited_by (backs_of (behind version self.now.edits)) cards.now) }
         ensures made { result.1.now ≡ made_in (behind version self.now.edits) }
     {
@@ -272,8 +273,9 @@ fn seen_at<'a>(
     made: &'a [MadeEdit],
     backs: &[Back],
     version: u64,
-    cards: &[Card],
+    cards: &CardPieces,
 ) -> (usize, &'a [MadeEdit])
+    requires few { length cards.now ≤ 20000 }
     requires same { length backs.now ≡ length made.now }
     requires applies { first_fault (backs_of (behind version (kept_both made.now backs.now))) cards.now ≡ None }
     ensures count { result.0 ≡ length (edited_by (backs_of (behind version (kept_both made.now backs.now))) cards.now) }
@@ -285,8 +287,9 @@ fn seen_at<'a>(
 }
 
 /// How many cards there were before edits that are taken back, the last first.
-fn count_back(backs: &[Back], cards: &[Card]) -> usize
-    requires { first_fault (backs_from backs.now) cards.now ≡ None }
+fn count_back(backs: &[Back], cards: &CardPieces) -> usize
+    requires few { length cards.now ≤ 20000 }
+    requires applies { first_fault (backs_from backs.now) cards.now ≡ None }
     ensures { result ≡ length (edited_by (backs_from backs.now) cards.now) }
 {
     let mut count = cards.len();
@@ -342,7 +345,7 @@ pub(crate) fn put_backs(backs: &[Back], edits: &mut [Edit])
 }
 
 /// What takes back an edit that applies to these cards.
-pub(crate) fn undo_of(edit: &Edit, cards: &[Card]) -> Edit
+pub(crate) fn undo_of(edit: &Edit, cards: &CardPieces) -> Edit
     requires { fault_of edit.now cards.now ≡ None }
     ensures { result ≡ undo_of edit.now cards.now }
 {
@@ -350,11 +353,11 @@ pub(crate) fn undo_of(edit: &Edit, cards: &[Card]) -> Edit
         Edit::Insert { at, .. } => Edit::Remove { at: *at },
         Edit::Replace { at, .. } => Edit::Replace {
             at: *at,
-            card: cards[(*at - 1) as usize].copied(),
+            card: cards.card_at((*at - 1) as usize).copied(),
         },
         Edit::Remove { at } => Edit::Insert {
             at: *at,
-            card: cards[(*at - 1) as usize].copied(),
+            card: cards.card_at((*at - 1) as usize).copied(),
         },
     }
 }
@@ -377,26 +380,26 @@ pub(crate) fn made_edits(
     Ok(made)
 }
 
-/// A copy of these cards, with edits of which each applies to what the ones before it leave; and what
-/// takes each of them back.
-pub(crate) fn edited_copy(
+/// These cards with edits of which each applies to what the ones before it leave; and what takes each of them back.
+pub(crate) fn edited_cards(
     alloc: Global,
-    cards: &[Card],
+    cards: &CardPieces,
     edits: &[Edit],
     by: &DeckName,
-) -> Result<(Vec<Card>, Vec<Back>), AllocError>
+) -> Result<(CardPieces, Vec<Back>), AllocError>
     requires { first_fault edits.now cards.now ≡ None }
-    ensures cards { IfOk result (λ both. both.0.items ≡ edited_by edits.now cards.now) }
+    ensures cards { IfOk result (λ both. both.0 ≡ edited_by edits.now cards.now) }
     ensures backs { IfOk result (λ both. both.1.items ≡ backs_made by.now edits.now cards.now) }
 {
-    let mut pieces = CardPieces::of(alloc, cards)?;
+    let mut edited = cards.share(alloc)?;
     let mut backs = Vec::with_capacity(alloc, edits.len())?;
     for edit in edits {
-        let back = pieces.edit(edit)?;
+        let back = undo_of(edit, &edited);
         backs.push(Back {
             edit: back,
             by: by.copied(),
         })?;
+        edited.edit(alloc, edit)?;
     }
-    Ok((pieces.joined(alloc)?, backs))
+    Ok((edited, backs))
 }

@@ -8,7 +8,7 @@ use crate::desk::Desk;
 use crate::listed::Listed;
 use crate::replies::{Refusal, Reply, Row};
 use crate::stored_deck::StoredDeck;
-use cards::{DeckName, copied_cards};
+use cards::DeckName;
 use std::alloc::{AllocError, Global};
 
 impl Desk {
@@ -27,8 +27,8 @@ impl Desk {
         ensures { MayAnswer self.now (answers (cards_reply (slice_get self.now.decks place)) self.now) result self.now }
     {
         let deck = self.decks.deck_at(place);
-        match copied_cards(self.alloc, deck.cards()) {
-            Ok(cards) => Reply::CardsAre(deck.version(), Listed::new(cards)),
+        match deck.told_cards(self.alloc) {
+            Ok(cards) => Reply::CardsAre(deck.version(), cards),
             Err(_) => Reply::Refused(Refusal::OutOfMemory),
         }
     }

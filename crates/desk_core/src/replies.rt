@@ -5,7 +5,8 @@ use crate::jobs::{DeckWork, LinkWork};
 use crate::listed::Listed;
 use crate::past::KeptEdit;
 use crate::shared_publication::{PublicationBefore, SharedPublication};
-use cards::{Card, DeckName, Edit, EditFault};
+use crate::told_cards::ToldCards;
+use cards::{DeckName, Edit, EditFault};
 
 /// The state of a deck.
 #[derive(Clone, Copy)]
@@ -97,12 +98,12 @@ pub enum Reply {
         edits: Listed<Edit>,
     },
     /// A deck's version and cards.
-    CardsAre(u64, Listed<Card>),
+    CardsAre(u64, ToldCards),
     /// A deck's version, and its edits behind the one that was asked for.
     ChangesAre(u64, Listed<KeptEdit>),
     /// The version that was asked for, the deck's cards of now, and the edits that make of them those of
     /// that version.
-    CardsBefore(u64, Listed<Card>, Listed<Edit>),
+    CardsBefore(u64, ToldCards, Listed<Edit>),
     /// The publication.
     Shown(SharedPublication),
     /// The desk's version, the published one, and a row for each deck.

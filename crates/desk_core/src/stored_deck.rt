@@ -10,11 +10,12 @@ ghost use Rattle.desk_core.specs.Joins.Causes.{first_cause};
 ghost use Rattle.desk_core.specs.Earlier.{edits_behind};
 ghost use Rattle.desk_core.specs.Carrying.{cards_of, carried_since, bad_edit, against_carried};
 ghost use Rattle.desk_core.specs.Undoing.{backs_at};
-ghost use Rattle.desk_core.specs.Joins.Stored.{backs_from, cards_held};
+ghost use Rattle.desk_core.specs.Joins.Stored.{backs_from};
 ghost use Rattle.desk_core.specs.Reading.{row_of, state_of};
 
 use crate::calls::Done;
-use crate::comparing::{both_same_cards, is_placed_alike, same_cards, same_name};
+use crate::card_pieces::CardPieces;
+use crate::comparing::{is_placed_alike, same_name};
 use crate::deck_cards::DeckCards;
 use crate::edit_both::{edit_waiting, wait_all};
 use crate::held::Held;
@@ -22,10 +23,10 @@ use crate::jobs::{DeckWork, Start};
 use crate::leases::{Lease, is_leased, is_leased_at};
 use crate::listed::Listed;
 use crate::new_deck::NewDeck;
-use crate::past::{Back, KeptEdit, Past, edited_copy, made_edits, undo_of};
+use crate::past::{Back, KeptEdit, Past, edited_cards, made_edits, undo_of};
 use crate::replies::{Refusal, Row, State};
-use crate::shared_cards::SharedCards;
-use cards::{Card, DeckName, Edit, carry, copied_cards, first_fault};
+use crate::told_cards::ToldCards;
+use cards::{Card, DeckName, Edit, carry, first_fault};
 use deck_listing::ListedObject;
 use std::alloc::{AllocError, Global};
 use std::marker::Model;
@@ -33,15 +34,14 @@ use std::mem::replace;
 
 /// A deck on the desk: its name and cards; its identity, which is the version that its addition made, or
 /// that of the last deck put in its place;
-/// the version of the last change of it; its object, if it has one of that version, in which its cards lie unless
-/// it holds them; its record, if it is here, and the edits that the record lacks; the lease, if one is out; and what is kept of its changes.
+/// the version of the last change of it; its object, if it has one of that version; its record, if it is here, and the
+/// edits that the record lacks; the lease, if one is out; and what is kept of its changes. Its cards lie in the object
+/// that was stored last, but for those that edits left since.
 /// It has at most 20,000 cards, and its past led to them.
 #[derive(Drop)]
 pub struct StoredDeck {
     name: DeckName,
-    /// Its cards, where it holds them; else they lie in its object, and these are not read.
-    own_cards: SharedCards,
-    holds_cards: bool,
+    cards: CardPieces,
     identity: u64,
     version: u64,
     object: Option<ListedObject>,
@@ -53,13 +53,13 @@ pub struct StoredDeck {
 
 impl Model for StoredDeck {
     ghost use Rattle.desk_core.specs.Desks.{DeskDeck};
-    ghost use Rattle.desk_core.specs.Joins.Stored.{cards_held, stored_deck, IsStored};
+    ghost use Rattle.desk_core.specs.Joins.Stored.{stored_deck, IsStored};
 
     ghost Value = { DeskDeck };
 
-    ghost view = { λ d. stored_deck d.name (cards_held d.holds_cards d.own_cards d.object) d.identity d.version d.object d.kept d.waiting.items d.lease d.past };
+    ghost view = { λ d. stored_deck d.name d.cards d.identity d.version d.object d.kept d.waiting.items d.lease d.past };
 
-    ghost invariant = { λ d. IsStored d.name (cards_held d.holds_cards d.own_cards d.object) d.object d.past };
+    ghost invariant = { λ d. IsStored d.name d.cards d.object d.past };
 }
 
 impl StoredDeck {
@@ -70,8 +70,7 @@ impl StoredDeck {
     {
         Ok(StoredDeck {
             name: deck.name,
-            own_cards: SharedCards::common(alloc, deck.cards)?,
-            holds_cards: true,
+            cards: CardPieces::of_cards(alloc, deck.cards)?,
             identity: version,
             version,
             object: None,
@@ -102,16 +101,11 @@ impl StoredDeck {
         &self.name
     }
 
-    pub(crate) fn cards(&self) -> &[Card]
-        ensures { result.now ≡ self.now.cards }
+    /// How many cards it has.
+    pub(crate) fn card_count(&self) -> usize
+        ensures { result ≡ length self.now.cards }
     {
-        if self.holds_cards {
-            return self.own_cards.as_slice();
-        }
-        match &self.object {
-            Some(object) => object.object().cards(),
-            None => self.own_cards.as_slice(),
-        }
+        self.cards.len()
     }
 
     pub(crate) fn version(&self) -> u64
@@ -141,20 +135,12 @@ impl StoredDeck {
     {
         let keeps = self.keeps_edits();
         let count = self.past.len();
-        hold_cards(alloc, self.holds_cards, &mut self.own_cards, &self.object)?;
-        self.holds_cards = true;
         let back = Back {
-            edit: undo_of(edit, self.own_cards.as_slice()),
+            edit: undo_of(edit, &self.cards),
             by: by.copied(),
         };
         self.past.push(version, edit.copied(), back)?;
-        if let Err(fault) = edit_waiting(
-            alloc,
-            &mut self.own_cards,
-            &mut self.waiting,
-            keeps,
-            edit,
-        ) {
+        if let Err(fault) = edit_waiting(alloc, &mut self.cards, &mut self.waiting, keeps, edit) {
             self.past.truncate(count);
             return Err(fault);
         }
@@ -179,15 +165,14 @@ impl StoredDeck {
         let keeps = self.keeps_edits();
         let count = self.past.len();
         let made = made_edits(alloc, version, edits)?;
-        let (cards, backs) = edited_copy(alloc, self.cards(), edits, by)?;
+        let (cards, backs) = edited_cards(alloc, &self.cards, edits, by)?;
         self.past.append(made, backs)?;
         if let Err(fault) = wait_all(alloc, &mut self.waiting, keeps, edits) {
             self.past.truncate(count);
             return Err(fault);
         }
         self.past.trim();
-        self.own_cards = SharedCards::own(cards);
-        self.holds_cards = true;
+        self.cards = cards;
         self.version = version;
         self.object = None;
         Ok(())
@@ -252,14 +237,14 @@ impl StoredDeck {
         ensures refusal { result ≡ first_cause (option_map bad_edit (first_fault edits.old (cards_of seen self.now)) ∷ against_carried (carried_since seen edits.old self.now) self.now.cards ∷ []) }
         ensures carried { result ≡ None → carried_since seen edits.old self.now ≡ Ok edits.new }
     {
-        let (count, made) = self.past.seen_at(seen, self.cards());
+        let (count, made) = self.past.seen_at(seen, &self.cards);
         if let Some((number, fault)) = first_fault(edits, count) {
             return Some(Refusal::BadEdit(number, fault));
         }
         if let Err(touched) = carry(edits, made) {
             return Some(Refusal::TouchedCard(touched.card, touched.version));
         }
-        match first_fault(edits, self.cards().len()) {
+        match first_fault(edits, self.card_count()) {
             Some((number, fault)) => Some(Refusal::BadEdit(number, fault)),
             None => None,
         }
@@ -272,7 +257,7 @@ impl StoredDeck {
         Row {
             name: self.name.copied(),
             version: self.version,
-            cards: self.cards().len(),
+            cards: self.card_count(),
             state: self.state(),
         }
     }
@@ -308,18 +293,7 @@ impl StoredDeck {
         ensures { result ≡ same_deck object.now (deck_of self.now) }
     {
         let object = object.object();
-        same_name(object.name(), &self.name) && same_cards(object.cards(), self.compared_cards())
-    }
-
-    /// Its cards, as they lie in its object where it has one: who compares that object with itself reads them
-    /// once.
-    fn compared_cards(&self) -> &[Card]
-        ensures { result.now ≡ self.now.cards }
-    {
-        match &self.object {
-            Some(object) => object.object().cards(),
-            None => self.cards(),
-        }
+        same_name(object.name(), &self.name) && self.cards.are_same(object.cards())
     }
 
     /// Whether record and object are of it, by name and cards.
@@ -334,7 +308,7 @@ impl StoredDeck {
         if !same_name(object.name(), &self.name) {
             return false;
         }
-        both_same_cards(kept.cards(), object.cards(), self.cards())
+        self.cards.are_both_same(kept.cards(), object.cards())
     }
 
     /// Its object once more, so that it outlives a change of the deck; none where there is none, or it can't be
@@ -361,7 +335,7 @@ impl StoredDeck {
         ensures deck { IfOk result (λ deck. deck ≡ deck_of self.now) }
         ensures few { IfOk result (λ deck. length deck.cards ≤ 20000) }
     {
-        let cards = copied_cards(alloc, self.cards())?;
+        let cards = self.cards.joined(alloc)?;
         Ok(NewDeck::new(self.name.copied(), cards))
     }
 
@@ -376,16 +350,14 @@ impl StoredDeck {
         }
     }
 
-    /// The same object with what the link of a version has added to it takes the place of its own, where it has
-    /// one. If another deck's change made that version, its cards lie in the object alone from then on.
-    pub(crate) fn refresh(&mut self, alloc: Global, version: u64, object: &ListedObject)
+    /// The same object with what a link has added to it takes the place of its own, where it has one.
+    pub(crate) fn refresh(&mut self, object: &ListedObject)
         requires { object.now ≡ deck_of self.old }
         ensures { self.new ≡ self.old }
     {
         if let Ok(shared) = object.share() {
             self.take_object(shared);
         }
-        self.let_cards_go(alloc, version);
     }
 
     /// An object of the same cards takes the place of its own, where it keeps a section for another place in a link
@@ -413,17 +385,6 @@ impl StoredDeck {
         match &self.object {
             Some(own) => !is_placed_alike(own, object),
             None => false,
-        }
-    }
-
-    /// Where it has an object and another deck's change made the latest version, its cards lie in the object alone
-    /// from then on.
-    pub(crate) fn let_cards_go(&mut self, alloc: Global, latest: u64)
-        ensures { self.new ≡ self.old }
-    {
-        if self.object.is_some() && self.version != latest {
-            self.own_cards = SharedCards::own(Vec::new(alloc));
-            self.holds_cards = false;
         }
     }
 
@@ -458,19 +419,16 @@ impl StoredDeck {
         ensures { IfOk result (λ cards. cards ≡ (if is_some self.now.kept then [] else self.now.cards)) }
     {
         if self.kept.is_some() {
-            return Ok(DeckCards::new(Vec::new(alloc)));
+            return Ok(DeckCards::shared(CardPieces::empty(alloc)));
         }
-        Ok(DeckCards::shared(self.share_cards(alloc)?))
+        Ok(DeckCards::shared(self.cards.share(alloc)?))
     }
 
-    /// Its cards once more, in common where they are held so.
-    fn share_cards(&self, alloc: Global) -> Result<SharedCards, AllocError>
+    /// Its cards, to be told.
+    pub(crate) fn told_cards(&self, alloc: Global) -> Result<ToldCards, AllocError>
         ensures { IfOk result (λ cards. cards ≡ self.now.cards) }
     {
-        if !self.holds_cards {
-            return Ok(SharedCards::own(copied_cards(alloc, self.cards())?));
-        }
-        self.own_cards.share(alloc)
+        ToldCards::new(alloc, self.cards.share(alloc)?)
     }
 
     /// The record is lost, and with it what waited for it; the lease ends.
@@ -490,32 +448,40 @@ impl StoredDeck {
         self.lease = None;
     }
 
-    /// Record and object come in; the lease ends.
-    pub(crate) fn store(&mut self, kept: Held, object: ListedObject)
+    /// Its cards lie in this object of it from then on, where there is memory to say so.
+    fn lie_in(&mut self, alloc: Global, object: &ListedObject)
+        requires { object.now ≡ deck_of self.old }
+        ensures { self.new ≡ self.old }
+    {
+        if let Ok(cards) = cards_in(alloc, object) {
+            self.hold(cards);
+        }
+    }
+
+    /// The same cards, which lie elsewhere.
+    fn hold(&mut self, cards: CardPieces)
+        requires { cards ≡ self.old.cards }
+        ensures { self.new ≡ self.old }
+    {
+        self.cards = cards;
+    }
+
+    /// Record and object come in, in which its cards lie from then on, where there is memory to say so; the lease
+    /// ends.
+    pub(crate) fn store(&mut self, alloc: Global, kept: Held, object: ListedObject)
         requires { object ≡ deck_of self.old }
         ensures { self.new ≡ stored (Some kept) self.old }
     {
+        self.lie_in(alloc, &object);
         self.kept = Some(kept);
         self.object = Some(object);
         self.lease = None;
     }
 }
 
-/// The cards of a deck to be edited: where they lie in its object they are copied. Without memory nothing
-/// changes.
-fn hold_cards(
-    alloc: Global,
-    holds: bool,
-    own: &mut SharedCards,
-    object: &Option<ListedObject>,
-) -> Result<(), AllocError>
-    ensures { own.new ≡ (if is_ok result then cards_held holds own.old object.now else own.old) }
+/// The cards of an object, which lie in it.
+fn cards_in(alloc: Global, object: &ListedObject) -> Result<CardPieces, AllocError>
+    ensures { IfOk result (λ cards. cards ≡ object.now.cards) }
 {
-    if holds {
-        return Ok(());
-    }
-    if let Some(object) = object {
-        *own = SharedCards::own(copied_cards(alloc, object.object().cards())?);
-    }
-    Ok(())
+    CardPieces::of_object(alloc, object.share_object()?)
 }

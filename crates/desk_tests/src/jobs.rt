@@ -156,11 +156,18 @@ pub fn push_reply(answer: &mut Answer, reply: &Reply) {
         Reply::Refused(refusal) => answer.debug(refusal),
         Reply::LinkJob(work) => push_out(answer, "link", work.lease, work.version),
         Reply::DeckJob(work) => push_job(answer, work),
-        Reply::CardsAre(version, cards) => {
-            answer.number("cards ", *version);
-            push_cards(answer, cards.as_slice());
-        }
         _ => answer.push("what a session asks for"),
+    }
+}
+
+/// A reply to a call for the cards of a deck.
+pub fn push_told(answer: &mut Answer, reply: Reply) {
+    match reply {
+        Reply::CardsAre(version, cards) => {
+            answer.number("cards ", version);
+            push_cards(answer, &cards.into_items());
+        }
+        other => push_reply(answer, &other),
     }
 }
 
@@ -184,7 +191,7 @@ fn push_job(answer: &mut Answer, work: &DeckWork) {
     answer.bytes(work.name.as_slice());
     push_out(answer, "", work.lease, work.version);
     match &work.start {
-        Start::FromCards(cards) => push_count(answer, " cards ", cards.as_slice()),
+        Start::FromCards(cards) => answer.number(" cards ", cards.len() as u64),
         Start::FromRecord(held) => push_record(answer, held.kept().cards()),
     }
     answer.number(" edits ", work.edits.as_slice().len() as u64);
@@ -193,13 +200,9 @@ fn push_job(answer: &mut Answer, work: &DeckWork) {
     }
 }
 
-fn push_count(answer: &mut Answer, what: &str, cards: &[Card]) {
-    answer.number(what, cards.len() as u64);
-}
-
 /// How many cards a record has, and the cards, where they are one or two.
 fn push_record(answer: &mut Answer, cards: &[Card]) {
-    push_count(answer, " record ", cards);
+    answer.number(" record ", cards.len() as u64);
     if cards.len() <= 2 {
         push_cards(answer, cards);
     }
@@ -321,7 +324,7 @@ fn job_that_does_not_apply(alloc: Global) -> Result<Job, AllocError> {
         deck: 1,
         version: 2,
         name: name_of("M")?,
-        start: Start::FromCards(DeckCards::new(cards_of(alloc, "*A")?)),
+        start: Start::FromCards(DeckCards::new(alloc, cards_of(alloc, "*A")?)?),
         edits: Listed::new(edits),
     }))
 }

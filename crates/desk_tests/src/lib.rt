@@ -26,7 +26,7 @@ mod sweeps;
 
 use deck_files::KnownFiles;
 pub use inputs::{card_of, cards_of, cut, cut_line, cut_number, name_of, number, plain_text};
-pub use jobs::{ask, push_reply};
+pub use jobs::{ask, push_told};
 pub use outputs::Answer;
 pub use place::Place;
 use std::alloc::AllocGlobal;

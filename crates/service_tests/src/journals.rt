@@ -5,7 +5,7 @@
 //! `compact`: it becomes the one that begins with its decks.
 
 use desk_core::Call;
-use desk_tests::{Answer, ask, name_of, number, push_reply};
+use desk_tests::{Answer, ask, name_of, number, push_told};
 use journal::{
     Ending, JournalFault, Moment, Next, Place, ReplayFault, Replayed, compacted_text, next_record,
     record_text, replay,
@@ -79,7 +79,7 @@ fn push_desk(answer: &mut Answer, replayed: Replayed) -> Result<(), AllocError> 
     answer.debug(&replayed.ending);
     answer.push(", M: ");
     let mut desk = replayed.desk;
-    push_reply(answer, &ask(&mut desk, Call::Cards(name_of("M")?)));
+    push_told(answer, ask(&mut desk, Call::Cards(name_of("M")?)));
     Ok(())
 }
 

@@ -2,6 +2,7 @@
 ghost use Rattle.std.specs.Prelude.{◌≡◌, ◌≤◌, ◌⊎◌, length};
 ghost use Rattle.session_line.specs.Replies.{text_of_reply, IsWithinLimits};
 ghost use Rattle.deck_linker.specs.Publishing.{map_of};
+ghost use Rattle.desk_core.specs.declared.replies.Reply.TheVariants.{CardsAre};
 ghost use Rattle.session_line.specs.Answers.{foreign, told_of_call, told_of_wait, told_of_greeting, told_of_sessions, told_of_cards, told_of_backs, told_of_part, told_of_errors, told_of_publication, part_text, errors_text, status_text, view_text, told_text, is_bye, IsTellable, IsToldAt};
 ghost use Rattle.session_line.specs.PublishedTexts.{shown_part};
 
@@ -146,15 +147,21 @@ pub(crate) fn told_of_cards(view: CardsView, reply: Reply) -> Told
     ensures fits { IsTellable result }
 {
     match reply {
-        Reply::CardsAre(version, cards) => {
-            if cards.as_slice().len() <= MOST_CARDS {
-                Told::Cards(version, cards, view)
-            } else {
-                foreign()
-            }
-        }
+        Reply::CardsAre(version, cards) => told_of_list(version, cards.into_items(), view),
         Reply::Refused(refusal) => Told::Refused(Refusal::from(refusal)),
         _ => foreign(),
+    }
+}
+
+/// What is told of these cards of a deck at a version, of which this is shown.
+fn told_of_list(version: u64, cards: Vec<Card>, view: CardsView) -> Told
+    ensures told { result ≡ told_of_cards view (CardsAre version cards.items) }
+    ensures fits { IsTellable result }
+{
+    if cards.len() <= MOST_CARDS {
+        Told::Cards(version, Listed::new(cards), view)
+    } else {
+        foreign()
     }
 }
 
@@ -167,10 +174,7 @@ fn told_of_backs(alloc: Global, version: u64, backs: &[Edit], cards: &[Card]) ->
         return foreign();
     }
     match edited_copy(alloc, cards, backs) {
-        Ok(before) => told_of_cards(
-            CardsView::All,
-            Reply::CardsAre(version, Listed::new(before)),
-        ),
+        Ok(before) => told_of_list(version, before, CardsView::All),
         Err(_) => Told::Refused(Refusal::OutOfMemory),
     }
 }
@@ -183,7 +187,7 @@ pub(crate) fn told_of_cards_at(alloc: Global, reply: Reply) -> Told
 {
     match reply {
         Reply::CardsBefore(version, cards, backs) => {
-            told_of_backs(alloc, version, backs.as_slice(), cards.as_slice())
+            told_of_backs(alloc, version, backs.as_slice(), &cards.into_items())
         }
         Reply::Refused(refusal) => Told::Refused(Refusal::from(refusal)),
         _ => foreign(),

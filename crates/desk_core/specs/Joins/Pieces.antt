@@ -1,7 +1,18 @@
--- How the code edits the cards of a deck in pieces (ours).
-use Rattle.std.specs.Prelude.{◌≡◌, ◌≤◌, ◌<◌, ◌+◌, ℕ, List, [], length, take, get_or}
+-- How the code keeps the cards of a deck in pieces, and edits them there (ours).
+use Rattle.std.specs.Prelude.{◌≡◌, ◌≤◌, ◌<◌, ◌+◌, ℕ, List, [], length, take, drop, get_or}
 use Rattle.std.specs.List.{flat_map}
-use Rattle.desk_core.specs.Joins.Language.{Card}
+use Rattle.desk_core.specs.Joins.Language.{Card, Deck}
+use Rattle.desk_core.specs.declared.piece.Source.{Source}
+use Rattle.desk_core.specs.declared.piece.Source.TheVariants.{Object, Cards}
+
+-- the cards of what pieces are parts of
+abbrev pub source_cards : Source → List Card
+source_cards (Object deck) = deck.cards
+source_cards (Cards cards) = cards
+
+-- the cards from one place on, up to another
+abbrev pub part : ℕ → ℕ → List Card → List Card
+part from until cards = drop from (take until cards)
 
 -- the cards of pieces, one piece behind the other
 abbrev pub joined : List (List Card) → List Card
@@ -14,9 +25,8 @@ pub record IsSpot (pieces : List (List Card)) (place piece card : ℕ) : Type 0 
   pub inside : card ≤ length (get_or pieces piece [])
   pub begun : place < length (joined pieces) → card < length (get_or pieces piece [])
 
--- pieces of the same cards, of which the first ones, so many, have the cards in front of a place, and the next begins with the card there, if there is one
-pub record IsCut (pieces : List (List Card)) (place : ℕ) (after : List (List Card)) (count : ℕ) : Type 0 where
-  pub same : joined after ≡ joined pieces
-  pub within : count ≤ length after
-  pub placed : length (joined (take count after)) ≡ place
-  pub begun : place < length (joined pieces) → 1 ≤ length (get_or after count [])
+-- in front of a place stand so many pieces, and so many cards of one more
+pub record IsGap (pieces : List (List Card)) (place piece card : ℕ) : Type 0 where
+  pub within : piece < length pieces
+  pub placed : length (joined (take piece pieces)) + card ≡ place
+  pub inside : card ≤ length (get_or pieces piece [])

@@ -7,8 +7,8 @@ use Rattle.desk_core.specs.Carrying.{made_in}
 use Rattle.desk_core.proofs.PastSteps.{kept-drop, backs-kept, drop-same, made-kept}
 use Rattle.desk_core.proofs.past.seen_at.Goals as goal
 
-pub count_back-taken-requires : goal.count_back-taken-requires
-count_back-taken-requires c =
+pub count_back-taken-requires-clause-applies : goal.count_back-taken-requires-clause-applies
+count_back-taken-requires-clause-applies c =
     let made = c.args.made.now in
     let backs = c.args.backs.now in
     let count = c.count_before-count.result in

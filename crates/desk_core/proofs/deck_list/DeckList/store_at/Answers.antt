@@ -7,9 +7,9 @@ use Rattle.desk_core.proofs.deck_list.DeckList.store_at.Goals as goal
 
 pub invariant_of-self : goal.invariant_of-self
 invariant_of-self c =
-    (formed-at (stored (Some c.args.kept)) c.self.inside.decks.items c.args.place c.index_mut-deck.result.now c.let_cards_go.new.self (λ d. refl) c.self.invariant (omega (arith, ap length c.self.view_is)) c.index_mut-deck.ensures.value (c.let_cards_go.ensures ∙ c.store.ensures)).0
+    (formed-at (stored (Some c.args.kept)) c.self.inside.decks.items c.args.place c.index_mut-deck.result.now c.store.new.self (λ d. refl) c.self.invariant (omega (arith, ap length c.self.view_is)) c.index_mut-deck.ensures.value c.store.ensures).0
 
 pub returns : goal.returns
 returns c =
-    (formed-at (stored (Some c.args.kept)) c.self.inside.decks.items c.args.place c.index_mut-deck.result.now c.let_cards_go.new.self (λ d. refl) c.self.invariant (omega (arith, ap length c.self.view_is)) c.index_mut-deck.ensures.value (c.let_cards_go.ensures ∙ c.store.ensures)).1
+    (formed-at (stored (Some c.args.kept)) c.self.inside.decks.items c.args.place c.index_mut-deck.result.now c.store.new.self (λ d. refl) c.self.invariant (omega (arith, ap length c.self.view_is)) c.index_mut-deck.ensures.value c.store.ensures).1
     ∙ ap (λ (decks : List DeskDeck). with_at c.args.place (stored (Some c.args.kept)) decks) c.self.view_is

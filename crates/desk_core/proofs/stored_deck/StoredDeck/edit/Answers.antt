@@ -3,7 +3,6 @@ use Rattle.cards.proofs.FaultLaws.{edited-few}
 use Rattle.desk_core.specs.Joins.Language.{Card}
 use Rattle.desk_core.specs.Desks.{DeskDeck}
 use Rattle.desk_core.specs.Joins.Edits.{edited, fault_of}
-use Rattle.desk_core.specs.Joins.Stored.{cards_held}
 use Rattle.desk_core.specs.Past.{Past, past_after}
 use Rattle.desk_core.specs.Led.{IsPastOf}
 use Rattle.desk_core.proofs.PastLaws.{past-more, one-applies}
@@ -13,11 +12,11 @@ use Rattle.desk_core.proofs.stored_deck.StoredDeck.edit.Goals as goal
 pub invariant_of-self-2 : goal.invariant_of-self-2
 invariant_of-self-2 c =
     let inside = c.self.inside in
-    let cards = cards_held inside.holds_cards inside.own_cards inside.object in
+    let cards = inside.cards in
     let edit = c.args.edit.now in
     let same : c.args.self.now.cards ≡ cards = sym (ap (λ (deck : DeskDeck). deck.cards) c.self.view_is) in
     let applies = subst (λ (cards : List Card). fault_of edit cards ≡ None) same c.requires in
-    let after = c.in_default.ensures.cards ∙ ap (λ (cards : List Card). edited cards edit) c.in_ok-hold_cards.ensures in
+    let after = c.in_default.ensures.cards in
     let past : c.trim.new.self ≡ past_after c.args.version c.args.by.now (edit ∷ []) cards inside.past = search rules in
     record {
       few = subst (λ (after : List Card). length after ≤ 20000) (sym after) (edited-few edit cards applies c.self.invariant.few);

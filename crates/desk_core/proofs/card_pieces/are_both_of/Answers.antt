@@ -1,0 +1,67 @@
+-- Cards and others are told apart from pieces, a piece at a time.
+use Rattle.std.proofs.Common.{ℕ, ◌≡◌, ◌+◌, ◌-◌, ◌≤◌, ◌==◌, ◌&&◌, Bool, true, false, List, [], ◌∷◌, length, take, drop, refl, sym, ap, ap₂, ◌∙◌, arith}
+use Rattle.std.proofs.lemmas.Bool.{and_left}
+use Rattle.std.proofs.lemmas.List.{drop_all, length-drop}
+use Rattle.desk_core.specs.Joins.Language.{Card}
+use Rattle.desk_core.specs.Joins.Pieces.{joined}
+use Rattle.desk_core.specs.Delivering.{same_cards}
+use Rattle.desk_core.proofs.PieceLaws.{same-next, same-short, same-none, both-on, both-end, both-itself}
+use Rattle.desk_core.proofs.card_pieces.are_both_of.Goals as goal
+
+pub returns-then-left-len : goal.returns-then-left-len
+returns-then-left-len c =
+    let left = c.loop-piece.left.now in
+    let short = same-short c.args.pieces.now c.loop-piece.piece-index c.piece-item.result left c.loop-piece-test.true c.piece-item.is (omega (arith, c.len.ensures, c.if-left-len.true)) in
+    sym (c.loop-piece.invariant.0 ∙ and_left _ _ short)
+
+pub returns-then-not-both_same_cards : goal.returns-then-not-both_same_cards
+returns-then-not-both_same_cards c =
+    let i = c.loop-piece.piece-index in
+    let pieces = c.args.pieces.now in
+    let left = c.loop-piece.left.now in
+    let right = c.loop-piece.right.now in
+    let piece = c.piece-item.result in
+    let behind = joined (drop (i + 1) pieces) in
+    let as-long = c.loop-piece.invariant.1 in
+    let front = c.split_at.ensures.front ∙ ap (λ (n : ℕ). take n left) c.len-in-loop-piece.ensures in
+    let other = c.split_at-in-loop-piece.ensures.front ∙ ap (λ (n : ℕ). take n right) c.len-in-loop-piece-2.ensures in
+    let fronts = ap₂ (λ (a b : Bool). a && b) (ap₂ same_cards (sym front) (sym c.as_slice.ensures)) (ap₂ same_cards (sym other) (sym c.as_slice.ensures))
+    ∙ (sym c.both_same_cards.ensures ∙ c.if-not-both_same_cards.true) in
+    sym (c.loop-piece.invariant.0 ∙ (ap₂ (λ (a b : Bool). a && b)
+    (same-next pieces i piece left c.loop-piece-test.true c.piece-item.is (omega (arith, c.len.ensures, c.if-left-len.false)))
+    (same-next pieces i piece right c.loop-piece-test.true c.piece-item.is (omega (arith, c.len.ensures, c.if-left-len.false, as-long)))
+    ∙ both-end (same_cards (take (length piece) left) piece) (same_cards (take (length piece) right) piece)
+    (same_cards (drop (length piece) left) behind) (same_cards (drop (length piece) right) behind) fronts))
+
+pub loop-piece-preserved : goal.loop-piece-preserved
+loop-piece-preserved c =
+    let i = c.loop-piece.piece-index in
+    let pieces = c.args.pieces.now in
+    let left = c.loop-piece.left.now in
+    let right = c.loop-piece.right.now in
+    let piece = c.piece-item.result in
+    let behind = joined (drop (i + 1) pieces) in
+    let as-long = c.loop-piece.invariant.1 in
+    let front = c.split_at.ensures.front ∙ ap (λ (n : ℕ). take n left) c.len-in-loop-piece.ensures in
+    let other = c.split_at-in-loop-piece.ensures.front ∙ ap (λ (n : ℕ). take n right) c.len-in-loop-piece-2.ensures in
+    let back = c.split_at.ensures.back ∙ ap (λ (n : ℕ). drop n left) c.len-in-loop-piece.ensures in
+    let others = c.split_at-in-loop-piece.ensures.back ∙ ap (λ (n : ℕ). drop n right) c.len-in-loop-piece-2.ensures in
+    let fronts = ap₂ (λ (a b : Bool). a && b) (ap₂ same_cards (sym front) (sym c.as_slice.ensures)) (ap₂ same_cards (sym other) (sym c.as_slice.ensures))
+    ∙ (sym c.both_same_cards.ensures ∙ c.if-not-both_same_cards.false) in (
+      c.loop-piece.invariant.0 ∙ (ap₂ (λ (a b : Bool). a && b)
+          (same-next pieces i piece left c.loop-piece-test.true c.piece-item.is (omega (arith, c.len.ensures, c.if-left-len.false)))
+          (same-next pieces i piece right c.loop-piece-test.true c.piece-item.is (omega (arith, c.len.ensures, c.if-left-len.false, as-long)))
+          ∙ (both-on (same_cards (take (length piece) left) piece) (same_cards (take (length piece) right) piece)
+          (same_cards (drop (length piece) left) behind) (same_cards (drop (length piece) right) behind) fronts
+          ∙ ap₂ (λ (a b : List Card). same_cards a behind && same_cards b behind) (sym back) (sym others))),
+      ap length others ∙ (length-drop (length piece) right ∙ (ap (λ (n : ℕ). n - length piece) as-long ∙ (sym (length-drop (length piece) left) ∙ sym (ap length back)))),
+    )
+
+pub returns : goal.returns
+returns c =
+    let left = c.loop-piece.left.now in
+    let right = c.loop-piece.right.now in
+    let none = drop_all c.loop-piece.piece-index c.args.pieces.now c.loop-piece-test.false in
+    let others = same-none right ∙ (ap (λ (n : ℕ). n == 0) c.loop-piece.invariant.1 ∙ sym c.is_empty.ensures) in
+    sym (c.loop-piece.invariant.0 ∙ (ap (λ (pieces : List (List Card)). same_cards left (joined pieces) && same_cards right (joined pieces)) none
+    ∙ (ap₂ (λ (a b : Bool). a && b) (same-none left ∙ sym c.is_empty.ensures) others ∙ both-itself c.is_empty.result)))
