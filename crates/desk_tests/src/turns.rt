@@ -33,12 +33,46 @@ const STATEMENTS: [&str; 5] = [
     "          EQ     100B",
 ];
 
+/// The kinds of calls that no round asks.
+const KINDS: [&str; 5] = ["deck added", "claim", "delivery", "offer", "publish"];
+
 /// The turns of one kind of calls.
 #[derive(Clone, Copy)]
 struct Row {
     kind: &'static str,
     count: u64,
     longest: Duration,
+}
+
+impl Row {
+    /// None yet of this kind.
+    fn of(kind: &'static str) -> Row {
+        Row {
+            kind,
+            count: 0,
+            longest: Duration::ZERO,
+        }
+    }
+}
+
+/// A row for each kind of calls.
+fn all_rows(alloc: Global) -> Result<Vec<Row>, AllocError> {
+    let mut rows = Vec::new(alloc);
+    for kind in &KINDS {
+        rows.push(Row::of(kind))?;
+    }
+    for round in &ROUNDS {
+        rows.push(Row::of(round.1))?;
+    }
+    Ok(rows)
+}
+
+/// The processor time of the process; none where it can't be told.
+fn time_of<R: CpuClock>(rt: &R) -> Duration {
+    match rt.process_cpu_time() {
+        Ok(time) => time,
+        Err(_) => Duration::ZERO,
+    }
 }
 
 /// A desk, and what its turns take.
@@ -51,46 +85,37 @@ struct Timed {
 }
 
 impl Timed {
-    fn new(alloc: Global) -> Timed {
-        Timed {
+    fn new(alloc: Global) -> Result<Timed, AllocError> {
+        Ok(Timed {
             alloc,
             desk: Desk::new(alloc),
             meter: Meter { sized: 0, coded: 0 },
-            rows: Vec::new(alloc),
-        }
+            rows: all_rows(alloc)?,
+        })
     }
 
     /// Notes a turn of this kind.
-    fn note(&mut self, kind: &'static str, spent: Duration) -> Result<(), AllocError> {
+    fn note(&mut self, kind: &str, spent: Duration) {
         for row in self.rows.iter_mut() {
             if row.kind == kind {
                 row.count = row.count.saturating_add(1);
                 row.longest = row.longest.max(spent);
-                return Ok(());
             }
         }
-        let longest = spent;
-        self.rows.push(Row {
-            kind,
-            count: 1,
-            longest,
-        })?;
-        Ok(())
     }
 
-    /// Asks the desk.
-    fn ask<R: CpuClock>(&mut self, rt: &R, kind: &'static str, call: Call) -> io::Result<Reply> {
-        let before = rt.process_cpu_time()?;
+    /// Asks the desk, and notes what that took.
+    fn ask<R: CpuClock>(&mut self, rt: &R, kind: &str, call: Call) -> Reply {
+        let before = time_of(rt);
         let reply = ask(&mut self.desk, call);
-        let spent = rt.process_cpu_time()?.saturating_sub(before);
-        self.note(kind, spent)?;
-        Ok(reply)
+        self.note(kind, time_of(rt).saturating_sub(before));
+        reply
     }
 
     /// Has all decks assembled and published.
-    fn settle<R: CpuClock>(&mut self, rt: &R) -> io::Result<()> {
+    fn settle<R: CpuClock>(&mut self, rt: &R) -> Result<(), AllocError> {
         for _ in 0..MOST_JOBS {
-            match self.claim(rt)? {
+            match self.claim(rt) {
                 Some(job) => self.end(rt, job)?,
                 None => return Ok(()),
             }
@@ -99,16 +124,16 @@ impl Timed {
     }
 
     /// The job that is due next, if one is.
-    fn claim<R: CpuClock>(&mut self, rt: &R) -> io::Result<Option<Job>> {
-        Ok(job_in(self.ask(rt, "claim", Call::Claim)?))
+    fn claim<R: CpuClock>(&mut self, rt: &R) -> Option<Job> {
+        job_in(self.ask(rt, "claim", Call::Claim))
     }
 
     /// Does a job, and hands in what is made of it.
-    fn end<R: CpuClock>(&mut self, rt: &R, job: Job) -> io::Result<()> {
+    fn end<R: CpuClock>(&mut self, rt: &R, job: Job) -> Result<(), AllocError> {
         match job.run(self.alloc, &mut self.meter) {
             Made::Link { lease, publication } => self.publish(rt, lease, &publication),
             made => {
-                let_go(self.ask(rt, "delivery", made.into_call())?);
+                let_go(self.ask(rt, "delivery", made.into_call()));
                 Ok(())
             }
         }
@@ -120,7 +145,7 @@ impl Timed {
         rt: &R,
         lease: u64,
         publication: &SharedPublication,
-    ) -> io::Result<()> {
+    ) -> Result<(), AllocError> {
         for (place, object) in publication.publication().objects().iter().enumerate() {
             let object = object.share()?;
             let offer = Call::OfferObject {
@@ -128,9 +153,9 @@ impl Timed {
                 place,
                 object,
             };
-            let_go(self.ask(rt, "offer", offer)?);
+            let_go(self.ask(rt, "offer", offer));
         }
-        let_go(self.ask(rt, "publish", Call::Publish(lease))?);
+        let_go(self.ask(rt, "publish", Call::Publish(lease)));
         Ok(())
     }
 }
@@ -268,11 +293,11 @@ fn call_of(alloc: Global, asked: Asked, number: usize, seen: u64) -> Result<Call
 }
 
 /// Adds all decks, two at a time, and answers the version of each.
-fn add_all<R: CpuClock>(rt: &R, timed: &mut Timed) -> io::Result<Vec<u64>> {
+fn add_all<R: CpuClock>(rt: &R, timed: &mut Timed) -> Result<Vec<u64>, AllocError> {
     let mut seen = Vec::with_capacity(timed.alloc, DECKS)?;
     for number in 0..DECKS {
         let deck = deck_at(timed.alloc, number)?;
-        let_go(timed.ask(rt, "deck added", Call::AddDeck(deck))?);
+        let_go(timed.ask(rt, "deck added", Call::AddDeck(deck)));
         seen.push(timed.desk.version())?;
         if number % 2 == 1 {
             timed.settle(rt)?;
@@ -289,13 +314,13 @@ fn ask_once<R: CpuClock>(
     kind: &'static str,
     number: usize,
     seen: &mut [u64],
-) -> io::Result<()> {
+) -> Result<(), AllocError> {
     let Some(version) = seen.get_mut(number) else {
         return Ok(());
     };
     let before = timed.desk.version();
     let call = call_of(timed.alloc, asked, number, *version)?;
-    let_go(timed.ask(rt, kind, call)?);
+    let_go(timed.ask(rt, kind, call));
     if timed.desk.version() != before {
         *version = timed.desk.version();
     }
@@ -308,7 +333,7 @@ fn ask_often<R: CpuClock>(
     timed: &mut Timed,
     round: &(Asked, &'static str, usize, usize),
     seen: &mut [u64],
-) -> io::Result<()> {
+) -> Result<(), AllocError> {
     let (asked, kind, decks, times) = *round;
     for time in 0..times {
         ask_once(rt, timed, asked, kind, time % decks.max(1), seen)?;
@@ -318,7 +343,7 @@ fn ask_often<R: CpuClock>(
 
 /// Measures, and prints the table.
 pub fn measure_turns<R: AllocGlobal + CpuClock + Print>(rt: &R) -> io::Result<()> {
-    let mut timed = Timed::new(rt.alloc());
+    let mut timed = Timed::new(rt.alloc())?;
     let mut seen = add_all(rt, &mut timed)?;
     for round in &ROUNDS {
         ask_often(rt, &mut timed, round, seen.as_mut_slice())?;
