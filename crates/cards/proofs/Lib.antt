@@ -1,5 +1,6 @@
 pub mod BeforeSteps
 pub mod ColumnSteps
+pub mod CardLaws
 pub mod SpanSteps
 pub mod PartLaws
 pub mod ReadingLaws

@@ -2,7 +2,7 @@
 ghost use Rattle.std.specs.Prelude.{◌≡◌, ◌≤◌, ◌||◌, ◌∷◌, [], length, take, position, is_none, is_some};
 ghost use Rattle.std.specs.List.{list_all};
 ghost use Rattle.definitions.specs.Cards.{card_of, is_comma_card, is_comment, padded, trimmed};
-ghost use Rattle.definitions.specs.Characters.{display_code_of};
+ghost use Rattle.definitions.specs.Characters.{display_code_of, same_text};
 ghost use Rattle.definitions.specs.Fields.{fields_of};
 ghost use Rattle.cards.specs.CardReads.{read_as};
 ghost use Rattle.cards.specs.Joins.FieldParts.{AreWithin, fields_at};
@@ -125,6 +125,14 @@ impl Card {
         ensures fields { fields_at (padded 72 self.now) result ≡ fields_of (self.now ∷ []) }
     {
         self.parts.parts()
+    }
+
+    /// Whether another card has the same columns. The blanks behind them are compared too, so that no
+    /// branch depends on how many there are.
+    pub fn is_same(&self, other: &Card) -> bool
+        ensures { result ≡ same_text self.now other.now }
+    {
+        self.len == other.len && self.columns == other.columns
     }
 
     /// Whether `*` in column 1 makes this a comment.

@@ -1,6 +1,6 @@
 -- Cards in pieces: what pieces hold of which one is cut, and what an edit of one piece makes of all cards.
 use Rattle.std.specs.Prelude.{insert, remove}
-use Rattle.std.proofs.Common.{◌≡◌, ℕ, zero, suc, ◌+◌, ◌-◌, ◌<◌, ◌≤◌, Bool, true, false, ◌&&◌, List, [], ◌∷◌, ◌++◌, length, take, drop, set, get_or, refl, sym, ap, ap₂, subst, ◌∙◌, append_assoc, add-one, ne_eqb, length-append, ◌==◌, arith}
+use Rattle.std.proofs.Common.{◌≡◌, ℕ, zero, suc, ◌+◌, ◌-◌, ◌<◌, ◌≤◌, Bool, true, false, ◌&&◌, List, [], ◌∷◌, ◌++◌, length, take, drop, set, get_or, refl, sym, ap, ap₂, ◌∙◌, append_assoc, add-one, ne_eqb, length-append, ◌==◌, arith}
 use Rattle.std.proofs.lemmas.List.{set_split, set-append_left, set-append_right, take-append-drop, take-take, drop-take, drop-drop, length-drop, length-take-le, at_drop_more, get_or_append_left, get_or-append-add}
 use Rattle.std.proofs.lemmas.List.Concat.{flat_map-append}
 use Rattle.std.proofs.lemmas.List.Edits.{insert-append_left, insert-append_right, remove-append_left, remove-append_right}

@@ -15,12 +15,6 @@ pub(crate) fn same_name(name: &DeckName, other: &DeckName) -> bool
     is_same_text(name.as_slice(), other.as_slice())
 }
 
-fn same_card(card: &Card, other: &Card) -> bool
-    ensures { result ≡ same_text card.now other.now }
-{
-    is_same_text(card.as_slice(), other.as_slice())
-}
-
 /// Whether cards are the same, one by one. Where their numbers differ none is looked at.
 pub(crate) fn same_cards(cards: &[Card], others: &[Card]) -> bool
     ensures { result ≡ same_cards cards.now others.now }
@@ -28,27 +22,18 @@ pub(crate) fn same_cards(cards: &[Card], others: &[Card]) -> bool
     cards.len() == others.len() && all_cards_same(cards, others)
 }
 
-/// Whether cards and others are both the same as these, one by one: two copies that share what they have are
-/// read once. Where their numbers differ none is looked at.
+/// Whether cards and others, as many as these, are both the same as these, one by one: two copies that share what
+/// they have are read once.
 pub(crate) fn both_same_cards(cards: &[Card], others: &[Card], these: &[Card]) -> bool
-    ensures { result ≡ (same_cards cards.now these.now && same_cards others.now these.now) }
-{
-    if cards.len() != these.len() || others.len() != these.len() {
-        return same_cards(cards, these) && same_cards(others, these);
-    }
-    all_cards_both_same(cards, others, these)
-}
-
-fn all_cards_both_same(cards: &[Card], others: &[Card], these: &[Card]) -> bool
     requires cards { length cards.now ≡ length these.now }
     requires others { length others.now ≡ length these.now }
     ensures { result ≡ (same_cards cards.now these.now && same_cards others.now these.now) }
 {
     for (place, card) in these.iter().enumerate() {
-        if !same_card(&cards[place], card) {
+        if !cards[place].is_same(card) {
             return false;
         }
-        if !same_card(&others[place], card) {
+        if !others[place].is_same(card) {
             return false;
         }
     }
@@ -60,7 +45,7 @@ fn all_cards_same(cards: &[Card], others: &[Card]) -> bool
     ensures { result ≡ same_cards cards.now others.now }
 {
     for (place, card) in cards.iter().enumerate() {
-        if !same_card(card, &others[place]) {
+        if !card.is_same(&others[place]) {
             return false;
         }
     }

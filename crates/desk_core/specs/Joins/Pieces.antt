@@ -1,7 +1,7 @@
 -- How the code keeps the cards of a deck in pieces, and edits them there (ours).
 use Rattle.std.specs.Prelude.{◌≡◌, ◌≤◌, ◌<◌, ◌+◌, ℕ, List, [], length, take, drop, get_or}
 use Rattle.std.specs.List.{flat_map}
-use Rattle.desk_core.specs.Joins.Language.{Card, Deck}
+use Rattle.desk_core.specs.Joins.Language.{Card}
 use Rattle.desk_core.specs.declared.piece.Source.{Source}
 use Rattle.desk_core.specs.declared.piece.Source.TheVariants.{Object, Cards}
 

@@ -1,7 +1,7 @@
 -- Cards and others are told apart from pieces, a piece at a time.
-use Rattle.std.proofs.Common.{ℕ, ◌≡◌, ◌+◌, ◌-◌, ◌≤◌, ◌==◌, ◌&&◌, Bool, true, false, List, [], ◌∷◌, length, take, drop, refl, sym, ap, ap₂, ◌∙◌, arith}
+use Rattle.std.proofs.Common.{ℕ, ◌≡◌, ◌+◌, ◌-◌, ◌≤◌, ◌==◌, ◌&&◌, Bool, List, length, take, drop, sym, ap, ap₂, ◌∙◌, arith}
 use Rattle.std.proofs.lemmas.Bool.{and_left}
-use Rattle.std.proofs.lemmas.List.{drop_all, length-drop}
+use Rattle.std.proofs.lemmas.List.{drop_all, length-drop, length-take-le}
 use Rattle.desk_core.specs.Joins.Language.{Card}
 use Rattle.desk_core.specs.Joins.Pieces.{joined}
 use Rattle.desk_core.specs.Delivering.{same_cards}
@@ -13,6 +13,20 @@ returns-then-left-len c =
     let left = c.loop-piece.left.now in
     let short = same-short c.args.pieces.now c.loop-piece.piece-index c.piece-item.result left c.loop-piece-test.true c.piece-item.is (omega (arith, c.len.ensures, c.if-left-len.true)) in
     sym (c.loop-piece.invariant.0 ∙ and_left _ _ short)
+
+-- the first cards are as many as those of a piece
+as_long : (front left piece shown : List Card) (n : ℕ) → n ≡ length piece → front ≡ take n left → length piece ≤ length left → shown ≡ piece → length front ≡ length shown
+as_long front left piece shown n count is within same =
+    ap length (is ∙ ap (λ (k : ℕ). take k left) count) ∙ (length-take-le (length piece) left within ∙ ap length (sym same))
+
+pub both_same_cards-requires-clause-cards : goal.both_same_cards-requires-clause-cards
+both_same_cards-requires-clause-cards c =
+    as_long _ c.loop-piece.left.now c.piece-item.result _ _ c.len-in-loop-piece.ensures c.split_at.ensures.front (omega (arith, c.len.ensures, c.if-left-len.false)) c.as_slice.ensures
+
+pub both_same_cards-requires-clause-others : goal.both_same_cards-requires-clause-others
+both_same_cards-requires-clause-others c =
+    as_long _ c.loop-piece.right.now c.piece-item.result _ _ c.len-in-loop-piece-2.ensures c.split_at-in-loop-piece.ensures.front
+    (omega (arith, c.len.ensures, c.if-left-len.false, c.loop-piece.invariant.1)) c.as_slice.ensures
 
 pub returns-then-not-both_same_cards : goal.returns-then-not-both_same_cards
 returns-then-not-both_same_cards c =
