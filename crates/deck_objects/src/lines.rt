@@ -27,12 +27,12 @@ pub enum LineFields {
 #[derive(Clone, Copy)]
 pub struct CodedLine {
     pub operation: Operation,
+    /// Whether an ORG begins a new run here.
+    pub begins_run: bool,
     /// The index of its block among the blocks of the object.
     pub block: u32,
     pub place: u32,
     pub end: u32,
-    /// Whether an ORG begins a new run here.
-    pub begins_run: bool,
     pub fields: LineFields,
 }
 
