@@ -51,18 +51,17 @@ pub kept_filled : (packed : Packed) (kind : DeckKind) (spans : List Span) (next 
 kept_filled packed kind spans next earlier view h = let P : Packed → Type 0 = λ p. p.run.filled ≡ 0 in subst P (sym view) h
 
 -- what is filled from a block is what the definitions store of its runs
-pub fill_view : {Z : Type 0} (packed : Packed) (kind : DeckKind) (spans seen : List Span) (next : OpenParcel) (runs shown : List (Vec Span Z)) (newer newest older oldest words : List WordSpan) →
-    block kind (run_of spans next) (reverse (parcels_in_runs runs)) ≡ packed → seen ≡ spans → shown ≡ runs → newest ≡ newer → oldest ≡ older →
-    IsFilled (value_in kind (parcels_in seen)) newer → IsFilled (latest_value kind (parcels_in_runs shown)) older → IsFilled (λ offset. or_else (found offset newest) (found offset oldest)) words →
+pub fill_view : {Z : Type 0} (packed : Packed) (kind : DeckKind) (spans seen : List Span) (next : OpenParcel) (runs shown : List (Vec Span Z)) (newer older oldest words : List WordSpan) →
+    block kind (run_of spans next) (reverse (parcels_in_runs runs)) ≡ packed → seen ≡ spans → shown ≡ runs → oldest ≡ older →
+    IsFilled (value_in kind (parcels_in seen)) newer → IsFilled (latest_value kind (parcels_in_runs shown)) older → IsFilled (λ offset. or_else (found offset newer) (found offset oldest)) words →
     as_stored words ≡ stored packed.kind (runs_in packed) (words_in packed.kind (runs_in packed))
-fill_view packed kind spans seen next runs shown newer newest older oldest words view s r n o latest earlier both =
+fill_view packed kind spans seen next runs shown newer older oldest words view s r o latest earlier both =
     let After : Packed → Type 0 = λ p. as_stored words ≡ stored p.kind (runs_in p) (words_in p.kind (runs_in p)) in
-    let Latest : List Span → Type 0 = λ ss. IsFilled (value_in kind (parcels_in ss)) newest in
+    let Latest : List Span → Type 0 = λ ss. IsFilled (value_in kind (parcels_in ss)) newer in
     let Earlier : List (List Parcel) → Type 0 = λ rs. IsFilled (latest_value kind rs) oldest in
-    let New : List WordSpan → Type 0 = λ ws. IsFilled (value_in kind (parcels_in seen)) ws in
     let Old : List WordSpan → Type 0 = λ ws. IsFilled (latest_value kind (parcels_in_runs shown)) ws in
     subst After view
-    (filled_stored kind (parcels_in spans) (parcels_in_runs runs) newest oldest words (subst Latest s (subst New (sym n) latest)) (subst Earlier (ap parcels_in_runs r) (subst Old (sym o) earlier)) both)
+    (filled_stored kind (parcels_in spans) (parcels_in_runs runs) newer oldest words (subst Latest s latest) (subst Earlier (ap parcels_in_runs r) (subst Old (sym o) earlier)) both)
 
 -- zero words put where a word has so many parcels
 pub zeros_kept_by : (packed : Packed) (kind : DeckKind) (size word count : ℕ) (old new : List Span) (next : OpenParcel) (earlier seen : List (List Parcel)) → block kind (run_of old next) seen ≡ packed → size ≡ units kind →

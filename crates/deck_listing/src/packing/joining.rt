@@ -23,8 +23,31 @@ fn both(first: WordSpan, second: WordSpan) -> Option<WordSpan>
     }
 }
 
+/// Whether a span has the value of the one before it. It saves work, and nothing rests on it: where none
+/// has, none goes on with the words of another.
+fn has_equals(spans: &[WordSpan]) -> bool {
+    for place in 1..spans.len() {
+        if spans[place].value == spans[place - 1].value {
+            return true;
+        }
+    }
+    false
+}
+
 /// The same words, those that are equal and stand one behind the other in one span.
-pub(crate) fn joined(alloc: Global, spans: &[WordSpan]) -> Result<Vec<WordSpan>, AllocError>
+pub(crate) fn joined(alloc: Global, spans: Vec<WordSpan>) -> Result<Vec<WordSpan>, AllocError>
+    requires { DoSpansRise 0 spans.items (2 ^ 20) }
+    ensures words { IfOk result (λ joined. as_stored joined.items ≡ as_stored spans.items) }
+    ensures rise { IfOk result (λ joined. DoSpansRise 0 joined.items (2 ^ 20)) }
+{
+    if !has_equals(spans.as_slice()) {
+        return Ok(spans);
+    }
+    joined_spans(alloc, spans.as_slice())
+}
+
+/// The same, in memory of its own.
+fn joined_spans(alloc: Global, spans: &[WordSpan]) -> Result<Vec<WordSpan>, AllocError>
     requires { DoSpansRise 0 spans.now (2 ^ 20) }
     ensures words { IfOk result (λ joined. as_stored joined.items ≡ as_stored spans.now) }
     ensures rise { IfOk result (λ joined. DoSpansRise 0 joined.items (2 ^ 20)) }

@@ -93,3 +93,19 @@ pub(crate) fn merged(
     push_between(&mut spans, older, place, from, PAST)?;
     Ok(spans)
 }
+
+/// The same, where the newer list is given away: over no older words it is the answer.
+pub(crate) fn laid_over(
+    alloc: Global,
+    newer: Vec<WordSpan>,
+    older: &[WordSpan],
+) -> Result<Vec<WordSpan>, AllocError>
+    requires newer { DoSpansRise 0 newer.items (2 ^ 20) }
+    requires older { DoSpansRise 0 older.now (2 ^ 20) }
+    ensures { IfOk result (λ spans. IsFilled (λ offset. or_else (found offset newer.items) (found offset older.now)) spans.items) }
+{
+    if older.is_empty() {
+        return Ok(newer);
+    }
+    merged(alloc, newer.as_slice(), older)
+}

@@ -11,7 +11,7 @@ use crate::packing::fields::{Field, moved_to, parcel_bits, put_field};
 use crate::packing::filling::runs_words;
 use crate::packing::gathering::{run_words, units_of};
 use crate::packing::joining::joined;
-use crate::packing::merging::merged;
+use crate::packing::merging::laid_over;
 use crate::packing::nothing::{lies_in, lies_in_any};
 use crate::packing::spans::{OpenParcel, Span};
 use crate::packing::word_spans::WordSpan;
@@ -184,7 +184,7 @@ impl Words {
     {
         let older = runs_words(alloc, self.kind, self.earlier.as_slice())?;
         let newer = run_words(alloc, self.kind, self.run.as_slice())?;
-        let words = merged(alloc, newer.as_slice(), older.as_slice())?;
-        joined(alloc, words.as_slice())
+        let words = laid_over(alloc, newer, older.as_slice())?;
+        joined(alloc, words)
     }
 }

@@ -1,8 +1,6 @@
-use Rattle.std.proofs.Common.{List, ◌^◌, ◌∙◌, ap, sym, subst}
+use Rattle.std.proofs.Common.{List, ◌∙◌, sym, subst}
 use Rattle.deck_listing.specs.Joins.Spans.{RiseWithin, places, parcels_in, parcels_in_runs}
-use Rattle.deck_listing.specs.Joins.Filling.{DoSpansRise, as_stored}
 use Rattle.deck_listing.specs.declared.packing.spans.Span.{Span}
-use Rattle.deck_listing.specs.declared.packing.word_spans.WordSpan.{WordSpan}
 use Rattle.deck_listing.proofs.MergeLaws.{if_ok}
 use Rattle.deck_listing.proofs.PutLaws.{whole_rise}
 use Rattle.deck_listing.proofs.PackedLaws.{fill_view}
@@ -14,14 +12,11 @@ run_words-requires c =
     let Rises : List Span → Type 0 = λ spans. RiseWithin 0 (places (parcels_in spans)) 524288 in
     subst Rises (sym c.as_slice-2.ensures.value) (whole_rise inside.kind inside.run.items inside.next (parcels_in_runs inside.earlier.items) c.self.invariant)
 
-pub joined-requires : goal.joined-requires
-joined-requires c = subst (λ (spans : List WordSpan). DoSpansRise 0 spans (2 ^ 20)) (sym c.as_slice-5.ensures.value) c.in_ok-words.ensures.rise
-
 pub returns-clause-words : goal.returns-clause-words
 returns-clause-words c =
     let inside = c.self.inside in
     let filled =
     fill_view c.args.self.now inside.kind inside.run.items c.as_slice-2.result.now inside.next inside.earlier.items c.as_slice.result.now
-    c.in_ok-newer.newer.items c.as_slice-3.result.now c.in_ok-older.older.items c.as_slice-4.result.now c.in_ok-words.words.items
-    c.self.view_is c.as_slice-2.ensures.value c.as_slice.ensures.value c.as_slice-3.ensures.value c.as_slice-4.ensures.value c.in_ok-newer.ensures c.in_ok-older.ensures c.in_ok-words.ensures in
-    if_ok c.joined.result _ _ (λ spans same. same ∙ ap as_stored c.as_slice-5.ensures.value ∙ filled) c.joined.ensures.words
+    c.in_ok-newer.newer.items c.in_ok-older.older.items c.as_slice-3.result.now c.in_ok-words.words.items
+    c.self.view_is c.as_slice-2.ensures.value c.as_slice.ensures.value c.as_slice-3.ensures.value c.in_ok-newer.ensures c.in_ok-older.ensures c.in_ok-words.ensures in
+    if_ok c.joined.result _ _ (λ spans same. same ∙ filled) c.joined.ensures.words
