@@ -256,6 +256,7 @@ impl<'a> OldDeck<'a> {
 
     /// Leaves the front with its next statement: what stands in front of that is what was taken of both
     /// decks.
+    #[inline(never)]
     fn leave_front(
         &mut self,
         alloc: Global,
@@ -343,6 +344,7 @@ impl<'a> OldDeck<'a> {
 
     /// The next of its statements, if the decks agree where as many cards are left of it as a span and
     /// those behind it have.
+    #[inline(never)]
     fn kept_between(
         &mut self,
         alloc: Global,

@@ -67,6 +67,7 @@ pub(crate) struct Taken {
 
 impl Sizer {
     /// Sizes the statement of a span, which is the next one, and tells whether it is END.
+    #[inline(never)]
     fn take_span(
         &mut self,
         alloc: Global,
