@@ -89,3 +89,8 @@ is_result (made.Lost lease fault) = false
 abbrev pub lease_of : Job → ℕ
 lease_of (job.Deck work) = work.lease
 lease_of (job.Link work) = work.lease
+
+-- the cards that a job begins with, where it is of a deck
+abbrev pub cards_before : Job → Option (List Card)
+cards_before (job.Deck work) = Some (start_cards work.start)
+cards_before (job.Link work) = None

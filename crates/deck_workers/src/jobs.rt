@@ -1,6 +1,6 @@
 //! A job, as a desk gives it out.
-ghost use Rattle.std.specs.Prelude.{◌≡◌, IfOk};
-ghost use Rattle.deck_workers.specs.Jobs.{lease_of, start_cards};
+ghost use Rattle.std.specs.Prelude.{◌≡◌, Some, IfOk, IfSome};
+ghost use Rattle.deck_workers.specs.Jobs.{cards_before, lease_of, start_cards};
 ghost use Rattle.deck_workers.specs.Rounds.{job_in};
 
 use desk_core::{DeckCards, DeckWork, LinkWork, Reply, Start};
@@ -29,7 +29,9 @@ impl Job {
 
     /// The cards that a deck job begins with, once more: until it is delivered the desk's cards lie where these do, and
     /// who holds them lets them go, and not the desk. None where there are none, or no memory.
-    pub(crate) fn cards_before(&self, alloc: Global) -> Option<DeckCards> {
+    pub fn cards_before(&self, alloc: Global) -> Option<DeckCards>
+        ensures { IfSome result (λ cards. cards_before self.now ≡ Some cards) }
+    {
         match self {
             Job::Deck(work) => match start_cards(alloc, &work.start) {
                 Ok(cards) => Some(cards),

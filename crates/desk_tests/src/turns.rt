@@ -128,8 +128,10 @@ impl Timed {
         job_in(self.ask(rt, "claim", Call::Claim))
     }
 
-    /// Does a job, and hands in what is made of it.
+    /// Does a job, and hands in what is made of it. What the job began with is held until it is answered, as a
+    /// worker does.
     fn end<R: CpuClock>(&mut self, rt: &R, job: Job) -> Result<(), AllocError> {
+        let _before = job.cards_before(self.alloc);
         match job.run(self.alloc, &mut self.meter) {
             Made::Link { lease, publication } => self.publish(rt, lease, &publication),
             made => {
