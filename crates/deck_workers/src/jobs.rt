@@ -1,5 +1,5 @@
 //! A job, as a desk gives it out.
-ghost use Rattle.std.specs.Prelude.{◌≡◌, Some, IfOk, IfSome};
+ghost use Rattle.std.specs.Prelude.{◌≡◌, IfOk};
 ghost use Rattle.deck_workers.specs.Jobs.{cards_before, lease_of, start_cards};
 ghost use Rattle.deck_workers.specs.Rounds.{job_in};
 
@@ -28,16 +28,13 @@ impl Job {
     }
 
     /// The cards that a deck job begins with, once more: until it is delivered the desk's cards lie where these do, and
-    /// who holds them lets them go, and not the desk. None where there are none, or no memory.
-    pub fn cards_before(&self, alloc: Global) -> Option<DeckCards>
-        ensures { IfSome result (λ cards. cards_before self.now ≡ Some cards) }
+    /// who holds them lets them go, and not the desk. A link job begins with none.
+    pub fn cards_before(&self, alloc: Global) -> Result<Option<DeckCards>, AllocError>
+        ensures { IfOk result (λ cards. cards ≡ cards_before self.now) }
     {
         match self {
-            Job::Deck(work) => match start_cards(alloc, &work.start) {
-                Ok(cards) => Some(cards),
-                Err(_) => None,
-            },
-            Job::Link(_) => None,
+            Job::Deck(work) => Ok(Some(start_cards(alloc, &work.start)?)),
+            Job::Link(_) => Ok(None),
         }
     }
 }
