@@ -61,6 +61,7 @@ last-step first last (one ∷ before) number call answered leads = last-step lea
 idle-claimed : (claimed : Reply) (version : ℕ) → end_of_claim claimed ≡ Some (Idle version) → claimed ≡ reply.Idle version
 idle-claimed (reply.Changed v) version e = cc
 idle-claimed (reply.Carried v seen edits) version e = cc
+idle-claimed (reply.Unkept v) version e = cc
 idle-claimed (reply.CardsAre v cards) version e = cc
 idle-claimed (reply.ChangesAre v edits) version e = cc
 idle-claimed (reply.CardsBefore v cards backs) version e = cc

@@ -58,6 +58,7 @@ pub fn job_in(reply: Reply) -> Option<Job>
         Reply::LinkJob(work) => Some(Job::Link(work)),
         Reply::Changed(_)
         | Reply::Carried { .. }
+        | Reply::Unkept(_)
         | Reply::CardsAre(..)
         | Reply::ChangesAre(..)
         | Reply::CardsBefore(..)

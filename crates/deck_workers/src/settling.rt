@@ -72,6 +72,7 @@ fn end_of_delivery(answered: &Reply) -> Option<Settled>
         Reply::Refused(refusal) => Some(Settled::Refused { refusal: *refusal }),
         Reply::Changed(_)
         | Reply::Carried { .. }
+        | Reply::Unkept(_)
         | Reply::CardsAre(..)
         | Reply::ChangesAre(..)
         | Reply::CardsBefore(..)
@@ -98,6 +99,7 @@ fn end_of_claim(claimed: &Reply) -> Option<Settled>
         Reply::Refused(refusal) => Some(Settled::Refused { refusal: *refusal }),
         Reply::Changed(_)
         | Reply::Carried { .. }
+        | Reply::Unkept(_)
         | Reply::CardsAre(..)
         | Reply::ChangesAre(..)
         | Reply::CardsBefore(..)

@@ -60,7 +60,8 @@ pub enum Refusal {
     BadEdit(usize, EditFault),
     /// A batch has no edit, or more than 100.
     BatchSize,
-    /// The change is not on the disk. A desk never tells this; who keeps a record of its changes does.
+    /// No record can be written now, so no change may be made. A desk never tells this; who keeps a record
+    /// of its changes does, and does not ask the desk.
     NotKept,
     /// The changes of the deck are kept from this version on.
     Forgotten(u64),
@@ -97,6 +98,9 @@ pub enum Reply {
         seen: u64,
         edits: Listed<Edit>,
     },
+    /// The change is made, with this version of the desk, and its record is not on the disk. A desk never
+    /// answers this; who keeps a record of its changes does.
+    Unkept(u64),
     /// A deck's version and cards.
     CardsAre(u64, ToldCards),
     /// A deck's version, and its edits behind the one that was asked for.

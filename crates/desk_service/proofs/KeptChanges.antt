@@ -2,7 +2,7 @@
 use Rattle.std.proofs.Common.{ℕ, ◌≡◌, List, Bool, true, false, Some, None, refl, sym, ap, subst, ◌∙◌}
 use Rattle.desk_core.specs.declared.calls.Call.{Call}
 use Rattle.desk_core.specs.declared.replies.Reply.{Reply}
-use Rattle.desk_core.specs.declared.replies.Reply.TheVariants.{Changed, Carried, CardsAre, ChangesAre, CardsBefore, Shown, StatusIs, DeckJob, LinkJob, Idle, AllOut, Stored, Considered, Published, Cleared, Refused}
+use Rattle.desk_core.specs.declared.replies.Reply.TheVariants.{Changed, Carried, Unkept, CardsAre, ChangesAre, CardsBefore, Shown, StatusIs, DeckJob, LinkJob, Idle, AllOut, Stored, Considered, Published, Cleared, Refused}
 use Rattle.journal.specs.declared.changes.Asked.TheVariants as asked
 use Rattle.journal.specs.declared.changes.Carry.{Carry}
 use Rattle.journal.specs.declared.changes.Change.{Change}
@@ -38,6 +38,7 @@ module _ {F : Type 0} (has_done : F → List Step → Type 0) where
   kept (DeckJob work) what draft version between after journaled tells is = untold what _ version tells.0 refl is
   kept (LinkJob work) what draft version between after journaled tells is = untold what _ version tells.0 refl is
   kept (Idle n) what draft version between after journaled tells is = untold what _ version tells.0 refl is
+  kept (Unkept n) what draft version between after journaled tells is = untold what _ version tells.0 refl is
   kept AllOut what draft version between after journaled tells is = untold what _ version tells.0 refl is
   kept Stored what draft version between after journaled tells is = untold what _ version tells.0 refl is
   kept Considered what draft version between after journaled tells is = untold what _ version tells.0 refl is
@@ -56,6 +57,7 @@ module _ {F : Type 0} (has_done : F → List Step → Type 0) where
   carried (DeckJob work) what stamp name version between after journaled tells is = untold what _ version tells.0 refl is
   carried (LinkJob work) what stamp name version between after journaled tells is = untold what _ version tells.0 refl is
   carried (Idle n) what stamp name version between after journaled tells is = untold what _ version tells.0 refl is
+  carried (Unkept n) what stamp name version between after journaled tells is = untold what _ version tells.0 refl is
   carried AllOut what stamp name version between after journaled tells is = untold what _ version tells.0 refl is
   carried Stored what stamp name version between after journaled tells is = untold what _ version tells.0 refl is
   carried Considered what stamp name version between after journaled tells is = untold what _ version tells.0 refl is

@@ -2,9 +2,9 @@
 use Rattle.std.specs.Prelude.{ℕ, ◌≡◌, List, Bool, true, false, Option, Some, None, Result, Ok, Err}
 use Rattle.desk_core.specs.declared.calls.Call.{Call}
 use Rattle.desk_core.specs.declared.replies.Reply.{Reply}
-use Rattle.desk_core.specs.declared.replies.Reply.TheVariants.{Changed, Carried, Refused}
+use Rattle.desk_core.specs.declared.replies.Reply.TheVariants.{Changed, Carried, Unkept, Refused}
 use Rattle.desk_core.specs.declared.replies.Refusal.{Refusal}
-use Rattle.desk_core.specs.declared.replies.Refusal.TheVariants.{NotKept, Foreign}
+use Rattle.desk_core.specs.declared.replies.Refusal.TheVariants.{Foreign}
 use Rattle.journal.specs.declared.changes.Change.{Change}
 use Rattle.journal.specs.declared.changes.Asked.TheVariants as asked
 use Rattle.journal.specs.declared.changes.Asked.{Asked}
@@ -14,10 +14,10 @@ use Rattle.journal.specs.Drafts.{carried_text}
 use Rattle.journal.specs.Asking.{call_of_carry, carried_deck}
 use Rattle.journal.specs.Replaying.{call_of}
 
--- what is told of a change whose record was kept, or was not
+-- what is told of a change whose record was kept, or was not: then it stands on the desk alone
 abbrev pub told_of : ℕ → Bool → Reply
 told_of version true = Changed version
-told_of version false = Refused NotKept
+told_of version false = Unkept version
 
 -- what is told of a reply: a change is told as made only where its record was kept; one that was carried is none that was asked for; anything else is told as it is, and the keeper is not asked
 abbrev pub TellsKept : {K : Type 0} → (K → ℕ → List ℕ → Bool → K → Type 0) → List ℕ → Reply → K → Reply → K → Type 0

@@ -6,6 +6,7 @@ pub mod Asking
 pub mod Queues
 pub mod JournalFiles
 pub mod Keeping
+pub mod KeptDesks
 pub mod Places
 pub mod Begun
 pub mod Steps

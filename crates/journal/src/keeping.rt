@@ -59,7 +59,7 @@ pub trait Keep {
 
 /// A desk with a keeper of its changes, who tells by which name they are asked for. A change for whose record there is no memory, or that the keeper
 /// refuses, is not asked of the desk. One that the desk makes is told as made where the keeper has kept
-/// its record, and else as `NotKept`. Contracts see the two as a pair.
+/// its record, and else as `Unkept`. Contracts see the two as a pair.
 #[derive(Drop)]
 pub struct Keeping<C, K> {
     desk: C,
@@ -87,7 +87,7 @@ fn told_of(made: Accepted, kept: bool) -> Reply
     if kept {
         Reply::Changed(made)
     } else {
-        Reply::Refused(Refusal::NotKept)
+        Reply::Unkept(made.version())
     }
 }
 

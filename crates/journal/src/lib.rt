@@ -55,7 +55,7 @@ pub use drafts::{Draft, Stamp, draft_change};
 pub use journal_file::JournalFile;
 pub use keeping::{Keep, Keeping};
 pub use kept_records::KeptRecords;
-pub use laws::{cut_records_are_left_out, records_read_back};
+pub use laws::{cut_records_are_left_out, records_read_back, refusals_change_nothing};
 pub use names::session_name;
 pub use places::{Ending, Place};
 pub use queue::{Batch, Queue};

@@ -165,6 +165,7 @@ fn behind(versions: &mut Versions, reply: &Reply) {
         }
         Reply::Refused(Refusal::OldVersion(seen)) => versions.seen = *seen,
         Reply::Refused(Refusal::NameTaken) => versions.seen = 1,
+        Reply::Unkept(version) => versions.seen = *version,
         Reply::Refused(Refusal::NotKept) => {}
         _ => versions.is_strange = true,
     }

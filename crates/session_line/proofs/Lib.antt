@@ -5,6 +5,7 @@ pub mod LineLaws
 pub mod UnknownWordLaws
 pub mod TakingSteps
 pub mod SessionKinds
+pub mod RefusedCommands
 pub mod WorkedSessions
 pub mod FoundSteps
 pub mod ChangeSteps

@@ -18,6 +18,9 @@ use Rattle.session_line.specs.Views.{numbers_from}
 pub done : text_of_reply (reply.Done 12) ≡ codes "OK 12\n"
 done = unfold digits in refl
 
+pub unkept : text_of_reply (reply.Unkept 12) ≡ codes "UNKEPT 12\n"
+unkept = unfold digits in refl
+
 pub bye : text_of_reply reply.Bye ≡ codes "BYE\n"
 bye = refl
 

@@ -5,13 +5,13 @@ use Rattle.definitions.specs.DeckInput.{Deck}
 use Rattle.deck_linker.specs.Publishing.{map_of}
 use Rattle.desk_core.specs.declared.replies.Reply.{Reply}
 use Rattle.desk_core.specs.declared.replies.Row.{Row}
-use Rattle.desk_core.specs.declared.replies.Reply.TheVariants.{Changed, Carried, CardsAre, ChangesAre, CardsBefore, Shown, StatusIs, Refused}
+use Rattle.desk_core.specs.declared.replies.Reply.TheVariants.{Changed, Carried, Unkept, CardsAre, ChangesAre, CardsBefore, Shown, StatusIs, Refused}
 use Rattle.deck_files.specs.DeckFiles.{file_of}
 use Rattle.deck_files.specs.FileRows.{most_files}
 use Rattle.session_line.specs.declared.refusals.Refusal.{Refusal}
 use Rattle.session_line.specs.declared.refusals.Refusal.TheVariants as refusal
 use Rattle.session_line.specs.Refusals.{refusal_text}
-use Rattle.session_line.specs.Replies.{line_of, ok_text, counted_text, published_text, rows_text, marks_text, saves_text, sessions_text, numbers_text, text_of_lines}
+use Rattle.session_line.specs.Replies.{line_of, ok_text, unkept_text, counted_text, published_text, rows_text, marks_text, saves_text, sessions_text, numbers_text, text_of_lines}
 use Rattle.session_line.specs.FileLines.{files_text}
 use Rattle.session_line.specs.Reasons.{desk_reason}
 use Rattle.session_line.specs.Greetings.{service_text}
@@ -56,6 +56,7 @@ foreign = told.Refused refusal.Foreign
 abbrev pub told_of_call : Reply → Told
 told_of_call (Changed version) = told.Done version
 told_of_call (Carried version seen edits) = told.Done version
+told_of_call (Unkept version) = told.Unkept version
 told_of_call (ChangesAre version kept) = if nat_le (length kept) most_kept then told.Changes version kept else foreign
 told_of_call (StatusIs version published rows) = if nat_le (length rows) most_decks then told.Status version published rows else foreign
 told_of_call (Refused reason) = told.Refused (desk_reason reason)
@@ -163,6 +164,7 @@ status_text version published rows = with_body (counted_text version (length row
 -- the text that a session is told
 abbrev pub told_text : Told → List ℕ
 told_text (told.Done version) = with_body (ok_text version) []
+told_text (told.Unkept version) = with_body (unkept_text version) []
 told_text (told.Cards version cards view) = view_text version view cards
 told_text (told.Changes version kept) = with_body (counted_text version (length (change_lines kept))) (text_of_lines (change_lines kept))
 told_text (told.Published publication text) = lines_text publication.version (shown_text text publication.decks)

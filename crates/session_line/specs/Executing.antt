@@ -51,6 +51,7 @@ module _ {S : Type 0} (notes : S → List ℕ → ℕ → S → Type 0) where
   -- the shelf notes the version that is told, if one is
   abbrev pub NotesTold : List ℕ → Told → S → S → Type 0
   NotesTold name (told.Done version) shelf after = notes shelf name version after
+  NotesTold name (told.Unkept version) shelf after = notes shelf name version after
   NotesTold name what shelf after = after ≡ shelf
 
 module _ {C S : Type 0} (makes : C → Call → Reply → C → Type 0) (loads : S → List ℕ → List Card → S → Type 0) (refuses_to_load : S → List ℕ → ShelfLoadFault → S → Type 0)

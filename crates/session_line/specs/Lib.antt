@@ -23,5 +23,6 @@ pub mod SavingDecks
 pub mod SavingAll
 pub mod Executing
 pub mod Serving
+pub mod Refusing
 -- What no promise leads to.
 pub mod Joins

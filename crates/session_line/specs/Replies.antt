@@ -61,6 +61,10 @@ published_text (Some version) = codes "PUBLISHED " ++ decimal version
 abbrev pub ok_text : ℕ → List ℕ
 ok_text version = codes "OK " ++ decimal version
 
+-- a version that stands on the desk and not on the disk
+abbrev pub unkept_text : ℕ → List ℕ
+unkept_text version = codes "UNKEPT " ++ decimal version
+
 -- a version, and how many lines follow
 abbrev pub counted_text : ℕ → ℕ → List ℕ
 counted_text version count = codes "OK " ++ (decimal version ++ (codes " " ++ decimal count))
@@ -68,6 +72,7 @@ counted_text version count = codes "OK " ++ (decimal version ++ (codes " " ++ de
 -- the first line of a reply
 abbrev pub head_text : Reply → List ℕ
 head_text (reply.Done version) = ok_text version
+head_text (reply.Unkept version) = unkept_text version
 head_text (reply.Cards version cards) = counted_text version (length cards.now)
 head_text (reply.Changes version kept) = counted_text version (length (change_lines kept.now))
 head_text (reply.Found version cards text) = counted_text version (length (numbers_of text.now cards.now))
@@ -109,6 +114,7 @@ text_of_lines lines = flat_map line_of lines
 -- the lines that follow the first
 abbrev pub body_text : Reply → List ℕ
 body_text (reply.Done version) = []
+body_text (reply.Unkept version) = []
 body_text (reply.Cards version cards) = file_of cards.now
 body_text (reply.Changes version kept) = text_of_lines (change_lines kept.now)
 body_text (reply.Found version cards text) = numbers_text (numbers_of text.now cards.now)
@@ -130,6 +136,7 @@ text_of_reply reply = line_of (head_text reply) ++ body_text reply
 -- no more cards than a deck may have, no more changes than are kept of it, no more decks than a desk may have, no more files than are listed, and no more sessions than an office has seats
 abbrev pub IsWithinLimits : Reply → Type 0
 IsWithinLimits (reply.Done version) = ⊤
+IsWithinLimits (reply.Unkept version) = ⊤
 IsWithinLimits (reply.Cards version cards) = length cards.now ≤ 20000
 IsWithinLimits (reply.Changes version kept) = length kept.now ≤ 2000
 IsWithinLimits (reply.Found version cards text) = length cards.now ≤ 20000

@@ -33,6 +33,8 @@ const MOST_SESSIONS: usize = 64;
 pub(crate) enum Told {
     /// What was asked is done; the version is the deck's.
     Done(u64),
+    /// What was asked stands on the desk, with this version, and its record is not on the disk.
+    Unkept(u64),
     /// A deck's version, and of its cards this.
     Cards(u64, Listed<Card>, CardsView),
     /// A deck's version, and its edits behind the one that was asked for.
@@ -83,6 +85,7 @@ pub(crate) fn told_of_call(reply: Reply) -> Told
     match reply {
         Reply::Changed(made) => Told::Done(made.version()),
         Reply::Carried { version, .. } => Told::Done(version),
+        Reply::Unkept(version) => Told::Unkept(version),
         Reply::ChangesAre(version, kept) => {
             if kept.as_slice().len() <= MOST_KEPT {
                 Told::Changes(version, kept)
@@ -317,6 +320,7 @@ impl Told {
     {
         match self {
             Told::Done(version) => crate::Reply::Done { version: *version },
+            Told::Unkept(version) => crate::Reply::Unkept { version: *version },
             Told::Cards(version, cards, view) => view_reply(*version, view, cards.as_slice()),
             Told::Changes(version, kept) => crate::Reply::Changes {
                 version: *version,

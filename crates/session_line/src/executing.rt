@@ -113,7 +113,7 @@ fn note_told<S: Shelf>(shelf: &mut S, name: &DeckName, told: &Told)
     ensures { NotesTold S.notes name.now told.now shelf.old shelf.new }
 {
     match told {
-        Told::Done(version) => shelf.note(name, *version),
+        Told::Done(version) | Told::Unkept(version) => shelf.note(name, *version),
         _ => {}
     }
 }

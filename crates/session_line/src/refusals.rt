@@ -62,7 +62,7 @@ pub enum Refusal {
     FileExists,
     /// All sessions are taken.
     Busy,
-    /// The record of the change is not on the disk.
+    /// No record of a change can be written now, so the desk was not asked for it.
     NotKept,
     /// The changes of the deck are kept from this version on.
     Forgotten { oldest: u64 },

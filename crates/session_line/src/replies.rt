@@ -19,6 +19,11 @@ pub enum Reply<'a> {
     Done {
         version: u64,
     },
+    /// `UNKEPT version`: what was asked stands on the desk, the version is the deck's, and the record of
+    /// the change is not on the disk.
+    Unkept {
+        version: u64,
+    },
     /// `OK version n`, then a line for each card.
     Cards {
         version: u64,

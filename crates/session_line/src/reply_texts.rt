@@ -2,7 +2,7 @@
 ghost use Rattle.std.specs.Prelude.{◌≡◌, ◌+◌, ◌≤◌, ◌++◌, length};
 ghost use Rattle.session_line.specs.Greetings.{connected_text, service_text, session_word};
 ghost use Rattle.session_line.specs.PublishedTexts.{line_count, shown_text};
-ghost use Rattle.session_line.specs.Replies.{IsWithinLimits, line_of, counted_text, ok_text, head_text, numbers_text, published_text, row_text, state_text};
+ghost use Rattle.session_line.specs.Replies.{IsWithinLimits, line_of, counted_text, ok_text, unkept_text, head_text, numbers_text, published_text, row_text, state_text};
 ghost use Rattle.session_line.specs.Views.{has_text, number_where};
 
 use crate::change_lines::change_line_count;
@@ -25,6 +25,17 @@ fn ok_line(version: u64) -> ReplyLine
 {
     let mut line = ReplyLine::new();
     line.put(b"OK ");
+    line.put_number(version);
+    line.end();
+    line
+}
+
+/// `UNKEPT version`
+fn unkept_line(version: u64) -> ReplyLine
+    ensures { result ≡ line_of (unkept_text version) }
+{
+    let mut line = ReplyLine::new();
+    line.put(b"UNKEPT ");
     line.put_number(version);
     line.end();
     line
@@ -78,6 +89,7 @@ pub(crate) fn head_line(reply: &Reply<'_>) -> ReplyLine
 {
     match reply {
         Reply::Done { version } => ok_line(*version),
+        Reply::Unkept { version } => unkept_line(*version),
         Reply::Cards { version, cards } => counted_line(*version, cards.len()),
         Reply::Changes { version, kept } => counted_line(*version, change_line_count(kept)),
         Reply::Found {

@@ -73,7 +73,7 @@ fn write_body<W: Write>(output: &mut Counted<W>, reply: &Reply<'_>) -> Result<()
     ensures few { IfErr result (λ broken. broken.sent < 2 ^ 63 + 2 ^ 32) }
 {
     match reply {
-        Reply::Done { .. } | Reply::Bye | Reply::Refused(_) => Ok(()),
+        Reply::Done { .. } | Reply::Unkept { .. } | Reply::Bye | Reply::Refused(_) => Ok(()),
         Reply::Cards { cards, .. } => save(output, cards),
         Reply::Changes { kept, .. } => write_changes(output, kept),
         Reply::Found { cards, text, .. } => write_found(output, cards, text),

@@ -12,4 +12,4 @@ pub use Rattle.desk_core.specs.declared.replies.Row.{Row}
 pub use Rattle.desk_core.specs.declared.replies.Refusal.{Refusal}
 pub use Rattle.desk_core.specs.declared.replies.Refusal.TheVariants.{OutOfMemory, NoSuchCard, DeckFull, NameTaken, NoDeck, OldVersion, TooManyDecks, UnknownJob, Stale, Foreign, NoPublication, VersionsSpent, BadEdit, BatchSize, NotKept, Forgotten, TouchedCard, NoChange}
 pub use Rattle.desk_core.specs.declared.replies.Reply.{Reply}
-pub use Rattle.desk_core.specs.declared.replies.Reply.TheVariants.{Changed, Carried, CardsAre, ChangesAre, CardsBefore, Shown, StatusIs, DeckJob, LinkJob, Idle, AllOut, Stored, Considered, Published, Cleared, Refused}
+pub use Rattle.desk_core.specs.declared.replies.Reply.TheVariants.{Changed, Carried, Unkept, CardsAre, ChangesAre, CardsBefore, Shown, StatusIs, DeckJob, LinkJob, Idle, AllOut, Stored, Considered, Published, Cleared, Refused}

@@ -47,7 +47,8 @@ fn is_within(reply: &Reply<'_>) -> bool
         Reply::Saved { decks, .. } => decks.len() <= 64,
         Reply::Files { files, .. } => files.len() <= MOST_FILES,
         Reply::Sessions { sessions, .. } => sessions.len() <= 64,
-        Reply::Done { .. } | Reply::Text { .. } | Reply::Published(_, _) => true,
+        Reply::Done { .. } | Reply::Unkept { .. } => true,
+        Reply::Text { .. } | Reply::Published(_, _) => true,
         Reply::Bye | Reply::Refused(_) => true,
     }
 }

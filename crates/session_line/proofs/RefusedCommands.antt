@@ -1,0 +1,196 @@
+-- A command of a session that is refused changes nothing of a desk of which no refused call, no question, no wait and no greeting changes anything.
+use Rattle.std.proofs.Common.{ℕ, ◌≡◌, Bool, true, false, cond, inl, inr, List, [], ◌∷◌, Option, Some, Result, Ok, Err, refl, sym, ap, subst, ◌∙◌}
+use Rattle.definitions.specs.Cards.{Card}
+use Rattle.deck_files.specs.declared.deck_shelf.ShelfLoadFault.{ShelfLoadFault}
+use Rattle.deck_files.specs.declared.deck_shelf.ShelfSaveFault.{ShelfSaveFault}
+use Rattle.deck_files.specs.declared.file_rows.FileRow.{FileRow}
+use Rattle.deck_files.specs.Savings.{Saving}
+use Rattle.desk_core.specs.declared.calls.Call.{Call}
+use Rattle.desk_core.specs.declared.calls.Call.TheVariants.{AddDeck, Cards, CardsAt, Show, Status}
+use Rattle.desk_core.specs.declared.replies.Reply.{Reply}
+use Rattle.desk_core.specs.declared.replies.Row.{Row}
+use Rattle.session_line.specs.declared.answers.Answer.{Answer}
+use Rattle.session_line.specs.declared.answers.Told.{Told}
+use Rattle.session_line.specs.declared.answers.Told.TheVariants as told
+use Rattle.session_line.specs.declared.greetings.Greeting.{Greeting}
+use Rattle.session_line.specs.declared.refusals.Refusal.{Refusal}
+use Rattle.session_line.specs.declared.saved_decks.SavedDeck.{SavedDeck}
+use Rattle.session_line.specs.declared.tasks.Task.{Task}
+use Rattle.session_line.specs.declared.tasks.Task.TheVariants.{Ask, AwaitVersion, ShowCards, ShowCardsAt, ShowText, ShowPart, ShowErrors, LoadDeck, SaveDeck, SaveAll, ShowFiles, ShowFileStatus, Greet, Leave, Refuse}
+use Rattle.session_line.specs.Answers.{told_of_call, called}
+use Rattle.session_line.specs.Executing.{Asks, AddsLoaded, Executes}
+use Rattle.session_line.specs.Rights.{allowed, changes}
+use Rattle.session_line.specs.Joins.Kinds.{is_session_call}
+use Rattle.session_line.specs.Taking.{IsTaskFor, TakesTask}
+use Rattle.session_line.specs.Tasks.{task_by, task_of, task_of_command, batch_named, batch_of, batch_call, put_named, put_of, edit_call, edits_of, cards_of}
+use Rattle.session_line.specs.Commands.{command_of}
+use Rattle.session_line.specs.declared.commands.Command.{Command}
+use Rattle.session_line.specs.declared.commands.Command.TheVariants as command
+use Rattle.session_line.specs.declared.rights.Rights.{Rights}
+use Rattle.session_line.specs.declared.rights.Rights.TheVariants.{Edits, Reads}
+use Rattle.session_line.specs.declared.refusals.Refusal.TheVariants.{ReadOnly}
+use Rattle.session_line.specs.declared.words.Seen.{Seen}
+use Rattle.session_line.specs.declared.words.Seen.TheVariants.{Exactly, Since}
+use Rattle.cards.specs.declared.edits.Edit.{Edit}
+use Rattle.session_line.specs.Refusing.{is_refusal, tells_refusal, RefusesCommand}
+use Rattle.session_line.specs.SavingDecks.{SavesDeck}
+use Rattle.session_line.specs.Serving.{Sides}
+use Rattle.session_line.specs.SavingAll.{SavesRow, SavesRows, is_saved, unsaved, no_row, next_row, TellsSaves, told_all, lacking, SavesAllTold}
+
+-- a question of a session
+abbrev pub is_question : Call → Bool
+is_question (CardsAt name version) = true
+is_question (Cards name) = true
+is_question Show = true
+is_question Status = true
+is_question _ = false
+
+-- in a sense in which two states of a desk are the same, no call of a session changes it that is told as refused, and no question, wait or greeting does
+pub record IsSteady {C : Type 0} (makes : C → Call → Reply → C → Type 0) (awaits : C → ℕ → Reply → C → Type 0) (greets : C → List ℕ → Greeting → C → Type 0) (IsSame : C → C → Type 0) : Type 0 where
+  pub same : (desk : C) → IsSame desk desk
+  pub joined : (first second third : C) → IsSame first second → IsSame second third → IsSame first third
+  pub refused : (desk next : C) (call : Call) (reply : Reply) → is_session_call call ≡ true → makes desk call reply next → tells_refusal reply ≡ true → IsSame desk next
+  pub asked : (desk next : C) (call : Call) (reply : Reply) → is_question call ≡ true → makes desk call reply next → IsSame desk next
+  pub awaited : (desk next : C) (version : ℕ) (reply : Reply) → awaits desk version reply next → IsSame desk next
+  pub greeted : (desk next : C) (name : List ℕ) (greeting : Greeting) → greets desk name greeting next → IsSame desk next
+
+-- whether a task asks the desk only for what a session asks
+abbrev asks_session : Task → Bool
+asks_session (Ask call) = is_session_call call
+asks_session _ = true
+
+module _ {C S : Type 0} (makes : C → Call → Reply → C → Type 0) (awaits : C → ℕ → Reply → C → Type 0) (greets : C → List ℕ → Greeting → C → Type 0) (loads : S → List ℕ → List Card → S → Type 0)
+    (refuses_to_load : S → List ℕ → ShelfLoadFault → S → Type 0)
+    (saves : S → Saving → S → Type 0) (refuses_to_save : S → Saving → ShelfSaveFault → S → Type 0)
+    (lists : S → Result (List FileRow) ShelfLoadFault → S → Type 0)
+    (notes : S → List ℕ → ℕ → S → Type 0) (tells_saved : S → List ℕ → ℕ → Bool → S → Type 0)
+    (IsSame : C → C → Type 0) (steady : IsSteady makes awaits greets IsSame) where
+  -- a desk that was not called
+  uncalled-same : (desk next : C) → next ≡ desk → IsSame desk next
+  uncalled-same desk next is = subst (λ (d : C). IsSame desk d) (sym is) (steady.same desk)
+
+  -- one call, of which a refusal is told
+  asks-same : (call : Call) (desk next : C) (answer : Answer) → is_session_call call ≡ true → Asks makes call told_of_call desk next answer → is_refusal answer.told ≡ true → IsSame desk next
+  asks-same call desk next answer session asks refused = steady.refused desk next call asks.reply session asks.made (sym (ap (λ (a : Answer). is_refusal a.told) asks.answered) ∙ refused)
+
+  adds-same : (name : List ℕ) (loaded : Result (List Card) ShelfLoadFault) (desk next : C) (answer : Answer) → AddsLoaded makes name loaded desk next answer → is_refusal answer.told ≡ true → IsSame desk next
+  adds-same name (Ok cards) desk next answer adds refused = asks-same (AddDeck (record { name = name; cards = cards })) desk next answer refl adds refused
+  adds-same name (Err fault) desk next answer adds refused = uncalled-same desk next adds.0
+
+  row-same : (row : Row) (desk next : C) (shelf after : S) (line : Option SavedDeck) → SavesRow makes saves refuses_to_save tells_saved row desk next shelf after line → IsSame desk next
+  row-same row desk next shelf after _ (is_saved stays tells) = uncalled-same desk next stays
+  row-same row desk next shelf after _ (unsaved between answer tells saves) = steady.asked desk next (Cards row.name) saves.reply refl saves.made
+
+  rows-same : (first : C) (start : S) (rows : List Row) (saved : List SavedDeck) (last : C) (end : S) → SavesRows makes saves refuses_to_save tells_saved first start rows saved last end → IsSame first last
+  rows-same first start _ _ _ _ no_row = steady.same first
+  rows-same first start _ _ _ _ (next_row rows saved desk next shelf after row line before now) = steady.joined first desk next (rows-same first start rows saved desk shelf before) (row-same row desk next shelf after line now)
+
+  saves-same : (version : ℕ) (rows : List Row) (desk next : C) (shelf after : S) (answer : Answer) → TellsSaves makes saves refuses_to_save tells_saved version rows desk next shelf after answer → IsSame desk next
+  saves-same version rows desk next shelf after answer (told_all saved each answered) = rows-same desk shelf rows saved next after each
+  saves-same version rows desk next shelf after answer (lacking stays same answered) = uncalled-same desk next stays
+
+  all-same : (what : Told) (desk next : C) (shelf after : S) (answer : Answer) → SavesAllTold makes saves refuses_to_save tells_saved what desk next shelf after answer → IsSame desk next
+  all-same (told.Status version published rows) desk next shelf after answer saves = saves-same version rows desk next shelf after answer saves
+  all-same (told.Done version) desk next shelf after answer saves = uncalled-same desk next saves.0
+  all-same (told.Unkept version) desk next shelf after answer saves = uncalled-same desk next saves.0
+  all-same (told.Cards version cards view) desk next shelf after answer saves = uncalled-same desk next saves.0
+  all-same (told.Changes version kept) desk next shelf after answer saves = uncalled-same desk next saves.0
+  all-same (told.Published publication text) desk next shelf after answer saves = uncalled-same desk next saves.0
+  all-same (told.Part publication text name) desk next shelf after answer saves = uncalled-same desk next saves.0
+  all-same (told.Errors publication view) desk next shelf after answer saves = uncalled-same desk next saves.0
+  all-same (told.FileStatus version published decks) desk next shelf after answer saves = uncalled-same desk next saves.0
+  all-same (told.Standing version published) desk next shelf after answer saves = uncalled-same desk next saves.0
+  all-same (told.Saved version decks) desk next shelf after answer saves = uncalled-same desk next saves.0
+  all-same (told.Files version rows) desk next shelf after answer saves = uncalled-same desk next saves.0
+  all-same (told.Sessions version sessions) desk next shelf after answer saves = uncalled-same desk next saves.0
+  all-same (told.Refused reason) desk next shelf after answer saves = uncalled-same desk next saves.0
+  all-same told.Bye desk next shelf after answer saves = uncalled-same desk next saves.0
+
+  refused-same : (task : Task) (desk next : C) (shelf after : S) (answer : Answer) → asks_session task ≡ true →
+      Executes makes awaits greets loads refuses_to_load saves refuses_to_save lists notes tells_saved task desk next shelf after answer → is_refusal answer.told ≡ true → IsSame desk next
+  refused-same (Ask call) desk next shelf after answer session is refused = asks-same call desk next answer session is.0 refused
+  refused-same (AwaitVersion version) desk next shelf after answer session is refused = steady.awaited desk next version is.0.reply is.0.awaited
+  refused-same (ShowCards name view) desk next shelf after answer session is refused = steady.asked desk next (Cards name) is.0.reply refl is.0.made
+  refused-same (ShowCardsAt name version) desk next shelf after answer session is refused = steady.asked desk next (CardsAt name version) is.0.reply refl is.0.made
+  refused-same (ShowText text) desk next shelf after answer session is refused = steady.asked desk next Show is.0.reply refl is.0.made
+  refused-same (ShowPart text name) desk next shelf after answer session is refused = steady.asked desk next Show is.0.reply refl is.0.made
+  refused-same (ShowErrors view) desk next shelf after answer session is refused = steady.asked desk next Show is.0.reply refl is.0.made
+  refused-same (LoadDeck name) desk next shelf after answer session is refused = adds-same name is.loaded desk next answer is.added refused
+  refused-same (SaveDeck name over) desk next shelf after answer session is refused = steady.asked desk next (Cards name) is.reply refl is.made
+  refused-same SaveAll desk next shelf after answer session is refused =
+      steady.joined desk is.between next (steady.asked desk is.between Status is.reply refl is.made) (all-same (told_of_call is.reply) is.between next shelf after answer is.kept)
+  refused-same ShowFiles desk next shelf after answer session is refused = steady.asked desk next Status is.reply refl is.made
+  refused-same ShowFileStatus desk next shelf after answer session is refused = steady.asked desk next Status is.reply refl is.made
+  refused-same (Greet name) desk next shelf after answer session is refused = steady.greeted desk next name is.0.greeting is.0.greeted
+  refused-same Leave desk next shelf after answer session is refused = uncalled-same desk next is.0
+  refused-same (Refuse why) desk next shelf after answer session is refused = uncalled-same desk next is.0
+
+edit_call-session : (name : List ℕ) (seen : Seen) (edit : Edit) → is_session_call (edit_call name seen edit) ≡ true
+edit_call-session name (Exactly version) edit = refl
+edit_call-session name (Since version) edit = refl
+
+batch_call-session : (name : List ℕ) (seen : Seen) (edits : List Edit) → is_session_call (batch_call name seen edits) ≡ true
+batch_call-session name (Exactly version) edits = refl
+batch_call-session name (Since version) edits = refl
+
+batch-session : (name : Result (List ℕ) Refusal) (seen : Seen) (edits : Result (List Edit) Refusal) → asks_session (batch_named name seen edits) ≡ true
+batch-session (Ok name) seen (Ok edits) = batch_call-session name seen edits
+batch-session (Ok name) seen (Err refusal) = refl
+batch-session (Err refusal) seen edits = refl
+
+put-session : (name : Result (List ℕ) Refusal) (version : ℕ) (cards : Result (List Card) Refusal) → asks_session (put_named name version cards) ≡ true
+put-session (Ok name) version (Ok cards) = refl
+put-session (Ok name) version (Err refusal) = refl
+put-session (Err refusal) version cards = refl
+
+command-session : (command : Command) (lines : List (List ℕ)) → asks_session (task_of_command command lines) ≡ true
+command-session (command.Add name) lines = refl
+command-session (command.Load name) lines = refl
+command-session (command.Drop name version) lines = refl
+command-session (command.Edit name seen edit) lines = edit_call-session name seen edit
+command-session (command.Cards name view) lines = refl
+command-session (command.CardsAt name version) lines = refl
+command-session (command.Changes name version) lines = refl
+command-session (command.Save name over) lines = refl
+command-session command.SaveAll lines = refl
+command-session command.Image lines = refl
+command-session command.List lines = refl
+command-session command.Map lines = refl
+command-session (command.ImageOf name) lines = refl
+command-session (command.ListOf name) lines = refl
+command-session (command.Errors view) lines = refl
+command-session command.Status lines = refl
+command-session command.FileStatus lines = refl
+command-session command.Files lines = refl
+command-session (command.Wait version) lines = refl
+command-session (command.Batch head) lines = batch-session head.name head.seen (edits_of lines)
+command-session (command.Put head) lines = put-session head.name head.version (cards_of lines)
+command-session (command.Undo name version) lines = refl
+command-session (command.Hello name) lines = refl
+command-session command.Bye lines = refl
+
+task-session : (command : Result Command Refusal) (lines : List (List ℕ)) → asks_session (task_by command lines) ≡ true
+task-session (Ok command) lines = command-session command lines
+task-session (Err refusal) lines = refl
+
+taken-session : (asked task : Task) → asks_session asked ≡ true → IsTaskFor asked task → asks_session task ≡ true
+taken-session asked task session (inl same) = ap asks_session same ∙ session
+taken-session asked task session (inr none) = ap asks_session none.1
+
+either-session : (test : Bool) (task : Task) → asks_session task ≡ true → asks_session (cond test (Refuse ReadOnly) task) ≡ true
+either-session true task session = refl
+either-session false task session = session
+
+allowed-session : (rights : Rights) (task : Task) → asks_session task ≡ true → asks_session (allowed rights task) ≡ true
+allowed-session Edits task session = session
+allowed-session Reads task session = either-session (changes task) task session
+
+module _ {C S : Type 0} (makes : C → Call → Reply → C → Type 0) (awaits : C → ℕ → Reply → C → Type 0) (greets : C → List ℕ → Greeting → C → Type 0) (loads : S → List ℕ → List Card → S → Type 0)
+    (refuses_to_load : S → List ℕ → ShelfLoadFault → S → Type 0)
+    (saves : S → Saving → S → Type 0) (refuses_to_save : S → Saving → ShelfSaveFault → S → Type 0)
+    (lists : S → Result (List FileRow) ShelfLoadFault → S → Type 0)
+    (notes : S → List ℕ → ℕ → S → Type 0) (tells_saved : S → List ℕ → ℕ → Bool → S → Type 0)
+    (IsSame : C → C → Type 0) (steady : IsSteady makes awaits greets IsSame) where
+  pub command-same : (rights : Rights) (old new : Sides C S) → RefusesCommand rights makes awaits greets loads refuses_to_load saves refuses_to_save lists notes tells_saved old new → IsSame old.desk new.desk
+  command-same rights old new is = refused-same makes awaits greets loads refuses_to_load saves refuses_to_save lists notes tells_saved IsSame steady (allowed rights is.task) old.desk new.desk old.shelf new.shelf is.answer
+      (allowed-session rights is.task (taken-session (task_of is.taken.first is.taken.others) is.task (task-session (command_of is.taken.first) is.taken.others) is.taken.asked)) is.executed is.refused
