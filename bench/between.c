@@ -4,13 +4,20 @@
 // writes of files, and syncs are writes; without it, reads of standard input and writes of standard
 // output. NO_MEMORY_WHILE names a file: while it is there, no request of 64 kB or more is granted.
 // REQUESTS names a file into which the three counts go at the end.
-#define _GNU_SOURCE
-#include <dlfcn.h>
-#include <errno.h>
-#include <fcntl.h>
-#include <stdio.h>
-#include <stdlib.h>
-#include <unistd.h>
+// It is compiled by the toolchain's own compiler, which has no headers: what it asks of the C library
+// stands here, as Linux on x86-64 has it.
+typedef unsigned long size_t;
+typedef long ssize_t;
+void *dlsym(void *where, const char *name);
+int *__errno_location(void);
+char *getenv(const char *name);
+long atol(const char *text);
+int access(const char *path, int how);
+int open(const char *path, int how, ...);
+int dprintf(int port, const char *text, ...);
+#define RTLD_NEXT ((void *) -1)
+#define errno (*__errno_location())
+enum { F_OK = 0, EIO = 5, ENOMEM = 12, O_WRONLY = 1, O_CREAT = 0100, O_TRUNC = 01000 };
 
 static long requests, reads, writes;
 

@@ -59,19 +59,40 @@ fn is_lost(made: &Made) -> bool {
     )
 }
 
-/// Ends a job: the objects of a publication are offered and the desk publishes, as a worker has it do with one of
-/// many cards. Where memory lacks for that the lease is given up.
-fn end_made(desk: &mut Desk, made: Made) -> Reply {
-    let (lease, publication) = match made {
-        Made::Link { lease, publication } => (lease, publication),
-        other => return ask(desk, other.into_call()),
-    };
-    offer_all(desk, lease, &publication);
+/// What a desk answered to what was made of a job, and whether memory lacked to publish it.
+#[derive(Drop)]
+struct Ended {
+    reply: Reply,
+    is_given_up: bool,
+}
+
+/// Has a desk publish its decks; where memory lacks for that the lease is given up.
+fn publish(desk: &mut Desk, lease: u64) -> Ended {
     let reply = ask(desk, Call::Publish(lease));
-    if let Reply::Refused(Refusal::OutOfMemory) = reply {
-        return ask(desk, Call::GiveUp(lease));
+    let is_given_up = told_in(&reply) == Told::Refused(Refusal::OutOfMemory);
+    Ended {
+        reply: if is_given_up {
+            ask(desk, Call::GiveUp(lease))
+        } else {
+            reply
+        },
+        is_given_up,
     }
-    reply
+}
+
+/// Ends a job: the objects of a publication are offered and the desk publishes, as a worker has it do with one of
+/// many cards.
+fn end_made(desk: &mut Desk, made: Made) -> Ended {
+    match made {
+        Made::Link { lease, publication } => {
+            offer_all(desk, lease, &publication);
+            publish(desk, lease)
+        }
+        other => Ended {
+            reply: ask(desk, other.into_call()),
+            is_given_up: false,
+        },
+    }
 }
 
 /// Offers the objects of a publication.
@@ -91,15 +112,18 @@ fn offer_all(desk: &mut Desk, lease: u64, publication: &SharedPublication) {
 }
 
 /// Hands in what was made of a job, or gives up its lease: names, versions and cards stay as they are
-/// whatever the reply is.
-fn hand_in(scene: &mut Scene, made: Made, is_foreign: bool) {
+/// whatever the reply is. Whether memory lacked to publish it.
+fn hand_in(scene: &mut Scene, made: Made, is_foreign: bool) -> bool {
     let before = scene.state();
-    let reply = if is_foreign {
-        ask(&mut scene.desk, made.into_call())
+    let ended = if is_foreign {
+        Ended {
+            reply: ask(&mut scene.desk, made.into_call()),
+            is_given_up: false,
+        }
     } else {
         end_made(&mut scene.desk, made)
     };
-    let told = told_in(&reply);
+    let told = told_in(&ended.reply);
     let is_kept = scene.state() == before;
     let is_wanted = match told {
         Told::Refused(Refusal::Foreign) => is_foreign,
@@ -107,6 +131,7 @@ fn hand_in(scene: &mut Scene, made: Made, is_foreign: bool) {
         _ => !is_foreign,
     };
     scene.journal.kept(Called::HandIn, is_wanted && is_kept);
+    ended.is_given_up
 }
 
 /// A job whose result is not one of its lease: it has another version.
@@ -148,7 +173,8 @@ fn made_of(scene: &Scene, job: Job, end: End) -> (Made, bool) {
     }
 }
 
-/// Claims a job and ends it, once more where it is lost for want of memory; whether there was one.
+/// Claims a job and ends it, once more where it is lost for want of memory, or memory lacks to publish it;
+/// whether there was one.
 fn end_next(scene: &mut Scene, end: End) -> bool {
     for _ in 0..2 {
         let Some(job) = claim(scene) else {
@@ -156,8 +182,8 @@ fn end_next(scene: &mut Scene, end: End) -> bool {
         };
         let (made, is_foreign) = made_of(scene, job, end);
         let is_lost = is_lost(&made);
-        hand_in(scene, made, is_foreign && !is_lost);
-        if !is_lost {
+        let is_given_up = hand_in(scene, made, is_foreign && !is_lost);
+        if !is_lost && !is_given_up {
             scene.journal.made(Called::RunJob, true);
             return true;
         }
