@@ -1,6 +1,7 @@
 pub mod LoadSteps
 pub mod SaveSteps
 pub mod FileSteps
+pub mod KnownSteps
 pub mod FolderSteps
 pub mod SaveFaults
 pub mod PathSteps

@@ -16,7 +16,7 @@ pub enum ShelfLoadFault {
 /// What a save may write over.
 #[derive(Clone, Copy, Debug)]
 pub enum SaveOver {
-    /// A file that was loaded or saved on this shelf.
+    /// A file that was saved on this shelf, or loaded and its version noted.
     Known,
     /// Any file.
     Any,
@@ -27,7 +27,7 @@ pub enum SaveOver {
 pub enum ShelfSaveFault {
     /// The deck's file can't be made.
     CannotOpen,
-    /// A file stands there that was neither loaded nor saved on this shelf.
+    /// A file stands there that was neither saved on this shelf nor loaded and its version noted.
     FileExists,
     /// The writer failed when it had taken `sent` bytes.
     WriteFault { sent: usize },
@@ -67,7 +67,7 @@ pub trait Shelf {
     // The shelf before, the name, the version, whether its cards are those of the file, and the shelf after.
     ghost tells_saved: { Self → List ℕ → ℕ → Bool → Self → Type 0 };
 
-    /// Loads the deck with this name.
+    /// Loads the deck with this name. The file is known once its version is noted, and not before.
     fn load(&mut self, name: &DeckName) -> Result<Vec<Card>, ShelfLoadFault>
         ensures cards { IfOk result (λ cards. loads self.old name.now cards.items self.new) }
         ensures fault { IfErr result (λ fault. refuses_to_load self.old name.now fault self.new) };

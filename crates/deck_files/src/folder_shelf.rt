@@ -33,8 +33,8 @@ use std::sync::{Mutex, Wait};
 /// too. So who loads the deck meanwhile, or after the machine failed, finds the file that was there, or
 /// the new one whole, with the mode and the owner that the old one had. Only a plain file is loaded or
 /// written over. Saves are made one after the other, and the cards of an older version than one that was
-/// saved are not written any more. A file that no shelf of the service loaded or saved is not written over
-/// but where any may be; what stood there is `NAME.OLD` then.
+/// saved are not written any more. A file that no shelf of the service saved, or loaded for a desk that took
+/// it, is not written over but where any may be; what stood there is `NAME.OLD` then.
 ///
 /// Contracts see the folder, its text, and the shelf's number: what is loaded are the cards of the deck's
 /// file as the folder gave it, and a save is the steps that it asked the folder for. What a file of the
@@ -48,7 +48,7 @@ pub struct FolderShelf<'a, R, F = SystemFolder<'a, R>> {
     number: usize,
     known: &'a Mutex<KnownFiles>,
     /// The newest version that was known of the deck loaded last, before its file was read.
-    seen: u64,
+    seen: Option<u64>,
 }
 
 impl<'a, R, F> Model for FolderShelf<'a, R, F> {
@@ -98,13 +98,14 @@ impl<'a, R, F> FolderShelf<'a, R, F> {
             folder,
             number,
             known,
-            seen: 0,
+            seen: None,
         }
     }
 }
 
-/// Loads the cards of a deck's file, which is known from then on.
-fn load_noted<R: Wait, F: Folder>(
+/// Loads the cards of a deck's file, and gives the deck a place among the known ones: so its version can be
+/// noted once the desk has taken the cards, and nothing is known before.
+fn load_placed<R: Wait, F: Folder>(
     files: &mut F,
     rt: &R,
     known: &Mutex<KnownFiles>,
@@ -118,7 +119,7 @@ fn load_noted<R: Wait, F: Folder>(
         Ok(cards) => cards,
         Err(fault) => return Err(fault),
     };
-    match known.lock(rt).note_loaded(name) {
+    match known.lock(rt).make_place(name) {
         Ok(()) => Ok(cards),
         Err(_) => Err(ShelfLoadFault::BadFile(LoadFault::OutOfMemory)),
     }
@@ -204,8 +205,8 @@ impl<'a, R: Wait, F: Folder> Shelf for FolderShelf<'a, R, F> {
         let Some(place) = DeckPlace::new(self.alloc, self.folder, self.number, name) else {
             return Err(ShelfLoadFault::CannotOpen);
         };
-        self.seen = self.known.lock(self.rt).version_known(name);
-        load_noted(&mut self.files, self.rt, self.known, &place, name)
+        self.seen = self.known.lock(self.rt).newest(name);
+        load_placed(&mut self.files, self.rt, self.known, &place, name)
     }
 
     fn save(

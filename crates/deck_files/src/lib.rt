@@ -37,7 +37,7 @@ mod whole_files;
 
 pub use deck_shelf::{SaveOver, Shelf, ShelfLoadFault, ShelfSaveFault};
 pub use file_rows::{DeckEntry, FileRow, MOST_FILES};
-pub use folder_laws::decks_stand_apart;
+pub use folder_laws::{decks_stand_apart, places_make_nothing_known};
 pub use folder_shelf::FolderShelf;
 pub use folders::{Folder, Links, Standing};
 pub use known_files::KnownFiles;

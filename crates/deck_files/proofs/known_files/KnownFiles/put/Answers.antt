@@ -1,4 +1,4 @@
-use Rattle.std.proofs.Common.{ℕ, List, ◌∙◌, sym, ap, is_some, true≢false}
+use Rattle.std.proofs.Common.{ℕ, List, Option, Some, ◌∙◌, sym, ap, is_some, true≢false}
 use Rattle.std.specs.Prelude.{vec_items}
 use Rattle.std.specs.Option.{option_map}
 use Rattle.deck_files.specs.Files.{named, with_named}
@@ -8,16 +8,17 @@ use Rattle.deck_files.proofs.known_files.KnownFiles.put.Goals as goal
 
 pub returns : goal.returns
 returns c =
-    ap (files_shown vec_items (λ (n : ℕ). n)) (c.get_mut.follows.holds c.args.version).0
-    ∙ set-shown vec_items (λ (n : ℕ). n) c.as_slice.result.now c.self.inside.versions.entries c.args.version (sym (ap is_some c.in-Some.ensures.value))
-    ∙ ap (λ (n : List ℕ). with_named n c.args.version (files_shown vec_items (λ (n : ℕ). n) c.self.inside.versions.entries)) c.as_slice.ensures.name
-    ∙ ap (λ (k : KnownFiles). with_named c.args.name.now c.args.version k.files) c.self.view_is
+    let known : Option ℕ = Some c.args.version in
+    ap (files_shown vec_items (λ (n : Option ℕ). n)) (c.get_mut.follows.holds known).0
+    ∙ set-shown vec_items (λ (n : Option ℕ). n) c.as_slice.result.now c.self.inside.versions.entries known (sym (ap is_some c.in-Some.ensures.value))
+    ∙ ap (λ (n : List ℕ). with_named n known (files_shown vec_items (λ (n : Option ℕ). n) c.self.inside.versions.entries)) c.as_slice.ensures.name
+    ∙ ap (λ (k : KnownFiles). with_named c.args.name.now known k.files) c.self.view_is
 
--- the name is known
+-- the name has a place
 pub returns-in_default : goal.returns-in_default
 returns-in_default c =
     absurd (true≢false (sym c.requires ∙ sym (ap is_some
-    (ap (option_map (λ (n : ℕ). n)) c.in_default.ensures.value
-    ∙ lookup-shown vec_items (λ (n : ℕ). n) c.as_slice.result.now c.self.inside.versions.entries
-    ∙ ap (λ (n : List ℕ). named n (files_shown vec_items (λ (n : ℕ). n) c.self.inside.versions.entries)) c.as_slice.ensures.name
+    (ap (option_map (λ (n : Option ℕ). n)) c.in_default.ensures.value
+    ∙ lookup-shown vec_items (λ (n : Option ℕ). n) c.as_slice.result.now c.self.inside.versions.entries
+    ∙ ap (λ (n : List ℕ). named n (files_shown vec_items (λ (n : Option ℕ). n) c.self.inside.versions.entries)) c.as_slice.ensures.name
     ∙ ap (λ (k : KnownFiles). named c.args.name.now k.files) c.self.view_is))))
