@@ -9,8 +9,8 @@ use Rattle.deck_files.specs.declared.folders.Standing.TheVariants.{Nothing, Plai
 use Rattle.deck_files.specs.declared.folders.Links.TheVariants.{Shown}
 use Rattle.std.specs.Io.KnownBytes.{Appends}
 use Rattle.deck_files.specs.Folders.{Place, deck_path, old_path, new_path}
-use Rattle.deck_files.specs.Steps.{Step, Answered, Look, Make, Keep, Remove, Found, Gave, Done, ChangeAmong, TakesStep, TakesSteps, ChangesOnly}
-use Rattle.deck_files.specs.FolderSaves.{IsFaultOfFolder, IsFaultOfNew, IsNew, IsBeside, IsUnkept, LeavesInPlace, MakesAnew, MakesWay, SaveFails, untouched, unknown, looked, in_place, refused_tries, way_steps}
+use Rattle.deck_files.specs.Steps.{Step, Answered, Look, Make, Remove, Found, Gave, ChangeAmong, TakesStep, TakesSteps, ChangesOnly}
+use Rattle.deck_files.specs.FolderSaves.{IsFaultOfFolder, IsFaultOfNew, IsNew, IsBeside, IsUnkept, LeavesInPlace, MakesAnew, MakesWay, SaveFails, untouched, unknown, looked, put_in_place, refused_tries, way_steps}
 use Rattle.deck_files.specs.DeckFiles.{file_of}
 use Rattle.deck_files.specs.Savings.{Saving}
 use Rattle.deck_files.specs.FolderShelves.{FolderShelf, SavesNoDeck, place_on}
@@ -42,16 +42,16 @@ module _ {F : Type 0} (has_done : F → List Step → Type 0) where
   -- the whole text went into a file that has the deck's path
   pub makes-anew : (at : Place) (tries : ℕ) (new deck text : List ℕ) (made : Option (List ℕ)) (old middle last : F) → new ≡ new_path at tries → deck ≡ deck_path at →
       TakesSteps has_done old ((Make (new_path at tries), Gave made) ∷ refused_tries at tries) middle →
-      ((kept : Option (List ℕ)) × Appends made kept text × TakesSteps has_done middle (in_place new deck ++ (Keep kept, Done) ∷ []) last) →
+      ((kept : Option (List ℕ)) × Appends made kept text × TakesSteps has_done middle (put_in_place new made kept deck) last) →
       MakesAnew has_done at text old last
   makes-anew at tries new deck text made old middle last is_new is_deck first second = record {
     tries = tries;
     made = made;
     kept = second.0;
     whole = second.1;
-    steps = takes-join has_done old middle last ((Make (new_path at tries), Gave made) ∷ refused_tries at tries) (in_place (new_path at tries) (deck_path at) ++ (Keep second.0, Done) ∷ []) first
-        (subst (λ (path : List ℕ). TakesSteps has_done middle (in_place (new_path at tries) path ++ (Keep second.0, Done) ∷ []) last) is_deck
-        (subst (λ (path : List ℕ). TakesSteps has_done middle (in_place path deck ++ (Keep second.0, Done) ∷ []) last) is_new second.2));
+    steps = takes-join has_done old middle last ((Make (new_path at tries), Gave made) ∷ refused_tries at tries) (put_in_place (new_path at tries) made second.0 (deck_path at)) first
+        (subst (λ (path : List ℕ). TakesSteps has_done middle (put_in_place (new_path at tries) made second.0 path) last) is_deck
+        (subst (λ (path : List ℕ). TakesSteps has_done middle (put_in_place path made second.0 deck) last) is_new second.2));
   }
 
   -- it did not, and the new file was to be taken away

@@ -1,4 +1,4 @@
--- SAVE in a folder (ours): what stands at the deck's path is looked at, and kept where any file may be written over; the text goes to a new file, is kept there, and the file is renamed; and the folder is kept.
+-- SAVE in a folder (ours): what stands at the deck's path is looked at, and kept where any file may be written over; the text goes to a new file with owner and mode of the old one, is kept there, and the file gets the deck's path; and the folder is kept.
 use Rattle.std.specs.Prelude.{ℕ, zero, suc, ◌≡◌, ◌<◌, ⊤, ◌⊎◌, List, [], ◌∷◌, ◌++◌, Bool, true, false, Option, IsTrue, length}
 use Rattle.std.specs.Io.KnownBytes.{Appends}
 use Rattle.deck_files.specs.declared.deck_shelf.SaveOver.{SaveOver}
@@ -9,7 +9,7 @@ use Rattle.deck_files.specs.declared.folders.Standing.{Standing}
 use Rattle.deck_files.specs.declared.folders.Standing.TheVariants.{Nothing, PlainFile, Other}
 use Rattle.deck_files.specs.declared.folders.Links.TheVariants.{Shown}
 use Rattle.deck_files.specs.Folders.{Place, deck_path, old_path, new_path, folder_path}
-use Rattle.deck_files.specs.Steps.{Step, Answered, Look, Make, Keep, TakeAfter, Rename, Link, Remove, KeepFolder, Refused, Done, Found, Gave, TakesStep, TakesSteps, ChangesOnly}
+use Rattle.deck_files.specs.Steps.{Step, Answered, Look, Make, Keep, TakeAfter, Put, Link, Remove, KeepFolder, Refused, Done, Found, Gave, TakesStep, TakesSteps, ChangesOnly}
 
 -- whether what stands at the deck's path may be written over: a plain file that is known, or any plain file
 abbrev pub may_write_over : Standing → SaveOver → Bool → Bool
@@ -40,13 +40,17 @@ abbrev pub refused_tries : Place → ℕ → List Step
 refused_tries at zero = []
 refused_tries at (suc tries) = (Make (new_path at tries), Refused) ∷ refused_tries at tries
 
--- the new file takes after the old one, and then its place
-abbrev pub in_place : List ℕ → List ℕ → List Step
-in_place new deck = (Rename new deck, Done) ∷ (TakeAfter new deck, Done) ∷ []
+-- the new file takes after the one at the deck's path, and is kept with what was written into it
+abbrev pub filled : Option (List ℕ) → Option (List ℕ) → List ℕ → List Step
+filled made kept deck = (Keep kept, Done) ∷ (TakeAfter made deck, Done) ∷ []
 
--- a new file is made, kept with what was written into it, and put in place
+-- and then it is put in the place of that one
+abbrev pub put_in_place : List ℕ → Option (List ℕ) → Option (List ℕ) → List ℕ → List Step
+put_in_place new made kept deck = (Put kept new deck, Done) ∷ filled made kept deck
+
+-- a new file is made, filled, and put in place
 abbrev pub new_steps : Place → ℕ → Option (List ℕ) → Option (List ℕ) → List Step
-new_steps at tries made kept = in_place (new_path at tries) (deck_path at) ++ ((Keep kept, Done) ∷ (Make (new_path at tries), Gave made) ∷ refused_tries at tries)
+new_steps at tries made kept = put_in_place (new_path at tries) made kept (deck_path at) ++ ((Make (new_path at tries), Gave made) ∷ refused_tries at tries)
 
 -- a path of a new file of this place
 abbrev pub IsNew : Place → List ℕ → Type 0

@@ -5,13 +5,14 @@ use Rattle.deck_files.specs.declared.folders.Standing.{Standing}
 use Rattle.deck_files.specs.declared.folders.Links.{Links}
 use Rattle.deck_files.specs.declared.file_rows.DeckEntry.{DeckEntry}
 
--- what is asked, each with its paths: what stands there, to open a file, to make one, to keep what a new file's writer has, to give it owner and mode of another, a new path, a second one, to take it away, to keep which files the folder has, and which decks have files in it
+-- what is asked, each with its paths: what stands there, to open a file, to make one, to keep what a new file's writer has, to give the new file owner and mode of another or the path of another, a file a new path, a second one, to take it away, to keep which files the folder has, and which decks have files in it
 pub data Asked : Type 0 where
   Look : Links → List ℕ → Asked
   Open : List ℕ → Asked
   Make : List ℕ → Asked
   Keep : Option (List ℕ) → Asked
-  TakeAfter : List ℕ → List ℕ → Asked
+  TakeAfter : Option (List ℕ) → List ℕ → Asked
+  Put : Option (List ℕ) → List ℕ → List ℕ → Asked
   Rename : List ℕ → List ℕ → Asked
   Link : List ℕ → List ℕ → Asked
   Remove : List ℕ → Asked
@@ -51,7 +52,8 @@ changed_by (Look links path) = []
 changed_by (Open path) = []
 changed_by (Make path) = path ∷ []
 changed_by (Keep written) = []
-changed_by (TakeAfter new path) = new ∷ []
+changed_by (TakeAfter written path) = []
+changed_by (Put written new path) = new ∷ path ∷ []
 changed_by (Rename from to) = from ∷ to ∷ []
 changed_by (Link path other) = other ∷ []
 changed_by (Remove path) = path ∷ []

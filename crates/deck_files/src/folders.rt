@@ -28,7 +28,7 @@ pub trait Folder {
     ghost use Rattle.std.specs.Prelude.{◌≤◌, List, IfOk, length};
     ghost use Rattle.deck_files.specs.FileRows.{most_files};
     ghost use Rattle.deck_files.specs.Steps.{Step, TakesStep, done_if, found_if, gave_if, holds_if};
-    ghost use Rattle.deck_files.specs.Steps.{Decks, Keep, KeepFolder, Link, Look, Make, Open, Remove, Rename, TakeAfter};
+    ghost use Rattle.deck_files.specs.Steps.{Decks, Keep, KeepFolder, Link, Look, Make, Open, Put, Remove, Rename, TakeAfter};
 
     /// A file that is read.
     type File: Read + Drop;
@@ -51,13 +51,18 @@ pub trait Folder {
     fn make(&mut self, path: &str) -> io::Result<Self::NewFile>
         ensures { TakesStep has_done self.old (Make path.now, gave_if Self.NewFile.contents result) self.new };
 
-    /// Waits until all that was written into a new file is kept, also if the machine fails.
-    fn keep(&mut self, file: Self::NewFile) -> io::Result<()>
-        ensures { TakesStep has_done self.old (Keep (Self.NewFile.contents file), done_if result) self.new };
+    /// Gives a new file the mode and the owner of the plain file at a path, if one stands there.
+    fn take_after(&mut self, file: &Self::NewFile, path: &str) -> io::Result<()>
+        ensures { TakesStep has_done self.old (TakeAfter (Self.NewFile.contents file.now) path.now, done_if result) self.new };
 
-    /// Gives a new file the mode and the owner of the plain file at another path, if one stands there.
-    fn take_after(&mut self, new: &str, path: &str) -> io::Result<()>
-        ensures { TakesStep has_done self.old (TakeAfter new.now path.now, done_if result) self.new };
+    /// Waits until all that was written into a new file is kept, also if the machine fails.
+    fn keep(&mut self, file: &Self::NewFile) -> io::Result<()>
+        ensures { TakesStep has_done self.old (Keep (Self.NewFile.contents file.now), done_if result) self.new };
+
+    /// Gives a new file, which was made at one path, another, in place of what stood there: at each moment that
+    /// path has the one or the other, whole. Refused where another file has come to stand at one of the two.
+    fn put(&mut self, file: Self::NewFile, new: &str, path: &str) -> io::Result<()>
+        ensures { TakesStep has_done self.old (Put (Self.NewFile.contents file) new.now path.now, done_if result) self.new };
 
     /// Gives a file another path, in place of what stood there: at each moment that path has the one or the
     /// other, whole.

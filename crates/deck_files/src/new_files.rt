@@ -1,16 +1,16 @@
 //! Files of a folder made anew: whoever reads one finds the file that was there, or the new one whole,
 //! also after the machine failed.
-ghost use Rattle.std.specs.Prelude.{◌≡◌, ℕ, List, Option, [], ◌∷◌, ◌++◌, string_bytes, IfErr, IfOk, OnOk};
+ghost use Rattle.std.specs.Prelude.{◌≡◌, ℕ, List, Option, ◌∷◌, string_bytes, IfErr, IfOk, OnOk};
 ghost use Rattle.std.specs.Io.KnownBytes.{Appends};
 ghost use Rattle.deck_files.specs.Folders.{deck_path, folder_path, new_path};
-ghost use Rattle.deck_files.specs.FolderSaves.{IsFaultOfFolder, IsFaultOfNew, IsNew, MakesAnew, in_place, refused_tries};
-ghost use Rattle.deck_files.specs.Steps.{ChangesOnly, Done, Gave, Keep, KeepFolder, Make, Refused, TakesStep, TakesSteps};
+ghost use Rattle.deck_files.specs.FolderSaves.{IsFaultOfFolder, IsFaultOfNew, IsNew, MakesAnew, filled, put_in_place, refused_tries};
+ghost use Rattle.deck_files.specs.Steps.{ChangesOnly, Done, Gave, KeepFolder, Make, Refused, TakesStep, TakesSteps};
 
 use crate::deck_places::DeckPlace;
 use crate::deck_shelf::ShelfSaveFault;
 use crate::folder_saves::save_fault;
 use crate::folders::Folder;
-use std::io::ErrorKind;
+use std::io::{ErrorKind, Write};
 use text_ports::{Counted, put_all};
 
 /// How many names are tried before no file is made. A name is taken where another service writes in the
@@ -47,33 +47,40 @@ fn make_unused<F: Folder>(
     Err(ShelfSaveFault::CannotOpen)
 }
 
-/// Writes these bytes into a new file, and waits until the folder has kept them.
-fn fill<F: Folder>(files: &mut F, file: F::NewFile, bytes: &[u8]) -> Result<(), ShelfSaveFault>
-    ensures kept { OnOk result ((kept : Option (List ℕ)) × Appends (F.NewFile.contents file) kept bytes.now × TakesStep F.has_done files.old (Keep kept, Done) files.new) }
-    ensures fault { IfErr result (λ fault. IsFaultOfNew bytes.now fault × ChangesOnly F.has_done (λ path. ⊥) files.old files.new) }
+/// Writes these bytes into a new file.
+fn write<W: Write + Drop>(file: W, bytes: &[u8]) -> Result<W, ShelfSaveFault>
+    ensures whole { IfOk result (λ full. Appends (W.contents file) (W.contents full) bytes.now) }
+    ensures fault { IfErr result (λ fault. IsFaultOfNew bytes.now fault) }
 {
     let mut output = Counted::new(file);
     match put_all(&mut output, bytes) {
-        Ok(()) => {}
-        Err(broken) => return Err(ShelfSaveFault::WriteFault { sent: broken.sent }),
-    }
-    match files.keep(output.into_inner()) {
-        Ok(()) => Ok(()),
-        Err(error) => Err(save_fault(error.kind())),
+        Ok(()) => Ok(output.into_inner()),
+        Err(broken) => Err(ShelfSaveFault::WriteFault { sent: broken.sent }),
     }
 }
 
-/// Gives a new file mode and owner of the one that stands at a deck's path, if one does, and that path.
-fn put_in_place<F: Folder>(files: &mut F, new: &str, deck: &str) -> Result<(), ShelfSaveFault>
-    ensures placed { OnOk result (TakesSteps F.has_done files.old (in_place new.now deck.now) files.new) }
-    ensures fault { IfErr result (λ fault. IsFaultOfFolder fault × ChangesOnly F.has_done (λ path. path ≡ new.now) files.old files.new) }
+/// Gives a new file owner and mode of the one that stands at a deck's path, if one does, writes these bytes
+/// into it, and waits until the folder has kept them.
+fn fill<F: Folder>(
+    files: &mut F,
+    file: F::NewFile,
+    deck: &str,
+    bytes: &[u8],
+) -> Result<F::NewFile, ShelfSaveFault>
+    ensures kept { IfOk result (λ full. Appends (F.NewFile.contents file) (F.NewFile.contents full) bytes.now
+        × TakesSteps F.has_done files.old (filled (F.NewFile.contents file) (F.NewFile.contents full) deck.now) files.new) }
+    ensures fault { IfErr result (λ fault. IsFaultOfNew bytes.now fault × ChangesOnly F.has_done (λ path. ⊥) files.old files.new) }
 {
-    match files.take_after(new, deck) {
+    match files.take_after(&file, deck) {
         Ok(()) => {}
         Err(error) => return Err(save_fault(error.kind())),
     }
-    match files.rename(new, deck) {
-        Ok(()) => Ok(()),
+    let full = match write(file, bytes) {
+        Ok(full) => full,
+        Err(fault) => return Err(fault),
+    };
+    match files.keep(&full) {
+        Ok(()) => Ok(full),
         Err(error) => Err(save_fault(error.kind())),
     }
 }
@@ -87,12 +94,16 @@ fn finish<F: Folder>(
     bytes: &[u8],
 ) -> Result<(), ShelfSaveFault>
     ensures placed { OnOk result ((kept : Option (List ℕ)) × Appends (F.NewFile.contents file) kept bytes.now
-        × TakesSteps F.has_done files.old (in_place new.now deck.now ++ (Keep kept, Done) ∷ []) files.new) }
+        × TakesSteps F.has_done files.old (put_in_place new.now (F.NewFile.contents file) kept deck.now) files.new) }
     ensures fault { IfErr result (λ fault. IsFaultOfNew bytes.now fault × ChangesOnly F.has_done (λ path. path ≡ new.now) files.old files.new) }
 {
-    match fill(files, file, bytes) {
-        Ok(()) => put_in_place(files, new, deck),
-        Err(fault) => Err(fault),
+    let full = match fill(files, file, deck, bytes) {
+        Ok(full) => full,
+        Err(fault) => return Err(fault),
+    };
+    match files.put(full, new, deck) {
+        Ok(()) => Ok(()),
+        Err(error) => Err(save_fault(error.kind())),
     }
 }
 

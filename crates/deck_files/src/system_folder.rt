@@ -4,9 +4,9 @@ use crate::file_rows::{DeckEntry, MOST_FILES, deck_in};
 use crate::folders::{Folder, Links, Standing};
 use crate::moments::Moment;
 use std::alloc::{AllocGlobal, Global};
-use std::fs::{DirEntry, Metadata, OpenFile, OpenOptions};
+use std::fs::{DirEntry, File, Metadata, OpenOptions};
 use std::io::ErrorKind;
-use std::os::unix::fs::MetadataExt;
+use std::os::unix::fs::{MetadataExt, fchown};
 use std::rt::Files;
 use std::{fs, io};
 
@@ -33,13 +33,28 @@ fn plain_at<R: Files>(rt: &R, path: &str) -> io::Result<Option<Metadata>> {
     }
 }
 
-/// Gives a file the owner and the mode of another.
-fn take_owner_and_mode<R: Files>(rt: &R, new: &str, old: &Metadata) -> io::Result<()> {
-    let made = fs::metadata(rt, new)?;
+/// Gives an open file the owner and the mode of another.
+fn take_owner_and_mode(file: &File, old: &Metadata) -> io::Result<()> {
+    let made = file.metadata()?;
     if made.uid() != old.uid() || made.gid() != old.gid() {
-        rt.chown(new, Some(old.uid()), Some(old.gid()))?;
+        fchown(file, Some(old.uid()), Some(old.gid()))?;
     }
-    fs::set_permissions(rt, new, old.permissions())
+    file.set_permissions(old.permissions())
+}
+
+/// Whether an open file stands at a path; a link is none.
+fn stands_at<R: Files>(rt: &R, file: &File, path: &str) -> io::Result<bool> {
+    let (open, named) = (file.metadata()?, fs::symlink_metadata(rt, path)?);
+    Ok(open.dev() == named.dev() && open.ino() == named.ino())
+}
+
+/// Refused where another file than the open one stands at a path.
+fn check_stands<R: Files>(rt: &R, file: &File, path: &str) -> io::Result<()> {
+    if stands_at(rt, file, path)? {
+        Ok(())
+    } else {
+        Err(io::Error::from(ErrorKind::StaleNetworkFileHandle))
+    }
 }
 
 /// When a file was last written; the first moment of 1970 stands for any before it.
@@ -78,12 +93,12 @@ fn deck_of<R: Files + Drop>(
     }
 }
 
-impl<R: Files + AllocGlobal + Clone + Drop> Folder for SystemFolder<'_, R> {
+impl<R: Files<File = File> + AllocGlobal + Clone + Drop> Folder for SystemFolder<'_, R> {
     ghost use Rattle.std.specs.Prelude.{⊤};
 
-    type File = R::File;
+    type File = File;
 
-    type NewFile = R::File;
+    type NewFile = File;
 
     ghost has_done = { λ _ _. ⊤ };
 
@@ -100,25 +115,31 @@ impl<R: Files + AllocGlobal + Clone + Drop> Folder for SystemFolder<'_, R> {
         }
     }
 
-    fn open(&mut self, path: &str) -> io::Result<R::File> {
+    fn open(&mut self, path: &str) -> io::Result<File> {
         fs::open(self.rt, path)
     }
 
-    fn make(&mut self, path: &str) -> io::Result<R::File> {
+    fn make(&mut self, path: &str) -> io::Result<File> {
         let mut how = OpenOptions::new();
         how.write(true).create_new(true);
         how.open(self.rt, path)
     }
 
-    fn keep(&mut self, file: R::File) -> io::Result<()> {
+    fn take_after(&mut self, file: &File, path: &str) -> io::Result<()> {
+        match plain_at(self.rt, path)? {
+            Some(old) => take_owner_and_mode(file, &old),
+            None => Ok(()),
+        }
+    }
+
+    fn keep(&mut self, file: &File) -> io::Result<()> {
         file.sync_all()
     }
 
-    fn take_after(&mut self, new: &str, path: &str) -> io::Result<()> {
-        match plain_at(self.rt, path)? {
-            Some(old) => take_owner_and_mode(self.rt, new, &old),
-            None => Ok(()),
-        }
+    fn put(&mut self, file: File, new: &str, path: &str) -> io::Result<()> {
+        check_stands(self.rt, &file, new)?;
+        fs::rename(self.rt, new, path)?;
+        check_stands(self.rt, &file, path)
     }
 
     fn rename(&mut self, from: &str, to: &str) -> io::Result<()> {

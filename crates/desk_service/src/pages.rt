@@ -23,6 +23,7 @@ use journal::{Keeping, RecordsFile};
 use page::{PageService, serve_page};
 use session_line::{Calls, SeatCalls};
 use std::alloc::{AllocError, AllocGlobal, Global};
+use std::fs::File;
 use std::hash::RandomState;
 use std::io::Read;
 use std::net::{Shutdown, TcpListener, TcpStream};
@@ -128,7 +129,7 @@ fn serve_next<R: Wait + Clock, C: Calls, S: Shelf>(
 }
 
 /// A page thread serves connections until the end of the service is asked for.
-impl<R: Wait + Clock + Files + AllocGlobal + Clone + Drop, F: RecordsFile + Drop> Serve
+impl<R: Wait + Clock + Files<File = File> + AllocGlobal + Clone + Drop, F: RecordsFile + Drop> Serve
     for PagePlace<'_, R, F> {
     fn serve(self) {
         let PagePlace {

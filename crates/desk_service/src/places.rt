@@ -20,6 +20,7 @@ use desk_core::Desk;
 use journal::{Keeping, RecordsFile};
 use session_line::{Rights, SeatCalls};
 use std::alloc::{AllocError, AllocGlobal, Global};
+use std::fs::File;
 use std::net::TcpStream;
 use std::rt::Files;
 use std::sync::{Mutex, Wait};
@@ -84,7 +85,7 @@ pub(crate) struct SessionPlace<'a, R, F: RecordsFile> {
 }
 
 /// A session thread serves connections until none can come any more.
-impl<R: Wait + Clock + Files + AllocGlobal + Clone + Drop, F: RecordsFile + Drop> Serve
+impl<R: Wait + Clock + Files<File = File> + AllocGlobal + Clone + Drop, F: RecordsFile + Drop> Serve
     for SessionPlace<'_, R, F> {
     fn serve(self) {
         let SessionPlace {

@@ -320,7 +320,7 @@ fn run_sessions<R, P, H>(
     hearing: H,
 ) -> Result<(), AllocError>
 where
-    R: Threads + Wait + Sync + Clock + Eprint + Files + AllocGlobal + Clone + Drop,
+    R: Threads + Wait + Sync + Clock + Eprint + Files<File = File> + AllocGlobal + Clone + Drop,
     R::File: Send,
     R::Dir: Send,
     P: Serve + Send + Drop,
@@ -340,7 +340,7 @@ fn run_pages<R, H>(
     hearing: H,
 ) -> Result<(), AllocError>
 where
-    R: Threads + Wait + Sync + Clock + Eprint + Files + AllocGlobal + Clone + Drop,
+    R: Threads + Wait + Sync + Clock + Eprint + Files<File = File> + AllocGlobal + Clone + Drop,
     R::File: Send,
     R::Dir: Send,
     H: Hear + Send + Copy,
@@ -359,7 +359,16 @@ fn run_hearing<R>(
     hearing: Hearing<'_, R>,
 ) -> Result<(), AllocError>
 where
-    R: Threads + Wait + Sync + Clock + Eprint + Files + AllocGlobal + Clone + Drop + Net,
+    R: Threads
+        + Wait
+        + Sync
+        + Clock
+        + Eprint
+        + Files<File = File>
+        + AllocGlobal
+        + Clone
+        + Drop
+        + Net,
     R::File: Send,
     R::Dir: Send,
     R::Listener: Send,
@@ -388,7 +397,16 @@ fn serve_opened<'a, R>(
     opened: Opened<SystemFile<R::File>>,
 ) -> Result<(), ServeFault>
 where
-    R: Threads + Wait + Sync + Files + AllocGlobal + Clone + Drop + Clock + Eprint + Net,
+    R: Threads
+        + Wait
+        + Sync
+        + Files<File = File>
+        + AllocGlobal
+        + Clone
+        + Drop
+        + Clock
+        + Eprint
+        + Net,
     R::File: Send,
     R::Dir: Send,
     R::Listener: Send,
@@ -443,7 +461,16 @@ pub fn serve_on<'a, R>(
     settings: &'a Settings<'a>,
 ) -> Result<(), ServeFault>
 where
-    R: Threads + Wait + Sync + Files + AllocGlobal + Clone + Drop + Clock + Eprint + Net,
+    R: Threads
+        + Wait
+        + Sync
+        + Files<File = File>
+        + AllocGlobal
+        + Clone
+        + Drop
+        + Clock
+        + Eprint
+        + Net,
     R::File: Send,
     R::Dir: Send,
     R::Listener: Send,
@@ -484,7 +511,16 @@ fn serve_folder<'a, R>(
     settings: &'a Settings<'a>,
 ) -> Result<(), ServeFault>
 where
-    R: Threads + Wait + Sync + Files + AllocGlobal + Clone + Drop + Clock + Eprint + Net,
+    R: Threads
+        + Wait
+        + Sync
+        + Files<File = File>
+        + AllocGlobal
+        + Clone
+        + Drop
+        + Clock
+        + Eprint
+        + Net,
     R::File: Send,
     R::Dir: Send,
     R::Listener: Send,

@@ -30,6 +30,7 @@ pub use jobs::{ask, push_told};
 pub use outputs::Answer;
 pub use place::Place;
 use std::alloc::AllocGlobal;
+use std::fs::File;
 use std::rt::Files;
 use std::sync::{Mutex, Wait};
 use std::thread::Threads;
@@ -38,7 +39,7 @@ pub use sweeps::{Ended, run_chosen};
 pub use turns::measure_turns;
 
 /// Makes a step that stands in no place, and answers whether there is one of this word.
-fn make_alone<R: AllocGlobal + Threads + Wait + Sync + Files + Clock + Clone + Drop>(
+fn make_alone<R: AllocGlobal + Threads + Wait + Sync + Files<File = File> + Clock + Clone + Drop>(
     rt: &R,
     known: &Mutex<KnownFiles>,
     word: &str,
@@ -53,7 +54,7 @@ fn make_alone<R: AllocGlobal + Threads + Wait + Sync + Files + Clock + Clone + D
 }
 
 /// Makes a step, and answers whether there is one of this word.
-pub fn make<R: AllocGlobal + Threads + Wait + Sync + Files + Clock + Clone + Drop>(
+pub fn make<R: AllocGlobal + Threads + Wait + Sync + Files<File = File> + Clock + Clone + Drop>(
     rt: &R,
     place: &mut Place,
     known: &Mutex<KnownFiles>,

@@ -54,18 +54,25 @@ impl<F: Folder> Folder for Refusing<F> {
         self.files.make(path)
     }
 
-    fn keep(&mut self, file: F::NewFile) -> io::Result<()> {
+    fn take_after(&mut self, file: &F::NewFile, path: &str) -> io::Result<()> {
+        if self.is_refused() {
+            return Err(refused());
+        }
+        self.files.take_after(file, path)
+    }
+
+    fn keep(&mut self, file: &F::NewFile) -> io::Result<()> {
         if self.is_refused() {
             return Err(refused());
         }
         self.files.keep(file)
     }
 
-    fn take_after(&mut self, new: &str, path: &str) -> io::Result<()> {
+    fn put(&mut self, file: F::NewFile, new: &str, path: &str) -> io::Result<()> {
         if self.is_refused() {
             return Err(refused());
         }
-        self.files.take_after(new, path)
+        self.files.put(file, new, path)
     }
 
     fn rename(&mut self, from: &str, to: &str) -> io::Result<()> {

@@ -15,13 +15,13 @@ use crate::refusing::Refusing;
 use cards::{Card, DeckName, MOST_CARDS};
 use deck_files::{FileRow, FolderShelf, KnownFiles, SaveOver, Shelf, SystemFolder, clear_folder};
 use std::alloc::{AllocError, AllocGlobal, Global};
-use std::fs;
+use std::fs::{self, File};
 use std::io::{self, ErrorKind};
 use std::rt::Files;
 use std::sync::{Mutex, Wait};
 
 /// Makes a step of this word, if it is one of folders, and answers whether it is.
-pub fn make<R: AllocGlobal + Files + Wait + Clone + Drop>(
+pub fn make<R: AllocGlobal + Files<File = File> + Wait + Clone + Drop>(
     rt: &R,
     known: &Mutex<KnownFiles>,
     word: &str,
@@ -87,7 +87,7 @@ fn push_saved<S: Shelf>(shelf: &mut S, saved: &Saved, answer: &mut Answer) {
 }
 
 /// Saves by a shelf of a folder, whose call of the first number is refused, and none where it is 0.
-fn save_refused<R: AllocGlobal + Files + Wait + Clone + Drop>(
+fn save_refused<R: AllocGlobal + Files<File = File> + Wait + Clone + Drop>(
     rt: &R,
     known: &Mutex<KnownFiles>,
     text: &str,
@@ -105,7 +105,7 @@ fn save_refused<R: AllocGlobal + Files + Wait + Clone + Drop>(
     save(rt.alloc(), &mut shelf, rest, answer);
 }
 
-fn load_from<R: AllocGlobal + Files + Wait + Clone + Drop>(
+fn load_from<R: AllocGlobal + Files<File = File> + Wait + Clone + Drop>(
     rt: &R,
     known: &Mutex<KnownFiles>,
     text: &str,
@@ -132,7 +132,7 @@ fn load<S: Shelf>(shelf: &mut S, of: &str, answer: &mut Answer) {
 }
 
 /// Saves an empty deck by a shelf of its own.
-fn save_empty<R: AllocGlobal + Files + Wait + Clone + Drop>(
+fn save_empty<R: AllocGlobal + Files<File = File> + Wait + Clone + Drop>(
     rt: &R,
     known: &Mutex<KnownFiles>,
     folder: &str,
@@ -147,7 +147,7 @@ fn save_empty<R: AllocGlobal + Files + Wait + Clone + Drop>(
 }
 
 /// Loads by a shelf, which notes a version then; another may have saved in between.
-fn note_in<R: AllocGlobal + Files + Wait + Clone + Drop>(
+fn note_in<R: AllocGlobal + Files<File = File> + Wait + Clone + Drop>(
     rt: &R,
     known: &Mutex<KnownFiles>,
     text: &str,
@@ -168,7 +168,7 @@ fn note_in<R: AllocGlobal + Files + Wait + Clone + Drop>(
 }
 
 /// Whether the file of a deck has the cards of a version.
-fn saved_in<R: AllocGlobal + Files + Wait + Clone + Drop>(
+fn saved_in<R: AllocGlobal + Files<File = File> + Wait + Clone + Drop>(
     rt: &R,
     known: &Mutex<KnownFiles>,
     text: &str,
@@ -186,7 +186,7 @@ fn saved_in<R: AllocGlobal + Files + Wait + Clone + Drop>(
 
 /// Lists the files of decks by a shelf of a folder, whose call of the first number is refused, and none
 /// where it is 0.
-fn list_refused<R: AllocGlobal + Files + Wait + Clone + Drop>(
+fn list_refused<R: AllocGlobal + Files<File = File> + Wait + Clone + Drop>(
     rt: &R,
     known: &Mutex<KnownFiles>,
     text: &str,

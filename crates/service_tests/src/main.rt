@@ -19,6 +19,7 @@ mod sockets;
 use deck_files::KnownFiles;
 use desk_tests::{Answer, Place, cut, measure_turns, plain_text, run_chosen};
 use std::alloc::AllocGlobal;
+use std::fs::File;
 use std::net::{Net, TcpListener, TcpStream};
 use std::process::ExitCode;
 use std::rt::{Env, Files};
@@ -46,7 +47,7 @@ where
         + Threads
         + Wait
         + Sync
-        + Files
+        + Files<File = File>
         + Drop
         + Clone
         + Clock
@@ -73,7 +74,7 @@ where
         + Threads
         + Wait
         + Sync
-        + Files
+        + Files<File = File>
         + Drop
         + Clone
         + Clock
@@ -140,7 +141,7 @@ where
         + Threads
         + Wait
         + Sync
-        + Files
+        + Files<File = File>
         + Drop
         + Clone
         + Clock
@@ -163,7 +164,7 @@ where
         + Threads
         + Wait
         + Sync
-        + Files
+        + Files<File = File>
         + Drop
         + Clone
         + Clock
@@ -187,7 +188,7 @@ where
         + Threads
         + Wait
         + Sync
-        + Files
+        + Files<File = File>
         + Drop
         + Clone
         + Clock
@@ -209,7 +210,7 @@ where
 /// Measures turns where that is the word, or else goes through the scenarios that it names: the status.
 fn run_named<R>(rt: &R, word: &str) -> io::Result<u8>
 where
-    R: AllocGlobal + Wait + Files + Drop + Clone + CpuClock + Print + Eprint,
+    R: AllocGlobal + Wait + Files<File = File> + Drop + Clone + CpuClock + Print + Eprint,
 {
     if word == "turns" {
         measure_turns(rt)?;
@@ -226,7 +227,7 @@ where
         + Threads
         + Wait
         + Sync
-        + Files
+        + Files<File = File>
         + Drop
         + Clone
         + Clock

@@ -12,6 +12,7 @@ ghost use Rattle.desk_service.specs.Services.{AreInRange};
 use desk_service::{Journaling, Settings, serve_on};
 use desk_tests::{Answer, cut, cut_line, cut_number, number};
 use std::alloc::{AllocGlobal, Global};
+use std::fs::File;
 use std::io::{self, BufRead, BufReader, Write};
 use std::net::{Net, SocketAddr, TcpListener, TcpStream};
 use std::rt::Files;
@@ -155,7 +156,7 @@ where
     R: Threads
         + Wait
         + Sync
-        + Files
+        + Files<File = File>
         + AllocGlobal
         + Clone
         + Drop
@@ -201,7 +202,7 @@ where
     R: Threads
         + Wait
         + Sync
-        + Files
+        + Files<File = File>
         + AllocGlobal
         + Clone
         + Drop

@@ -9,6 +9,7 @@ use deck_files::{
     FileRow, FolderShelf, KnownFiles, SaveOver, Shelf, ShelfLoadFault, ShelfSaveFault,
 };
 use std::alloc::{AllocError, AllocGlobal, Global};
+use std::fs::File;
 use std::rt::Files;
 use std::sync::{Mutex, Wait};
 
@@ -146,7 +147,7 @@ fn list<S: Shelf>(scene: &mut Scene, shelf: &mut S) -> Result<(), AllocError> {
 
 /// Three versions of a deck that are saved in the folder in which the program runs, one over the other; and
 /// the list of the files there.
-pub fn folder<R: AllocGlobal + Files + Clone + Drop + Wait>(
+pub fn folder<R: AllocGlobal + Files<File = File> + Clone + Drop + Wait>(
     rt: &R,
     scene: &mut Scene,
 ) -> Result<(), AllocError> {

@@ -28,6 +28,7 @@ mod sessions;
 use crate::sweeps::notes::Journal;
 use crate::sweeps::scene::Scene;
 use std::alloc::{AllocError, AllocGlobal};
+use std::fs::File;
 use std::io;
 use std::rt::Files;
 use std::sync::Wait;
@@ -138,7 +139,7 @@ fn go_through_lower(scenario: Scenario, scene: &mut Scene) -> Result<(), AllocEr
 }
 
 /// Goes through any scenario.
-fn go_through<R: AllocGlobal + Files + Clone + Drop + Wait>(
+fn go_through<R: AllocGlobal + Files<File = File> + Clone + Drop + Wait>(
     rt: &R,
     scenario: Scenario,
     scene: &mut Scene,
@@ -159,7 +160,10 @@ fn go_through<R: AllocGlobal + Files + Clone + Drop + Wait>(
 }
 
 /// The journal of a scenario.
-fn journal_of<R: AllocGlobal + Files + Clone + Drop + Wait>(rt: &R, scenario: Scenario) -> Journal {
+fn journal_of<R: AllocGlobal + Files<File = File> + Clone + Drop + Wait>(
+    rt: &R,
+    scenario: Scenario,
+) -> Journal {
     let mut scene = Scene::new(rt.alloc());
     let done = go_through(rt, scenario, &mut scene);
     scene.journal.keep(done);
@@ -195,7 +199,7 @@ fn tell<R: Print + Eprint>(rt: &R, name: &str, journal: &Journal) -> io::Result<
 }
 
 /// Goes through a scenario.
-fn run_once<R: AllocGlobal + Files + Clone + Drop + Wait + Print + Eprint>(
+fn run_once<R: AllocGlobal + Files<File = File> + Clone + Drop + Wait + Print + Eprint>(
     rt: &R,
     name: &str,
     scenario: Scenario,
@@ -206,7 +210,7 @@ fn run_once<R: AllocGlobal + Files + Clone + Drop + Wait + Print + Eprint>(
 }
 
 /// Goes through a scenario, once more where its own memory is refused.
-fn run_one<R: AllocGlobal + Files + Clone + Drop + Wait + Print + Eprint>(
+fn run_one<R: AllocGlobal + Files<File = File> + Clone + Drop + Wait + Print + Eprint>(
     rt: &R,
     name: &str,
     scenario: Scenario,
@@ -226,7 +230,7 @@ fn is_chosen(word: &str, name: &str, size: Size) -> bool {
 }
 
 /// Goes through the scenarios that a word chooses.
-pub fn run_chosen<R: AllocGlobal + Files + Clone + Drop + Wait + Print + Eprint>(
+pub fn run_chosen<R: AllocGlobal + Files<File = File> + Clone + Drop + Wait + Print + Eprint>(
     rt: &R,
     word: &str,
 ) -> io::Result<Ended> {
