@@ -10,7 +10,7 @@ use Rattle.deck_files.specs.Loads.{LoadsFault}
 use Rattle.deck_files.specs.Folders.{Place, deck_path}
 use Rattle.deck_files.specs.Steps.{Asked, Answered, Step, Refused, Done, Found, Gave, Holds, changed_by, AreAmong, ChangesAmong, ChangeAmong, TakesSteps, ChangesOnly}
 use Rattle.deck_files.specs.FolderLoads.{IsUnopened, DoesNotOpen, HasFault, LoadsFile, LoadFails, read, not_opened, opened_steps}
-use Rattle.deck_files.specs.FolderSaves.{IsFaultOfFolder, IsFaultOfNew, refused_tries}
+use Rattle.deck_files.specs.FolderSaves.{IsFaultOfFolder, IsFaultOfNew, refused_links, refused_tries}
 
 -- what each fault says it says of a weaker relation too
 pub err-map : {T E : Type 0} {P Q : E → Type 0} (result : Result T E) → ((error : E) → P error → Q error) → IfErr result P → IfErr result Q
@@ -59,6 +59,10 @@ ChangeAmong-append A (step ∷ steps) second holds too = (holds.0, ChangeAmong-a
 pub ChangeAmong-tries : (A : List ℕ → Type 0) (at : Place) (tries : ℕ) → ChangeAmong A (refused_tries at tries)
 ChangeAmong-tries A at zero = tt
 ChangeAmong-tries A at (suc tries) = (tt, ChangeAmong-tries A at tries)
+
+pub ChangeAmong-links : (A : List ℕ → Type 0) (at : Place) (deck : List ℕ) (tries : ℕ) → ChangeAmong A (refused_links at deck tries)
+ChangeAmong-links A at deck zero = tt
+ChangeAmong-links A at deck (suc tries) = (tt, ChangeAmong-links A at deck tries)
 
 module _ {F : Type 0} (has_done : F → List Step → Type 0) where
   pub takes-none : (old new : F) → new ≡ old → TakesSteps has_done old [] new

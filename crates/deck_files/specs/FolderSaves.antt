@@ -1,15 +1,17 @@
--- SAVE in a folder (ours): what stands at the deck's path is looked at, and kept where any file may be written over; the text goes to a new file with owner and mode of the old one, is kept there, and the file gets the deck's path; and the folder is kept.
-use Rattle.std.specs.Prelude.{ℕ, zero, suc, ◌≡◌, ◌<◌, ⊤, ◌⊎◌, List, [], ◌∷◌, ◌++◌, Bool, true, false, Option, IsTrue, length}
+-- SAVE in a folder (ours): what stands at the deck's path is looked at; the text goes to a new file with owner and mode of the old one, and is kept there; where any file may be written over, what stands there gets a second name; the new file gets the deck's path; what stood there is renamed to NAME.OLD; and the folder is kept.
+use Rattle.std.specs.Prelude.{ℕ, zero, suc, ◌≡◌, ◌<◌, ⊤, ◌⊎◌, List, [], ◌∷◌, ◌++◌, Bool, true, false, Option, Some, None, IsTrue, length, is_some, string_bytes}
+use Rattle.std.specs.Option.{option_map}
 use Rattle.std.specs.Io.KnownBytes.{Appends}
 use Rattle.deck_files.specs.declared.deck_shelf.SaveOver.{SaveOver}
 use Rattle.deck_files.specs.declared.deck_shelf.SaveOver.TheVariants.{Known, Any}
 use Rattle.deck_files.specs.declared.deck_shelf.ShelfSaveFault.{ShelfSaveFault}
 use Rattle.deck_files.specs.declared.deck_shelf.ShelfSaveFault.TheVariants.{CannotOpen, FileExists, WriteFault, OutOfMemory}
+use Rattle.deck_files.specs.declared.second_names.Aside.{Aside}
 use Rattle.deck_files.specs.declared.folders.Standing.{Standing}
 use Rattle.deck_files.specs.declared.folders.Standing.TheVariants.{Nothing, PlainFile, Other}
 use Rattle.deck_files.specs.declared.folders.Links.TheVariants.{Shown}
 use Rattle.deck_files.specs.Folders.{Place, deck_path, old_path, new_path, folder_path}
-use Rattle.deck_files.specs.Steps.{Step, Answered, Look, Make, Keep, TakeAfter, Put, Link, Remove, KeepFolder, Refused, Done, Found, Gave, TakesStep, TakesSteps, ChangesOnly}
+use Rattle.deck_files.specs.Steps.{Step, Answered, Look, Make, Keep, TakeAfter, Put, Rename, Link, KeepFolder, Refused, Done, Found, Gave, TakesStep, TakesSteps, ChangesOnly}
 
 -- whether what stands at the deck's path may be written over: a plain file that is known, or any plain file
 abbrev pub may_write_over : Standing → SaveOver → Bool → Bool
@@ -18,22 +20,29 @@ may_write_over Other over known = false
 may_write_over PlainFile Known known = known
 may_write_over PlainFile Any known = true
 
--- the old file keeps the name NAME.OLD too, in place of what had it
-abbrev pub kept_old : Place → List Step
-kept_old at = (Link (deck_path at) (old_path at), Done) ∷ (Remove (old_path at), Done) ∷ []
+-- whether what stands at the deck's path is to keep a name: a plain file, where any may be written over
+abbrev pub keeps_old : Standing → SaveOver → Bool
+keeps_old Nothing over = false
+keeps_old Other over = false
+keeps_old PlainFile Known = false
+keeps_old PlainFile Any = true
 
--- a plain file is kept where any may be written over
-abbrev pub over_steps : Place → SaveOver → List Step
-over_steps at Known = []
-over_steps at Any = kept_old at
+-- whether another file may have the name NAME.OLD: where nothing has it, or a plain file
+abbrev pub may_be_old : Standing → Bool
+may_be_old Nothing = true
+may_be_old Other = false
+may_be_old PlainFile = true
 
 abbrev pub looked : Place → Standing → List Step
 looked at standing = (Look Shown (deck_path at), Found standing) ∷ []
 
-abbrev pub way_steps : Place → Standing → SaveOver → List Step
-way_steps at Nothing over = looked at Nothing
-way_steps at Other over = looked at Other
-way_steps at PlainFile over = over_steps at over ++ looked at PlainFile
+-- what has the name NAME.OLD is looked at where it is to be given
+abbrev pub old_looked : Place → Bool → Standing → List Step
+old_looked at false old = []
+old_looked at true old = (Look Shown (old_path at), Found old) ∷ []
+
+abbrev pub way_steps : Place → Bool → Standing → Standing → List Step
+way_steps at keeps standing old = old_looked at keeps old ++ looked at standing
 
 -- so many names were tried that something has
 abbrev pub refused_tries : Place → ℕ → List Step
@@ -44,21 +53,48 @@ refused_tries at (suc tries) = (Make (new_path at tries), Refused) ∷ refused_t
 abbrev pub filled : Option (List ℕ) → Option (List ℕ) → List ℕ → List Step
 filled made kept deck = (Keep kept, Done) ∷ (TakeAfter made deck, Done) ∷ []
 
--- and then it is put in the place of that one
-abbrev pub put_in_place : List ℕ → Option (List ℕ) → Option (List ℕ) → List ℕ → List Step
-put_in_place new made kept deck = (Put kept new deck, Done) ∷ filled made kept deck
+-- so many names were tried for the file at the deck's path that something has
+abbrev pub refused_links : Place → List ℕ → ℕ → List Step
+refused_links at deck zero = []
+refused_links at deck (suc tries) = (Link deck (new_path at tries), Refused) ∷ refused_links at deck tries
+
+-- it has a second name, which nothing had
+abbrev pub linked : Place → List ℕ → ℕ → List Step
+linked at deck tries = (Link deck (new_path at tries), Done) ∷ refused_links at deck tries
+
+-- it has, where it keeps a name
+abbrev pub set_aside : Place → List ℕ → Option ℕ → List Step
+set_aside at deck None = []
+set_aside at deck (Some second) = linked at deck second
+
+-- the new file is put in the place of that one, which has a second name before where it keeps one
+abbrev pub put_in_place : Place → List ℕ → Option (List ℕ) → List ℕ → Option ℕ → List Step
+put_in_place at new kept deck second = (Put kept new deck, Done) ∷ set_aside at deck second
 
 -- a new file is made, filled, and put in place
-abbrev pub new_steps : Place → ℕ → Option (List ℕ) → Option (List ℕ) → List Step
-new_steps at tries made kept = put_in_place (new_path at tries) made kept (deck_path at) ++ ((Make (new_path at tries), Gave made) ∷ refused_tries at tries)
+abbrev pub new_steps : Place → ℕ → Option (List ℕ) → Option (List ℕ) → Option ℕ → List Step
+new_steps at tries made kept second = (put_in_place at (new_path at tries) kept (deck_path at) second ++ filled made kept (deck_path at)) ++ ((Make (new_path at tries), Gave made) ∷ refused_tries at tries)
+
+-- what stood there has the name NAME.OLD, in place of what had it, where it keeps one; and the folder was asked to keep which files it has
+abbrev pub settled : Place → Option ℕ → Answered → List Step
+settled at None answer = (KeepFolder (folder_path at.folder), answer) ∷ []
+settled at (Some second) answer = (KeepFolder (folder_path at.folder), answer) ∷ (Rename (new_path at second) (old_path at), Done) ∷ []
+
+-- the second name of what stood in a deck's place, and the one that it is to have, are these of the place
+abbrev pub IsAside : Place → Aside → Type 0
+IsAside at aside = (string_bytes aside.path ≡ new_path at aside.tries) × (string_bytes aside.old ≡ old_path at)
+
+abbrev pub IsAsideIf : Place → Option Aside → Type 0
+IsAsideIf at None = ⊤
+IsAsideIf at (Some aside) = IsAside at aside
+
+-- the try at which a second name was found
+abbrev pub second_of : Option Aside → Option ℕ
+second_of aside = option_map (λ found. found.tries) aside
 
 -- a path of a new file of this place
 abbrev pub IsNew : Place → List ℕ → Type 0
 IsNew at path = (tries : ℕ) × (path ≡ new_path at tries)
-
--- a path that a save may change, the deck's own left out: that of a new file, and NAME.OLD where any file may be written over
-abbrev pub IsBeside : Place → SaveOver → List ℕ → Type 0
-IsBeside at over path = IsNew at path ⊎ ((over ≡ Any) × (path ≡ old_path at))
 
 -- the folder refused a step, or no memory was left
 abbrev pub IsFaultOfFolder : ShelfSaveFault → Type 0
@@ -72,40 +108,57 @@ IsFaultOfNew text (WriteFault sent) = sent < length text
 IsFaultOfNew text OutOfMemory = ⊤
 
 module _ {F : Type 0} (has_done : F → List Step → Type 0) where
-  -- what stands at the deck's path may be written over, and is kept where it is to be
-  pub record MakesWay (at : Place) (over : SaveOver) (known : Bool) (old new : F) : Type 0 where
+  -- what stands at the deck's path may be written over; and where it is to have the name NAME.OLD, that may be given
+  pub record MakesWay (at : Place) (over : SaveOver) (known keeps : Bool) (old new : F) : Type 0 where
     pub standing : Standing
+    pub aside : Standing
     pub may : IsTrue (may_write_over standing over known)
-    pub steps : TakesSteps has_done old (way_steps at standing over) new
+    pub same : keeps ≡ keeps_old standing over
+    pub free : IsTrue (may_be_old aside)
+    pub steps : TakesSteps has_done old (way_steps at keeps standing aside) new
 
-  -- the whole text went into a new file, which has the deck's path
-  pub record MakesAnew (at : Place) (text : List ℕ) (old new : F) : Type 0 where
+  -- the whole text went into a new file, which has the deck's path; and what stood there has a second name, where it keeps one
+  pub record MakesAnew (at : Place) (text : List ℕ) (keeps : Bool) (second : Option ℕ) (old new : F) : Type 0 where
     pub tries : ℕ
     pub made : Option (List ℕ)
     pub kept : Option (List ℕ)
     pub whole : Appends made kept text
-    pub steps : TakesSteps has_done old (new_steps at tries made kept) new
+    pub same : is_some second ≡ keeps
+    pub steps : TakesSteps has_done old (new_steps at tries made kept second) new
 
   -- the deck's file is the new one, with the whole text
-  pub record PutsInPlace (at : Place) (over : SaveOver) (known : Bool) (text : List ℕ) (old new : F) : Type 0 where
+  pub record PutsInPlace (at : Place) (over : SaveOver) (known : Bool) (text : List ℕ) (second : Option ℕ) (old new : F) : Type 0 where
+    pub keeps : Bool
     pub middle : F
-    pub way : MakesWay at over known old middle
-    pub anew : MakesAnew at text middle new
+    pub way : MakesWay at over known keeps old middle
+    pub anew : MakesAnew at text keeps second middle new
 
-  -- and then the folder was asked to keep which files it has
+  -- and then what stood there got the name NAME.OLD, where it keeps one, and the folder was asked to keep which files it has
   pub record SavesSo (answer : Answered) (at : Place) (over : SaveOver) (known : Bool) (text : List ℕ) (old new : F) : Type 0 where
+    pub second : Option ℕ
     pub middle : F
-    pub placed : PutsInPlace at over known text old middle
-    pub folder : TakesStep has_done middle (KeepFolder (folder_path at.folder), answer) new
+    pub placed : PutsInPlace at over known text second old middle
+    pub after : TakesSteps has_done middle (settled at second answer) new
 
-  -- the deck's path is as it was: no step changes it; or a plain file stands there that is not known
+  -- the deck's path and NAME.OLD are as they were: no step changes them; or a plain file stands there that is not known
   pub data LeavesInPlace (at : Place) (over : SaveOver) (known : Bool) (text : List ℕ) (fault : ShelfSaveFault) (old new : F) : Type 0 where
-    untouched : IsFaultOfNew text fault → ChangesOnly has_done (IsBeside at over) old new → LeavesInPlace at over known text fault old new
+    untouched : IsFaultOfNew text fault → ChangesOnly has_done (IsNew at) old new → LeavesInPlace at over known text fault old new
     unknown : fault ≡ FileExists → over ≡ Known → known ≡ false → TakesSteps has_done old (looked at PlainFile) new → LeavesInPlace at over known text fault old new
 
-  -- the deck's file is the new one, with the whole text, but the folder refused to keep which files it has
+  -- what stood there has its second name alone: the folder refused to give it NAME.OLD, which is as it was
+  abbrev pub IsNotOld : Place → Option ℕ → F → F → Type 0
+  IsNotOld at None old new = ⊥
+  IsNotOld at (Some second) old new = TakesStep has_done old (Rename (new_path at second) (old_path at), Refused) new
+
+  -- the deck's file is the new one, with the whole text, but the folder refused a step behind that
+  pub record IsUnsettled (at : Place) (over : SaveOver) (known : Bool) (text : List ℕ) (old new : F) : Type 0 where
+    pub second : Option ℕ
+    pub middle : F
+    pub placed : PutsInPlace at over known text second old middle
+    pub after : TakesSteps has_done middle (settled at second Refused) new ⊎ IsNotOld at second middle new
+
   abbrev pub IsUnkept : Place → SaveOver → Bool → List ℕ → ShelfSaveFault → F → F → Type 0
-  IsUnkept at over known text fault old new = IsFaultOfFolder fault × SavesSo Refused at over known text old new
+  IsUnkept at over known text fault old new = IsFaultOfFolder fault × IsUnsettled at over known text old new
 
   -- a save of the deck fails so
   abbrev pub SaveFails : Place → SaveOver → Bool → List ℕ → ShelfSaveFault → F → F → Type 0

@@ -4,7 +4,7 @@ ghost use Rattle.deck_files.specs.DeckFiles.{file_of};
 ghost use Rattle.deck_files.specs.KnownFiles.{after_save, has_newer, is_known};
 ghost use Rattle.deck_files.specs.Folders.{deck_path};
 ghost use Rattle.deck_files.specs.FolderLoads.{LoadFails, LoadsFile};
-ghost use Rattle.deck_files.specs.FolderSaves.{IsUnkept, LeavesInPlace, PutsInPlace, SavesSo};
+ghost use Rattle.deck_files.specs.FolderSaves.{IsAsideIf, IsUnkept, LeavesInPlace, PutsInPlace, SavesSo, second_of};
 ghost use Rattle.deck_files.specs.Steps.{Done};
 
 use crate::deck_places::DeckPlace;
@@ -16,8 +16,9 @@ use crate::folder_saves::make_way;
 use crate::folders::Folder;
 use crate::known_files::KnownFiles;
 use crate::load_fault::LoadFault;
-use crate::new_files::{keep_folder, make_anew};
+use crate::new_files::make_anew;
 use crate::saving::save_file;
+use crate::second_names::{Aside, settle};
 use crate::system_folder::SystemFolder;
 use cards::{Card, DeckName};
 use std::alloc::Global;
@@ -34,7 +35,8 @@ use std::sync::{Mutex, Wait};
 /// the new one whole, with the mode and the owner that the old one had. Only a plain file is loaded or
 /// written over. Saves are made one after the other, and the cards of an older version than one that was
 /// saved are not written any more. A file that no shelf of the service saved, or loaded for a desk that took
-/// it, is not written over but where any may be; what stood there is `NAME.OLD` then.
+/// it, is not written over but where any may be; what stood there is `NAME.OLD` then, once the new one has its
+/// place.
 ///
 /// Contracts see the folder, its text, and the shelf's number: what is loaded are the cards of the deck's
 /// file as the folder gave it, and a save is the steps that it asked the folder for. What a file of the
@@ -125,16 +127,18 @@ fn load_placed<R: Wait, F: Folder>(
     }
 }
 
-/// Makes the file of a deck anew, where it may be written over.
+/// Makes the file of a deck anew, where it may be written over; what stood there has a second name, where it
+/// keeps one.
 fn save_cards<F: Folder>(
     files: &mut F,
     place: &DeckPlace<'_>,
     over: SaveOver,
     is_known: bool,
     cards: &[Card],
-) -> Result<(), ShelfSaveFault>
+) -> Result<Option<Aside>, ShelfSaveFault>
     requires { length cards.now ≤ 20000 }
-    ensures placed { OnOk result (PutsInPlace F.has_done place.now over is_known (file_of cards.now) files.old files.new) }
+    ensures aside { IfOk result (λ aside. IsAsideIf place.now aside) }
+    ensures placed { IfOk result (λ aside. PutsInPlace F.has_done place.now over is_known (file_of cards.now) (second_of aside) files.old files.new) }
     ensures fault { IfErr result (λ fault. LeavesInPlace F.has_done place.now over is_known (file_of cards.now) fault files.old files.new) }
 {
     let Ok(deck) = place.deck_path() else {
@@ -143,14 +147,19 @@ fn save_cards<F: Folder>(
     let Ok(file) = save_file(place.alloc(), cards) else {
         return Err(ShelfSaveFault::OutOfMemory);
     };
-    match make_way(files, place, deck.as_str(), over, is_known) {
-        Ok(()) => make_anew(files, place, deck.as_str(), file.as_slice()),
+    let keeps = match make_way(files, place, deck.as_str(), over, is_known) {
+        Ok(keeps) => keeps,
+        Err(fault) => return Err(fault),
+    };
+    match make_anew(files, place, deck.as_str(), file.as_slice(), keeps) {
+        Ok(aside) => Ok(aside),
         Err(fault) => Err(fault),
     }
 }
 
 /// Makes the file of a deck anew and notes the version of its cards as soon as the file has its place, also
-/// where the folder is not kept then; where a newer one was saved, that stays.
+/// where what stood there gets no other name or the folder is not kept then; where a newer one was saved, that
+/// stays.
 fn save_in_order<F: Folder>(
     files: &mut F,
     known: &mut KnownFiles,
@@ -175,12 +184,12 @@ fn save_in_order<F: Folder>(
     let Ok(key) = known.make_room(name) else {
         return Err(ShelfSaveFault::OutOfMemory);
     };
-    match save_cards(files, place, over, known.is_known(name), cards) {
-        Ok(()) => {}
+    let aside = match save_cards(files, place, over, known.is_known(name), cards) {
+        Ok(aside) => aside,
         Err(fault) => return Err(fault),
-    }
+    };
     known.note(key, version);
-    keep_folder(files, place)
+    settle(files, place, &aside)
 }
 
 impl<'a, R: Wait, F: Folder> Shelf for FolderShelf<'a, R, F> {

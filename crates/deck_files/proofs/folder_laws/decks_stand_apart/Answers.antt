@@ -1,5 +1,8 @@
-use Rattle.deck_files.proofs.PathSteps.{beside-apart}
+use Rattle.deck_files.proofs.PathSteps.{new-no_deck, new-not_old}
 use Rattle.deck_files.proofs.folder_laws.decks_stand_apart.Goals as goal
 
-pub returns : goal.returns
-returns c = beside-apart
+pub returns-clause-deck : goal.returns-clause-deck
+returns-clause-deck c = new-no_deck
+
+pub returns-clause-old : goal.returns-clause-old
+returns-clause-old c = new-not_old

@@ -2,16 +2,15 @@ use Rattle.std.proofs.Common.{[], ◌∷◌}
 use Rattle.deck_files.specs.declared.folders.Links.TheVariants.{Shown}
 use Rattle.deck_files.specs.Steps.{Look, Refused, Found}
 use Rattle.deck_files.specs.FolderSaves.{untouched}
-use Rattle.deck_files.proofs.FolderSteps.{err-map, fault-of-new}
+use Rattle.deck_files.proofs.FolderSteps.{fault-of-new}
 use Rattle.deck_files.proofs.SaveFaults.{stays-over}
 use Rattle.deck_files.proofs.folder_saves.make_way.Goals as goal
 
 -- a plain file stands there
-pub returns-in-Ok-PlainFile-clause-fault : goal.returns-in-Ok-PlainFile-clause-fault
-returns-in-Ok-PlainFile-clause-fault g c =
-    err-map c.write_over.result
-    (λ fault holds text. stays-over g.F.Folder.has_done c.args.place.now c.args.over c.args.is_known text c.args.deck.now fault c.in-Ok-PlainFile.field-0 _ _ _ c.requires c.in-Ok-PlainFile.field-0-is c.in-Ok-PlainFile.ensures holds)
-    c.write_over.ensures.fault
+pub returns-in-Err-write_over-clause-fault : goal.returns-in-Err-write_over-clause-fault
+returns-in-Err-write_over-clause-fault g c text =
+    stays-over g.F.Folder.has_done c.args.place.now c.args.over c.args.is_known text c.args.deck.now c.in-Err-write_over.fault c.in-Ok-PlainFile.field-0 _ _ _ c.requires c.in-Ok-PlainFile.field-0-is
+    c.in-Ok-PlainFile.ensures c.in-Err-write_over.ensures.fault
 
 -- something else does
 pub returns-in-Ok-Other-clause-fault : goal.returns-in-Ok-Other-clause-fault
