@@ -6,7 +6,6 @@ use Rattle.deck_files.specs.declared.deck_shelf.ShelfSaveFault.{ShelfSaveFault}
 use Rattle.deck_files.specs.declared.deck_shelf.ShelfSaveFault.TheVariants.{FileExists}
 use Rattle.deck_files.specs.declared.folders.Standing.{Standing}
 use Rattle.deck_files.specs.declared.folders.Standing.TheVariants.{PlainFile}
-use Rattle.deck_files.specs.declared.folders.Links.TheVariants.{Shown}
 use Rattle.std.specs.Io.KnownBytes.{Appends}
 use Rattle.deck_files.specs.Folders.{Place, deck_path, new_path}
 use Rattle.deck_files.specs.Steps.{Step, Answered, Look, Make, Put, Remove, Found, Gave, Refused, ChangeAmong, TakesStep, TakesSteps, ChangesOnly}
@@ -24,17 +23,17 @@ way-only A at true standing aside = (tt, (tt, tt))
 module _ {F : Type 0} (has_done : F → List Step → Type 0) where
   -- a plain file was not written over
   pub stays-over : (at : Place) (over : SaveOver) (known : Bool) (text deck : List ℕ) (fault : ShelfSaveFault) (standing : Standing) (old middle new : F) → deck ≡ deck_path at →
-      standing ≡ PlainFile → TakesStep has_done old (Look Shown deck, Found standing) middle →
+      standing ≡ PlainFile → TakesStep has_done old (Look deck, Found standing) middle →
       ((fault ≡ FileExists) × (over ≡ Known) × (known ≡ false) × (new ≡ middle)) ⊎ (IsFaultOfFolder fault × ChangesOnly has_done (λ path. ⊥) middle new) →
       LeavesInPlace has_done at over known text fault old new
   stays-over at over known text deck fault standing old middle new is plain look (inl told) =
       unknown told.0 told.1 told.2
       (subst (λ (f : F). TakesSteps has_done old (looked at PlainFile) f) (sym told.3)
       (subst (λ (s : Standing). TakesSteps has_done old (looked at s) middle) plain
-      (subst (λ (path : List ℕ). TakesSteps has_done old ((Look Shown path, Found standing) ∷ []) middle) is look)))
+      (subst (λ (path : List ℕ). TakesSteps has_done old ((Look path, Found standing) ∷ []) middle) is look)))
   stays-over at over known text deck fault standing old middle new is plain look (inr told) =
       untouched (fault-of-new text fault told.0)
-      (only-join has_done (IsNew at) old middle new ((Look Shown deck, Found standing) ∷ [], (tt, tt), look)
+      (only-join has_done (IsNew at) old middle new ((Look deck, Found standing) ∷ [], (tt, tt), look)
       (only-more has_done (λ path. ⊥) (IsNew at) middle new (λ path none. absurd none) told.1))
 
   -- the whole text went into a file that has the deck's path

@@ -1,4 +1,4 @@
--- LOAD from a folder (ours): the deck's file is looked at, opened where it is a plain file, and read. A link is followed.
+-- LOAD from a folder (ours): the deck's file is looked at, opened where it is a plain file, and read. No link is followed.
 use Rattle.std.specs.Prelude.{ℕ, ◌≡◌, ◌⊎◌, List, [], ◌∷◌, Option, IsUtf8}
 use Rattle.definitions.specs.Cards.{Card}
 use Rattle.deck_files.specs.declared.load_fault.LoadFault.{LoadFault}
@@ -6,14 +6,13 @@ use Rattle.deck_files.specs.declared.load_fault.LoadFault.TheVariants.{OutOfMemo
 use Rattle.deck_files.specs.declared.deck_shelf.ShelfLoadFault.{ShelfLoadFault}
 use Rattle.deck_files.specs.declared.deck_shelf.ShelfLoadFault.TheVariants.{CannotOpen, BadFile}
 use Rattle.deck_files.specs.declared.folders.Standing.TheVariants.{Nothing, PlainFile, Other}
-use Rattle.deck_files.specs.declared.folders.Links.TheVariants.{Followed}
 use Rattle.deck_files.specs.Loads.{LoadsCards, LoadsFault}
 use Rattle.deck_files.specs.Folders.{Place, deck_path}
 use Rattle.deck_files.specs.Steps.{Step, Look, Open, Refused, Found, Gave, TakesStep, TakesSteps}
 
 -- a plain file was opened, whose reader has these bytes left
 abbrev pub opened_steps : List ℕ → Option (List ℕ) → List Step
-opened_steps path bytes = (Open path, Gave bytes) ∷ (Look Followed path, Found PlainFile) ∷ []
+opened_steps path bytes = (Open path, Gave bytes) ∷ (Look path, Found PlainFile) ∷ []
 
 -- no file is open: the cards of none were read
 abbrev pub IsUnopened : ShelfLoadFault → Type 0
@@ -29,10 +28,10 @@ module _ {F : Type 0} (has_done : F → List Step → Type 0) where
 
   -- the file at the path was not opened: the folder refused to look, no plain file stands there, or it refused to open it
   pub data DoesNotOpen (path : List ℕ) (old new : F) : Type 0 where
-    unseen : TakesStep has_done old (Look Followed path, Refused) new → DoesNotOpen path old new
-    nothing : TakesStep has_done old (Look Followed path, Found Nothing) new → DoesNotOpen path old new
-    not_plain : TakesStep has_done old (Look Followed path, Found Other) new → DoesNotOpen path old new
-    shut : TakesSteps has_done old ((Open path, Refused) ∷ (Look Followed path, Found PlainFile) ∷ []) new → DoesNotOpen path old new
+    unseen : TakesStep has_done old (Look path, Refused) new → DoesNotOpen path old new
+    nothing : TakesStep has_done old (Look path, Found Nothing) new → DoesNotOpen path old new
+    not_plain : TakesStep has_done old (Look path, Found Other) new → DoesNotOpen path old new
+    shut : TakesSteps has_done old ((Open path, Refused) ∷ (Look path, Found PlainFile) ∷ []) new → DoesNotOpen path old new
 
   -- the fault is that of the file at the path, as the folder gave it; or no memory was left for its path, or for the folder to open it
   pub data HasFault (path : List ℕ) (fault : LoadFault) (old new : F) : Type 0 where

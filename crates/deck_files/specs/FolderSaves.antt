@@ -9,7 +9,6 @@ use Rattle.deck_files.specs.declared.deck_shelf.ShelfSaveFault.TheVariants.{Cann
 use Rattle.deck_files.specs.declared.second_names.Aside.{Aside}
 use Rattle.deck_files.specs.declared.folders.Standing.{Standing}
 use Rattle.deck_files.specs.declared.folders.Standing.TheVariants.{Nothing, PlainFile, Other}
-use Rattle.deck_files.specs.declared.folders.Links.TheVariants.{Shown}
 use Rattle.deck_files.specs.Folders.{Place, deck_path, old_path, new_path, folder_path}
 use Rattle.deck_files.specs.Steps.{Step, Answered, Look, Make, Keep, TakeAfter, Put, Rename, Link, KeepFolder, Refused, Done, Found, Gave, TakesStep, TakesSteps, ChangesOnly}
 
@@ -34,12 +33,12 @@ may_be_old Other = false
 may_be_old PlainFile = true
 
 abbrev pub looked : Place → Standing → List Step
-looked at standing = (Look Shown (deck_path at), Found standing) ∷ []
+looked at standing = (Look (deck_path at), Found standing) ∷ []
 
 -- what has the name NAME.OLD is looked at where it is to be given
 abbrev pub old_looked : Place → Bool → Standing → List Step
 old_looked at false old = []
-old_looked at true old = (Look Shown (old_path at), Found old) ∷ []
+old_looked at true old = (Look (old_path at), Found old) ∷ []
 
 abbrev pub way_steps : Place → Bool → Standing → Standing → List Step
 way_steps at keeps standing old = old_looked at keeps old ++ looked at standing

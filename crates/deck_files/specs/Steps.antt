@@ -2,12 +2,11 @@
 use Rattle.std.specs.Prelude.{ℕ, ⊤, List, [], ◌∷◌, ◌++◌, Option, Result, Ok, Err}
 use Rattle.std.specs.Global.{Vec}
 use Rattle.deck_files.specs.declared.folders.Standing.{Standing}
-use Rattle.deck_files.specs.declared.folders.Links.{Links}
 use Rattle.deck_files.specs.declared.file_rows.DeckEntry.{DeckEntry}
 
 -- what is asked, each with its paths: what stands there, to open a file, to make one, to keep what a new file's writer has, to give the new file owner and mode of another or the path of another, a file a new path, a second one, to take it away, to keep which files the folder has, and which decks have files in it
 pub data Asked : Type 0 where
-  Look : Links → List ℕ → Asked
+  Look : List ℕ → Asked
   Open : List ℕ → Asked
   Make : List ℕ → Asked
   Keep : Option (List ℕ) → Asked
@@ -48,7 +47,7 @@ holds_if (Err error) = Refused
 
 -- the paths at which something else may stand once this was done
 abbrev pub changed_by : Asked → List (List ℕ)
-changed_by (Look links path) = []
+changed_by (Look path) = []
 changed_by (Open path) = []
 changed_by (Make path) = path ∷ []
 changed_by (Keep written) = []

@@ -7,7 +7,7 @@ ghost use Rattle.deck_files.specs.Steps.{Gave, Open, Refused, TakesStep, TakesSt
 
 use crate::deck_places::DeckPlace;
 use crate::deck_shelf::ShelfLoadFault;
-use crate::folders::{Folder, Links, Standing};
+use crate::folders::{Folder, Standing};
 use crate::load_fault::LoadFault;
 use crate::loading::load;
 use cards::Card;
@@ -50,12 +50,12 @@ fn open_file<F: Folder>(files: &mut F, path: &str) -> Result<F::File, ShelfLoadF
     }
 }
 
-/// Opens a plain file. What is none is not opened: a pipe would wait for a writer.
+/// Opens a plain file. What is none is not opened: a link leads elsewhere, and a pipe would wait for a writer.
 fn open_plain<F: Folder>(files: &mut F, path: &str) -> Result<F::File, ShelfLoadFault>
     ensures opened { IfOk result (λ file. TakesSteps F.has_done files.old (opened_steps path.now (F.File.remaining file)) files.new) }
     ensures fault { IfErr result (λ fault. IsUnopened fault × DoesNotOpen F.has_done path.now files.old files.new) }
 {
-    match files.look(path, Links::Followed) {
+    match files.look(path) {
         Ok(Standing::PlainFile) => open_file(files, path),
         Ok(Standing::Nothing) | Ok(Standing::Other) => Err(ShelfLoadFault::CannotOpen),
         Err(error) => Err(load_fault(error.kind())),

@@ -2,7 +2,6 @@
 ghost use Rattle.std.specs.Prelude.{◌≡◌, ◌≢◌, ◌⊎◌, ℕ, List, false, IsTrue, IfErr, IfOk, OnOk};
 ghost use Rattle.deck_files.specs.declared.deck_shelf.SaveOver.TheVariants.{Known};
 ghost use Rattle.deck_files.specs.declared.deck_shelf.ShelfSaveFault.TheVariants.{FileExists};
-ghost use Rattle.deck_files.specs.declared.folders.Links.TheVariants.{Shown};
 ghost use Rattle.deck_files.specs.declared.folders.Standing.{Standing};
 ghost use Rattle.deck_files.specs.declared.folders.Standing.TheVariants.{PlainFile};
 ghost use Rattle.deck_files.specs.Folders.{deck_path, old_path};
@@ -11,7 +10,7 @@ ghost use Rattle.deck_files.specs.Steps.{ChangesOnly, Found, Look, TakesStep, Ta
 
 use crate::deck_places::DeckPlace;
 use crate::deck_shelf::{SaveOver, ShelfSaveFault};
-use crate::folders::{Folder, Links, Standing};
+use crate::folders::{Folder, Standing};
 use std::io::ErrorKind;
 
 /// Why a file was not made.
@@ -29,13 +28,13 @@ pub(crate) fn save_fault(kind: ErrorKind) -> ShelfSaveFault
 
 /// Looks whether another file may have the name `NAME.OLD`. What is no plain file keeps it.
 fn look_at_old<F: Folder>(files: &mut F, place: &DeckPlace<'_>) -> Result<(), ShelfSaveFault>
-    ensures free { OnOk result ((old : Standing) × IsTrue (may_be_old old) × TakesStep F.has_done files.old (Look Shown (old_path place.now), Found old) files.new) }
+    ensures free { OnOk result ((old : Standing) × IsTrue (may_be_old old) × TakesStep F.has_done files.old (Look (old_path place.now), Found old) files.new) }
     ensures fault { IfErr result (λ fault. IsFaultOfFolder fault × ChangesOnly F.has_done (λ path. ⊥) files.old files.new) }
 {
     let Ok(old) = place.old_path() else {
         return Err(ShelfSaveFault::OutOfMemory);
     };
-    match files.look(old.as_str(), Links::Shown) {
+    match files.look(old.as_str()) {
         Ok(Standing::Nothing) | Ok(Standing::PlainFile) => Ok(()),
         Ok(Standing::Other) => Err(ShelfSaveFault::CannotOpen),
         Err(error) => Err(save_fault(error.kind())),
@@ -78,7 +77,7 @@ pub(crate) fn make_way<F: Folder>(
     ensures way { IfOk result (λ keeps. MakesWay F.has_done place.now over is_known keeps files.old files.new) }
     ensures fault { IfErr result (λ fault. (text : List ℕ) → LeavesInPlace F.has_done place.now over is_known text fault files.old files.new) }
 {
-    match files.look(deck, Links::Shown) {
+    match files.look(deck) {
         Ok(Standing::Nothing) => Ok(false),
         Ok(Standing::PlainFile) => match write_over(files, place, over, is_known) {
             Ok(keeps) => Ok(keeps),

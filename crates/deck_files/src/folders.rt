@@ -14,13 +14,6 @@ pub enum Standing {
     Other,
 }
 
-/// Whether a link at the end of a path is followed, or is itself what stands there.
-#[derive(Clone, Copy)]
-pub enum Links {
-    Followed,
-    Shown,
-}
-
 /// The files of a folder, by their paths, as a shelf uses them. Each call is one step that the folder was
 /// asked, with its answer; the member says which steps a folder may have behind it. A step that is refused
 /// changes nothing.
@@ -39,11 +32,11 @@ pub trait Folder {
     // What the folder was asked so far, and what it answered, the newest first.
     ghost has_done: { Self → List Step → Type 0 };
 
-    /// What stands at the path.
-    fn look(&mut self, path: &str, links: Links) -> io::Result<Standing>
-        ensures { TakesStep has_done self.old (Look links path.now, found_if result) self.new };
+    /// What stands at the path. A link is itself what stands there.
+    fn look(&mut self, path: &str) -> io::Result<Standing>
+        ensures { TakesStep has_done self.old (Look path.now, found_if result) self.new };
 
-    /// Opens the file at the path, a link followed.
+    /// Opens the plain file at the path. Refused where another has come to stand there, or a link.
     fn open(&mut self, path: &str) -> io::Result<Self::File>
         ensures { TakesStep has_done self.old (Open path.now, gave_if Self.File.remaining result) self.new };
 

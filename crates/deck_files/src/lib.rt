@@ -40,7 +40,7 @@ pub use deck_shelf::{SaveOver, Shelf, ShelfLoadFault, ShelfSaveFault};
 pub use file_rows::{DeckEntry, FileRow, MOST_FILES};
 pub use folder_laws::{decks_stand_apart, places_make_nothing_known};
 pub use folder_shelf::FolderShelf;
-pub use folders::{Folder, Links, Standing};
+pub use folders::{Folder, Standing};
 pub use known_files::KnownFiles;
 pub use leftovers::clear_folder;
 pub use load_fault::LoadFault;

@@ -1,7 +1,7 @@
 //! The file system as a folder.
 
 use crate::file_rows::{DeckEntry, MOST_FILES, deck_in};
-use crate::folders::{Folder, Links, Standing};
+use crate::folders::{Folder, Standing};
 use crate::moments::Moment;
 use std::alloc::{AllocGlobal, Global};
 use std::fs::{DirEntry, File, Metadata, OpenOptions};
@@ -42,32 +42,23 @@ fn take_owner_and_mode(file: &File, old: &Metadata) -> io::Result<()> {
     file.set_permissions(old.permissions())
 }
 
-/// Whether an open file stands at a path; a link is none.
-fn stands_at<R: Files>(rt: &R, file: &File, path: &str) -> io::Result<bool> {
-    let (open, named) = (file.metadata()?, fs::symlink_metadata(rt, path)?);
-    Ok(open.dev() == named.dev() && open.ino() == named.ino())
-}
-
-/// Refused where another file than the open one stands at a path.
-fn check_stands<R: Files>(rt: &R, file: &File, path: &str) -> io::Result<()> {
-    if stands_at(rt, file, path)? {
+/// Refused where an open file is another than the one that was seen.
+fn check_same(open: &Metadata, seen: &Metadata) -> io::Result<()> {
+    if open.dev() == seen.dev() && open.ino() == seen.ino() {
         Ok(())
     } else {
         Err(io::Error::from(ErrorKind::StaleNetworkFileHandle))
     }
 }
 
+/// Refused where another file than the open one stands at a path; a link is another.
+fn check_stands<R: Files>(rt: &R, file: &File, path: &str) -> io::Result<()> {
+    check_same(&file.metadata()?, &fs::symlink_metadata(rt, path)?)
+}
+
 /// When a file was last written; the first moment of 1970 stands for any before it.
 fn written_at(about: &Metadata) -> Moment {
     Moment::of_seconds(u64::try_from(about.mtime()).unwrap_or(0))
-}
-
-/// What the system tells of what stands at a path, a link followed where it leads to something.
-fn about<R: Files>(rt: &R, path: &str) -> io::Result<Metadata> {
-    match fs::metadata(rt, path) {
-        Ok(about) => Ok(about),
-        Err(_) => fs::symlink_metadata(rt, path),
-    }
 }
 
 /// The deck whose file an entry of a folder is, if it is one's that still stands there. A name that is no
@@ -84,7 +75,7 @@ fn deck_of<R: Files + Drop>(
     let Some(name) = deck_in(entry.file_name().as_bytes()) else {
         return Ok(None);
     };
-    match about(rt, entry.path().as_str()) {
+    match fs::symlink_metadata(rt, entry.path().as_str()) {
         Ok(about) => Ok(Some(DeckEntry {
             name,
             written: written_at(&about),
@@ -102,12 +93,8 @@ impl<R: Files<File = File> + AllocGlobal + Clone + Drop> Folder for SystemFolder
 
     ghost has_done = { λ _ _. ⊤ };
 
-    fn look(&mut self, path: &str, links: Links) -> io::Result<Standing> {
-        let found = match links {
-            Links::Followed => fs::metadata(self.rt, path),
-            Links::Shown => fs::symlink_metadata(self.rt, path),
-        };
-        match found {
+    fn look(&mut self, path: &str) -> io::Result<Standing> {
+        match fs::symlink_metadata(self.rt, path) {
             Ok(about) if about.is_file() => Ok(Standing::PlainFile),
             Ok(_) => Ok(Standing::Other),
             Err(error) if error.kind() == ErrorKind::NotFound => Ok(Standing::Nothing),
@@ -116,7 +103,12 @@ impl<R: Files<File = File> + AllocGlobal + Clone + Drop> Folder for SystemFolder
     }
 
     fn open(&mut self, path: &str) -> io::Result<File> {
-        fs::open(self.rt, path)
+        let Some(seen) = plain_at(self.rt, path)? else {
+            return Err(io::Error::from(ErrorKind::NotFound));
+        };
+        let file = fs::open(self.rt, path)?;
+        check_same(&file.metadata()?, &seen)?;
+        Ok(file)
     }
 
     fn make(&mut self, path: &str) -> io::Result<File> {

@@ -1,5 +1,5 @@
 //! A folder that refuses one of its calls.
-use deck_files::{DeckEntry, Folder, Links, Standing};
+use deck_files::{DeckEntry, Folder, Standing};
 use std::alloc::Global;
 use std::io;
 use std::io::ErrorKind;
@@ -33,11 +33,11 @@ impl<F: Folder> Folder for Refusing<F> {
 
     ghost has_done = { λ _ _. ⊤ };
 
-    fn look(&mut self, path: &str, links: Links) -> io::Result<Standing> {
+    fn look(&mut self, path: &str) -> io::Result<Standing> {
         if self.is_refused() {
             return Err(refused());
         }
-        self.files.look(path, links)
+        self.files.look(path)
     }
 
     fn open(&mut self, path: &str) -> io::Result<F::File> {

@@ -1,5 +1,4 @@
 use Rattle.std.proofs.Common.{[], ◌∷◌}
-use Rattle.deck_files.specs.declared.folders.Links.TheVariants.{Shown}
 use Rattle.deck_files.specs.Steps.{Look, Refused, Found}
 use Rattle.deck_files.specs.FolderSaves.{untouched}
 use Rattle.deck_files.proofs.FolderSteps.{fault-of-new}
@@ -14,9 +13,9 @@ returns-in-Err-write_over-clause-fault g c text =
 
 -- something else does
 pub returns-in-Ok-Other-clause-fault : goal.returns-in-Ok-Other-clause-fault
-returns-in-Ok-Other-clause-fault g c text = untouched tt ((Look Shown c.args.deck.now, Found c.in-Ok-Other.field-0) ∷ [], (tt, tt), c.in-Ok-Other.ensures)
+returns-in-Ok-Other-clause-fault g c text = untouched tt ((Look c.args.deck.now, Found c.in-Ok-Other.field-0) ∷ [], (tt, tt), c.in-Ok-Other.ensures)
 
 -- the folder refused to look
 pub returns-in-Err-clause-fault : goal.returns-in-Err-clause-fault
 returns-in-Err-clause-fault g c text =
-    untouched (fault-of-new text c.save_fault.result c.save_fault.ensures.one) ((Look Shown c.args.deck.now, Refused) ∷ [], (tt, tt), c.in-Err.ensures)
+    untouched (fault-of-new text c.save_fault.result c.save_fault.ensures.one) ((Look c.args.deck.now, Refused) ∷ [], (tt, tt), c.in-Err.ensures)
