@@ -9,6 +9,7 @@ use Rattle.page.specs.declared.answers.TheConstants.{POLICY}
 use Rattle.page.specs.declared.page_style.TheConstants.{TOP}
 use Rattle.page.specs.declared.page_text.TheConstants.{BODY}
 use Rattle.page.specs.declared.page_script.TheConstants.{SCRIPT}
+use Rattle.page.specs.declared.page_edits.TheConstants.{EDITS}
 use Rattle.page.specs.declared.asked.Asked.{Asked}
 use Rattle.page.specs.declared.asked.Asked.TheVariants.{Page, Lines, Foreign, Nothing, OtherThanGet, OtherThanPost}
 use Rattle.page.specs.Requests.{asked_by}
@@ -35,7 +36,7 @@ abbrev pub page_fields : List Header
 page_fields = fields_for html ++ (codes "content-security-policy", POLICY.now) ∷ (codes "x-frame-options", codes "DENY") ∷ []
 
 abbrev pub IsPage : Response → Type 0
-IsPage = IsResponse 200 page_fields (TOP.now ++ (BODY.now ++ SCRIPT.now))
+IsPage = IsResponse 200 page_fields ((TOP.now ++ BODY.now) ++ (SCRIPT.now ++ EDITS.now))
 
 -- a text for people alone
 abbrev pub IsText : ℕ → Response → Type 0

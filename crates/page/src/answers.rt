@@ -4,6 +4,7 @@ ghost use Rattle.http_header.specs.FieldValue.{is_visible_text};
 ghost use Rattle.http_server.specs.Response.{IsBlank, IsResponse, fields_of};
 ghost use Rattle.page.specs.Answers.{AddsField, IsPage, IsReplies, fields_for, page_fields, plain};
 
+use crate::page_edits::EDITS;
 use crate::page_script::SCRIPT;
 use crate::page_style::TOP;
 use crate::page_text::BODY;
@@ -77,18 +78,20 @@ pub(crate) fn tell_methods(
     response.body.push(Bytes::from_static(text.as_bytes()))
 }
 
-/// Appends three texts.
-fn push_texts(
-    body: &mut Rope,
-    first: &'static str,
-    second: &'static str,
-    third: &'static str,
-) -> Result<(), AllocError>
-    ensures { OnOk result (body.new.items ≡ body.old.items ++ (first.now ++ (second.now ++ third.now))) }
+/// Appends two texts.
+fn push_texts(body: &mut Rope, first: &'static str, second: &'static str) -> Result<(), AllocError>
+    ensures { OnOk result (body.new.items ≡ body.old.items ++ (first.now ++ second.now)) }
 {
     body.push(Bytes::from_static(first.as_bytes()))?;
-    body.push(Bytes::from_static(second.as_bytes()))?;
-    body.push(Bytes::from_static(third.as_bytes()))
+    body.push(Bytes::from_static(second.as_bytes()))
+}
+
+/// Appends the page: its style and its text, and behind them both parts of its script.
+fn push_page(body: &mut Rope) -> Result<(), AllocError>
+    ensures { OnOk result (body.new.items ≡ body.old.items ++ ((TOP.now ++ BODY.now) ++ (SCRIPT.now ++ EDITS.now))) }
+{
+    push_texts(body, TOP, BODY)?;
+    push_texts(body, SCRIPT, EDITS)
 }
 
 /// Begins the answer that has the page.
@@ -107,7 +110,7 @@ pub(crate) fn show_page(response: &mut Response) -> Result<(), AllocError>
     ensures { OnOk result (IsPage response.new) }
 {
     begin_page(response)?;
-    push_texts(&mut response.body, TOP, BODY, SCRIPT)
+    push_page(&mut response.body)
 }
 
 /// Begins the answer with the replies to lines, before they are served.

@@ -25,6 +25,7 @@ mod asked;
 
 // What it is answered.
 mod answers;
+mod page_edits;
 mod page_script;
 mod page_style;
 mod page_text;

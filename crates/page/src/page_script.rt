@@ -1,4 +1,4 @@
-//! The script of the page: it asks the service by the lines of a session, and shows what they tell.
+//! The script of the page, its first part: it asks the service by the lines of a session, and shows what they tell.
 
 pub(crate) const SCRIPT: &str = r##"<script>
 "use strict";
@@ -22,27 +22,20 @@ const LINKS = {
   F: "it does not fit into memory",
 };
 const STATES = { READY: "ready", BEHIND: "behind", OUT: "being assembled" };
-const REFUSALS = {
-  OldVersion: "Somebody else was first.", NoSuchCard: "The deck has no such card any more.",
-  NoDeck: "The deck is not there any more.", TooWide: "A card has 80 columns at most.",
-  DeckFull: "The deck has 20,000 cards already.", NotKept: "The journal can't be written; look whether the change stands, and tell the keeper.",
-  OutOfMemory: "The service has no memory left; try again later.", BadCommand: "The card has a character that no card has.",
-  UnknownCommand: "The service has no such command; load the page again.",
-};
-const PERIOD = 500, TRIES = 5, AROUND = 2, MOST_HITS = 200, MOST_EDITS = 500;
+const PERIOD = 500, TRIES = 5, MOST_HITS = 200, MOST_EDITS = 500, MOST_NAMES = 50, PART = 100, LINE = 1.4;
 
 const $ = id => document.getElementById(id);
 const sleep = time => new Promise(done => setTimeout(done, time));
 
 // ---- What is asked, and told.
 
-// Sends lines of a session; gives a reply for each: its words, and the lines behind it.
-async function ask(...lines) {
-  const answer = await fetch("/session", { method: "POST", headers: { "Content-Type": "text/plain" }, body: lines.join("\n") + "\n", cache: "no-store" });
+// Sends commands of a session, with the lines that belong to them; gives a reply for each: its words, and the lines behind it.
+async function ask(...commands) {
+  const answer = await fetch("/session", { method: "POST", headers: { "Content-Type": "text/plain" }, body: commands.join("\n") + "\n", cache: "no-store" });
   if (!answer.ok) throw new Error(`status ${answer.status}`);
   const told = (await answer.text()).split("\n");
   let at = 0;
-  return lines.map(() => {
+  return commands.map(() => {
     if (at >= told.length - 1) throw new Error("a reply is missing");
     const words = told[at++].split(" ");
     const count = words[0] === "OK" && words.length > 2 ? Number(words[2]) : 0;
@@ -147,6 +140,7 @@ function place_of(from, old) {
 let system = { version: 0, published: null, decks: [] };
 let shown = { deck: null, published: null, version: null, cards: [], image: [], map: [], items: [], symbols: null };
 let chosen = null;
+let entered = null;
 let flagged = new Map();
 
 // An element with a class and a text.
@@ -262,30 +256,81 @@ function show_deck(cards, symbols) {
     item.tabIndex = -1;
     return item;
   });
-  $("cards").replaceChildren(...shown.items);
+  const parts = [];
+  for (let first = 0; first < shown.items.length; first += PART) parts.push(part_of(shown.items.slice(first, first + PART)));
+  $("cards").replaceChildren(...parts);
+  measure_parts(cards);
+}
+
+// A list of some of the cards: one that is not in sight is not laid out.
+function part_of(items) {
+  const part = made("ol", "part");
+  part.append(...items);
+  return part;
+}
+
+// Splits a list that has become twice as long.
+function split_part(part) {
+  if (part.childElementCount < 2 * PART) return;
+  const items = [...part.children].slice(PART);
+  for (let first = 0, last = part; first < items.length; first += PART, last = last.nextElementSibling) last.after(part_of(items.slice(first, first + PART)));
+}
+
+// Splits the lists that grew, and tells each how many cards are before it, and its height.
+function measure_parts(cards) {
+  let first = 0;
+  for (let part = $("cards").firstElementChild, next; part; part = next) {
+    const has_editor = editor && editor.element.parentNode === part;
+    if (!has_editor) split_part(part);
+    next = part.nextElementSibling;
+    if (!part.firstElementChild) part.remove();
+    const behind = first + part.childElementCount - (has_editor ? 1 : 0);
+    const lines = cards.slice(first, behind).reduce((sum, card) => sum + Math.max(1, card.code.length), 0);
+    const look = `--before: ${first}; contain-intrinsic-height: ${(lines * LINE).toFixed(1)}em`;
+    if (part.getAttribute("style") !== look) part.setAttribute("style", look);
+    first = behind;
+  }
 }
 
 // Shows the cards of the deck that was shown: what is the same stays, and what changed is marked.
 function show_changes(cards, symbols) {
-  const list = $("cards"), old = shown.cards, items = shown.items, stood = standing();
+  const old = shown.cards, items = shown.items, stood = standing();
   const from = same_lines(old.map(card => card.text), cards.map(card => card.text));
-  const names_changed = names_of(shown.symbols) !== names_of(symbols), kept = new Set(from);
+  const names = changed_names(shown.symbols, symbols), kept = new Set(from);
+  const has_links_changed = card => names.length > MOST_NAMES || names.some(name => card.text.includes(name));
   items.forEach((item, n) => { if (!kept.has(n)) item.remove(); });
   let next = 0;
   shown.items = cards.map((card, n) => {
     const was = old[from[n]], item = was ? items[from[n]] : made("li");
     const same = mark_card(item, card, was, Boolean(was) && from[n] > next && (n === 0 || from[n - 1] >= 0));
-    if (!same || names_changed) fill_card(item, card, symbols);
+    if (!same || has_links_changed(card)) fill_card(item, card, symbols);
     if (was) next = from[n] + 1; else item.tabIndex = -1;
     return item;
   });
-  for (let n = cards.length - 1, behind = null; n >= 0; behind = shown.items[n--]) {
-    if (from[n] < 0) list.insertBefore(shown.items[n], behind);
-  }
+  put_between(shown.items, from);
+  measure_parts(cards);
   if (stood >= 0 && !kept.has(stood)) {
     shown.cards = cards;
     stand_on(place_of(from, stood), document.activeElement === document.body);
   }
+}
+
+// Puts the cards that are new behind the ones in front of them.
+function put_between(items, from) {
+  if (!items.length) return;
+  if (!$("cards").firstElementChild) $("cards").append(part_of([]));
+  items.forEach((item, n) => {
+    if (from[n] >= 0) return;
+    const front = editor && editor.item === items[n - 1] ? editor.element : items[n - 1];
+    if (n) front.after(item); else $("cards").firstElementChild.prepend(item);
+  });
+}
+
+// The names that are symbols by one deck, and not by the other.
+function changed_names(old, now) {
+  const is_symbol = (symbols, name) => symbols.defined.has(name) || symbols.external.has(name);
+  const names = symbols => [...symbols.defined.keys(), ...symbols.external];
+  return [...names(old).filter(name => !is_symbol(now, name)), ...names(now).filter(name => !is_symbol(old, name))];
 }
 
 function show_cards(cards, is_same) {
@@ -295,7 +340,7 @@ function show_cards(cards, is_same) {
   show_meaning();
   const letters = [...new Set(cards.map(card => card.letters).join(""))].sort().join("");
   $("letters").textContent = meaning_of(letters);
-  if (shown.items.length && !$("cards").querySelector(":scope > li[tabindex='0']")) shown.items[0].tabIndex = 0;
+  if (entered && entered.isConnected) enter_at(entered); else if (shown.items.length) enter_at(shown.items[0]);
 }
 
 // Tells what the letters of the card mean that one stands on.
@@ -304,8 +349,6 @@ function show_meaning() {
   const text = card && card.letters ? meaning_of(card.letters) : "";
   if ($("meaning").textContent !== text) $("meaning").textContent = text;
 }
-
-const names_of = symbols => [...symbols.defined.keys(), "", ...symbols.external].join(" ");
 
 // Shows lines; those that did not stand there before are marked, where something of the same stood there.
 function show_lines(element, lines, old, dress) {
@@ -348,6 +391,16 @@ function show_publication(published, version, list, image, map, counts) {
   Object.assign(shown, { deck: chosen, published, version, image: words, map: map.rows });
   if (waiting) go_to_card(waiting);
 }
+
+// The listing as lines for paper, where as many elements as the cards have would take minutes.
+function lines_for_paper(cards) {
+  return cards.flatMap((card, n) => {
+    const [first = "", ...rest] = card.code;
+    return [`${card.letters.padStart(4)} ${first.padEnd(30)}${String(n + 1).padStart(6)}  ${card.text}`, ...rest.map(code => `     ${code}`)];
+  });
+}
+
+const dress_flagged = line => line.slice(0, 4).trim() ? made("b", "", line) : null;
 
 // ---- How it follows.
 
@@ -427,17 +480,21 @@ function go_to_card(card) {
 function stand_on(number, focus = true) {
   const item = shown.items[Math.max(0, Math.min(number, shown.items.length - 1))];
   if (!item) return;
-  for (const other of $("cards").querySelectorAll("li.chosen, li[tabindex='0'], a[tabindex='0']")) {
-    other.classList.remove("chosen");
-    other.tabIndex = -1;
-  }
+  if (entered) entered.classList.remove("chosen");
   item.classList.add("chosen");
-  item.tabIndex = 0;
-  for (const link of item.querySelectorAll("a")) link.tabIndex = 0;
+  enter_at(item);
   show_meaning();
   if (!focus) return;
   item.focus({ preventScroll: true });
   item.scrollIntoView({ block: "nearest" });
+}
+
+// Lets the tabulator reach a card with its symbols, and no other.
+function enter_at(item) {
+  const reach = (card, index) => { for (const part of [card, ...card.querySelectorAll("a")]) part.tabIndex = index; };
+  if (entered && entered !== item) reach(entered, -1);
+  reach(item, 0);
+  entered = item;
 }
 
 // Where a symbol is defined: in this deck, or in the deck that the map tells. The browser's way back leads to the card
@@ -451,7 +508,7 @@ function go_to_symbol(name) {
 }
 
 function standing() {
-  return shown.items.indexOf($("cards").querySelector(":scope > li.chosen"));
+  return entered && entered.classList.contains("chosen") ? shown.items.indexOf(entered) : -1;
 }
 
 function go_to_flag(step) {
@@ -496,140 +553,4 @@ function end_search() {
   $("hits").hidden = true;
   stand_on(Math.max(0, standing()));
 }
-
-// ---- Edits.
-
-let editor = null;
-
-function leave() {
-  if (!editor) return;
-  const item = editor.item;
-  editor.element.remove();
-  editor = null;
-  if (item.isConnected) item.focus();
-}
-
-function edit(number) {
-  leave();
-  const item = shown.items[number];
-  if (!item || shown.deck !== chosen) return;
-  const element = $("editing").content.firstElementChild.cloneNode(true);
-  const find = kind => element.querySelector(kind), input = find(".card");
-  editor = { element, item, deck: chosen, version: shown.version, place: number + 1, cards: shown.cards.map(card => card.text), find };
-  input.value = shown.cards[number].text;
-  find(".save").onclick = () => send("REP");
-  find(".before").onclick = () => send("INS", 0);
-  find(".after").onclick = () => send("INS", 1);
-  find(".remove").onclick = () => send("DEL");
-  find(".leave").onclick = leave;
-  input.onkeydown = event => { if (event.key === "Enter") send("REP"); };
-  for (const kind of ["keyup", "click", "input", "focus"]) input.addEventListener(kind, tell_column);
-  element.onkeydown = event => { if (event.key === "Escape") leave(); event.stopPropagation(); };
-  item.after(element);
-  tell_editor();
-  input.focus();
-  input.setSelectionRange(0, 0);
-  tell_column();
-}
-
-// Which card is edited, and by which version; none is known while a change of the deck is not published yet.
-function tell_editor() {
-  editor.find(".at").textContent = editor.place;
-  editor.find(".version").textContent = editor.version === null ? "" : `, by version ${editor.version}`;
-}
-
-function tell_column() {
-  if (editor) editor.find(".column").textContent = `column ${editor.find(".card").selectionStart + 1}`;
-}
-
-function answer(text) {
-  if (editor) editor.find(".answer").textContent = text;
-}
-
-// Sends an edit by the version that is shown. Where somebody was first, the cards as they are now stand beside one's own.
-async function send(verb, behind = 0) {
-  const { deck, find, version, place } = editor;
-  const text = verb === "DEL" ? "" : ` ${find(".card").value.toUpperCase()}`;
-  try {
-    if (version === null) return await show_theirs("The deck is ahead of what is shown.");
-    const [reply] = await ask(`${verb} ${deck} ${version} ${place + behind}${text}`);
-    if (reply.ok) { leave(); asked_now(); return; }
-    const reason = reply.words[1], told = reply.words.slice(1).join(" ");
-    const meaning = reason === "BadCharacter" ? `Column ${reply.words[2]} has a character that no card has.` : REFUSALS[reason] || "";
-    if (reason === "OldVersion") await show_theirs(`${meaning} (${told})`);
-    else answer(`${meaning} (${told})`);
-  } catch (fault) {
-    answer(`No reply came (${fault.message}): the change may have been made or not. Look at the card before you send it again.`);
-  }
-}
-
-// The cards around the place as they are now beside one's own, and the version and the place by which one's own can
-// be sent again.
-async function show_theirs(reason) {
-  const [cards] = await ask(`CARDS ${editor.deck}`);
-  if (!editor) return;
-  if (!cards.ok) return answer(`${reason} Nothing of yours was done, and the deck is not there any more.`);
-  const from = same_lines(editor.cards, cards.rows), stays = from.includes(editor.place - 1);
-  const place = place_of(from, editor.place - 1) + 1, first = Math.max(1, place - AROUND);
-  Object.assign(editor, { version: cards.version, place, cards: cards.rows });
-  const numbered = (number, text) => `${String(number).padStart(5)}  ${text}\n`;
-  const rows = cards.rows.slice(first - 1, place + AROUND).map((row, n) =>
-    first + n === place ? made("mark", "", numbered(place, row)) : numbered(first + n, row));
-  const theirs = editor.find(".theirs"), own = editor.find(".card").value.toUpperCase();
-  theirs.replaceChildren(`The deck at version ${cards.version}:\n`, ...rows, `Yours, for card ${place}:\n`, numbered("", own));
-  theirs.hidden = false;
-  tell_editor();
-  answer(`${reason} Nothing of yours was done. ${stays ? `The card stands as you saw it, as card ${place}.` : "The card itself is another."} The keys above send yours again, by this version.`);
-}
-
-// ---- Keys and clicks.
-
-$("cards").addEventListener("click", event => {
-  if (event.target.closest("#editor")) return;
-  const symbol = event.target.dataset && event.target.dataset.symbol;
-  if (symbol) { go_to_symbol(symbol); return; }
-  const item = event.target.closest("#cards > li");
-  const number = shown.items.indexOf(item);
-  if (number < 0) return;
-  if (item.classList.contains("chosen") && String(getSelection()) === "") edit(number);
-  else stand_on(number);
-});
-
-$("cards").addEventListener("keydown", event => {
-  if (event.key !== "Enter") return;
-  event.preventDefault();
-  const symbol = event.target.dataset && event.target.dataset.symbol;
-  if (symbol) go_to_symbol(symbol);
-  else edit(shown.items.indexOf(event.target));
-});
-
-document.addEventListener("keydown", event => {
-  const is_command = (event.ctrlKey || event.altKey || event.metaKey) && !event.getModifierState("AltGraph");
-  if (is_command || event.target.closest("input, textarea")) return;
-  const keys = {
-    j: () => stand_on(standing() + 1), k: () => stand_on(standing() - 1),
-    ArrowDown: () => stand_on(standing() + 1), ArrowUp: () => stand_on(standing() - 1),
-    n: () => go_to_flag(1), p: () => go_to_flag(-1),
-    "]": () => go_to_deck(1), "[": () => go_to_deck(-1),
-    "/": () => $("sought").select(), Escape: end_search,
-  };
-  const is_arrow = event.key.startsWith("Arrow");
-  if (!keys[event.key] || (is_arrow && !event.target.closest("#cards"))) return;
-  event.preventDefault();
-  keys[event.key]();
-});
-
-$("search").addEventListener("submit", event => {
-  event.preventDefault();
-  search($("sought").value).catch(fault => { $("trouble").textContent = `The search had no answer (${fault.message}).`; });
-});
-
-$("sought").addEventListener("keydown", event => { if (event.key === "Escape") end_search(); });
-addEventListener("hashchange", read_hash);
-document.addEventListener("visibilitychange", () => asked_now());
-read_hash();
-run();
-</script>
-</body>
-</html>
 "##;

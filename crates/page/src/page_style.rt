@@ -55,27 +55,30 @@ button:hover { background: var(--chosen); }
 #found { list-style: none; padding: 0; margin: .4rem 0 1rem; }
 #found a { display: block; padding: .15rem .4rem; color: var(--link); text-decoration: none; }
 #found small { display: block; color: var(--faint); white-space: pre; overflow: hidden; text-overflow: ellipsis; font-family: ui-monospace, "DejaVu Sans Mono", Consolas, monospace; }
-#cards { list-style: none; margin: .3rem 0 2rem; padding: 0; counter-reset: card; width: max-content; min-width: 100%; }
-#cards > li { display: grid; grid-template-columns: 4ch 30ch 6ch 80ch; column-gap: 1ch; counter-increment: card; scroll-margin: 7rem 0 30vh; content-visibility: auto; contain-intrinsic-size: auto 1.4em; }
-#cards > li::before { content: counter(card); grid-area: 1 / 3; color: var(--faint); text-align: right; padding-right: 1ch; }
+#cards { margin: .3rem 0 2rem; width: 123ch; min-width: 100%; font: 13px/1.4 ui-monospace, "DejaVu Sans Mono", Consolas, monospace; }
+#cards ol { list-style: none; margin: 0; padding: 0; content-visibility: auto; }
+#cards li { display: grid; grid-template-columns: 4ch 30ch 6ch 80ch; column-gap: 1ch; counter-increment: card; scroll-margin: 7rem 0 30vh; }
+#cards li:first-child { counter-reset: card var(--before); }
+#cards li::before { content: counter(card); grid-area: 1 / 3; color: var(--faint); text-align: right; padding-right: 1ch; }
 #cards .letters { grid-area: 1 / 1; color: var(--flag); font-weight: 700; text-align: right; }
 #cards .code { grid-area: 1 / 2; white-space: pre; color: var(--code); }
 #cards .text { grid-area: 1 / 4; white-space: pre; }
 #cards .text a { color: inherit; text-decoration: underline dotted var(--faint); cursor: pointer; }
 #cards .text a:hover, #cards .text a:focus { color: var(--link); }
-#cards > li.flagged { cursor: help; }
-#cards > li.flagged .text { background: var(--flag-paper); color: var(--flag); }
-#cards > li.new { background: var(--new); }
-#cards > li.new-code .code, #cards > li.new-code .letters { background: var(--new-code); }
-#cards > li.cut { border-top: 2px dashed var(--flag); }
+#cards li.flagged { cursor: help; }
+#cards li.flagged .text { background: var(--flag-paper); color: var(--flag); }
+#cards li.new { background: var(--new); }
+#cards li.new-code .code, #cards li.new-code .letters { background: var(--new-code); }
+#cards li.cut { border-top: 2px dashed var(--flag); }
+#paper { display: none; }
 #letters { display: none; white-space: pre-wrap; }
-#cards > li:hover { box-shadow: inset 3px 0 var(--rule); }
-#cards > li.chosen { box-shadow: inset 3px 0 var(--link); }
-#cards > li:focus-visible { outline-offset: -2px; position: relative; }
+#cards li:hover { box-shadow: inset 3px 0 var(--rule); }
+#cards li.chosen { box-shadow: inset 3px 0 var(--link); }
+#cards li:focus-visible { outline-offset: -2px; position: relative; }
 ins, .image ins, .map ins { text-decoration: none; background: var(--new-code); }
 .map .link { color: var(--flag); cursor: help; }
-#cards > #editor { display: block; counter-increment: none; content-visibility: visible; }
-#cards > #editor::before { content: none; }
+#cards #editor { display: block; counter-increment: none; }
+#cards #editor::before { content: none; }
 #editor { border: 1px solid var(--link); border-radius: 4px; padding: .6rem; margin: .3rem 0 .6rem; width: calc(86ch + 2rem); background: var(--paper); }
 #editor p { margin: 0 0 .4rem; }
 #editor .ruler { margin: 0; padding: 0 calc(.5rem + 1px); color: var(--faint); }
@@ -95,23 +98,20 @@ kbd { border: 1px solid var(--rule); border-radius: 3px; padding: 0 .25rem; font
 @media (max-width: 60rem) {
   body { display: block; }
   nav, main, aside { border: 0; border-top: 1px solid var(--rule); }
-  #cards { overflow-x: auto; width: auto; }
+  nav { max-height: 11rem; }
+  main { overflow-x: auto; }
 }
 @media print {
   :root { --paper: #fff; --ink: #000; --faint: #333; --rule: #999; --flag: #000; --flag-paper: #fff; --new: #fff; --new-code: #fff; --link: #000; --code: #000; }
   @page { margin: 1cm; }
   html, body { height: auto; }
   body { display: block; font-size: 9pt; }
-  nav, form.search, #trouble, #meaning, #editor, .image { display: none; }
+  nav, form.search, #trouble, #meaning, #cards, .image { display: none; }
   header { padding: .5rem 0; }
   main, aside { display: block; overflow: visible; border: 0; padding: 0; }
   .about { position: static; }
-  pre, ol, .code { font-size: 7pt; }
-  #cards { margin-bottom: 1rem; }
-  #cards > li, #cards > li.chosen { content-visibility: visible; break-inside: avoid; box-shadow: none; }
-  #cards > li.flagged .text { font-weight: 700; }
-  #cards .text a { text-decoration: none; }
-  #letters { display: block; }
+  pre { font-size: 7pt; }
+  #paper, #letters { display: block; }
 }
 </style>
 </head>

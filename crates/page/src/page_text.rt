@@ -29,7 +29,8 @@ pub(crate) const BODY: &str = r##"<body>
     <p class="faint" id="about">Choose a deck.</p>
     <p id="meaning" role="status"></p>
   </div>
-  <ol id="cards" aria-label="Cards of the deck"></ol>
+  <div id="cards" role="group" aria-label="Cards of the deck"></div>
+  <pre id="paper"></pre>
   <pre id="letters"></pre>
 </main>
 <aside>
