@@ -2,53 +2,92 @@
 
 pub(crate) const EDITS: &str = r##"
 const REFUSALS = {
-  OldVersion: "Somebody else was first.", NoSuchCard: "The deck has no such card any more.",
-  NoDeck: "The deck is not there any more.", TooWide: "A card has 80 columns at most.",
-  DeckFull: "The deck has 20,000 cards already.", NotKept: "The journal can't be written; look whether the change stands, and tell the keeper.",
+  OldVersion: "The deck has not come to the version that is shown; load the page again.", NoSuchCard: "The deck has no such card.",
+  NoDeck: "The deck is not there any more.", TooWide: "A card has 80 columns at most.", DeckFull: "The deck has 20,000 cards already.",
+  Forgotten: "So much was changed since, or all cards at once, that the place can't be found any more; look for it in the deck.",
+  Touched: "The card was changed since.",
+  NotKept: "The journal can't be written; look whether the change stands, and tell the keeper.",
   OutOfMemory: "The service has no memory left; try again later.", BadCommand: "The card has a character that no card has.",
   UnknownCommand: "The service has no such command; load the page again.",
 };
-const AROUND = 2;
+const AROUND = 2, MOMENT = 400, COLUMNS = 80;
 
-// ---- Edits.
+// What a refusal means, with its own words.
+function meaning_of_refusal(reply) {
+  const [, reason, column] = reply.words;
+  const meaning = reason === "BadCharacter" ? `Column ${column} has a character that no card has.` : REFUSALS[reason] || "";
+  return `${meaning} (${reply.words.slice(1).join(" ")})`;
+}
+
+const meaning_of_silence = fault => `No reply came (${fault.message}): the change may have been made or not. Look before you send it again.`;
+
+// The name of who made a change, or the number of the session.
+const who_of = who => /^\d+$/.test(who) ? `session ${who}` : who;
+
+// ---- The editor of a card.
 
 let editor = null;
 
 function leave() {
   if (!editor) return;
-  const item = editor.item;
   editor.element.remove();
   editor = null;
-  if (item.isConnected) item.focus();
+  if (entered && entered.isConnected) entered.focus();
 }
 
+// Opens the editor below a card, by its number from 0.
 function edit(number) {
   leave();
   const item = shown.items[number];
-  if (!item || shown.deck !== chosen) return;
-  const element = $("editing").content.firstElementChild.cloneNode(true);
-  const find = kind => element.querySelector(kind), input = find(".card");
-  editor = { element, item, deck: chosen, version: shown.version, place: number + 1, cards: shown.cards.map(card => card.text), find };
-  input.value = shown.cards[number].text;
+  if (shown.deck !== chosen || !item) return;
+  const element = $("editing").content.firstElementChild.cloneNode(true), find = kind => element.querySelector(kind);
+  const cards = shown.cards.map(card => card.text), place = number + 1;
+  editor = { element, item, find, deck: chosen, version: shown.version ?? shown.published, place, cards, enter: null, is_removed: false, ready_at: 0, is_sending: false };
+  find(".card").value = cards[number];
+  listen_to_editor();
+  stand_on(number, false);
+  item.after(element);
+  tell_editor();
+  find(".card").focus();
+  find(".card").setSelectionRange(0, 0);
+  tell_column();
+}
+
+function listen_to_editor() {
+  const { element, find } = editor, input = find(".card");
   find(".save").onclick = () => send("REP");
   find(".before").onclick = () => send("INS", 0);
   find(".after").onclick = () => send("INS", 1);
   find(".remove").onclick = () => send("DEL");
   find(".leave").onclick = leave;
-  input.onkeydown = event => { if (event.key === "Enter") send("REP"); };
+  input.onkeydown = type_key;
   for (const kind of ["keyup", "click", "input", "focus"]) input.addEventListener(kind, tell_column);
-  element.onkeydown = event => { if (event.key === "Escape") leave(); event.stopPropagation(); };
-  item.after(element);
-  tell_editor();
-  input.focus();
-  input.setSelectionRange(0, 0);
-  tell_column();
+  element.onkeydown = event => {
+    if (event.key === "Escape") leave();
+    event.stopPropagation();
+  };
 }
 
-// Which card is edited, and by which version; none is known while a change of the deck is not published yet.
+// Offers the keys for what stands in the editor: a card that is gone is neither replaced nor deleted.
+function offer_keys() {
+  if (editor.is_removed) offer(null, "before");
+  else offer("save", "before", "after", "remove");
+}
+
+// Offers these keys and no others; the first of them is what Enter presses.
+function offer(...kinds) {
+  const names = { save: "replaces", before: "inserts", after: "inserts" };
+  for (const kind of ["save", "before", "after", "remove"]) editor.find(`.${kind}`).hidden = !kinds.includes(kind);
+  editor.enter = kinds[0];
+  editor.find(".enter").textContent = names[kinds[0]] || "does nothing";
+}
+
+// Which card is edited, and by which version.
 function tell_editor() {
-  editor.find(".at").textContent = editor.place;
-  editor.find(".version").textContent = editor.version === null ? "" : `, by version ${editor.version}`;
+  const { find, place, version, is_removed } = editor;
+  find(".at").textContent = is_removed ? `A new card ${place}` : `Card ${place}`;
+  find(".version").textContent = `, by version ${version}`;
+  offer_keys();
 }
 
 function tell_column() {
@@ -59,52 +98,112 @@ function answer(text) {
   if (editor) editor.find(".answer").textContent = text;
 }
 
-// Sends an edit by the version that is shown. Where somebody was first, the cards as they are now stand beside one's own.
+// ---- Keys in a card.
+
+const is_command = event => (event.ctrlKey || event.altKey || event.metaKey) && !event.getModifierState("AltGraph");
+
+function type_key(event) {
+  if (event.key === "Enter" && editor.enter) editor.find(`.${editor.enter}`).click();
+}
+
+const card_of = line => line.toUpperCase().replace(/ +$/, "");
+
+// What is wrong with a card before it is sent: a longer line, or one with other letters, might end the session.
+function fault_of(card) {
+  if (/[^ -~]/.test(card)) return `Column ${card.search(/[^ -~]/) + 1} of a card has a character that no card has.`;
+  return card.length > COLUMNS ? REFUSALS.TooWide : "";
+}
+
+// ---- What the editor sends.
+
+// The command for what stands in an editor. The plus lets the card be found wherever others moved it.
+function command_of({ deck, version, place, find }, verb, behind) {
+  const seen = `${deck} ${version}+`, at = place + behind;
+  if (verb === "DEL") return `DEL ${seen} ${at}`;
+  return `${verb} ${seen} ${at} ${card_of(find(".card").value)}`;
+}
+
+// Sends an edit once, and not within a moment from when something was told that one has to read first.
 async function send(verb, behind = 0) {
-  const { deck, find, version, place } = editor;
-  const text = verb === "DEL" ? "" : ` ${find(".card").value.toUpperCase()}`;
+  const sender = editor, wrong = verb === "DEL" ? "" : fault_of(card_of(editor.find(".card").value));
+  if (sender.is_sending || performance.now() < sender.ready_at) return;
+  if (wrong) return answer(wrong);
+  sender.is_sending = true;
   try {
-    if (version === null) return await show_theirs("The deck is ahead of what is shown.");
-    const [reply] = await ask(`${verb} ${deck} ${version} ${place + behind}${text}`);
-    if (reply.ok) { leave(); asked_now(); return; }
-    const reason = reply.words[1], told = reply.words.slice(1).join(" ");
-    const meaning = reason === "BadCharacter" ? `Column ${reply.words[2]} has a character that no card has.` : REFUSALS[reason] || "";
-    if (reason === "OldVersion") await show_theirs(`${meaning} (${told})`);
-    else answer(`${meaning} (${told})`);
+    const [reply] = await ask(command_of(sender, verb, behind));
+    if (reply.ok) asked_now();
+    if (editor !== sender) return;
+    if (reply.ok) leave();
+    else if (reply.words[1] === "Touched") await show_theirs(sender);
+    else answer(meaning_of_refusal(reply));
   } catch (fault) {
-    answer(`No reply came (${fault.message}): the change may have been made or not. Look at the card before you send it again.`);
+    if (editor === sender) answer(meaning_of_silence(fault));
+  } finally {
+    sender.is_sending = false;
   }
 }
 
-// The cards around the place as they are now beside one's own, and the version and the place by which one's own can
-// be sent again.
-async function show_theirs(reason) {
-  const [cards] = await ask(`CARDS ${editor.deck}`);
-  if (!editor) return;
-  if (!cards.ok) return answer(`${reason} Nothing of yours was done, and the deck is not there any more.`);
-  const from = same_lines(editor.cards, cards.rows), stays = from.includes(editor.place - 1);
-  const place = place_of(from, editor.place - 1) + 1, first = Math.max(1, place - AROUND);
-  Object.assign(editor, { version: cards.version, place, cards: cards.rows });
-  const numbered = (number, text) => `${String(number).padStart(5)}  ${text}\n`;
-  const rows = cards.rows.slice(first - 1, place + AROUND).map((row, n) =>
-    first + n === place ? made("mark", "", numbered(place, row)) : numbered(first + n, row));
-  const theirs = editor.find(".theirs"), own = editor.find(".card").value.toUpperCase();
-  theirs.replaceChildren(`The deck at version ${cards.version}:\n`, ...rows, `Yours, for card ${place}:\n`, numbered("", own));
-  theirs.hidden = false;
+// What became of a card by the lines of CHANGES: the cards now, its place there or that where it stood, and who changed
+// it last, in which version; once it was removed, who removed it.
+function fate_of(cards, place, rows) {
+  const now = cards.slice();
+  let by = null, is_removed = false;
+  for (let n = 0; n < rows.length; ) {
+    const [, version, who, count] = rows[n++].split(" ");
+    for (const end = n + Number(count); n < end; n++) {
+      const [, verb, number, text] = /^(\S+) (\d+) ?(.*)$/.exec(rows[n]), at = Number(number), is_it = at === place && !is_removed;
+      if (is_it && verb !== "INS") by = { who, version };
+      if (verb === "REP") { now[at - 1] = text; continue; }
+      if (verb === "INS") now.splice(at - 1, 0, text); else now.splice(at - 1, 1);
+      if (is_it && verb === "DEL") is_removed = true;
+      else if (at < place || is_it) place += verb === "INS" ? 1 : -1;
+    }
+  }
+  return { cards: now, place, by, is_removed };
+}
+
+// Shows what others did to the card, and the cards around its place as they are now, beside one's own; from then on the
+// editor goes by these. A card that was removed can't be written to any more, only put in anew.
+async function show_theirs(sender) {
+  const [reply] = await ask(`CHANGES ${sender.deck} ${sender.version}`);
+  if (editor !== sender) return;
+  if (!reply.ok) return answer(meaning_of_refusal(reply));
+  const fate = fate_of(sender.cards, sender.place, reply.rows), seen = sender.place;
+  Object.assign(sender, { version: reply.version, place: fate.place, cards: fate.cards, is_removed: fate.is_removed, ready_at: performance.now() + MOMENT });
+  show_around(fate);
   tell_editor();
-  answer(`${reason} Nothing of yours was done. ${stays ? `The card stands as you saw it, as card ${place}.` : "The card itself is another."} The keys above send yours again, by this version.`);
+  const doing = fate.is_removed ? "removed" : "replaced", by = fate.by && `${who_of(fate.by.who)} ${doing} card ${seen} in version ${fate.by.version}.`;
+  if (fate.is_removed) {
+    sender.find(".before").textContent = "Insert in its place";
+    answer(`${by} Nothing of yours was done. Yours can be put in as a new card where that one stood; Enter does nothing.`);
+  } else answer(`${by || REFUSALS.Touched} Nothing of yours was done. The keys above send yours all the same.`);
+}
+
+function show_around({ cards, place, is_removed }) {
+  const first = Math.max(1, place - AROUND), numbered = (number, text) => `${String(number).padStart(5)}  ${text}\n`;
+  const rows = cards.slice(first - 1, place + AROUND).map((text, n) =>
+    first + n === place && !is_removed ? made("mark", "", numbered(place, text)) : numbered(first + n, text));
+  const own = card_of(editor.find(".card").value), theirs = editor.find(".theirs");
+  theirs.replaceChildren(`The deck at version ${editor.version}:\n`, ...rows, "Yours:\n", numbered("", own));
+  theirs.hidden = false;
 }
 
 // ---- Keys and clicks.
+
+// Enter that is held counts once, whatever it presses.
+document.addEventListener("keydown", event => {
+  if (event.key !== "Enter" || !event.repeat) return;
+  event.preventDefault();
+  event.stopPropagation();
+}, true);
 
 $("cards").addEventListener("click", event => {
   if (event.target.closest("#editor")) return;
   const symbol = event.target.dataset && event.target.dataset.symbol;
   if (symbol) { go_to_symbol(symbol); return; }
-  const item = event.target.closest("#cards li");
-  const number = shown.items.indexOf(item);
+  const number = shown.items.indexOf(event.target.closest("#cards li"));
   if (number < 0) return;
-  if (item.classList.contains("chosen") && String(getSelection()) === "") edit(number);
+  if (number === standing() && String(getSelection()) === "") edit(number);
   else stand_on(number);
 });
 
@@ -116,20 +215,23 @@ $("cards").addEventListener("keydown", event => {
   else edit(shown.items.indexOf(event.target));
 });
 
+const MOVES = {
+  j: () => stand_on(standing() + 1), k: () => stand_on(standing() - 1),
+  ArrowDown: () => stand_on(standing() + 1), ArrowUp: () => stand_on(standing() - 1),
+  n: () => go_to_flag(1), p: () => go_to_flag(-1),
+  "]": () => go_to_deck(1), "[": () => go_to_deck(-1),
+};
+const ACTS = {
+  "/": () => $("sought").select(), Escape: end_search, Enter: () => edit(Math.max(0, standing())),
+};
+
 document.addEventListener("keydown", event => {
-  const is_command = (event.ctrlKey || event.altKey || event.metaKey) && !event.getModifierState("AltGraph");
-  if (is_command || event.target.closest("input, textarea")) return;
-  const keys = {
-    j: () => stand_on(standing() + 1), k: () => stand_on(standing() - 1),
-    ArrowDown: () => stand_on(standing() + 1), ArrowUp: () => stand_on(standing() - 1),
-    n: () => go_to_flag(1), p: () => go_to_flag(-1),
-    "]": () => go_to_deck(1), "[": () => go_to_deck(-1),
-    "/": () => $("sought").select(), Escape: end_search,
-  };
-  const is_arrow = event.key.startsWith("Arrow");
-  if (!keys[event.key] || (is_arrow && !event.target.closest("#cards"))) return;
+  if (is_command(event) || event.target.closest("input, textarea")) return;
+  const act = MOVES[event.key] || (!event.repeat && ACTS[event.key]);
+  const is_elsewhere = event.key.startsWith("Arrow") ? !event.target.closest("#cards") : event.key === "Enter" && event.target !== document.body;
+  if (!act || is_elsewhere) return;
   event.preventDefault();
-  keys[event.key]();
+  act();
 });
 
 $("search").addEventListener("submit", event => {

@@ -45,7 +45,7 @@ pub(crate) const BODY: &str = r##"<body>
 </aside>
 <template id="editing">
   <li id="editor">
-    <p class="faint">Card <span class="at"></span><span class="version"></span>; <span class="column"></span></p>
+    <p class="faint"><span class="at"></span><span class="version"></span>; <span class="column"></span></p>
     <pre class="ruler" aria-hidden="true">1         11     18          30                                         73</pre>
     <input class="card" maxlength="200" autocomplete="off" spellcheck="false" aria-label="The card">
     <div class="keys">
@@ -54,7 +54,7 @@ pub(crate) const BODY: &str = r##"<body>
       <button class="after">Insert behind</button>
       <button class="remove">Delete</button>
       <button class="leave">Leave</button>
-      <span class="faint"><kbd>Enter</kbd> replaces, <kbd>Esc</kbd> leaves</span>
+      <span class="faint"><kbd>Enter</kbd> <span class="enter"></span>, <kbd>Esc</kbd> leaves</span>
     </div>
     <p class="answer" role="alert"></p>
     <pre class="theirs" hidden></pre>
