@@ -1,11 +1,14 @@
-//! The script of the page, its second part: cards are edited, and keys and clicks lead to all of it.
+//! The script of the page, its second part: cards are edited, decks are made and saved, and keys and clicks lead to all of it.
 
 pub(crate) const EDITS: &str = r##"
 const REFUSALS = {
   OldVersion: "The deck has not come to the version that is shown; load the page again.", NoSuchCard: "The deck has no such card.",
   NoDeck: "The deck is not there any more.", TooWide: "A card has 80 columns at most.", DeckFull: "The deck has 20,000 cards already.",
   Forgotten: "So much was changed since, or all cards at once, that the place can't be found any more; look for it in the deck.",
-  Touched: "The card was changed since.",
+  NoChange: "No edit of this deck made that version.", Touched: "The card was changed since.",
+  NameTaken: "There is a deck of this name.", TooManyDecks: "There are 64 decks already.", BadName: "A name has 1 to 7 letters and digits.",
+  FileExists: "A file of this name stands there that this service neither loaded nor saved; a session's SAVE with FORCE writes over it.",
+  CannotOpen: "The file can't be written; tell the keeper.", WriteFault: "Writing the file failed; save again.",
   NotKept: "The journal can't be written; look whether the change stands, and tell the keeper.",
   OutOfMemory: "The service has no memory left; try again later.", BadCommand: "The card has a character that no card has.",
   UnknownCommand: "The service has no such command; load the page again.",
@@ -24,6 +27,13 @@ const meaning_of_silence = fault => `No reply came (${fault.message}): the chang
 // The name of who made a change, or the number of the session.
 const who_of = who => /^\d+$/.test(who) ? `session ${who}` : who;
 
+// Sends a change by one's name, where one has told it; gives its reply.
+async function change(command) {
+  const name = $("name").value;
+  const replies = await ask(...(name ? [`HELLO ${name}`] : []), command);
+  return replies[replies.length - 1];
+}
+
 // ---- The editor of a card.
 
 let editor = null;
@@ -32,21 +42,20 @@ function leave() {
   if (!editor) return;
   editor.element.remove();
   editor = null;
-  if (entered && entered.isConnected) entered.focus();
+  if (entered && entered.isConnected) entered.focus(); else $("first").focus();
 }
 
-// Opens the editor below a card, by its number from 0.
+// Opens the editor below a card, by its number from 0; in a deck without cards for the first one.
 function edit(number) {
   leave();
-  const item = shown.items[number];
-  if (shown.deck !== chosen || !item) return;
+  const item = shown.items[number], is_first = !item && !$("first").hidden;
+  if (shown.deck !== chosen || (!item && !is_first)) return;
   const element = $("editing").content.firstElementChild.cloneNode(true), find = kind => element.querySelector(kind);
-  const cards = shown.cards.map(card => card.text), place = number + 1;
+  const cards = shown.cards.map(card => card.text), place = is_first ? 0 : number + 1;
   editor = { element, item, find, deck: chosen, version: shown.version ?? shown.published, place, cards, enter: null, is_removed: false, ready_at: 0, is_sending: false };
-  find(".card").value = cards[number];
+  find(".card").value = is_first ? "" : cards[number];
   listen_to_editor();
-  stand_on(number, false);
-  item.after(element);
+  if (is_first) $("cards").append(part_of([element])); else { stand_on(number, false); item.after(element); }
   tell_editor();
   find(".card").focus();
   find(".card").setSelectionRange(0, 0);
@@ -71,6 +80,7 @@ function listen_to_editor() {
 // Offers the keys for what stands in the editor: a card that is gone is neither replaced nor deleted.
 function offer_keys() {
   if (editor.is_removed) offer(null, "before");
+  else if (!editor.place) offer("after");
   else offer("save", "before", "after", "remove");
 }
 
@@ -85,7 +95,7 @@ function offer(...kinds) {
 // Which card is edited, and by which version.
 function tell_editor() {
   const { find, place, version, is_removed } = editor;
-  find(".at").textContent = is_removed ? `A new card ${place}` : `Card ${place}`;
+  find(".at").textContent = is_removed ? `A new card ${place}` : place ? `Card ${place}` : "The first card";
   find(".version").textContent = `, by version ${version}`;
   offer_keys();
 }
@@ -130,8 +140,8 @@ async function send(verb, behind = 0) {
   if (wrong) return answer(wrong);
   sender.is_sending = true;
   try {
-    const [reply] = await ask(command_of(sender, verb, behind));
-    if (reply.ok) asked_now();
+    const reply = await change(command_of(sender, verb, behind));
+    if (reply.ok) note_change(sender.deck, reply.version);
     if (editor !== sender) return;
     if (reply.ok) leave();
     else if (reply.words[1] === "Touched") await show_theirs(sender);
@@ -188,6 +198,70 @@ function show_around({ cards, place, is_removed }) {
   theirs.hidden = false;
 }
 
+// ---- What one does with a deck.
+
+// The changes that one made on this page and has not taken back, each with its deck and the version that it made.
+let own_changes = [];
+
+function note_change(deck, version) {
+  own_changes.push({ deck, version });
+  asked_now();
+}
+
+function tell_done(text) {
+  $("done").textContent = text;
+}
+
+// Sends the command of a key, one after the other, and tells what came of it.
+let is_doing = false;
+async function do_and_tell(command, tell) {
+  if (is_doing) return;
+  is_doing = true;
+  try {
+    const reply = await change(command);
+    tell_done(reply.ok ? tell(reply.version) : meaning_of_refusal(reply));
+  } catch (fault) {
+    tell_done(meaning_of_silence(fault));
+  } finally {
+    is_doing = false;
+  }
+  asked_now();
+}
+
+function make_deck() {
+  const name = $("new-deck").value;
+  if (!name) return;
+  do_and_tell(`ADD ${name}`, version => {
+    $("new-deck").value = "";
+    $("new-deck").blur();
+    location.hash = `#${name}`;
+    return `Deck ${name} was made, by version ${version}.`;
+  });
+}
+
+function take_back() {
+  const own = own_changes.filter(own => own.deck === chosen), last = own[own.length - 1];
+  if (!last) return tell_done("There is no change of yours in this deck that could be taken back.");
+  do_and_tell(`UNDO ${last.deck} ${last.version}`, version => {
+    own_changes = own_changes.filter(own => own !== last);
+    return `Your change of version ${last.version} is taken back, by version ${version}.`;
+  });
+}
+
+function save_deck() {
+  const name = chosen;
+  if (name) do_and_tell(`SAVE ${name}`, version => `Deck ${name} is saved, at version ${version}.`);
+}
+
+// One's name stays with the browser.
+function keep_name() {
+  try { localStorage.setItem("name", $("name").value); } catch { /* for this page alone */ }
+}
+
+function recall_name() {
+  try { $("name").value = localStorage.getItem("name") || ""; } catch { /* none */ }
+}
+
 // ---- Keys and clicks.
 
 // Enter that is held counts once, whatever it presses.
@@ -222,7 +296,8 @@ const MOVES = {
   "]": () => go_to_deck(1), "[": () => go_to_deck(-1),
 };
 const ACTS = {
-  "/": () => $("sought").select(), Escape: end_search, Enter: () => edit(Math.max(0, standing())),
+  "/": () => $("sought").select(), "+": () => $("new-deck").select(), Escape: end_search,
+  u: take_back, s: save_deck, Enter: () => edit(Math.max(0, standing())),
 };
 
 document.addEventListener("keydown", event => {
@@ -239,11 +314,24 @@ $("search").addEventListener("submit", event => {
   search($("sought").value).catch(fault => { $("trouble").textContent = `The search had no answer (${fault.message}).`; });
 });
 
+$("adding").addEventListener("submit", event => {
+  event.preventDefault();
+  make_deck();
+});
+
+for (const id of ["name", "new-deck"]) $(id).addEventListener("input", event => {
+  event.target.value = event.target.value.toUpperCase().replace(/[^A-Z0-9]/g, "");
+});
+$("name").addEventListener("input", keep_name);
+$("first").addEventListener("click", () => edit(0));
+$("save").addEventListener("click", save_deck);
+$("undo").addEventListener("click", take_back);
 $("sought").addEventListener("keydown", event => { if (event.key === "Escape") end_search(); });
 addEventListener("beforeprint", () => show_lines($("paper"), lines_for_paper(shown.cards), null, dress_flagged));
 addEventListener("afterprint", () => $("paper").replaceChildren());
 addEventListener("hashchange", read_hash);
 document.addEventListener("visibilitychange", () => asked_now());
+recall_name();
 read_hash();
 run();
 </script>

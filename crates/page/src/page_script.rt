@@ -45,12 +45,12 @@ async function ask(...commands) {
   });
 }
 
-// What STATUS tells.
+// What STATUS FILES tells.
 function status_of(reply) {
   const [, published] = reply.rows[0].split(" ");
   const decks = reply.rows.slice(1).map(row => {
-    const [name, version, cards, state] = row.split(" ");
-    return { name, version: Number(version), cards: Number(cards), state };
+    const [name, version, cards, state, file] = row.split(" ");
+    return { name, version: Number(version), cards: Number(cards), state, is_saved: file === "SAVED" };
   });
   return { version: reply.version, published: published === "NONE" ? null : Number(published), decks };
 }
@@ -159,13 +159,13 @@ function show_decks() {
     link.append(made("b", "", deck.name));
     const count = flagged.get(deck.name);
     const cards = deck.cards === 1 ? "1 card" : `${deck.cards} cards`;
-    const about = made("small", "", `${STATES[deck.state] || deck.state}, version ${deck.version}, ${cards}`);
+    const about = made("small", "", `${STATES[deck.state] || deck.state}, version ${deck.version}, ${cards}${deck.is_saved ? "" : ", not saved"}`);
     if (count) about.append(", ", made("span", "flags", `${count} flagged`));
     link.append(about);
     item.append(link);
     return item;
   });
-  if (!rows.length) rows.push(made("li", "faint", "There is no deck yet. A session makes one: ADD and INS, PUT, or LOAD."));
+  if (!rows.length) rows.push(made("li", "faint", "There is no deck yet. Make one below, or by a session: PUT, or LOAD."));
   $("decks").replaceChildren(...rows);
 }
 
@@ -385,11 +385,14 @@ function show_publication(published, version, list, image, map, counts) {
   flagged = counts;
   $("title").textContent = chosen ? `Listing of ${chosen} ${listing.kind}` : "Listing";
   $("image-of").textContent = chosen ? `of ${chosen}` : "";
+  $("first").hidden = !list || listing.cards.length > 0;
+  $("keys").hidden = !chosen;
   const count = counts.get(chosen) || 0, flags = count === 1 ? "1 statement is flagged" : `${count} statements are flagged`;
   $("about").textContent = !chosen ? "Choose a deck." : !list ? "Nothing of this deck is published yet." : `${flags}. ${listing.blocks.join("; ")}`;
   document.title = chosen ? `${chosen} ${published} - Beskloun` : "Beskloun";
   Object.assign(shown, { deck: chosen, published, version, image: words, map: map.rows });
   if (waiting) go_to_card(waiting);
+  if (document.activeElement === document.body) $("first").focus();
 }
 
 // The listing as lines for paper, where as many elements as the cards have would take minutes.
@@ -408,7 +411,7 @@ const dress_flagged = line => line.slice(0, 4).trim() ? made("b", "", line) : nu
 async function take_publication() {
   for (let turn = 0; turn < TRIES; turn++) {
     const deck = chosen;
-    const lines = ["STATUS", "MAP", "ERRORS"].concat(deck ? [`LIST ${deck}`, `IMAGE ${deck}`] : []);
+    const lines = ["STATUS FILES", "MAP", "ERRORS"].concat(deck ? [`LIST ${deck}`, `IMAGE ${deck}`] : []);
     const [status, map, errors, list, image] = await ask(...lines);
     const now = status_of(status);
     system = now;
@@ -423,7 +426,7 @@ async function take_publication() {
 }
 
 async function follow() {
-  const [reply] = await ask("STATUS");
+  const [reply] = await ask("STATUS FILES");
   system = status_of(reply);
   if (chosen && !system.decks.some(deck => deck.name === chosen) && !editor) chosen = null;
   if (!chosen && system.decks.length && !location.hash) chosen = system.decks[0].name;

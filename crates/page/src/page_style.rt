@@ -33,7 +33,9 @@ h1, h2 { font-size: 1rem; margin: 0; }
 header .told { margin: 0; }
 #trouble { margin: 0; color: var(--flag); font-weight: 600; }
 #trouble:empty { display: none; }
-form.search { margin-left: auto; display: flex; gap: .3rem; }
+.own { margin-left: auto; }
+#name, #new-deck { width: 6rem; }
+form.search, form.adding { display: flex; gap: .3rem; }
 nav, main, aside { overflow: auto; min-height: 0; padding: .6rem .8rem; }
 main { padding-top: 0; }
 .about { position: sticky; top: 0; left: 0; z-index: 1; padding: .6rem 0 .3rem; background: var(--paper); border-bottom: 1px solid var(--rule); }
@@ -44,6 +46,7 @@ aside { border-left: 1px solid var(--rule); }
 pre, ol, input.card, .code, .number { font: 13px/1.4 ui-monospace, "DejaVu Sans Mono", Consolas, monospace; }
 pre { margin: .2rem 0 1rem; }
 button, input { font: inherit; color: inherit; background: var(--paper); border: 1px solid var(--rule); border-radius: 3px; padding: .15rem .5rem; }
+button { white-space: nowrap; }
 button:hover { background: var(--chosen); }
 :focus-visible { outline: 2px solid var(--link); outline-offset: 1px; }
 #decks { list-style: none; margin: .4rem 0 1rem; padding: 0; }
@@ -57,7 +60,7 @@ button:hover { background: var(--chosen); }
 #found small { display: block; color: var(--faint); white-space: pre; overflow: hidden; text-overflow: ellipsis; font-family: ui-monospace, "DejaVu Sans Mono", Consolas, monospace; }
 #cards { margin: .3rem 0 2rem; width: 123ch; min-width: 100%; font: 13px/1.4 ui-monospace, "DejaVu Sans Mono", Consolas, monospace; }
 #cards ol { list-style: none; margin: 0; padding: 0; content-visibility: auto; }
-#cards li { display: grid; grid-template-columns: 4ch 30ch 6ch 80ch; column-gap: 1ch; counter-increment: card; scroll-margin: 7rem 0 30vh; }
+#cards li { display: grid; grid-template-columns: 4ch 30ch 6ch 80ch; column-gap: 1ch; counter-increment: card; scroll-margin: 9rem 0 30vh; }
 #cards li:first-child { counter-reset: card var(--before); }
 #cards li::before { content: counter(card); grid-area: 1 / 3; color: var(--faint); text-align: right; padding-right: 1ch; }
 #cards .letters { grid-area: 1 / 1; color: var(--flag); font-weight: 700; text-align: right; }
@@ -106,7 +109,7 @@ kbd { border: 1px solid var(--rule); border-radius: 3px; padding: 0 .25rem; font
   @page { margin: 1cm; }
   html, body { height: auto; }
   body { display: block; font-size: 9pt; }
-  nav, form.search, #trouble, #meaning, #cards, .image { display: none; }
+  nav, form.search, .own, #trouble, #meaning, #keys, #cards, #first, .image { display: none; }
   header { padding: .5rem 0; }
   main, aside { display: block; overflow: visible; border: 0; padding: 0; }
   .about { position: static; }
