@@ -13,7 +13,7 @@ const REFUSALS = {
   OutOfMemory: "The service has no memory left; try again later.", BadCommand: "The card has a character that no card has.",
   UnknownCommand: "The service has no such command; load the page again.",
 };
-const AROUND = 2, MOMENT = 400, COLUMNS = 80;
+const AROUND = 2, MOMENT = 400, MOST_PASTED = 100, COLUMNS = 80, STOPS = [11, 18, 30];
 
 // What a refusal means, with its own words.
 function meaning_of_refusal(reply) {
@@ -37,6 +37,7 @@ async function change(command) {
 // ---- The editor of a card.
 
 let editor = null;
+let overtypes = false;
 
 function leave() {
   if (!editor) return;
@@ -52,7 +53,7 @@ function edit(number) {
   if (shown.deck !== chosen || (!item && !is_first)) return;
   const element = $("editing").content.firstElementChild.cloneNode(true), find = kind => element.querySelector(kind);
   const cards = shown.cards.map(card => card.text), place = is_first ? 0 : number + 1;
-  editor = { element, item, find, deck: chosen, version: shown.version ?? shown.published, place, cards, enter: null, is_removed: false, ready_at: 0, is_sending: false };
+  editor = { element, item, find, deck: chosen, version: shown.version ?? shown.published, place, cards, pasted: null, enter: null, is_removed: false, ready_at: 0, is_sending: false };
   find(".card").value = is_first ? "" : cards[number];
   listen_to_editor();
   if (is_first) $("cards").append(part_of([element])); else { stand_on(number, false); item.after(element); }
@@ -70,6 +71,7 @@ function listen_to_editor() {
   find(".remove").onclick = () => send("DEL");
   find(".leave").onclick = leave;
   input.onkeydown = type_key;
+  input.onpaste = take_paste;
   for (const kind of ["keyup", "click", "input", "focus"]) input.addEventListener(kind, tell_column);
   element.onkeydown = event => {
     if (event.key === "Escape") leave();
@@ -77,10 +79,11 @@ function listen_to_editor() {
   };
 }
 
-// Offers the keys for what stands in the editor: a card that is gone is neither replaced nor deleted.
+// Offers the keys for what stands in the editor: a card that is gone is neither replaced nor deleted, nor is one by several.
 function offer_keys() {
   if (editor.is_removed) offer(null, "before");
   else if (!editor.place) offer("after");
+  else if (editor.pasted) offer("after", "before");
   else offer("save", "before", "after", "remove");
 }
 
@@ -94,14 +97,16 @@ function offer(...kinds) {
 
 // Which card is edited, and by which version.
 function tell_editor() {
-  const { find, place, version, is_removed } = editor;
+  const { find, place, version, pasted, is_removed } = editor;
   find(".at").textContent = is_removed ? `A new card ${place}` : place ? `Card ${place}` : "The first card";
   find(".version").textContent = `, by version ${version}`;
+  find(".pasted").hidden = !pasted;
   offer_keys();
+  if (pasted) find(".pasted").textContent = `${pasted.length} cards, put in by one change:\n${pasted.join("\n")}`;
 }
 
 function tell_column() {
-  if (editor) editor.find(".column").textContent = `column ${editor.find(".card").selectionStart + 1}`;
+  if (editor) editor.find(".column").textContent = `column ${editor.find(".card").selectionStart + 1}${overtypes ? ", overtype" : ""}`;
 }
 
 function answer(text) {
@@ -113,7 +118,37 @@ function answer(text) {
 const is_command = event => (event.ctrlKey || event.altKey || event.metaKey) && !event.getModifierState("AltGraph");
 
 function type_key(event) {
+  const input = event.target, at = input.selectionStart;
   if (event.key === "Enter" && editor.enter) editor.find(`.${editor.enter}`).click();
+  else if (event.key === "Tab" && event.shiftKey) { event.preventDefault(); editor.find(".keys button:not([hidden])").focus(); }
+  else if (event.key === "Tab" && go_to_stop(input, at)) event.preventDefault();
+  else if (event.key === "Insert" && !is_command(event)) { event.preventDefault(); overtypes = !overtypes; }
+  else if (overtypes && event.key.length === 1 && !is_command(event) && at === input.selectionEnd) input.setSelectionRange(at, at + 1);
+  tell_column();
+}
+
+// Goes to the next tab stop: over the blanks that stand there, or over all when one overtypes, and by new blanks for the
+// rest; whether there is a further stop.
+function go_to_stop(input, from) {
+  const stop = STOPS.find(stop => stop > from + 1), text = input.value;
+  if (stop === undefined || input.readOnly) return false;
+  let at = from;
+  while (at < stop - 1 && (overtypes ? at < text.length : text[at] === " ")) at++;
+  input.setRangeText(" ".repeat(stop - 1 - at), at, at, "end");
+  return true;
+}
+
+// Takes lines that are pasted for cards, which the keys then insert together; a single line is pasted as ever.
+function take_paste(event) {
+  const lines = event.clipboardData.getData("text").replace(/\r\n?/g, "\n").replace(/\n+$/, "").split("\n");
+  if (lines.length < 2) return;
+  event.preventDefault();
+  const cards = lines.map(card_of), fault = cards.map(fault_of).find(Boolean);
+  if (fault || cards.length > MOST_PASTED) return answer(fault ? `Nothing was taken. ${fault}` : `Nothing was taken: at most ${MOST_PASTED} cards at once.`);
+  editor.pasted = cards;
+  editor.find(".card").readOnly = true;
+  tell_editor();
+  answer("");
 }
 
 const card_of = line => line.toUpperCase().replace(/ +$/, "");
@@ -127,9 +162,10 @@ function fault_of(card) {
 // ---- What the editor sends.
 
 // The command for what stands in an editor. The plus lets the card be found wherever others moved it.
-function command_of({ deck, version, place, find }, verb, behind) {
+function command_of({ deck, version, place, pasted, find }, verb, behind) {
   const seen = `${deck} ${version}+`, at = place + behind;
   if (verb === "DEL") return `DEL ${seen} ${at}`;
+  if (pasted) return [`BATCH ${seen} ${pasted.length}`, ...pasted.map((card, n) => `INS ${at + n} ${card}`)].join("\n");
   return `${verb} ${seen} ${at} ${card_of(find(".card").value)}`;
 }
 
@@ -193,7 +229,7 @@ function show_around({ cards, place, is_removed }) {
   const first = Math.max(1, place - AROUND), numbered = (number, text) => `${String(number).padStart(5)}  ${text}\n`;
   const rows = cards.slice(first - 1, place + AROUND).map((text, n) =>
     first + n === place && !is_removed ? made("mark", "", numbered(place, text)) : numbered(first + n, text));
-  const own = card_of(editor.find(".card").value), theirs = editor.find(".theirs");
+  const own = editor.pasted ? editor.pasted.join("\n       ") : card_of(editor.find(".card").value), theirs = editor.find(".theirs");
   theirs.replaceChildren(`The deck at version ${editor.version}:\n`, ...rows, "Yours:\n", numbered("", own));
   theirs.hidden = false;
 }

@@ -89,6 +89,7 @@ ins, .image ins, .map ins { text-decoration: none; background: var(--new-code); 
 #editor .keys { display: flex; flex-wrap: wrap; gap: .4rem; margin-top: .5rem; align-items: center; }
 #editor .answer:empty { display: none; }
 #editor .answer { margin: .5rem 0 0; color: var(--flag); }
+#editor .pasted { margin: .3rem 0; max-height: 15rem; overflow: auto; }
 #editor pre.theirs { margin: .3rem 0; }
 #editor pre mark { background: var(--new); color: inherit; }
 .faint { color: var(--faint); }

@@ -60,13 +60,14 @@ pub(crate) const BODY: &str = r##"<body>
     <p class="faint"><span class="at"></span><span class="version"></span>; <span class="column"></span></p>
     <pre class="ruler" aria-hidden="true">1         11     18          30                                         73</pre>
     <input class="card" maxlength="200" autocomplete="off" spellcheck="false" aria-label="The card">
+    <pre class="pasted" hidden></pre>
     <div class="keys">
       <button class="save">Replace</button>
       <button class="before">Insert before</button>
       <button class="after">Insert behind</button>
       <button class="remove">Delete</button>
       <button class="leave">Leave</button>
-      <span class="faint"><kbd>Enter</kbd> <span class="enter"></span>, <kbd>Esc</kbd> leaves</span>
+      <span class="faint"><kbd>Enter</kbd> <span class="enter"></span>, <kbd>Esc</kbd> leaves, <kbd>Tab</kbd> goes to the next stop, <kbd>Shift</kbd> <kbd>Tab</kbd> to these keys, <kbd>Insert</kbd> overtypes</span>
     </div>
     <p class="answer" role="alert"></p>
     <pre class="theirs" hidden></pre>
