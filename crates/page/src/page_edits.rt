@@ -9,7 +9,7 @@ const REFUSALS = {
   NameTaken: "There is a deck of this name.", TooManyDecks: "There are 64 decks already.", BadName: "A name has 1 to 7 letters and digits.",
   FileExists: "A file of this name stands there that this service neither loaded nor saved; a session's SAVE with FORCE writes over it.",
   CannotOpen: "The file can't be written; tell the keeper.", WriteFault: "Writing the file failed; save again.",
-  NotKept: "The journal can't be written; look whether the change stands, and tell the keeper.",
+  NotKept: "The journal can't be written, so no change is made; tell the keeper.",
   OutOfMemory: "The service has no memory left; try again later.", BadCommand: "The card has a character that no card has.",
   UnknownCommand: "The service has no such command; load the page again.",
 };
@@ -21,6 +21,8 @@ function meaning_of_refusal(reply) {
   const meaning = reason === "BadCharacter" ? `Column ${column} has a character that no card has.` : REFUSALS[reason] || "";
   return `${meaning} (${reply.words.slice(1).join(" ")})`;
 }
+
+const meaning_of_unkept = reply => `Version ${reply.version} stands in the service, and its journal can't be written: tell the keeper.`;
 
 const meaning_of_silence = fault => `No reply came (${fault.message}): the change may have been made or not. Look before you send it again.`;
 
@@ -178,6 +180,7 @@ async function send(verb, behind = 0) {
   try {
     const reply = await change(command_of(sender, verb, behind));
     if (reply.ok) note_change(sender.deck, reply.version);
+    if (reply.is_unkept) tell_done(meaning_of_unkept(reply));
     if (editor !== sender) return;
     if (reply.ok) leave();
     else if (reply.words[1] === "Touched") await show_theirs(sender);
@@ -255,7 +258,8 @@ async function do_and_tell(command, tell) {
   is_doing = true;
   try {
     const reply = await change(command);
-    tell_done(reply.ok ? tell(reply.version) : meaning_of_refusal(reply));
+    const done = reply.ok ? tell(reply.version) : meaning_of_refusal(reply);
+    tell_done(reply.is_unkept ? meaning_of_unkept(reply) : done);
   } catch (fault) {
     tell_done(meaning_of_silence(fault));
   } finally {

@@ -41,7 +41,8 @@ async function ask(...commands) {
     const count = words[0] === "OK" && words.length > 2 ? Number(words[2]) : 0;
     const rows = told.slice(at, at + count);
     at += count;
-    return { ok: words[0] === "OK", version: Number(words[1]), words, rows };
+    const is_unkept = words[0] === "UNKEPT";
+    return { ok: words[0] === "OK" || is_unkept, is_unkept, version: Number(words[1]), words, rows };
   });
 }
 
