@@ -3,6 +3,7 @@ use Rattle.std.proofs.Common.{◌≡◌, ℕ, List, [], ◌∷◌, true, false, 
 use Rattle.std.specs.Prelude.{codes}
 use Rattle.deck_files.specs.declared.file_rows.FileRow.{FileRow}
 use Rattle.deck_files.specs.FileRows.{deck_in, is_before, with_row}
+use Rattle.deck_files.specs.NewNames.{is_of_a_save}
 
 file_of_a_deck : deck_in (codes "M.DECK") ≡ Some (codes "M")
 file_of_a_deck = refl
@@ -30,6 +31,30 @@ small_letters = refl
 
 behind_a_deck : deck_in (codes "M.DECK.DECK") ≡ None
 behind_a_deck = refl
+
+file_of_a_save : is_of_a_save (codes "7TRUNKS.NEW15.999") ≡ true
+file_of_a_save = refl
+
+deck_is_no_save : is_of_a_save (codes "M.DECK") ≡ false
+deck_is_no_save = refl
+
+old_is_no_save : is_of_a_save (codes "M.OLD") ≡ false
+old_is_no_save = refl
+
+news_is_no_save : is_of_a_save (codes "M.NEWS") ≡ false
+news_is_no_save = refl
+
+no_tries : is_of_a_save (codes "M.NEW3.") ≡ false
+no_tries = refl
+
+more_behind : is_of_a_save (codes "M.NEW3.0.OLD") ≡ false
+more_behind = refl
+
+no_deck_of_a_save : is_of_a_save (codes "m.NEW3.0") ≡ false
+no_deck_of_a_save = refl
+
+journal_of_a_start : is_of_a_save (codes "beskloun.journal.NEW0") ≡ false
+journal_of_a_start = refl
 
 shorter_first : is_before (codes "M") (codes "M1") ≡ true
 shorter_first = refl

@@ -7,6 +7,7 @@ pub mod Savings
 pub mod Moments
 pub mod Folders
 pub mod FileRows
+pub mod NewNames
 pub mod Steps
 pub mod FolderLoads
 pub mod FolderSaves

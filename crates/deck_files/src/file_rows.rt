@@ -27,7 +27,7 @@ pub struct FileRow {
 }
 
 /// The deck that is named so, if a deck may be.
-fn deck_named(stem: &[u8]) -> Option<DeckName>
+pub(crate) fn deck_named(stem: &[u8]) -> Option<DeckName>
     ensures { result ≡ deck_named stem.now }
 {
     match DeckName::read(stem) {

@@ -1,26 +1,9 @@
 //! Files that are left of a service that was killed while it wrote one.
 
-use cards::DeckName;
+use crate::new_names::{is_number, is_of_a_save};
 use std::alloc::AllocGlobal;
 use std::fs;
 use std::rt::Files;
-
-/// Whether these are digits, and at least one.
-fn is_number(text: &str) -> bool {
-    !text.is_empty() && text.bytes().all(|byte| byte.is_ascii_digit())
-}
-
-/// Whether a file has the name of one that a save writes first: the deck's, `.NEW`, and two numbers with a
-/// point between.
-fn is_of_a_save(name: &str) -> bool {
-    let Some((deck, numbers)) = name.split_once(".NEW") else {
-        return false;
-    };
-    let Some((shelf, tries)) = numbers.split_once(".") else {
-        return false;
-    };
-    DeckName::read(deck.as_bytes()).is_ok() && is_number(shelf) && is_number(tries)
-}
 
 /// Whether a file has the name of one that is written first where a file of one of these names is made
 /// anew whole: that name, `.NEW`, and a number.
@@ -28,7 +11,7 @@ fn is_of_whole(name: &str, wholes: &[&str]) -> bool {
     let Some((whole, number)) = name.rsplit_once(".NEW") else {
         return false;
     };
-    wholes.contains(&whole) && is_number(number)
+    wholes.contains(&whole) && is_number(number.as_bytes())
 }
 
 /// Takes the files away that a service left in a folder when it was killed, as far as that can be done:
@@ -41,7 +24,8 @@ pub fn clear_folder<R: Files + AllocGlobal + Clone + Drop>(rt: &R, folder: &str,
     };
     for entry in entries {
         if let Ok(entry) = entry
-            && (is_of_a_save(entry.file_name()) || is_of_whole(entry.file_name(), wholes))
+            && (is_of_a_save(entry.file_name().as_bytes())
+                || is_of_whole(entry.file_name(), wholes))
         {
             let _ = fs::remove_file(rt, entry.path());
         }

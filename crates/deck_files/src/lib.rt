@@ -30,6 +30,7 @@ mod leftovers;
 mod memory_shelf;
 mod moments;
 mod new_files;
+mod new_names;
 mod second_names;
 mod system_folder;
 
