@@ -1,5 +1,6 @@
 -- The steps of reading a command: lines, the items that they show, and where the reader breaks off.
 use Rattle.std.proofs.Common.{ℕ, suc, ◌≡◌, ◌+◌, ◌<◌, List, [], ◌∷◌, ◌++◌, Option, Result, Ok, Err, length, map, refl, sym, ap, subst, ◌∙◌, arith, append_assoc, length-append}
+use Rattle.std.specs.Prelude.{IfErr, IfOk}
 use Rattle.std.proofs.lemmas.List.{map-append}
 use Rattle.std.proofs.KnownBytes.{Consumes-nil, Consumes-trans}
 use Rattle.definitions.specs.InputLines.{InputLine, Line, lines_of}
@@ -13,8 +14,8 @@ use Rattle.session_line.specs.declared.line_items.ItemsRead.{ItemsRead}
 use Rattle.session_line.specs.declared.reading.Stop.{Stop}
 use Rattle.session_line.specs.declared.tasks.Task.{Task}
 use Rattle.session_line.specs.Tasks.{item_in_front, items_from, lines_due, task_by}
-use Rattle.session_line.specs.Taking.{TakesLines, BreaksOff, Stops, IsTaskFor, TakesTask}
-use Rattle.session_line.specs.Joins.LineItems.{IsRead, item_behind, TakesItems, StopsWithin}
+use Rattle.session_line.specs.Taking.{TakesLines, BreaksOff, Stops, StopsWithin, IsTaskFor, TakesBehind, TakesTask}
+use Rattle.session_line.specs.Joins.LineItems.{IsRead, item_behind, TakesItems}
 
 -- nothing is taken
 pub TakesLines-none : (a : Option (List ℕ)) → TakesLines a a []
@@ -92,35 +93,61 @@ module _ {A : Type 0} where
     broken = broken;
   }
 
-  -- all lines of a command are taken
-  pub TakesTask-whole : (item : ℕ → List ℕ → Result A Refusal) (a b c : Option (List ℕ)) (line text : List ℕ) (command : Result Command Refusal) (count : ℕ) (items : ItemsRead A) (task : Task) →
-      ReadsLine a b is.Line line → text ≡ line → command ≡ command_of text → count ≡ lines_due command → TakesItems item b c count items →
-      ((lines : List (List ℕ)) → IsRead (items_from item 1 lines) items → IsTaskFor (task_by command lines) task) → TakesTask a c task
-  TakesTask-whole item a b c line text command count items task reads same reading due taken goes =
-      let e : command ≡ command_of line = reading ∙ ap command_of same in
+  -- all lines behind a first one are taken
+  pub TakesBehind-whole : (item : ℕ → List ℕ → Result A Refusal) (a b : Option (List ℕ)) (text : List ℕ) (command : Result Command Refusal) (count : ℕ) (items : ItemsRead A) (task : Task) →
+      command ≡ command_of text → count ≡ lines_due command → TakesItems item a b count items →
+      ((lines : List (List ℕ)) → IsRead (items_from item 1 lines) items → IsTaskFor (task_by command lines) task) → TakesBehind text a b task
+  TakesBehind-whole item a b text command count items task reading due taken goes =
       let P : Result Command Refusal → Type 0 = λ (k : Result Command Refusal). IsTaskFor (task_by k taken.lines) task in
       record {
-        first = line;
         others = taken.lines;
-        taken = TakesLines-trans a b c (line ∷ []) taken.lines (TakesLines-line a b line reads) taken.taken;
-        whole = taken.count_is ∙ due ∙ ap lines_due e;
-        asked = subst P e (goes taken.lines taken.read);
+        taken = taken.taken;
+        whole = taken.count_is ∙ due ∙ ap lines_due reading;
+        asked = subst P reading (goes taken.lines taken.read);
       }
+
+-- a first line is taken, and then those behind it
+pub TakesTask-first : (a b c : Option (List ℕ)) (line text : List ℕ) (task : Task) → ReadsLine a b is.Line line → text ≡ line → TakesBehind text b c task → TakesTask a c task
+TakesTask-first a b c line text task reads same behind =
+    let P : List ℕ → Type 0 = λ (t : List ℕ). TakesBehind t b c task in
+    let of_line : TakesBehind line b c task = subst P same behind in
+    record {
+      first = line;
+      others = of_line.others;
+      taken = TakesLines-trans a b c (line ∷ []) of_line.others (TakesLines-line a b line reads) of_line.taken;
+      whole = of_line.whole;
+      asked = of_line.asked;
+    }
+
+-- the reader breaks off behind fewer lines than are due
+pub StopsWithin-due : (a b : Option (List ℕ)) (text : List ℕ) (command : Result Command Refusal) (count : ℕ) (stop : Stop) → command ≡ command_of text → count ≡ lines_due command → StopsWithin a b count stop →
+    StopsWithin a b (lines_due (command_of text)) stop
+StopsWithin-due a b text command count stop reading due stopped =
+    let P : ℕ → Type 0 = λ (n : ℕ). StopsWithin a b n stop in
+    subst P (due ∙ ap lines_due reading) stopped
 
 -- the reader breaks off in the first line
 pub Stops-first : (a b : Option (List ℕ)) (stop : Stop) → BreaksOff a b stop → Stops a b stop
 Stops-first a b stop broken = record { lines = []; between = a; taken = TakesLines-none a; begun = tt; broken = broken }
 
 -- the reader breaks off in a later line of a command
-pub Stops-later : (a b c : Option (List ℕ)) (line text : List ℕ) (command : Result Command Refusal) (count : ℕ) (stop : Stop) →
-    ReadsLine a b is.Line line → text ≡ line → command ≡ command_of text → count ≡ lines_due command → StopsWithin b c count stop → Stops a c stop
-Stops-later a b c line text command count stop reads same reading due stopped =
-    let e : count ≡ lines_due (command_of line) = due ∙ ap lines_due (reading ∙ ap command_of same) in
+pub Stops-later : (a b c : Option (List ℕ)) (line text : List ℕ) (stop : Stop) → ReadsLine a b is.Line line → text ≡ line → StopsWithin b c (lines_due (command_of text)) stop → Stops a c stop
+Stops-later a b c line text stop reads same stopped =
     let P : ℕ → Type 0 = λ n. length stopped.lines < n in
     record {
       lines = line ∷ stopped.lines;
       between = stopped.between;
       taken = TakesLines-trans a b stopped.between (line ∷ []) stopped.lines (TakesLines-line a b line reads) stopped.taken;
-      begun = subst P e stopped.fewer;
+      begun = subst P (ap (λ (t : List ℕ). lines_due (command_of t)) same) stopped.fewer;
       broken = stopped.broken;
     }
+
+-- a first line is taken, and then those behind it are, or the reader breaks off in them
+pub TakesTask-behind : (a b c : Option (List ℕ)) (line text : List ℕ) (read : Result Task Stop) → ReadsLine a b is.Line line → text ≡ line → IfOk read (λ task. TakesBehind text b c task) → IfOk read (λ task. TakesTask a c task)
+TakesTask-behind a b c line text (Ok task) reads same behind = TakesTask-first a b c line text task reads same behind
+TakesTask-behind a b c line text (Err stop) reads same behind = tt
+
+pub Stops-behind : (a b c : Option (List ℕ)) (line text : List ℕ) (read : Result Task Stop) → ReadsLine a b is.Line line → text ≡ line → IfErr read (λ stop. StopsWithin b c (lines_due (command_of text)) stop) →
+    IfErr read (λ stop. Stops a c stop)
+Stops-behind a b c line text (Ok task) reads same stopped = tt
+Stops-behind a b c line text (Err stop) reads same stopped = Stops-later a b c line text stop reads same stopped

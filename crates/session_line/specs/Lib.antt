@@ -6,6 +6,7 @@ pub mod PublishedTexts
 pub mod Errors
 pub mod Edits
 pub mod Commands
+pub mod Strangers
 pub mod Lines
 pub mod ChangeLines
 pub mod Refusals

@@ -17,7 +17,9 @@ use Rattle.session_line.specs.declared.serving.Outcome.{Outcome}
 use Rattle.session_line.specs.declared.serving.Outcome.TheVariants.{Served, Ended, ReadFault, WriteFault}
 use Rattle.session_line.specs.declared.greetings.Greeting.{Greeting}
 use Rattle.session_line.specs.Answers.{told_text, is_bye}
-use Rattle.session_line.specs.Taking.{TakesTask, Stops}
+use Rattle.session_line.specs.Commands.{command_of}
+use Rattle.session_line.specs.Tasks.{lines_due}
+use Rattle.session_line.specs.Taking.{TakesTask, TakesBehind, Stops, StopsWithin}
 use Rattle.session_line.specs.Executing.{Executes}
 use Rattle.session_line.specs.Rights.{allowed}
 use Rattle.session_line.specs.declared.rights.Rights.{Rights}
@@ -58,6 +60,15 @@ module _ {C S : Type 0} where
     pub desk : new.desk ≡ old.desk
     pub shelf : new.shelf ≡ old.shelf
 
+  -- the same in the lines behind a first one, which was taken already
+  pub record OnlyReadsBehind (first : List ℕ) (old new : Sides C S) (outcome : Outcome) : Type 0 where
+    pub stop : Stop
+    pub stopped : StopsWithin old.input new.input (lines_due (command_of first)) stop
+    pub told : outcome ≡ outcome_of stop
+    pub output : new.output ≡ old.output
+    pub desk : new.desk ≡ old.desk
+    pub shelf : new.shelf ≡ old.shelf
+
 module _ {C S : Type 0} (rights : Rights) (makes : C → Call → Reply → C → Type 0) (awaits : C → ℕ → Reply → C → Type 0) (greets : C → List ℕ → Greeting → C → Type 0) (loads : S → List ℕ → List Card → S → Type 0)
     (refuses_to_load : S → List ℕ → ShelfLoadFault → S → Type 0)
     (saves : S → Saving → S → Type 0) (refuses_to_save : S → Saving → ShelfSaveFault → S → Type 0)
@@ -74,6 +85,18 @@ module _ {C S : Type 0} (rights : Rights) (makes : C → Call → Reply → C �
   -- one line of a session is served
   abbrev pub Serves : Sides C S → Sides C S → Outcome → Type 0
   Serves old new outcome = ServesCommand old new outcome ⊎ OnlyReads old new outcome
+
+  -- the command of a first line, which was taken already, is taken whole, and what the session may do of it is executed once and answered
+  pub record ServesCommandBehind (first : List ℕ) (old new : Sides C S) (outcome : Outcome) : Type 0 where
+    pub task : Task
+    pub answer : Answer
+    pub taken : TakesBehind first old.input new.input task
+    pub executed : Executes makes awaits greets loads refuses_to_load saves refuses_to_save lists notes tells_saved (allowed rights task) old.desk new.desk old.shelf new.shelf answer
+    pub sent : GoesOut old.output new.output answer outcome
+
+  -- one line of a session that was taken already is served
+  abbrev pub ServesBehind : List ℕ → Sides C S → Sides C S → Outcome → Type 0
+  ServesBehind first old new outcome = ServesCommandBehind first old new outcome ⊎ OnlyReadsBehind first old new outcome
 
 -- the reader's count of faults rises where it failed
 abbrev pub read_faults_after : Outcome → ℕ → ℕ

@@ -49,6 +49,14 @@ pub record Stops (old new : Option (List ℕ)) (stop : Stop) : Type 0 where
   pub begun : IsBegun lines
   pub broken : BreaksOff between new stop
 
+-- the reader broke off behind fewer lines than so many
+pub record StopsWithin (old new : Option (List ℕ)) (count : ℕ) (stop : Stop) : Type 0 where
+  pub lines : List (List ℕ)
+  pub between : Option (List ℕ)
+  pub taken : TakesLines old between lines
+  pub fewer : length lines < count
+  pub broken : BreaksOff between new stop
+
 -- whether a task is a batch or a put, whose edits or cards are a list in memory
 abbrev pub has_list : Task → Bool
 has_list (Ask (Batch name version edits by)) = true
@@ -65,6 +73,13 @@ pub record TakesTask (old new : Option (List ℕ)) (task : Task) : Type 0 where
   pub first : List ℕ
   pub others : List (List ℕ)
   pub taken : TakesLines old new (first ∷ others)
+  pub whole : length others ≡ lines_due (command_of first)
+  pub asked : IsTaskFor (task_of first others) task
+
+-- the reader lost exactly the lines that belong to a first one, which was taken already; together they ask for this task
+pub record TakesBehind (first : List ℕ) (old new : Option (List ℕ)) (task : Task) : Type 0 where
+  pub others : List (List ℕ)
+  pub taken : TakesLines old new others
   pub whole : length others ≡ lines_due (command_of first)
   pub asked : IsTaskFor (task_of first others) task
 

@@ -21,6 +21,7 @@ mod commands;
 mod edits;
 mod errors;
 mod refusals;
+mod strangers;
 mod views;
 
 // Replies.
@@ -58,6 +59,7 @@ mod file_tasks;
 mod reasons;
 mod saving_all;
 mod serving;
+mod taken_lines;
 
 // What clients may rest on.
 mod desk_laws;
@@ -81,6 +83,8 @@ pub use rights::Rights;
 pub use saved_decks::SavedDeck;
 pub use seat_calls::SeatCalls;
 pub use serving::{Outcome, serve_one};
+pub use strangers::{is_command, is_request_of_http};
+pub use taken_lines::serve_taken;
 pub use unknown_words::UnknownWord;
 pub use views::CardsView;
 pub use words::{Seen, behind_blank, behind_word, first_number, first_word, from_blank, to_blank};

@@ -2,8 +2,10 @@
 ghost use Rattle.std.specs.Prelude.{◌≡◌, IfErr, IfOk, OnOk};
 ghost use Rattle.text_ports.specs.Lines.{ReadsLine};
 ghost use Rattle.text_ports.specs.declared.lines.LineIs.TheVariants.{Line};
-ghost use Rattle.session_line.specs.Taking.{BreaksOff, Stops, TakesTask, count_after_reading};
-ghost use Rattle.session_line.specs.Joins.LineItems.{StopsWithin, TakesItems};
+ghost use Rattle.session_line.specs.Commands.{command_of};
+ghost use Rattle.session_line.specs.Taking.{BreaksOff, Stops, StopsWithin, TakesBehind, TakesTask, count_after_reading};
+ghost use Rattle.session_line.specs.Tasks.{lines_due};
+ghost use Rattle.session_line.specs.Joins.LineItems.{TakesItems};
 
 use crate::line_items::{ItemsRead, LineItem};
 use crate::read_command;
@@ -53,6 +55,27 @@ fn read_items<R: Read, T: LineItem>(
     Ok(items)
 }
 
+/// Reads the lines that belong to a first line, which was taken already, and what they ask for together. No
+/// line behind the first is looked at before all are read.
+pub(crate) fn read_behind<R: Read>(
+    alloc: Global,
+    first: &[u8],
+    input: &mut Counted<R>,
+) -> Result<Task, Stop>
+    ensures task { IfOk result (λ task. TakesBehind first.now (R.remaining input.old.0) (R.remaining input.new.0) task) }
+    ensures stop { IfErr result (λ stop. StopsWithin (R.remaining input.old.0) (R.remaining input.new.0) (lines_due (command_of first.now)) stop) }
+    ensures count { input.new.1 ≡ count_after_reading result input.old.1 }
+{
+    let command = read_command(first);
+    let count = lines_due(&command);
+    if is_put(&command) {
+        let cards = read_items(alloc, input, count)?;
+        return Ok(put_by(command, cards));
+    }
+    let edits = read_items(alloc, input, count)?;
+    Ok(task_by(alloc, command, edits))
+}
+
 /// Reads one command whole. No line is looked at before all are read.
 pub(crate) fn read_task<R: Read>(alloc: Global, input: &mut Counted<R>) -> Result<Task, Stop>
     ensures task { IfOk result (λ task. TakesTask (R.remaining input.old.0) (R.remaining input.new.0) task) }
@@ -61,12 +84,5 @@ pub(crate) fn read_task<R: Read>(alloc: Global, input: &mut Counted<R>) -> Resul
 {
     let mut line = LineBuf::new();
     take_line(input, &mut line)?;
-    let command = read_command(line.as_slice());
-    let count = lines_due(&command);
-    if is_put(&command) {
-        let cards = read_items(alloc, input, count)?;
-        return Ok(put_by(command, cards));
-    }
-    let edits = read_items(alloc, input, count)?;
-    Ok(task_by(alloc, command, edits))
+    read_behind(alloc, line.as_slice(), input)
 }

@@ -30,7 +30,7 @@ pub enum Outcome {
 }
 
 /// Writes an answer.
-fn send<W: Write>(output: &mut Counted<W>, answer: &Answer) -> Outcome
+pub(crate) fn send<W: Write>(output: &mut Counted<W>, answer: &Answer) -> Outcome
     requires { IsTellable answer.now.told }
     ensures sent { GoesOut (W.contents output.old.0) (W.contents output.new.0) answer.now result }
     ensures count { output.new.1 ≡ write_faults_after result output.old.1 }

@@ -1,11 +1,10 @@
 -- What is known of the lines behind a first one while they are read: the edits of a batch, or the cards of a put (ours).
-use Rattle.std.specs.Prelude.{ℕ, ◌≡◌, ◌<◌, Bool, true, false, List, [], ◌∷◌, ◌++◌, Option, Result, Ok, Err, IsOk, length}
+use Rattle.std.specs.Prelude.{ℕ, ◌≡◌, Bool, true, false, List, [], ◌∷◌, ◌++◌, Option, Result, Ok, Err, IsOk, length}
 use Rattle.session_line.specs.declared.refusals.Refusal.{Refusal}
 use Rattle.session_line.specs.declared.line_items.ItemsRead.{ItemsRead}
 use Rattle.session_line.specs.declared.line_items.ItemsRead.TheVariants.{Whole, Lacking, Faulty}
-use Rattle.session_line.specs.declared.reading.Stop.{Stop}
 use Rattle.session_line.specs.Tasks.{items_from}
-use Rattle.session_line.specs.Taking.{TakesLines, BreaksOff}
+use Rattle.session_line.specs.Taking.{TakesLines}
 
 -- the items, or that there was no memory for them, or the first refusal
 abbrev pub IsRead : {A : Type 0} → Result (List A) Refusal → ItemsRead A → Type 0
@@ -31,11 +30,3 @@ pub record TakesItems {A : Type 0} (item : ℕ → List ℕ → Result A Refusal
   pub taken : TakesLines old new lines
   pub count_is : length lines ≡ count
   pub read : IsRead (items_from item 1 lines) items
-
--- the reader broke off behind fewer lines than so many
-pub record StopsWithin (old new : Option (List ℕ)) (count : ℕ) (stop : Stop) : Type 0 where
-  pub lines : List (List ℕ)
-  pub between : Option (List ℕ)
-  pub taken : TakesLines old between lines
-  pub fewer : length lines < count
-  pub broken : BreaksOff between new stop

@@ -1,5 +1,5 @@
 use Rattle.std.proofs.lemmas.Result.{err_from_is_err_and}
-use Rattle.session_line.proofs.TakingSteps.{TakesTask-whole, Stops-first, Stops-later}
+use Rattle.session_line.proofs.TakingSteps.{TakesTask-behind, Stops-first, Stops-behind}
 use Rattle.session_line.proofs.reading.read_task.Goals as goal
 
 pub returns-in_err-take_line-clause-stop : goal.returns-in_err-take_line-clause-stop
@@ -7,24 +7,8 @@ returns-in_err-take_line-clause-stop g c =
     let p = err_from_is_err_and c.from_residual.result c.from_residual.ensures.1 in
     rw (p.1, p.2) (Stops-first _ _ _ c.in_err-take_line.ensures.stop)
 
-pub returns-in_err-cards-clause-stop : goal.returns-in_err-cards-clause-stop
-returns-in_err-cards-clause-stop g c =
-    let p = err_from_is_err_and c.from_residual-in_err-cards.result c.from_residual-in_err-cards.ensures.1 in
-    rw (p.1, p.2) (Stops-later _ _ _ c.take_line.new.line c.as_slice.result.now c.read_command-command.result c.lines_due-count.result _ c.in_ok-take_line.ensures.line
-    c.as_slice.ensures.value c.read_command-command.ensures.command c.lines_due-count.ensures c.in_err-cards.ensures.stop)
-
-pub returns-then-is_put-clause-task : goal.returns-then-is_put-clause-task
-returns-then-is_put-clause-task g c =
-    TakesTask-whole _ _ _ _ c.take_line.new.line c.as_slice.result.now c.read_command-command.result c.lines_due-count.result c.in_ok-cards.cards c.put_by.result
-    c.in_ok-take_line.ensures.line c.as_slice.ensures.value c.read_command-command.ensures.command c.lines_due-count.ensures c.in_ok-cards.ensures.items c.put_by.ensures.task
-
-pub returns-in_err-edits-clause-stop : goal.returns-in_err-edits-clause-stop
-returns-in_err-edits-clause-stop g c =
-    let p = err_from_is_err_and c.from_residual-in_err-edits.result c.from_residual-in_err-edits.ensures.1 in
-    rw (p.1, p.2) (Stops-later _ _ _ c.take_line.new.line c.as_slice.result.now c.read_command-command.result c.lines_due-count.result _ c.in_ok-take_line.ensures.line
-    c.as_slice.ensures.value c.read_command-command.ensures.command c.lines_due-count.ensures c.in_err-edits.ensures.stop)
-
 pub returns-clause-task : goal.returns-clause-task
-returns-clause-task g c =
-    TakesTask-whole _ _ _ _ c.take_line.new.line c.as_slice.result.now c.read_command-command.result c.lines_due-count.result c.in_ok-edits.edits c.task_by.result
-    c.in_ok-take_line.ensures.line c.as_slice.ensures.value c.read_command-command.ensures.command c.lines_due-count.ensures c.in_ok-edits.ensures.items c.task_by.ensures.task
+returns-clause-task g c = TakesTask-behind _ _ _ c.take_line.new.line c.as_slice.result.now c.read_behind.result c.in_ok-take_line.ensures.line c.as_slice.ensures.value c.read_behind.ensures.task
+
+pub returns-clause-stop : goal.returns-clause-stop
+returns-clause-stop g c = Stops-behind _ _ _ c.take_line.new.line c.as_slice.result.now c.read_behind.result c.in_ok-take_line.ensures.line c.as_slice.ensures.value c.read_behind.ensures.stop
