@@ -7,3 +7,4 @@ pub mod SaveFaults
 pub mod PathSteps
 pub mod ListSteps
 pub mod WorkedRows
+pub mod WorkedLimits

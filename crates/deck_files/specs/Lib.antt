@@ -8,6 +8,7 @@ pub mod Moments
 pub mod Folders
 pub mod FileRows
 pub mod NewNames
+pub mod SizeLimits
 pub mod Steps
 pub mod FolderLoads
 pub mod FolderSaves

@@ -35,6 +35,7 @@ mod second_names;
 mod system_folder;
 
 // Any file.
+mod size_limits;
 mod whole_files;
 
 pub use deck_shelf::{SaveOver, Shelf, ShelfLoadFault, ShelfSaveFault};
@@ -49,5 +50,6 @@ pub use loading::load;
 pub use memory_shelf::MemoryShelf;
 pub use moments::Moment;
 pub use saving::save;
+pub use size_limits::{Limited, NO_LIMIT, has_room, size_limit};
 pub use system_folder::SystemFolder;
 pub use whole_files::{Begun, begin_whole, end_whole, folder_of, sync_folder, write_whole};

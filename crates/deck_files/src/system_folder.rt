@@ -3,6 +3,7 @@
 use crate::file_rows::{DeckEntry, MOST_FILES, deck_in};
 use crate::folders::{Folder, Standing};
 use crate::moments::Moment;
+use crate::size_limits::{Limited, size_limit};
 use std::alloc::{AllocGlobal, Global};
 use std::fs::{DirEntry, File, Metadata, OpenOptions};
 use std::io::ErrorKind;
@@ -89,7 +90,7 @@ impl<R: Files<File = File> + AllocGlobal + Clone + Drop> Folder for SystemFolder
 
     type File = File;
 
-    type NewFile = File;
+    type NewFile = Limited<File>;
 
     ghost has_done = { λ _ _. ⊤ };
 
@@ -111,27 +112,28 @@ impl<R: Files<File = File> + AllocGlobal + Clone + Drop> Folder for SystemFolder
         Ok(file)
     }
 
-    fn make(&mut self, path: &str) -> io::Result<File> {
+    fn make(&mut self, path: &str) -> io::Result<Limited<File>> {
         let mut how = OpenOptions::new();
         how.write(true).create_new(true);
-        how.open(self.rt, path)
+        let file = how.open(self.rt, path)?;
+        Ok(Limited::new(file, size_limit(self.rt)))
     }
 
-    fn take_after(&mut self, file: &File, path: &str) -> io::Result<()> {
+    fn take_after(&mut self, file: &Limited<File>, path: &str) -> io::Result<()> {
         match plain_at(self.rt, path)? {
-            Some(old) => take_owner_and_mode(file, &old),
+            Some(old) => take_owner_and_mode(file.file(), &old),
             None => Ok(()),
         }
     }
 
-    fn keep(&mut self, file: &File) -> io::Result<()> {
-        file.sync_all()
+    fn keep(&mut self, file: &Limited<File>) -> io::Result<()> {
+        file.file().sync_all()
     }
 
-    fn put(&mut self, file: File, new: &str, path: &str) -> io::Result<()> {
-        check_stands(self.rt, &file, new)?;
+    fn put(&mut self, file: Limited<File>, new: &str, path: &str) -> io::Result<()> {
+        check_stands(self.rt, file.file(), new)?;
         fs::rename(self.rt, new, path)?;
-        check_stands(self.rt, &file, path)
+        check_stands(self.rt, file.file(), path)
     }
 
     fn rename(&mut self, from: &str, to: &str) -> io::Result<()> {
