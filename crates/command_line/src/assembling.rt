@@ -14,6 +14,7 @@ use clap::{Arg, ArgAction, ArgMatches, Command};
 use deck_files::{begin_whole, end_whole};
 use std::alloc::{AllocError, Global};
 use std::io::{self, BufRead, BufReader, ErrorKind, Read, Write};
+use std::os::fd::AsFd;
 use std::process::ExitCode;
 use std::rt::Files;
 use text_ports::{Broken, Counted, LineBuf, Text, put_all};
@@ -161,6 +162,7 @@ impl<'w, 'a> Named<'w, 'a> {
 pub fn assemble<R>(rt: &R, words: &ArgMatches<'_>) -> ExitCode
 where
     R: AllocGlobal + Input + Print + Eprint + Files,
+    R::File: AsFd,
 {
     let named = Named {
         inputs: words.get_strs("FILE").unwrap_or(&[]),
@@ -185,6 +187,7 @@ where
 fn from_input<'a, R>(rt: &R, named: &Named<'_, 'a>) -> Result<Tally, RunFault<'a>>
 where
     R: AllocGlobal + Input + Print + Files,
+    R::File: AsFd,
 {
     let Ok(input) = standard_input(rt, rt.alloc(), named.filter) else {
         return Err(RunFault::Asm(AsmFault::OutOfMemory));
@@ -203,6 +206,7 @@ fn from_reader<'a, R, I>(
 ) -> Result<Tally, RunFault<'a>>
 where
     R: AllocGlobal + Print + Files,
+    R::File: AsFd,
     I: BufRead,
 {
     if !named.has_outputs() && !named.symbols {
@@ -217,6 +221,7 @@ where
 fn from_journal<'a, R>(rt: &R, named: &Named<'_, 'a>, name: &'a str) -> Result<Tally, RunFault<'a>>
 where
     R: AllocGlobal + Print + Files,
+    R::File: AsFd,
 {
     match decks_at(rt, rt.alloc(), name, named.version) {
         Ok(decks) => from_decks(rt, named, decks),
@@ -230,6 +235,7 @@ where
 fn from_decks<'a, R>(rt: &R, named: &Named<'_, 'a>, decks: Vec<Deck>) -> Result<Tally, RunFault<'a>>
 where
     R: AllocGlobal + Print + Files,
+    R::File: AsFd,
 {
     if decks.len() > MOST_DECKS {
         return Err(RunFault::Asm(AsmFault::TooManyDecks));
@@ -247,6 +253,7 @@ where
 fn from_files<'a, R>(rt: &R, named: &Named<'_, 'a>) -> Result<Tally, RunFault<'a>>
 where
     R: AllocGlobal + Input + Print + Eprint + Files,
+    R::File: AsFd,
 {
     match input_of(rt, rt.alloc(), named.inputs, named.filter) {
         Ok(chain) => from_chain(rt, chain, named),
@@ -262,6 +269,7 @@ fn from_chain<'a, R, I>(
 ) -> Result<Tally, RunFault<'a>>
 where
     R: AllocGlobal + Print + Eprint + Files,
+    R::File: AsFd,
     I: Read + Drop,
 {
     let Ok(reader) = BufReader::new(rt.alloc(), chain) else {
@@ -295,6 +303,7 @@ fn write_and_tell<'a, R, I>(
 ) -> Result<Tally, RunFault<'a>>
 where
     R: AllocGlobal + Print + Eprint + Files,
+    R::File: AsFd,
 {
     let tally = write_parts(rt, named, built)?;
     if !named.quiet {
@@ -320,6 +329,7 @@ fn write_parts<'a, R>(
 ) -> Result<Tally, RunFault<'a>>
 where
     R: AllocGlobal + Print + Files,
+    R::File: AsFd,
 {
     let Ok(tables) = tables_of(rt.alloc(), named, built) else {
         return Err(RunFault::Asm(AsmFault::OutOfMemory));
@@ -337,6 +347,7 @@ fn write_files<'a, R>(
 ) -> Result<(), RunFault<'a>>
 where
     R: AllocGlobal + Files,
+    R::File: AsFd,
 {
     write_file(rt, named.listing, built, LISTING, tables)?;
     write_file(rt, named.map, built, MAP, tables)?;
@@ -408,6 +419,7 @@ fn write_file<'a, R>(
 ) -> Result<(), RunFault<'a>>
 where
     R: AllocGlobal + Files,
+    R::File: AsFd,
 {
     let Some(name) = name else {
         return Ok(());
@@ -425,10 +437,11 @@ fn make_file<R>(
 ) -> io::Result<()>
 where
     R: AllocGlobal + Files,
+    R::File: AsFd,
 {
     let mut begun = begin_whole(rt, rt.alloc(), name)?;
     let filled = fill(begun.file(), built, chosen, tables);
-    end_whole(rt, begun, name, filled)
+    end_whole(rt, begun, filled)
 }
 
 /// Writes the chosen texts into a file. A fault is what the system says.

@@ -1,10 +1,14 @@
 //! Files that are written whole: whoever reads one finds the file that was there, or the new one.
 ghost use Rattle.std.specs.Prelude.{◌≡◌, ◌++◌, codes, decimal, string_bytes, IfOk};
 
+use crate::size_limits::{Limited, NO_LIMIT, size_limit};
+use crate::target_paths::target_of;
 use std::alloc::{AllocError, Global};
 use std::fs;
-use std::fs::{OpenFile, OpenOptions};
+use std::fs::{Metadata, OpenFile, OpenOptions};
 use std::io::{self, ErrorKind, Write};
+use std::os::fd::AsFd;
+use std::os::unix::fs::{MetadataExt, fchown};
 use std::rt::Files;
 
 /// How many names are tried before no file is made. A name is taken where another run writes the same
@@ -47,65 +51,120 @@ fn make_unused<R: Files>(rt: &R, alloc: Global, path: &str) -> io::Result<(Strin
     Err(io::Error::from(ErrorKind::AlreadyExists))
 }
 
+/// Where a file that is written whole lies until all is written, and the path that it gets then.
+#[derive(Drop)]
+struct Beside {
+    new: String,
+    target: String,
+}
+
 /// A file that is being written whole.
 #[derive(Drop)]
 pub struct Begun<F> {
-    file: F,
-    /// Where it lies until all is written; what is no plain file is written as it stands.
-    new: Option<String>,
+    file: Limited<F>,
+    /// What is no plain file is written as it stands, and lies nowhere else.
+    beside: Option<Beside>,
 }
 
 impl<F> Begun<F> {
-    /// Where its bytes go.
-    pub fn file(&mut self) -> &mut F {
+    /// Where its bytes go, no more of them than a file may have.
+    pub fn file(&mut self) -> &mut Limited<F> {
         &mut self.file
     }
 }
 
-/// Whether something else than a plain file has this path, as a terminal or a pipe: it is written as it
-/// stands, and never replaced.
-fn is_special<R: Files>(rt: &R, path: &str) -> bool {
-    match fs::metadata(rt, path) {
-        Ok(about) => !about.is_file(),
-        Err(_) => false,
-    }
-}
-
-/// Opens what is no plain file.
-fn open_special<R: Files>(rt: &R, path: &str) -> io::Result<R::File> {
+/// Opens what stands at a path to be written, and leaves what it has.
+fn open_standing<R: Files>(rt: &R, path: &str) -> io::Result<R::File> {
     let mut how = OpenOptions::new();
     how.write(true);
     how.open(rt, path)
 }
 
-/// Begins the file at a path anew, beside the one that stands there.
-pub fn begin_whole<R: Files>(rt: &R, alloc: Global, path: &str) -> io::Result<Begun<R::File>> {
-    if is_special(rt, path) {
-        let file = open_special(rt, path)?;
-        return Ok(Begun { file, new: None });
+/// Refuses a file that may not be written: one of which nobody may write, or which can't be opened for it.
+fn refuse_unwritable<R: Files>(rt: &R, path: &str, about: &Metadata) -> io::Result<()> {
+    if about.permissions().readonly() {
+        return Err(io::Error::from(ErrorKind::PermissionDenied));
     }
-    let (new, file) = make_unused(rt, alloc, path)?;
+    let _ = open_standing(rt, path)?;
+    Ok(())
+}
+
+/// Gives an open file the owner and the mode of another: it is the one that is open, whatever has its name by
+/// now.
+fn take_owner_and_mode<F: OpenFile + AsFd>(file: &F, old: &Metadata) -> io::Result<()> {
+    let made = file.metadata()?;
+    if made.uid() != old.uid() || made.gid() != old.gid() {
+        fchown(file, Some(old.uid()), Some(old.gid()))?;
+    }
+    file.set_permissions(old.permissions())
+}
+
+/// What the system tells of what stands at a path, a link followed, if anything does.
+fn standing_at<R: Files>(rt: &R, path: &str) -> io::Result<Option<Metadata>> {
+    match fs::metadata(rt, path) {
+        Ok(about) => Ok(Some(about)),
+        Err(error) if error.kind() == ErrorKind::NotFound => Ok(None),
+        Err(error) => Err(error),
+    }
+}
+
+/// Begins a file beside a path, in place of nothing or of a plain file whose owner and mode it takes.
+fn begin_beside<R: Files>(
+    rt: &R,
+    alloc: Global,
+    target: String,
+    old: Option<&Metadata>,
+) -> io::Result<Begun<R::File>>
+where
+    R::File: AsFd,
+{
+    let (new, file) = make_unused(rt, alloc, target.as_str())?;
+    if let Some(old) = old {
+        let taken = take_owner_and_mode(&file, old);
+        if let Err(error) = taken {
+            let _ = fs::remove_file(rt, new.as_str());
+            return Err(error);
+        }
+    }
     Ok(Begun {
-        file,
-        new: Some(new),
+        file: Limited::new(file, size_limit(rt)),
+        beside: Some(Beside { new, target }),
     })
+}
+
+/// Begins the file at a path anew, beside the one that stands there, or where a link there leads. It gets the
+/// owner and the mode of that file; one that may not be written is left, and is a fault. What is no plain file,
+/// as a terminal or a pipe, is written as it stands, and never replaced.
+pub fn begin_whole<R: Files>(rt: &R, alloc: Global, path: &str) -> io::Result<Begun<R::File>>
+where
+    R::File: AsFd,
+{
+    let Some(old) = standing_at(rt, path)? else {
+        return begin_beside(rt, alloc, target_of(rt, alloc, path)?, None);
+    };
+    if !old.is_file() {
+        let file = Limited::new(open_standing(rt, path)?, NO_LIMIT);
+        return Ok(Begun { file, beside: None });
+    }
+    refuse_unwritable(rt, path, &old)?;
+    begin_beside(rt, alloc, target_of(rt, alloc, path)?, Some(&old))
 }
 
 /// Waits until the system has kept a file, where it was filled, and gives it its path. Where that fails
 /// it is taken away, as far as that can be done.
 fn finish<R: Files>(
     rt: &R,
-    new: &str,
+    beside: &Beside,
     file: R::File,
-    path: &str,
     filled: io::Result<()>,
 ) -> io::Result<()> {
+    let (new, target) = (beside.new.as_str(), beside.target.as_str());
     let kept = match filled {
         Ok(()) => file.sync_all(),
         Err(error) => Err(error),
     };
     let made = match kept {
-        Ok(()) => fs::rename(rt, new, path),
+        Ok(()) => fs::rename(rt, new, target),
         Err(error) => Err(error),
     };
     if made.is_err() {
@@ -114,28 +173,30 @@ fn finish<R: Files>(
     made
 }
 
-/// Ends a file that was begun at this path, and was filled or not, and waits until the system has kept
-/// it, in its folder too. Where only the folder fails, the new file is there.
+/// Ends a file that was begun, and was filled or not, and waits until the system has kept it, in its folder
+/// too. Where only the folder fails, the new file is there.
 pub fn end_whole<R: Files>(
     rt: &R,
     begun: Begun<R::File>,
-    path: &str,
     filled: io::Result<()>,
 ) -> io::Result<()> {
-    let Begun { file, new } = begun;
-    match new {
-        Some(new) => {
-            finish(rt, new.as_str(), file, path, filled)?;
-            sync_folder(rt, folder_of(path))
+    let Begun { file, beside } = begun;
+    match beside {
+        Some(beside) => {
+            finish(rt, &beside, file.into_inner(), filled)?;
+            sync_folder(rt, folder_of(beside.target.as_str()))
         }
         None => filled,
     }
 }
 
 /// Makes the file at a path anew with these bytes, and waits until the system has kept it, in its folder
-/// too. Where only the folder fails, the new file is there. What is no plain file is written as it stands.
-pub fn write_whole<R: Files>(rt: &R, alloc: Global, path: &str, bytes: &[u8]) -> io::Result<()> {
+/// too, as `begin_whole` and `end_whole` do. Where only the folder fails, the new file is there.
+pub fn write_whole<R: Files>(rt: &R, alloc: Global, path: &str, bytes: &[u8]) -> io::Result<()>
+where
+    R::File: AsFd,
+{
     let mut begun = begin_whole(rt, alloc, path)?;
     let filled = begun.file().write_all(bytes);
-    end_whole(rt, begun, path, filled)
+    end_whole(rt, begun, filled)
 }

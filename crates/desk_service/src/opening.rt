@@ -13,6 +13,7 @@ use std::alloc::Global;
 use std::fs;
 use std::fs::OpenOptions;
 use std::io::{BufReader, ErrorKind};
+use std::os::fd::AsFd;
 use std::rt::Files;
 use std::time::Clock;
 use text_ports::Counted;
@@ -86,7 +87,10 @@ fn begin_anew<R: Files + Eprint + Clock>(
     path: &str,
     begun: u64,
     desk: &Desk,
-) -> Result<Found, ServeFault> {
+) -> Result<Found, ServeFault>
+where
+    R::File: AsFd,
+{
     let text = compacted_text(alloc, &moment_now(rt), begun, desk)?;
     if write_whole(rt, alloc, path, text.as_slice()).is_err() {
         return Err(ServeFault::NoJournal);
@@ -124,7 +128,10 @@ fn open_at<R: Files + Eprint + Clock>(
     threads: usize,
     path: &str,
     seen: &Seen,
-) -> Result<Opened<SystemFile<R::File>>, ServeFault> {
+) -> Result<Opened<SystemFile<R::File>>, ServeFault>
+where
+    R::File: AsFd,
+{
     let mut found = replay_file(rt, alloc, path)?;
     let begun = seen.begun(settings.journal, found.desk.version());
     if settings.compact || begun > found.desk.version() {
@@ -147,7 +154,10 @@ pub(crate) fn open<R: Files + Eprint + Clock>(
     settings: &Settings<'_>,
     threads: usize,
     seen: &Seen,
-) -> Result<Opened<SystemFile<R::File>>, ServeFault> {
+) -> Result<Opened<SystemFile<R::File>>, ServeFault>
+where
+    R::File: AsFd,
+{
     match settings.journal {
         Journaling::Off => Ok(Opened {
             desk: Desk::behind(alloc, seen.begun(settings.journal, 0)),

@@ -19,6 +19,7 @@ use std::alloc::{AllocError, AllocGlobal, Global};
 use std::fs::File;
 use std::hash::RandomState;
 use std::net::{IpAddr, Ipv4Addr, Net, SocketAddr, TcpListener, TcpStream};
+use std::os::fd::AsFd;
 use std::os::unix::net::UnixStream;
 use std::random::RandomSource;
 use std::rt::Files;
@@ -494,7 +495,10 @@ fn open_in_folder<R: Files + Eprint + Clock>(
     alloc: Global,
     settings: &Settings<'_>,
     threads: usize,
-) -> Result<Opened<SystemFile<R::File>>, ServeFault> {
+) -> Result<Opened<SystemFile<R::File>>, ServeFault>
+where
+    R::File: AsFd,
+{
     let seen = Seen::read(rt, alloc, settings.root)?;
     let opened = open(rt, alloc, settings, threads, &seen)?;
     let begun = opened.desk.version();

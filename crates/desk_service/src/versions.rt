@@ -14,6 +14,7 @@ use deck_files::write_whole;
 use std::alloc::{AllocError, Global};
 use std::fs;
 use std::io::{self, ErrorKind};
+use std::os::fd::AsFd;
 use std::rt::Files;
 
 /// How many versions a service may tell before it has to be started again: 10^12.
@@ -107,7 +108,10 @@ impl Seen {
         folder: &str,
         journal: Journaling<'_>,
         begun: u64,
-    ) -> Result<(), ServeFault> {
+    ) -> Result<(), ServeFault>
+    where
+        R::File: AsFd,
+    {
         if self.is_of(journal) && self.bound >= begun.saturating_add(BLOCK / 2) {
             return Ok(());
         }
