@@ -6,7 +6,7 @@ use crate::root::path_in;
 use crate::settings::{Journaling, Settings};
 use crate::system_file::SystemFile;
 use crate::versions::Seen;
-use deck_files::{folder_of, sync_folder, write_whole};
+use deck_files::{folder_of, size_limit, sync_folder, write_whole};
 use desk_core::Desk;
 use journal::{Ending, JournalFile, RecordsFile, ReplayFault, compacted_text, replay};
 use std::alloc::Global;
@@ -111,7 +111,7 @@ fn open_behind<R: Files>(
     let Ok(file) = how.open(rt, path) else {
         return Err(ServeFault::NoJournal);
     };
-    let mut file = JournalFile::new(SystemFile::new(file), length, next);
+    let mut file = JournalFile::new(SystemFile::within(file, size_limit(rt)), length, next);
     if sync_folder(rt, folder_of(path)).is_ok() && file.begin() {
         Ok(file)
     } else {

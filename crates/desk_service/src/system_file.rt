@@ -1,19 +1,39 @@
 //! A file of the system as the file of a journal.
 
+use deck_files::{NO_LIMIT, has_room};
 use journal::RecordsFile;
 use std::fs::OpenFile;
 use std::io::Write;
 
 /// An open file of the system, which is written at its end alone. Each call passes on what is asked and
-/// whether it was done; no contract sees that.
+/// whether it was done; no contract sees that. Bytes that would make it greater than a file may be are not
+/// written.
 #[derive(Drop)]
 pub struct SystemFile<F> {
     file: F,
+    most: u64,
 }
 
 impl<F> SystemFile<F> {
+    /// A file that may have any number of bytes.
     pub fn new(file: F) -> SystemFile<F> {
-        SystemFile { file }
+        SystemFile::within(file, NO_LIMIT)
+    }
+
+    /// A file that may have so many bytes.
+    pub fn within(file: F, most: u64) -> SystemFile<F> {
+        SystemFile { file, most }
+    }
+}
+
+impl<F: OpenFile> SystemFile<F> {
+    /// Whether the file may have so many bytes more.
+    fn may_grow(&self, bytes: usize) -> bool {
+        self.most == NO_LIMIT
+            || match self.file.metadata() {
+                Ok(about) => has_room(about.len(), bytes, self.most),
+                Err(_) => false,
+            }
     }
 }
 
@@ -23,7 +43,7 @@ impl<F: Write + OpenFile> RecordsFile for SystemFile<F> {
     ghost has_done = { λ _ _. ⊤ };
 
     fn append(&mut self, bytes: &[u8]) -> bool {
-        self.file.write_all(bytes).is_ok()
+        self.may_grow(bytes.len()) && self.file.write_all(bytes).is_ok()
     }
 
     fn sync(&mut self) -> bool {
