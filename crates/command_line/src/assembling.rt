@@ -3,7 +3,8 @@
 use crate::flagged::tell_flagged;
 use crate::input_files::{InputFault, input_of, standard_input};
 use crate::journal_files::{DecksFault, decks_at};
-use crate::run_faults::{RunFault, placed, tell_run};
+use crate::outputs::{Clash, file_named, first_clash};
+use crate::run_faults::{RunFault, placed, tell_clash, tell_run};
 use crate::symbols::symbol_tables;
 use crate::words::{plain_word, valued_word};
 use asm_main::{
@@ -57,6 +58,7 @@ struct Named<'w, 'a> {
     filter: Option<Filter>,
     journal: Option<&'a str>,
     version: Option<u64>,
+    /// The files of parts of the output; those that have none go to standard output.
     listing: Option<&'a str>,
     map: Option<&'a str>,
     image: Option<&'a str>,
@@ -148,6 +150,16 @@ impl<'w, 'a> Named<'w, 'a> {
         self.listing.is_some() || self.map.is_some() || self.image.is_some()
     }
 
+    /// The first file of the output that is one of the input too, or that of another part.
+    fn first_clash<R: Files>(&self, rt: &R, alloc: Global) -> Option<Clash<'a>> {
+        let outputs = [self.listing, self.map, self.image];
+        match self.journal {
+            Some(journal) => first_clash(rt, alloc, outputs, &[journal]),
+            None if self.inputs.is_empty() => first_clash(rt, alloc, outputs, &["-"]),
+            None => first_clash(rt, alloc, outputs, self.inputs),
+        }
+    }
+
     /// What has no file of its own.
     fn others(&self) -> Chosen {
         Chosen {
@@ -169,12 +181,15 @@ where
         filter: filter_of(words),
         journal: words.get_str("journal"),
         version: words.get_one("version"),
-        listing: words.get_str("listing"),
-        map: words.get_str("map"),
-        image: words.get_str("image"),
+        listing: file_named(words.get_str("listing")),
+        map: file_named(words.get_str("map")),
+        image: file_named(words.get_str("image")),
         symbols: words.get_flag("symbols"),
         quiet: words.get_flag("quiet"),
     };
+    if let Some(clash) = named.first_clash(rt, rt.alloc()) {
+        return tell_clash(rt, clash);
+    }
     let outcome = match named.journal {
         Some(journal) => from_journal(rt, &named, journal),
         None if named.inputs.is_empty() => from_input(rt, &named),

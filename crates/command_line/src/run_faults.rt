@@ -5,10 +5,14 @@ ghost use Rattle.asm_main.specs.Runs.{run_status};
 
 use crate::input_files::InputFault;
 use crate::journal_files::{JOURNAL_STATUS, JournalError, tell_journal};
+use crate::outputs::Clash;
 use asm_main::{AsmFault, Chained, Tally, asm_status, column_of, line_of, words_of};
 use std::io;
 use std::process::ExitCode;
 use text_ports::LineBuf;
+
+/// The status of a fault of the command line.
+const COMMAND_LINE_STATUS: u8 = 2;
 
 /// A line of a file of the input that is refused, and why.
 #[derive(Clone, Copy)]
@@ -99,6 +103,15 @@ pub(crate) fn tell_run<R: Eprint>(rt: &R, outcome: &Result<Tally, RunFault<'_>>)
             tell_system(rt, "standard output", *error, *fault)
         }
     }
+}
+
+/// The line of two words that name one file, and the status of faults of the command line.
+pub(crate) fn tell_clash<R: Eprint>(rt: &R, clash: Clash<'_>) -> ExitCode {
+    let Clash { output, other } = clash;
+    let _ = eprintln!(rt;
+        "compass: {output} would be written over {other}, the same file; nothing was read or written"
+    );
+    ExitCode::from(COMMAND_LINE_STATUS)
 }
 
 /// The line of a fault that the system has a reason for.
