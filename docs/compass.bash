@@ -7,7 +7,7 @@ _compass() {
   esac
   case ${COMP_WORDS[1]} in
     asm) options='--fold-case --tabs --last-line --journal --version --listing --map -o --image --symbols --quiet -h --help' ;;
-    log) options='-h --help' ;;
+    log) options='--deck -h --help' ;;
     serve) options='--root --port --page --workers --sessions --readers --idle --journal --compact --once -h --help' ;;
     stop) options='--root -h --help' ;;
   esac

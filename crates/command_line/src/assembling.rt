@@ -1,7 +1,7 @@
 //! `compass asm`: its words, its run and its faults.
 
 use crate::flagged::tell_flagged;
-use crate::input_files::{InputFault, input_of, standard_input};
+use crate::input_files::{input_of, standard_input};
 use crate::journal_files::{DecksFault, decks_at};
 use crate::outputs::{Clash, file_named, first_clash};
 use crate::run_faults::{RunFault, placed, tell_clash, tell_run};
@@ -88,12 +88,14 @@ fn journal_word<'a>(alloc: Global) -> Result<Arg<'a>, AllocError> {
     valued_word(alloc, "journal", "FILE", help).conflicts_with("FILE")
 }
 
-/// The word of a version of its decks.
+/// The word of a version of its decks. It refuses files by itself: where files refuse a journal, `clap` asks
+/// for none.
 fn version_word<'a>(alloc: Global) -> Result<Arg<'a>, AllocError> {
     let help = "The version of the decks; the last one unless said";
     valued_word(alloc, "version", "V", help)
         .value_parser(clap::value_parser!(u64))
-        .requires_arg("journal")
+        .requires_arg("journal")?
+        .conflicts_with("FILE")
 }
 
 /// The command with the words of a journal in place of files.
@@ -130,7 +132,9 @@ fn with_filter<'a>(
     name: &'a str,
     help: &'a str,
 ) -> Result<Command<'a>, AllocError> {
-    let word = plain_word(alloc, name, help).conflicts_with("journal")?;
+    let word = plain_word(alloc, name, help)
+        .conflicts_with("journal")?
+        .conflicts_with("version")?;
     command.arg(word)
 }
 
@@ -240,7 +244,6 @@ where
 {
     match decks_at(rt, rt.alloc(), name, named.version) {
         Ok(decks) => from_decks(rt, named, decks),
-        Err(DecksFault::Input(error)) => Err(RunFault::Input(InputFault { name, error })),
         Err(DecksFault::Asm(fault)) => Err(RunFault::Asm(fault)),
         Err(DecksFault::Journal(error)) => Err(RunFault::Journal { name, error }),
     }

@@ -4,6 +4,7 @@ ghost use Rattle.std.specs.Io.{ReadsAtMost};
 use asm_main::{Chained, Filter, Filtered, Part};
 use std::alloc::Global;
 use std::io::{BufReader, Read};
+use std::os::unix::fs::FileTypeExt;
 use std::rt::Files;
 use std::{fs, io};
 
@@ -75,8 +76,26 @@ pub(crate) fn standard_input<R: Files + Input>(
     behind_filter(alloc, InputFile::Standard(rt.reader()), filter)
 }
 
+/// Whether a name is a pipe's in a folder: to open it waits for who writes into it.
+fn is_named_pipe<R: Files>(rt: &R, name: &str) -> bool {
+    match fs::symlink_metadata(rt, name) {
+        Ok(about) => about.file_type().is_fifo(),
+        Err(_) => false,
+    }
+}
+
+/// Opens a file. Of a pipe it is told that it is one: nothing may ever write into it.
+fn open_file<R: Files + Eprint>(rt: &R, name: &str) -> io::Result<R::File> {
+    if is_named_pipe(rt, name) {
+        let _ = eprintln!(rt;
+            "compass: {name}: this is a pipe; it is read once a program writes into it"
+        );
+    }
+    fs::open(rt, name)
+}
+
 /// Opens what a name stands for.
-fn open<R: Files + Input>(
+fn open<R: Files + Input + Eprint>(
     rt: &R,
     alloc: Global,
     name: &str,
@@ -85,13 +104,13 @@ fn open<R: Files + Input>(
     if name == STANDARD_INPUT {
         standard_input(rt, alloc, filter)
     } else {
-        behind_filter(alloc, InputFile::File(fs::open(rt, name)?), filter)
+        behind_filter(alloc, InputFile::File(open_file(rt, name)?), filter)
     }
 }
 
 /// The files of these names, all open, one after the other, each behind a filter where one is asked for.
 /// Want of memory is a fault of the file that had no room.
-pub(crate) fn input_of<'a, R: Files + Input>(
+pub(crate) fn input_of<'a, R: Files + Input + Eprint>(
     rt: &R,
     alloc: Global,
     names: &[&'a str],

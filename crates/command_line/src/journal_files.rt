@@ -1,10 +1,12 @@
 //! Journals on the command line: the decks of a version, and the changes as lines.
 
+use crate::words::valued_word;
 use asm_main::{AsmFault, Deck, asm_status};
 use clap::{Arg, ArgAction, ArgMatches, Command};
 use desk_core::{Desk, NewDeck, StoredDeck};
 use journal::{
-    Ending, JournalFault, Next, Place, ReplayFault, Replayed, log_line, next_record, replay,
+    Change, DeckName, Ending, Entry, JournalFault, Next, Place, Record, ReplayFault, Replayed,
+    log_line, next_record, record_text, replay,
 };
 use std::alloc::{AllocError, Global};
 use std::fs;
@@ -16,9 +18,13 @@ use text_ports::{Broken, Counted, put_all};
 /// The status of a journal that can't be gone through.
 pub const JOURNAL_STATUS: u8 = 8;
 
-/// What is wrong with a journal that was read.
+/// What is wrong with a journal.
 #[derive(Clone, Copy)]
 pub(crate) enum JournalError {
+    /// The file can't be opened, by what the system says.
+    NoFile(io::Error),
+    /// The file can't be read.
+    ReadFault,
     /// This record, counted from 1, is damaged, or tells a change that can't be made again. It begins at
     /// this byte.
     BadRecord { number: u64, begin: u64 },
@@ -29,9 +35,7 @@ pub(crate) enum JournalError {
 /// Why the decks of a journal can't be had.
 #[derive(Clone, Copy)]
 pub(crate) enum DecksFault {
-    /// The file can't be opened.
-    Input(io::Error),
-    /// The reader or the memory failed.
+    /// The memory failed.
     Asm(AsmFault),
     Journal(JournalError),
 }
@@ -45,7 +49,7 @@ impl From<AllocError> for DecksFault {
 impl From<ReplayFault> for DecksFault {
     fn from(fault: ReplayFault) -> DecksFault {
         match fault {
-            ReplayFault::ReadFault => DecksFault::Asm(AsmFault::ReadFault),
+            ReplayFault::ReadFault => DecksFault::Journal(JournalError::ReadFault),
             ReplayFault::OutOfMemory => DecksFault::Asm(AsmFault::OutOfMemory),
             ReplayFault::Unmade { number, begin } => {
                 DecksFault::Journal(JournalError::BadRecord { number, begin })
@@ -96,7 +100,7 @@ pub(crate) fn decks_at<R: Files>(
 ) -> Result<Vec<Deck>, DecksFault> {
     let file = match fs::open(rt, path) {
         Ok(file) => file,
-        Err(error) => return Err(DecksFault::Input(error)),
+        Err(error) => return Err(DecksFault::Journal(JournalError::NoFile(error))),
     };
     let Ok(reader) = BufReader::new(alloc, file) else {
         return Err(DecksFault::Asm(AsmFault::OutOfMemory));
@@ -109,6 +113,8 @@ pub(crate) fn decks_at<R: Files>(
 /// The line of a journal that can't be gone through.
 pub(crate) fn tell_journal<R: Eprint>(rt: &R, path: &str, error: JournalError) {
     let _ = match error {
+        JournalError::NoFile(error) => eprintln!(rt; "compass: {path}: {error}"),
+        JournalError::ReadFault => eprintln!(rt; "compass: {path}: the journal can't be read"),
         JournalError::BadRecord { number, begin } => eprintln!(rt;
             "compass: {path}: record {number}, at byte {begin}, is damaged or can't be made again"
         ),
@@ -125,9 +131,11 @@ pub fn log_words<'a>(alloc: Global) -> Result<Command<'a>, AllocError> {
         .help("The journal of a service")
         .required(true)
         .action(ArgAction::Set);
+    let deck = "Prints the changes of this deck alone, each with its cards or edits behind it";
     Command::new(alloc, "log")
         .about("Prints the changes that a journal has, a line each")
-        .arg(file)
+        .arg(file)?
+        .arg(valued_word(alloc, "deck", "NAME", deck))
 }
 
 /// Why not all records of a journal were printed.
@@ -140,7 +148,7 @@ enum LogFault {
 impl From<JournalFault> for LogFault {
     fn from(fault: JournalFault) -> LogFault {
         match fault {
-            JournalFault::ReadFault => LogFault::Asm(AsmFault::ReadFault),
+            JournalFault::ReadFault => LogFault::Journal(JournalError::ReadFault),
             JournalFault::OutOfMemory => LogFault::Asm(AsmFault::OutOfMemory),
         }
     }
@@ -158,16 +166,83 @@ impl From<Broken> for LogFault {
     }
 }
 
-/// Writes a line for each record of a journal. A last record that is cut has none.
+/// The deck that a record changes, if it changes one.
+fn deck_changed(entry: &Entry) -> Option<&DeckName> {
+    match entry {
+        Entry::Begun => None,
+        Entry::Made(Change::Added(deck)) => Some(&deck.name),
+        Entry::Made(Change::Put { deck, .. }) => Some(&deck.name),
+        Entry::Made(Change::Dropped { name, .. }) => Some(name),
+        Entry::Made(Change::Edited { name, .. }) => Some(name),
+        Entry::Made(Change::Batch { name, .. }) => Some(name),
+    }
+}
+
+/// Whether a record changes the deck of this name.
+fn is_of_deck(entry: &Entry, deck: &[u8]) -> bool {
+    match deck_changed(entry) {
+        Some(name) => name.as_slice() == deck,
+        None => false,
+    }
+}
+
+/// Writes the lines of a record that stand behind its first: those of its cards or edits, which begin with a
+/// blank.
+fn write_behind<W: Write>(
+    alloc: Global,
+    record: &Record,
+    output: &mut Counted<W>,
+) -> Result<(), LogFault> {
+    let text = record_text(alloc, record)?;
+    for line in text.as_slice().split(|byte| *byte == b'\n') {
+        if line.first().copied() == Some(b' ') {
+            put_all(output, line)?;
+            put_all(output, b"\n")?;
+        }
+    }
+    Ok(())
+}
+
+/// Writes the line of a record.
+fn write_line<W: Write>(
+    alloc: Global,
+    record: &Record,
+    output: &mut Counted<W>,
+) -> Result<(), LogFault> {
+    put_all(output, log_line(alloc, record)?.as_slice())?;
+    Ok(())
+}
+
+/// Writes the line of a record; where one deck is asked for, those of its records alone, with the lines
+/// behind.
+fn write_record<W: Write>(
+    alloc: Global,
+    record: &Record,
+    deck: Option<&str>,
+    output: &mut Counted<W>,
+) -> Result<(), LogFault> {
+    match deck {
+        None => write_line(alloc, record, output),
+        Some(deck) if is_of_deck(&record.entry, deck.as_bytes()) => {
+            write_line(alloc, record, output)?;
+            write_behind(alloc, record, output)
+        }
+        Some(_) => Ok(()),
+    }
+}
+
+/// Writes the records of a journal, those of one deck where it is asked for. A last record that is cut has
+/// none.
 fn write_log<F: Read, W: Write>(
     alloc: Global,
     input: &mut Counted<F>,
+    deck: Option<&str>,
     output: &mut Counted<W>,
 ) -> Result<(), LogFault> {
     let mut place = Place::at_start();
     for _ in 0..u64::MAX {
         match next_record(alloc, input, &mut place)? {
-            Next::Found(record) => put_all(output, log_line(alloc, &record)?.as_slice())?,
+            Next::Found(record) => write_record(alloc, &record, deck, output)?,
             Next::Ended(Ending::Faulty { number, begin }) => {
                 return Err(LogFault::Journal(JournalError::BadRecord { number, begin }));
             }
@@ -178,7 +253,11 @@ fn write_log<F: Read, W: Write>(
 }
 
 /// The lines of an open journal on standard output.
-fn log_file<R: AllocGlobal + Print + Files>(rt: &R, file: R::File) -> Result<(), LogFault> {
+fn log_file<R: AllocGlobal + Print + Files>(
+    rt: &R,
+    file: R::File,
+    deck: Option<&str>,
+) -> Result<(), LogFault> {
     let Ok(reader) = BufReader::new(rt.alloc(), file) else {
         return Err(LogFault::Asm(AsmFault::OutOfMemory));
     };
@@ -186,7 +265,7 @@ fn log_file<R: AllocGlobal + Print + Files>(rt: &R, file: R::File) -> Result<(),
         return Err(LogFault::Asm(AsmFault::OutOfMemory));
     };
     let mut output = Counted::new(writer);
-    write_log(rt.alloc(), &mut Counted::new(reader), &mut output)?;
+    write_log(rt.alloc(), &mut Counted::new(reader), deck, &mut output)?;
     if output.flush() {
         Ok(())
     } else {
@@ -197,14 +276,11 @@ fn log_file<R: AllocGlobal + Print + Files>(rt: &R, file: R::File) -> Result<(),
 /// `compass log`.
 pub fn log<R: AllocGlobal + Print + Eprint + Files>(rt: &R, words: &ArgMatches<'_>) -> ExitCode {
     let path = words.get_str("FILE").unwrap_or("");
-    let file = match fs::open(rt, path) {
-        Ok(file) => file,
-        Err(error) => {
-            let _ = eprintln!(rt; "compass: {path}: {error}");
-            return ExitCode::from(asm_status(&Err(AsmFault::ReadFault)));
-        }
+    let told = match fs::open(rt, path) {
+        Ok(file) => log_file(rt, file, words.get_str("deck")),
+        Err(error) => Err(LogFault::Journal(JournalError::NoFile(error))),
     };
-    match log_file(rt, file) {
+    match told {
         Ok(()) => ExitCode::SUCCESS,
         Err(LogFault::Asm(fault)) => {
             let _ = eprintln!(rt; "compass: {path}: {fault}");
