@@ -4,6 +4,7 @@
 
 mod serving;
 mod stopping;
+mod streams;
 
 ghost use Rattle.std.specs.Prelude.{◌≡◌, ◌≢◌, ℕ, ◌<◌, pos};
 
@@ -11,7 +12,7 @@ use asm_main::AsmFault;
 use clap::{ArgMatches, Command, Error};
 use command_line::{asm_words, assemble, log, log_words, tell};
 use desk_service::VERSION;
-use serving::{run_service, serve_words, settings_of};
+use serving::{MEMORY_STATUS, run_service, serve_words, settings_of};
 use std::alloc::{AllocError, Global};
 use std::env;
 use std::fs::File;
@@ -24,6 +25,7 @@ use std::sync::Wait;
 use std::thread::Threads;
 use std::time::Clock;
 use stopping::{stop_service, stop_words};
+use streams::hold_streams;
 
 /// The status of a fault of the command line.
 const COMMAND_LINE_STATUS: u8 = 2;
@@ -158,7 +160,16 @@ fn refuse_words<R: Eprint>(rt: &R) -> ExitCode {
     ExitCode::from(COMMAND_LINE_STATUS)
 }
 
+/// Tells that a standard stream is closed and its number can't be taken, with the status of want of memory.
+fn refuse_streams<R: Eprint>(rt: &R) -> ExitCode {
+    let _ = eprintln!(rt; "compass: no file can be opened");
+    ExitCode::from(MEMORY_STATUS)
+}
+
 fn main(rt: HostRuntime) -> ExitCode {
+    let Ok(_held) = hold_streams(&rt, rt.alloc()) else {
+        return refuse_streams(&rt);
+    };
     match words_of(&rt) {
         Ok(words) => run(&rt, words.as_slice()),
         Err(WordsFault::OutOfMemory) => tell(&rt, &Err(AsmFault::OutOfMemory)),

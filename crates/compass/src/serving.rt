@@ -24,7 +24,7 @@ const MOST_THREADS: usize = 16;
 const IDLE_SECONDS: u64 = 900;
 
 /// The status of want of memory.
-const MEMORY_STATUS: u8 = 4;
+pub(crate) const MEMORY_STATUS: u8 = 4;
 
 /// The status of a socket fault before the first accept.
 const SOCKET_STATUS: u8 = 6;
