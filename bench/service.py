@@ -10,6 +10,23 @@ def limit_files(most):
     resource.setrlimit(resource.RLIMIT_FSIZE, (most, most))
 
 
+def check_sum(content):
+    """The check sum of the journal's records and notes."""
+    total = 2166136261
+    for byte in content:
+        total = (total ^ byte) * 16777619 % 2 ** 32
+    return total
+
+
+def note(root, journal, content):
+    """Notes in a folder that its journal has kept these bytes and no more."""
+    path = os.path.join(root, ".beskloun.versions")
+    with open(path, "rb") as file:
+        bound = file.read().split(b" ")[0].decode()
+    with open(path, "w") as file:
+        file.write(f"{bound} {journal}\nMARK {len(content):020} {check_sum(content):010}\n")
+
+
 class Service:
     """`compass serve` on a folder, at a port that it chooses, with these words more. `said` has the lines
     that it told at its start; where it ended then, it has no port."""

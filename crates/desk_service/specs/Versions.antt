@@ -1,7 +1,18 @@
 -- The versions that a folder has seen (ours).
-use Rattle.std.specs.Prelude.{ℕ, ◌+◌, ◌-◌, ◌^◌, Bool, true, false, max, min}
+use Rattle.std.specs.Prelude.{ℕ, ◌+◌, ◌-◌, ◌^◌, Bool, true, false, ◌&&◌, Option, Some, None, max, min}
+use Rattle.journal.specs.declared.marks.Mark.{Mark}
+use Rattle.journal.specs.Marks.{is_same_mark}
 
--- behind which version a service goes on: its journal's last one, where the versions below the bound were told by a service of the same journal; and else none that was told
+-- whether a journal holds what is noted, by the mark of its first bytes, as many as are noted, or all, where it has fewer; where nothing is noted it does
+abbrev pub holds_noted : Option Mark → Mark → Bool
+holds_noted None front = true
+holds_noted (Some noted) front = is_same_mark noted front
+
+-- whether a journal is the latest of its folder: the versions that were told last are in a journal of its name, and it holds what is noted
+abbrev pub is_latest : Bool → Option Mark → Mark → Bool
+is_latest named noted front = named && holds_noted noted front
+
+-- behind which version a service goes on: its journal's last one, where that journal is the latest of the folder; and else none that was told there, since all of those are below the bound
 abbrev pub begun_behind : ℕ → ℕ → Bool → ℕ
 begun_behind last bound true = last
 begun_behind last bound false = max last bound

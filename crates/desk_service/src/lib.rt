@@ -51,6 +51,7 @@ mod waiting;
 // What a service begins with, and keeps.
 mod faults;
 mod journals;
+mod notes;
 mod opening;
 mod root;
 mod settings;

@@ -483,7 +483,7 @@ where
         alloc,
         settings,
         settings.sessions + settings.readers,
-        &Seen::nothing(alloc),
+        &Seen::unasked(alloc),
     )?;
     serve_opened(rt, alloc, listener, None, None, settings, opened)
 }
@@ -500,10 +500,7 @@ where
     R::File: AsFd,
 {
     let seen = Seen::read(rt, alloc, settings.root)?;
-    let opened = open(rt, alloc, settings, threads, &seen)?;
-    let begun = opened.desk.version();
-    seen.take(rt, alloc, settings.root, settings.journal, begun)?;
-    Ok(opened)
+    open(rt, alloc, settings, threads, &seen)
 }
 
 /// Serves a folder on a listener, and browsers at a door, if there is one.

@@ -1,17 +1,19 @@
 //! A file of the system as the file of a journal.
 
+use crate::notes::Notes;
 use deck_files::{NO_LIMIT, has_room};
-use journal::RecordsFile;
+use journal::{Mark, RecordsFile};
 use std::fs::OpenFile;
-use std::io::Write;
+use std::io::{Seek, Write};
 
-/// An open file of the system, which is written at its end alone. Each call passes on what is asked and
-/// whether it was done; no contract sees that. Bytes that would make it greater than a file may be are not
-/// written.
+/// An open file of the system, which is written at its end alone, and where its notes go, if anywhere. Each
+/// call passes on what is asked and whether it was done; no contract sees that. Bytes that would make it
+/// greater than a file may be are not written.
 #[derive(Drop)]
 pub struct SystemFile<F> {
     file: F,
     most: u64,
+    notes: Option<Notes<F>>,
 }
 
 impl<F> SystemFile<F> {
@@ -22,7 +24,11 @@ impl<F> SystemFile<F> {
 
     /// A file that may have so many bytes.
     pub fn within(file: F, most: u64) -> SystemFile<F> {
-        SystemFile { file, most }
+        SystemFile {
+            file,
+            most,
+            notes: None,
+        }
     }
 }
 
@@ -37,7 +43,18 @@ impl<F: OpenFile> SystemFile<F> {
     }
 }
 
-impl<F: Write + OpenFile> RecordsFile for SystemFile<F> {
+impl<F: Drop> SystemFile<F> {
+    /// The file, whose notes go there from now on.
+    pub(crate) fn noting(self, notes: Option<Notes<F>>) -> SystemFile<F> {
+        SystemFile {
+            file: self.file,
+            most: self.most,
+            notes,
+        }
+    }
+}
+
+impl<F: Write + OpenFile + Seek> RecordsFile for SystemFile<F> {
     ghost use Rattle.std.specs.Prelude.{⊤};
 
     ghost has_done = { λ _ _. ⊤ };
@@ -52,5 +69,12 @@ impl<F: Write + OpenFile> RecordsFile for SystemFile<F> {
 
     fn cut_to(&mut self, bytes: u64) -> bool {
         self.file.set_len(bytes).is_ok()
+    }
+
+    fn note(&mut self, mark: Mark) -> bool {
+        match &mut self.notes {
+            Some(notes) => notes.write(mark),
+            None => true,
+        }
     }
 }

@@ -2,17 +2,23 @@
 //! service has, or none.
 //!
 //! The file `.beskloun.versions` has a line with a number and a journal: all versions that were told in the
-//! folder are below the number, and those that the journal has are behind one another. A service with
-//! this journal goes on behind its last record; any other begins at the number.
+//! folder are below the number, and those that the journal has are behind one another. The line behind it
+//! notes how much of that journal is kept: so many bytes, and their check sum. It is written again where it
+//! stands, for the records that are synced together, before any of them is told as kept. A service whose
+//! journal has this name, and begins with the bytes that are noted, goes on behind its last record; any other
+//! begins at the number.
 ghost use Rattle.std.specs.Prelude.{◌≡◌};
-ghost use Rattle.desk_service.specs.Versions.{begun_behind, next_bound};
+ghost use Rattle.desk_service.specs.Versions.{begun_behind, holds_noted, is_latest, next_bound};
 
 use crate::faults::ServeFault;
+use crate::notes::{Notes, mark_in, mark_line};
 use crate::root::path_in;
-use crate::settings::Journaling;
+use crate::settings::{Journaling, Settings};
 use deck_files::write_whole;
+use journal::Mark;
 use std::alloc::{AllocError, Global};
 use std::fs;
+use std::fs::OpenOptions;
 use std::io::{self, ErrorKind};
 use std::os::fd::AsFd;
 use std::rt::Files;
@@ -30,14 +36,38 @@ pub(crate) struct Seen {
     bound: u64,
     /// The journal that has the last of them.
     owner: String,
+    /// How much of that journal is kept, where it is noted.
+    noted: Option<Mark>,
+    /// At which byte of the folder's file the note stands.
+    at: u64,
+    /// Whether the folder keeps what it has seen.
+    is_kept: bool,
+}
+
+/// Whether a journal whose first bytes, as many as are noted, have this mark holds what is noted.
+fn holds_noted(noted: Option<Mark>, front: &Mark) -> bool
+    ensures { result ≡ holds_noted noted front.now }
+{
+    match noted {
+        Some(mark) => mark.is_same(front),
+        None => true,
+    }
+}
+
+/// Whether a journal is the latest of its folder, by whether its name is noted there, and by the mark of its
+/// first bytes.
+fn is_latest(is_named: bool, noted: Option<Mark>, front: &Mark) -> bool
+    ensures { result ≡ is_latest is_named noted front.now }
+{
+    is_named && holds_noted(noted, front)
 }
 
 /// Behind which version a service goes on whose journal ends with this one, where all that were told
-/// are below a bound, and whether by the same journal.
-fn begun_behind(last: u64, bound: u64, is_same: bool) -> u64
-    ensures { result ≡ begun_behind last bound is_same }
+/// are below a bound, and whether its journal is the latest of the folder.
+fn begun_behind(last: u64, bound: u64, is_latest: bool) -> u64
+    ensures { result ≡ begun_behind last bound is_latest }
 {
-    if is_same { last } else { last.max(bound) }
+    if is_latest { last } else { last.max(bound) }
 }
 
 /// Below which version all of those are that a service tells which goes on behind one.
@@ -57,16 +87,33 @@ fn text_at<R: Files>(rt: &R, alloc: Global, path: &str) -> io::Result<String> {
     io::read_to_string(alloc, fs::open(rt, path)?)
 }
 
-/// What the line of a folder tells.
-fn seen_in(alloc: Global, text: &str) -> Result<Option<Seen>, AllocError> {
-    let Some((number, owner)) = text.trim_end().split_once(" ") else {
+/// What a line tells of a number and a journal, with what is noted of it.
+fn line_of(alloc: Global, line: &str, noted: Option<Mark>) -> Result<Option<Seen>, AllocError> {
+    let Some((number, owner)) = line.split_once(" ") else {
         return Ok(None);
     };
     let Ok(bound) = number.parse() else {
         return Ok(None);
     };
     let owner = format!(in alloc; "{owner}")?;
-    Ok(Some(Seen { bound, owner }))
+    Ok(Some(Seen {
+        bound,
+        owner,
+        noted,
+        at: (line.len() as u64).saturating_add(1),
+        is_kept: true,
+    }))
+}
+
+/// What the text of a folder tells.
+fn seen_in(alloc: Global, text: &str) -> Result<Option<Seen>, AllocError> {
+    let Some((line, mark)) = text.rsplit_once("\nMARK ") else {
+        return line_of(alloc, text.trim_end(), None);
+    };
+    match mark_in(mark) {
+        Some(mark) => line_of(alloc, line, Some(mark)),
+        None => Ok(None),
+    }
 }
 
 impl Seen {
@@ -75,6 +122,20 @@ impl Seen {
         Seen {
             bound: 0,
             owner: String::new(alloc),
+            noted: None,
+            at: 0,
+            is_kept: true,
+        }
+    }
+
+    /// A folder that is not asked what it has seen, and keeps nothing of it.
+    pub(crate) fn unasked(alloc: Global) -> Seen {
+        Seen {
+            bound: 0,
+            owner: String::new(alloc),
+            noted: None,
+            at: 0,
+            is_kept: false,
         }
     }
 
@@ -89,35 +150,106 @@ impl Seen {
         }
     }
 
-    /// Whether the last versions that were told are in this journal.
+    /// Whether the last versions that were told are in a journal of this name.
     fn is_of(&self, journal: Journaling<'_>) -> bool {
         journal.is_kept() && self.owner.as_str() == journal.name()
     }
 
-    /// Behind which version a service goes on whose journal is this, and ends with this version.
-    pub(crate) fn begun(&self, journal: Journaling<'_>, last: u64) -> u64 {
-        begun_behind(last, self.bound, self.is_of(journal))
+    /// How much of this journal is kept, where that is noted.
+    pub(crate) fn noted(&self, journal: Journaling<'_>) -> Option<Mark> {
+        if self.is_of(journal) {
+            self.noted
+        } else {
+            None
+        }
     }
 
-    /// Takes versions for a service of this journal that goes on behind this one: the system has kept it
-    /// when this is done.
+    /// Whether this journal, whose first bytes have this mark, is the latest of the folder.
+    pub(crate) fn is_latest(&self, journal: Journaling<'_>, front: &Mark) -> bool {
+        is_latest(self.is_of(journal), self.noted, front)
+    }
+
+    /// Behind which version a service goes on whose journal ends with this version, and is the latest of the
+    /// folder or not.
+    pub(crate) fn begun(&self, is_latest: bool, last: u64) -> u64 {
+        begun_behind(last, self.bound, is_latest)
+    }
+
+    /// The line of a service that goes on behind a version.
+    fn line(
+        &self,
+        alloc: Global,
+        journal: Journaling<'_>,
+        begun: u64,
+    ) -> Result<String, AllocError> {
+        let (bound, name) = (self.bound.max(next_bound(begun)), journal.name());
+        format!(in alloc; "{bound} {name}\n")
+    }
+
+    /// Whether what the folder tells will do for a service of this journal that goes on behind a version.
+    fn has_room(&self, journal: Journaling<'_>, begun: u64) -> bool {
+        self.noted(journal).is_some() && self.bound >= begun.saturating_add(BLOCK / 2)
+    }
+
+    /// Takes versions for a service of these settings that goes on behind this one, and notes how much of its
+    /// journal is kept, if it has one: the system has kept that when this is done. Further notes go to what
+    /// it gives.
     pub(crate) fn take<R: Files>(
         &self,
         rt: &R,
         alloc: Global,
-        folder: &str,
-        journal: Journaling<'_>,
+        settings: &Settings<'_>,
         begun: u64,
-    ) -> Result<(), ServeFault>
+        mark: Option<Mark>,
+    ) -> Result<Option<Notes<R::File>>, ServeFault>
     where
         R::File: AsFd,
     {
-        if self.is_of(journal) && self.bound >= begun.saturating_add(BLOCK / 2) {
-            return Ok(());
+        if !self.is_kept {
+            return Ok(None);
         }
-        let path = versions_path(alloc, folder)?;
-        let (bound, name) = (next_bound(begun), journal.name());
-        let line = format!(in alloc; "{bound} {name}\n")?;
-        write_whole(rt, alloc, path.as_str(), line.as_bytes()).map_err(|_| ServeFault::NoFolder)
+        let path = versions_path(alloc, settings.root)?;
+        let line = self.line(alloc, settings.journal, begun)?;
+        let Some(mark) = mark else {
+            write_versions(rt, alloc, path.as_str(), line.as_str())?;
+            return Ok(None);
+        };
+        if self.has_room(settings.journal, begun) {
+            return note_at(rt, alloc, path.as_str(), self.at, mark);
+        }
+        let note = mark_line(alloc, mark)?;
+        let text = format!(in alloc; "{line}{note}")?;
+        write_versions(rt, alloc, path.as_str(), text.as_str())?;
+        note_at(rt, alloc, path.as_str(), line.len() as u64, mark)
     }
+}
+
+/// Opens the file of a folder's versions for notes at this byte, and writes one, which the system has kept
+/// when this is done.
+fn note_at<R: Files>(
+    rt: &R,
+    alloc: Global,
+    path: &str,
+    at: u64,
+    mark: Mark,
+) -> Result<Option<Notes<R::File>>, ServeFault> {
+    let mut how = OpenOptions::new();
+    how.write(true);
+    let Ok(file) = how.open(rt, path) else {
+        return Err(ServeFault::NoFolder);
+    };
+    let mut notes = Notes::new(alloc, file, at);
+    if notes.keep(mark) {
+        Ok(Some(notes))
+    } else {
+        Err(ServeFault::NoFolder)
+    }
+}
+
+/// Makes the file of a folder's versions anew.
+fn write_versions<R: Files>(rt: &R, alloc: Global, path: &str, text: &str) -> Result<(), ServeFault>
+where
+    R::File: AsFd,
+{
+    write_whole(rt, alloc, path, text.as_bytes()).map_err(|_| ServeFault::NoFolder)
 }

@@ -2,7 +2,10 @@
 use Rattle.std.proofs.Common.{ℕ, ◌≡◌, ◌+◌, ◌≤◌, ◌<◌, inl, inr, List, [], ◌∷◌, ◌++◌, length, Bool, true, false, refl, sym, ap, subst, ◌∙◌, arith, append_assoc, length-append}
 use Rattle.journal.specs.Queues.{InOrder, texts_from}
 use Rattle.journal.specs.Records.{text_with_version}
-use Rattle.journal.specs.JournalFiles.{Append, Sync, CutTo, Step, HasKept, at_opening, cut_back, synced, not_synced, not_written, IsRun, JournalFile, TakesStep, WritesAndSyncs, HasRecords, AreKept, IsKept}
+use Rattle.journal.specs.declared.marks.Mark.{Mark}
+use Rattle.journal.specs.Marks.{mark_behind}
+use Rattle.journal.proofs.MarkSteps.{mark-none, mark-more}
+use Rattle.journal.specs.JournalFiles.{Append, Sync, CutTo, Step, Note, HasKept, at_opening, cut_back, noted, not_noted, not_synced, not_written, IsRun, JournalFile, TakesStep, WritesAndNotes, told_to_note, sync_failed, append_failed, HasRecords, AreKept, IsKept}
 
 -- ---- runs of records
 
@@ -37,46 +40,64 @@ run-in-order first text next out = record { drafts = out.drafts; text_is = out.t
 -- ---- the file
 
 module _ {F : Type 0} (has_done : F → List Step → Type 0) where
-  pub has-opened : (file : F) (bytes next : ℕ) → HasRecords has_done (record { file = file; begun = bytes; bytes = bytes; first = next; next = next; clean = false })
-  has-opened file bytes next =
-      record { opened = file; steps = []; text = []; taken = λ before had. had; kept = at_opening; run = run-none next; bytes_is = omega arith }
+  pub has-opened : (file : F) (begun : Mark) (next : ℕ) → HasRecords has_done (record { file = file; begun = begun; has = begun; first = next; next = next; clean = false })
+  has-opened file begun next =
+      record { opened = file; steps = []; text = []; taken = λ before had. had; kept = at_opening; run = run-none next; has_is = mark-none begun }
 
   -- what stands behind the whole records is cut off, or is not
-  pub has-cut : (journal : JournalFile F) (done : Bool) (file : F) → HasRecords has_done journal → TakesStep has_done journal.file (CutTo journal.bytes, done) file → HasRecords has_done (record journal { file = file; clean = done })
+  pub has-cut : (journal : JournalFile F) (done : Bool) (file : F) → HasRecords has_done journal → TakesStep has_done journal.file (CutTo journal.has.length, done) file → HasRecords has_done (record journal { file = file; clean = done })
   has-cut journal done file has step =
       record {
         opened = has.opened;
-        steps = (CutTo journal.bytes, done) ∷ has.steps;
+        steps = (CutTo journal.has.length, done) ∷ has.steps;
         text = has.text;
         taken = λ before had. step (has.steps ++ before) (has.taken before had);
-        kept = subst (λ (n : ℕ). HasKept journal.begun ((CutTo n, done) ∷ has.steps) has.text done) (sym has.bytes_is) (cut_back has.steps has.text journal.clean done has.kept);
+        kept = subst (λ (m : Mark). HasKept journal.begun ((CutTo m.length, done) ∷ has.steps) has.text done) (sym has.has_is) (cut_back has.steps has.text journal.clean done has.kept);
         run = has.run;
-        bytes_is = has.bytes_is;
+        has_is = has.has_is;
       }
 
+  -- the mark of the records with a text behind them
+  mark-with : (journal : JournalFile F) (text more : List ℕ) (mark : Mark) → journal.has ≡ mark_behind journal.begun text → mark ≡ mark_behind journal.has more → mark ≡ mark_behind journal.begun (text ++ more)
+  mark-with journal text more mark has_is is = is ∙ ap (λ (m : Mark). mark_behind m more) has_is ∙ mark-more journal.begun text more
+
   -- a text is kept
-  pub has-written : (journal : JournalFile F) (more : List ℕ) (bytes next : ℕ) (file : F) → HasRecords has_done journal → journal.clean ≡ true → IsRun journal.next more next → bytes ≡ journal.bytes + length more →
-      WritesAndSyncs has_done more true journal.file file → HasRecords has_done (record journal { file = file; bytes = bytes; next = next })
-  has-written journal more bytes next file has clean run sum (inl steps) =
-      let a : journal.bytes ≡ journal.begun + length has.text = has.bytes_is in
-      let both : length (has.text ++ more) ≡ length has.text + length more = length-append has.text more in
+  pub has-written : (journal : JournalFile F) (more : List ℕ) (mark : Mark) (next : ℕ) (file : F) → HasRecords has_done journal → journal.clean ≡ true → IsRun journal.next more next → mark ≡ mark_behind journal.has more →
+      WritesAndNotes has_done more mark true journal.file file → HasRecords has_done (record journal { file = file; has = mark; next = next })
+  has-written journal more mark next file has clean run is (told_to_note steps) =
+      let with : mark ≡ mark_behind journal.begun (has.text ++ more) = mark-with journal has.text more mark has.has_is is in
       record {
         opened = has.opened;
-        steps = (Sync, true) ∷ (Append more, true) ∷ has.steps;
+        steps = (Note mark, true) ∷ (Sync, true) ∷ (Append more, true) ∷ has.steps;
         text = has.text ++ more;
         taken = λ before had. steps (has.steps ++ before) (has.taken before had);
         kept =
-            subst (λ (c : Bool). HasKept journal.begun ((Sync, true) ∷ (Append more, true) ∷ has.steps) (has.text ++ more) c) (sym clean)
-            (synced has.steps has.text more (subst (λ (c : Bool). HasKept journal.begun has.steps has.text c) clean has.kept));
+            subst (λ (m : Mark). HasKept journal.begun ((Note m, true) ∷ (Sync, true) ∷ (Append more, true) ∷ has.steps) (has.text ++ more) journal.clean) (sym with)
+            (subst (λ (c : Bool). HasKept journal.begun ((Note (mark_behind journal.begun (has.text ++ more)), true) ∷ (Sync, true) ∷ (Append more, true) ∷ has.steps) (has.text ++ more) c) (sym clean)
+            (noted has.steps has.text more (subst (λ (c : Bool). HasKept journal.begun has.steps has.text c) clean has.kept)));
         run = run-join journal.first journal.next next has.text more has.run run;
-        bytes_is = omega (arith, a, both, sum);
+        has_is = with;
       }
-  has-written journal more bytes next file has clean run sum (inr none) = cc
+  has-written journal more mark next file has clean run is (sync_failed none steps) = cc
+  has-written journal more mark next file has clean run is (append_failed none steps) = cc
 
   -- a text is not kept
-  pub has-not-written : (journal : JournalFile F) (more : List ℕ) (file : F) → HasRecords has_done journal → journal.clean ≡ true → WritesAndSyncs has_done more false journal.file file →
+  pub has-not-written : (journal : JournalFile F) (more : List ℕ) (mark : Mark) (file : F) → HasRecords has_done journal → journal.clean ≡ true → mark ≡ mark_behind journal.has more → WritesAndNotes has_done more mark false journal.file file →
       HasRecords has_done (record journal { file = file; clean = false })
-  has-not-written journal more file has clean (inl steps) =
+  has-not-written journal more mark file has clean is (told_to_note steps) =
+      let with : mark ≡ mark_behind journal.begun (has.text ++ more) = mark-with journal has.text more mark has.has_is is in
+      record {
+        opened = has.opened;
+        steps = (Note mark, false) ∷ (Sync, true) ∷ (Append more, true) ∷ has.steps;
+        text = has.text;
+        taken = λ before had. steps (has.steps ++ before) (has.taken before had);
+        kept =
+            subst (λ (m : Mark). HasKept journal.begun ((Note m, false) ∷ (Sync, true) ∷ (Append more, true) ∷ has.steps) has.text false) (sym with)
+            (not_noted has.steps has.text more (subst (λ (c : Bool). HasKept journal.begun has.steps has.text c) clean has.kept));
+        run = has.run;
+        has_is = has.has_is;
+      }
+  has-not-written journal more mark file has clean is (sync_failed none steps) =
       record {
         opened = has.opened;
         steps = (Sync, false) ∷ (Append more, true) ∷ has.steps;
@@ -84,17 +105,17 @@ module _ {F : Type 0} (has_done : F → List Step → Type 0) where
         taken = λ before had. steps (has.steps ++ before) (has.taken before had);
         kept = not_synced has.steps has.text more (subst (λ (c : Bool). HasKept journal.begun has.steps has.text c) clean has.kept);
         run = has.run;
-        bytes_is = has.bytes_is;
+        has_is = has.has_is;
       }
-  has-not-written journal more file has clean (inr none) =
+  has-not-written journal more mark file has clean is (append_failed none steps) =
       record {
         opened = has.opened;
         steps = (Append more, false) ∷ has.steps;
         text = has.text;
-        taken = λ before had. none.1 (has.steps ++ before) (has.taken before had);
+        taken = λ before had. steps (has.steps ++ before) (has.taken before had);
         kept = not_written has.steps has.text more (subst (λ (c : Bool). HasKept journal.begun has.steps has.text c) clean has.kept);
         run = has.run;
-        bytes_is = has.bytes_is;
+        has_is = has.has_is;
       }
 
   -- what it has kept

@@ -11,5 +11,6 @@ pub mod RefusedCommands
 pub mod ReplaySteps
 pub mod QueueSteps
 pub mod QueueOrder
+pub mod MarkSteps
 pub mod FileSteps
 pub mod SessionNames

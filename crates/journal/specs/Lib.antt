@@ -1,4 +1,5 @@
 pub mod CheckSums
+pub mod Marks
 pub mod Names
 pub mod Records
 pub mod Drafts

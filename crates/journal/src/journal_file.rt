@@ -1,21 +1,22 @@
 //! The file of a journal: records are appended in the order of their versions, all of a text or none.
 ghost use Rattle.std.specs.Prelude.{◌≡◌, true, false, IfNone, IfSome, if◌then◌else◌};
-ghost use Rattle.journal.specs.JournalFiles.{IsRun, WritesAndSyncs};
+ghost use Rattle.journal.specs.JournalFiles.{IsRun, WritesAndNotes};
 
 use crate::kept_records::KeptRecords;
+use crate::marks::Mark;
 use crate::queue::Batch;
 use crate::records_file::RecordsFile;
 use std::marker::Model;
 
-/// The file of a journal, which is written at its end alone: with how many bytes of whole records it was
-/// opened, and how many it has; the version of its first record behind these, and of the one that comes
-/// next; and whether it has no other bytes. By the steps that it took since it was opened, it has kept the
-/// records of these versions.
+/// The file of a journal, which is written at its end alone: the mark of the whole records that it was
+/// opened with, and of those that it has; the version of its first record behind the former, and of the one
+/// that comes next; and whether it has no other bytes. By the steps that it took since it was opened, it has
+/// kept the records of these versions, and noted that.
 #[derive(Drop)]
 pub struct JournalFile<F: RecordsFile> {
     file: F,
-    begun: u64,
-    bytes: u64,
+    begun: Mark,
+    has: Mark,
     first: u64,
     next: u64,
     clean: bool,
@@ -26,31 +27,34 @@ impl<F: RecordsFile> Model for JournalFile<F> {
 
     ghost Value = { files.JournalFile F };
 
-    ghost view = { λ j. record { file = j.file; begun = j.begun; bytes = j.bytes; first = j.first; next = j.next; clean = j.clean } };
+    ghost view = { λ j. record { file = j.file; begun = j.begun; has = j.has; first = j.first; next = j.next; clean = j.clean } };
 
-    ghost invariant = { λ j. files.HasRecords F.has_done (record { file = j.file; begun = j.begun; bytes = j.bytes; first = j.first; next = j.next; clean = j.clean }) };
+    ghost invariant = { λ j. files.HasRecords F.has_done (record { file = j.file; begun = j.begun; has = j.has; first = j.first; next = j.next; clean = j.clean }) };
 }
 
-/// Writes bytes, and waits until the file has kept them: whether it has.
-fn write_and_sync<F: RecordsFile>(file: &mut F, bytes: &[u8]) -> bool
-    ensures { WritesAndSyncs F.has_done bytes.now result file.old file.new }
+/// Writes bytes, waits until the file has kept them, and notes how much it has then: whether all is done.
+fn write_and_note<F: RecordsFile>(file: &mut F, bytes: &[u8], mark: Mark) -> bool
+    ensures { WritesAndNotes F.has_done bytes.now mark result file.old file.new }
 {
     if !file.append(bytes) {
         return false;
     }
-    file.sync()
+    if !file.sync() {
+        return false;
+    }
+    file.note(mark)
 }
 
 impl<F: RecordsFile> JournalFile<F> {
-    /// A file that has so many bytes of whole records, and maybe others behind them; the record of this
+    /// A file whose whole records have this mark, and that has maybe others behind them; the record of this
     /// version comes next.
-    pub fn new(file: F, bytes: u64, next: u64) -> JournalFile<F>
-        ensures { result ≡ record { file = file; begun = bytes; bytes = bytes; first = next; next = next; clean = false } }
+    pub fn new(file: F, begun: Mark, next: u64) -> JournalFile<F>
+        ensures { result ≡ record { file = file; begun = begun; has = begun; first = next; next = next; clean = false } }
     {
         JournalFile {
             file,
-            begun: bytes,
-            bytes,
+            begun,
+            has: begun,
             first: next,
             next,
             clean: false,
@@ -68,7 +72,7 @@ impl<F: RecordsFile> JournalFile<F> {
     fn cut_back(&mut self) -> bool
         ensures { self.new ≡ record self.old { file = self.new.file; clean = result } }
     {
-        self.clean = self.file.cut_to(self.bytes);
+        self.clean = self.file.cut_to(self.has.length);
         self.clean
     }
 
@@ -91,14 +95,14 @@ impl<F: RecordsFile> JournalFile<F> {
         ensures next { self.new.next ≡ (if result then next else self.old.next) }
         ensures clean { result ≡ true → self.new.clean ≡ true }
     {
-        let Some(bytes) = self.bytes.checked_add(text.len() as u64) else {
+        let Some(has) = self.has.behind(text) else {
             return false;
         };
-        if !write_and_sync(&mut self.file, text) {
+        if !write_and_note(&mut self.file, text, has) {
             self.clean = false;
             return false;
         }
-        self.bytes = bytes;
+        self.has = has;
         self.next = next;
         true
     }
@@ -122,7 +126,8 @@ impl<F: RecordsFile> JournalFile<F> {
         false
     }
 
-    /// Cuts off what stands behind the whole records, and waits until these are kept: whether they are.
+    /// Cuts off what stands behind the whole records, waits until these are kept, and notes them: whether all
+    /// is done.
     pub fn begin(&mut self) -> bool
         ensures begun { self.new.begun ≡ self.old.begun }
         ensures first { self.new.first ≡ self.old.first }

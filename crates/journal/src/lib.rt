@@ -31,6 +31,7 @@ mod writing;
 mod journal_file;
 mod keeping;
 mod kept_records;
+mod marks;
 mod queue;
 mod records_file;
 
@@ -56,6 +57,7 @@ pub use journal_file::JournalFile;
 pub use keeping::{Keep, Keeping};
 pub use kept_records::KeptRecords;
 pub use laws::{cut_records_are_left_out, records_read_back, refusals_change_nothing};
+pub use marks::{Mark, kept_length, mark_of_front};
 pub use names::session_name;
 pub use places::{Ending, Place};
 pub use queue::{Batch, Queue};

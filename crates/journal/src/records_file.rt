@@ -1,10 +1,12 @@
 //! What a journal asks of its file.
 
+use crate::marks::Mark;
+
 /// The file of a journal, as the journal uses it. Each call is one step that the file was asked, with its
 /// answer: whether it was done. The member says which steps a file may have behind it.
 pub trait RecordsFile {
     ghost use Rattle.std.specs.Prelude.{List};
-    ghost use Rattle.journal.specs.JournalFiles.{Append, CutTo, Step, Sync, TakesStep};
+    ghost use Rattle.journal.specs.JournalFiles.{Append, CutTo, Note, Step, Sync, TakesStep};
 
     // What the file was asked so far, and whether it did so, the newest first.
     ghost has_done: { Self → List Step → Type 0 };
@@ -20,4 +22,8 @@ pub trait RecordsFile {
     /// Cuts off what stands behind so many bytes: whether nothing does.
     fn cut_to(&mut self, bytes: u64) -> bool
         ensures { TakesStep has_done self.old (CutTo bytes, result) self.new };
+
+    /// Notes beside the journal how much of it is kept: whether that is noted.
+    fn note(&mut self, mark: Mark) -> bool
+        ensures { TakesStep has_done self.old (Note mark, result) self.new };
 }

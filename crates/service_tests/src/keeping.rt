@@ -9,13 +9,14 @@ use desk_core::{Call, Desk, NewDeck, Refusal, Reply};
 use desk_service::{Journal, SessionKeeper, SystemFile};
 use desk_tests::{Answer, card_of, name_of, number};
 use journal::{
-    Batch, Change, Ending, JournalFile, Keeping, Moment, Queue, RecordsFile, draft_change, replay,
+    Batch, Change, Ending, JournalFile, Keeping, Mark, Moment, Queue, RecordsFile, draft_change,
+    replay,
 };
 use session_line::Calls;
 use std::alloc::{AllocError, AllocGlobal, Global};
 use std::fs::{Metadata, OpenFile};
 use std::io;
-use std::io::{ErrorKind, Write};
+use std::io::{ErrorKind, Seek, SeekFrom, Write};
 use std::sync::{Mutex, Wait};
 use std::time::Clock;
 use text_ports::{Counted, FaultyReader};
@@ -83,6 +84,12 @@ impl<R: Wait> Write for DiskFile<'_, R> {
     }
 }
 
+impl<R: Wait> Seek for DiskFile<'_, R> {
+    fn seek(&mut self, _to: SeekFrom) -> io::Result<u64> {
+        Err(io::Error::from(ErrorKind::Unsupported))
+    }
+}
+
 impl<R: Wait> OpenFile for DiskFile<'_, R> {
     fn metadata(&self) -> io::Result<Metadata> {
         Err(io::Error::from(ErrorKind::Unsupported))
@@ -119,6 +126,10 @@ impl<R: Wait> RecordsFile for DiskFile<'_, R> {
 
     fn cut_to(&mut self, bytes: u64) -> bool {
         self.set_len(bytes).is_ok()
+    }
+
+    fn note(&mut self, _mark: Mark) -> bool {
+        self.count().is_ok()
     }
 }
 
@@ -182,7 +193,7 @@ fn make_on_disk<R: Wait + Clock>(
     alloc: Global,
     disk: &Mutex<Disk>,
 ) -> Result<Versions, AllocError> {
-    let file = JournalFile::new(DiskFile { rt, disk }, 0, 1);
+    let file = JournalFile::new(DiskFile { rt, disk }, Mark::first(), 1);
     let journal = Journal::new(alloc, file, 1)?;
     let keeper = SessionKeeper::new(rt, alloc, Some(&journal), 0);
     let mut desk = Keeping::new(Desk::new(alloc), keeper);
@@ -321,7 +332,7 @@ fn fill<F: RecordsFile>(
 fn push_queue<R: AllocGlobal + Wait>(rt: &R, answer: &mut Answer) -> Result<(), AllocError> {
     let disk = disk_of(rt.alloc(), 0, 0);
     let system = SystemFile::new(DiskFile { rt, disk: &disk });
-    let mut file = JournalFile::new(system, 0, 5);
+    let mut file = JournalFile::new(system, Mark::first(), 5);
     let mut queue = Queue::new(rt.alloc(), 3, file.kept())?;
     let done = fill(rt.alloc(), &mut queue, &mut file, answer);
     answer.bytes(&disk.lock(rt).bytes);
