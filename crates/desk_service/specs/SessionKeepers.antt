@@ -4,6 +4,7 @@ use Rattle.desk_core.specs.declared.replies.Refusal.{Refusal}
 use Rattle.desk_core.specs.declared.replies.Refusal.TheVariants.{NotKept, OutOfMemory}
 use Rattle.journal.specs.declared.changes.Change.{Change}
 use Rattle.journal.specs.declared.drafts.Stamp.{Stamp}
+use Rattle.journal.specs.Drafts.{takes_memory}
 use Rattle.journal.specs.JournalFiles.{Step, IsKept}
 use Rattle.journal.specs.Names.{session_name}
 use Rattle.journal.specs.Records.{text_behind_version}
@@ -34,10 +35,10 @@ module _ {F : Type 0} (has_done : F → List Step → Type 0) where
   IsMadeUp None = ⊤
   IsMadeUp (Some version) = IsKept has_done version
 
-  -- what is answered where a change is asked for: its record, once what the session was told as not kept is kept; or a refusal
+  -- what is answered where a change is asked for: its record, once what the session was told as not kept is kept; or a refusal, which tells want of memory of no drop
   abbrev pub BeginsRecord : SessionKeeper → Change → Result (List ℕ) Refusal → SessionKeeper → Type 0
   BeginsRecord old change (Ok draft) new = (new ≡ old) × (old.journaled ≡ true → IsMadeUp old.missed × IsDraft old.name change draft)
-  BeginsRecord old change (Err refusal) new = (new ≡ old) × ((refusal ≡ NotKept) ⊎ (refusal ≡ OutOfMemory))
+  BeginsRecord old change (Err refusal) new = (new ≡ old) × ((refusal ≡ NotKept) ⊎ ((refusal ≡ OutOfMemory) × (takes_memory change ≡ true)))
 
   -- what is answered where a change is asked for whose record is known once it is made: the name of the session, once what it was told as not kept is kept; or a refusal
   abbrev pub OpensRecord : SessionKeeper → Result Stamp Refusal → SessionKeeper → Type 0

@@ -1,6 +1,6 @@
 //! Records of changes that are asked for, whose versions are not known yet.
-ghost use Rattle.std.specs.Prelude.{◌≡◌, IfOk};
-ghost use Rattle.journal.specs.Drafts.{carried_text, form_text};
+ghost use Rattle.std.specs.Prelude.{◌≡◌, IfOk, OnErr, true};
+ghost use Rattle.journal.specs.Drafts.{carried_text, form_text, takes_memory};
 ghost use Rattle.journal.specs.Records.{text_behind_version, text_with_version};
 
 use crate::changes::Change;
@@ -44,15 +44,34 @@ impl Model for Draft {
     ghost view = { λ d. form_text d.form };
 }
 
-/// The record of a change that a session of this name asks for at a moment.
+/// The record of a drop. It takes no memory: its text is made when it is written.
+fn draft_dropped(moment: &Moment, by: &DeckName, name: &DeckName, seen: u64) -> Draft
+    ensures { result ≡ text_behind_version moment.now by.now (Change.Dropped name.now seen) }
+{
+    let stamp = Stamp {
+        moment: moment.copied(),
+        by: by.copied(),
+    };
+    let name = name.copied();
+    Draft {
+        form: Form::Told(stamp, Change::Dropped { name, seen }),
+    }
+}
+
+/// The record of a change that a session of this name asks for at a moment. That of a drop is made also where
+/// no memory is left.
 pub fn draft_change(
     alloc: Global,
     moment: &Moment,
     by: &DeckName,
     change: &Change,
 ) -> Result<Draft, AllocError>
-    ensures { IfOk result (λ draft. draft ≡ text_behind_version moment.now by.now change.now) }
+    ensures text { IfOk result (λ draft. draft ≡ text_behind_version moment.now by.now change.now) }
+    ensures memory { OnErr result (takes_memory change.now ≡ true) }
 {
+    if let Change::Dropped { name, seen } = change {
+        return Ok(draft_dropped(moment, by, name, *seen));
+    }
     Ok(Draft {
         form: Form::Written(text_behind_version(alloc, moment, by, change)?),
     })
