@@ -212,6 +212,18 @@ fn tell<R: Eprint>(rt: &R, fault: ServeFault, settings: &Settings<'_>, page: u16
         ServeFault::FolderTaken => eprintln!(rt;
             "compass: {fault}: another service runs on {root}; stop it, or choose another folder with --root"
         ),
+        ServeFault::NoLocks => eprintln!(rt;
+            "compass: {fault}: the file system of {root} has no locks, by which a service has its folder; choose a folder on another with --root"
+        ),
+        ServeFault::LongRoot => eprintln!(rt;
+            "compass: {fault}: {root} is too long for the socket by which the service is stopped; start it inside of the folder with --root ., or choose a shorter one"
+        ),
+        ServeFault::FewFiles => eprintln!(rt;
+            "compass: {fault}: the process may open too few files to serve; let it open more (ulimit -n), or take fewer --sessions and --readers"
+        ),
+        ServeFault::JournalTaken => eprintln!(rt;
+            "compass: {fault}: another service keeps its changes in that journal; stop it, or choose another with --journal"
+        ),
         ServeFault::NoJournal => eprintln!(rt;
             "compass: {fault}: the journal can't be read or written; look at the file and its folder, or choose another with --journal"
         ),
@@ -231,14 +243,21 @@ fn status_of(fault: ServeFault) -> u8
     ensures memory { fault ≡ ServeFault.OutOfMemory → result ≡ 4 }
     ensures none { fault ≡ ServeFault.NoFolder → result ≡ 7 }
     ensures taken { fault ≡ ServeFault.FolderTaken → result ≡ 7 }
+    ensures locks { fault ≡ ServeFault.NoLocks → result ≡ 7 }
+    ensures root { fault ≡ ServeFault.LongRoot → result ≡ 7 }
+    ensures files { fault ≡ ServeFault.FewFiles → result ≡ 6 }
+    ensures kept { fault ≡ ServeFault.JournalTaken → result ≡ 8 }
     ensures versions { fault ≡ ServeFault.BadVersions → result ≡ 7 }
     ensures journal { fault ≡ ServeFault.NoJournal → result ≡ 8 }
     ensures record { (number begin : ℕ) → fault ≡ ServeFault.BadJournal number begin → result ≡ 8 }
 {
     match fault {
         ServeFault::SocketFault | ServeFault::PageFault => SOCKET_STATUS,
+        ServeFault::FewFiles => SOCKET_STATUS,
         ServeFault::OutOfMemory => MEMORY_STATUS,
         ServeFault::NoFolder | ServeFault::FolderTaken | ServeFault::BadVersions => FOLDER_STATUS,
+        ServeFault::NoLocks | ServeFault::LongRoot => FOLDER_STATUS,
         ServeFault::NoJournal | ServeFault::BadJournal { .. } => JOURNAL_STATUS,
+        ServeFault::JournalTaken => JOURNAL_STATUS,
     }
 }

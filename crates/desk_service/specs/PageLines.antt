@@ -18,6 +18,8 @@ use Rattle.desk_service.specs.Sessions.{ServesSession, standing}
 abbrev pub is_whole : Ending → Bool
 is_whole ending.Left = true
 is_whole ending.Full = true
+is_whole ending.Request = true
+is_whole ending.Stranger = true
 is_whole ending.ReadFault = false
 is_whole ending.WriteFault = false
 

@@ -1,8 +1,11 @@
 -- A session: lines that are served one after the other, and what ends it (ours).
-use Rattle.std.specs.Prelude.{ℕ, ◌≡◌, ◌+◌, ◌<◌, Bool, true, false, List, Result, Option, Some, None}
+use Rattle.std.specs.Prelude.{ℕ, ◌≡◌, ◌+◌, ◌==◌, ◌<◌, ◌&&◌, Bool, true, false, List, Result, Option, Some, None}
 use Rattle.std.specs.Io.KnownBytes.{Keeps}
 use Rattle.definitions.specs.Cards.{Card}
-use Rattle.text_ports.specs.Faults.{count_up, count_after_flush}
+use Rattle.text_ports.specs.Faults.{count_up, count_after_flush, count_after_line}
+use Rattle.text_ports.specs.Lines.{ReadsLine}
+use Rattle.text_ports.specs.declared.lines.LineIs.{LineIs}
+use Rattle.text_ports.specs.declared.lines.LineIs.TheVariants as line
 use Rattle.deck_files.specs.declared.deck_shelf.ShelfLoadFault.{ShelfLoadFault}
 use Rattle.deck_files.specs.declared.deck_shelf.ShelfSaveFault.{ShelfSaveFault}
 use Rattle.deck_files.specs.Savings.{Saving}
@@ -13,13 +16,44 @@ use Rattle.session_line.specs.declared.greetings.Greeting.{Greeting}
 use Rattle.desk_core.specs.declared.replies.Reply.{Reply}
 use Rattle.session_line.specs.declared.serving.Outcome.{Outcome}
 use Rattle.session_line.specs.declared.serving.Outcome.TheVariants.{Served, Ended, ReadFault, WriteFault}
-use Rattle.session_line.specs.Serving.{Sides, Serves, read_faults_after, write_faults_after}
+use Rattle.session_line.specs.Serving.{Sides, Serves, ServesBehind, read_faults_after, write_faults_after}
+use Rattle.session_line.specs.Strangers.{is_command, is_request_of_http}
+use Rattle.desk_service.specs.declared.openings.Opening.{Opening}
+use Rattle.desk_service.specs.declared.openings.Opening.TheVariants as opening
 use Rattle.desk_service.specs.declared.sessions.Ending.{Ending}
 use Rattle.desk_service.specs.declared.sessions.Ending.TheVariants as ending
 
--- how many commands a session serves at most
+-- how many lines a session serves at most behind its first command
 abbrev pub most_commands : ℕ
 most_commands = 1000000
+
+-- how many lines that are no commands a session may begin with
+abbrev pub most_strange : ℕ
+most_strange = 16
+
+-- how a session ends where no line came; none where one did
+abbrev pub ending_without : LineIs → Option Ending
+ending_without line.Line = None
+ending_without line.End = Some ending.Left
+ending_without line.Cut = Some ending.Left
+ending_without line.TooLong = Some ending.Left
+ending_without line.Fault = Some ending.ReadFault
+
+-- what became of a line that was served: it ended the session, or was a command, or none
+abbrev pub opening_of : Option Ending → Bool → Opening
+opening_of (Some ending) command = opening.Ended ending
+opening_of None true = opening.Met
+opening_of None false = opening.Strange
+
+-- how the session ends with a first line, if it ends
+abbrev pub ending_in : Opening → Option Ending
+ending_in (opening.Ended ending) = Some ending
+ending_in opening.Strange = None
+ending_in opening.Met = None
+
+-- whether a session ends at a line without a look at it: where it is the first, and a request of HTTP
+abbrev pub is_turned_away : Bool → List ℕ → Bool
+is_turned_away first text = first && is_request_of_http text
 
 -- how a session ends after a line, and after what the writer kept back was sent on, or not; none where the next line may come
 abbrev pub ending_after : Outcome → Bool → Option Ending
@@ -66,6 +100,15 @@ module _ {C S : Type 0} where
     pub reader : new.read_faults ≡ old.read_faults
     pub writer : new.write_faults ≡ count_after_flush sent old.write_faults
 
+  -- a line is asked for, with this answer, and nothing else is changed
+  pub record TakesLine (answer : LineIs) (text : List ℕ) (old new : Standing C S) : Type 0 where
+    pub input : ReadsLine old.sides.input new.sides.input answer text
+    pub output : new.sides.output ≡ old.sides.output
+    pub desk : new.sides.desk ≡ old.sides.desk
+    pub shelf : new.sides.shelf ≡ old.sides.shelf
+    pub reader : new.read_faults ≡ count_after_line answer old.read_faults
+    pub writer : new.write_faults ≡ old.write_faults
+
 module _ {C S : Type 0} (rights : Rights) (makes : C → Call → Reply → C → Type 0) (awaits : C → ℕ → Reply → C → Type 0) (greets : C → List ℕ → Greeting → C → Type 0) (loads : S → List ℕ → List Card → S → Type 0)
     (refuses_to_load : S → List ℕ → ShelfLoadFault → S → Type 0)
     (saves : S → Saving → S → Type 0) (refuses_to_save : S → Saving → ShelfSaveFault → S → Type 0)
@@ -82,6 +125,35 @@ module _ {C S : Type 0} (rights : Rights) (makes : C → Call → Reply → C �
     pub sent : SendsOn flushed middle new
     pub ends : told ≡ ending_after outcome flushed
 
+  -- one line is served that was taken already
+  pub record ServesTaken (text : List ℕ) (old new : Standing C S) (told : Option Ending) : Type 0 where
+    pub middle : Standing C S
+    pub outcome : Outcome
+    pub flushed : Bool
+    pub served : ServesBehind rights makes awaits greets loads refuses_to_load saves refuses_to_save lists notes tells_saved text old.sides middle.sides outcome
+    pub reads : middle.read_faults ≡ read_faults_after outcome old.read_faults
+    pub writes : middle.write_faults ≡ write_faults_after outcome old.write_faults
+    pub sent : SendsOn flushed middle new
+    pub ends : told ≡ ending_after outcome flushed
+
+  -- one of the first lines: none came; or it is the first and a request of HTTP, and is taken and nothing else; or it is served
+  pub data OpensLine (is_first : Bool) (old new : Standing C S) (what : Opening) : Type 0 where
+    no_line : (answer : LineIs) (text : List ℕ) (ending : Ending) → TakesLine answer text old new → ending_without answer ≡ Some ending → what ≡ opening.Ended ending → OpensLine is_first old new what
+    turned_away : (text : List ℕ) → TakesLine line.Line text old new → is_turned_away is_first text ≡ true → what ≡ opening.Ended ending.Request → OpensLine is_first old new what
+    first_line : (text : List ℕ) (taken : Standing C S) (told : Option Ending) → TakesLine line.Line text old taken → is_turned_away is_first text ≡ false → ServesTaken text taken new told →
+        what ≡ opening_of told (is_command text) → OpensLine is_first old new what
+
+  -- so many lines that are no commands, none of which ends the session
+  pub data OpensLines (first : Standing C S) : Standing C S → ℕ → Type 0 where
+    no_stranger : OpensLines first first 0
+    next_stranger : (middle last : Standing C S) (count : ℕ) → OpensLines first middle count → OpensLine (count == 0) middle last opening.Strange → OpensLines first last (count + 1)
+
+  -- the first lines of a session: up to one that ends it, or to the first that is a command; or all that may be none
+  pub data OpensSession (first last : Standing C S) : Option Ending → Type 0 where
+    ended_early : (middle : Standing C S) (count : ℕ) (ending : Ending) → OpensLines first middle count → count < most_strange → OpensLine (count == 0) middle last (opening.Ended ending) → OpensSession first last (Some ending)
+    met : (middle : Standing C S) (count : ℕ) → OpensLines first middle count → count < most_strange → OpensLine (count == 0) middle last opening.Met → OpensSession first last None
+    strange : OpensLines first last most_strange → OpensSession first last (Some ending.Stranger)
+
   -- so many lines are served one after the other, none of which ends the session
   pub data ServesLines (first : Standing C S) : Standing C S → ℕ → Type 0 where
     no_line : ServesLines first first 0
@@ -91,6 +163,11 @@ module _ {C S : Type 0} (rights : Rights) (makes : C → Call → Reply → C �
   pub data ServesToEnd (first last : Standing C S) : Ending → Type 0 where
     ended : (middle : Standing C S) (count : ℕ) (ending : Ending) → ServesLines first middle count → count < most_commands → ServesLine middle last (Some ending) → ServesToEnd first last ending
     full : ServesLines first last most_commands → ServesToEnd first last ending.Full
+
+  -- all lines of a session: it ends with its first lines, or those behind its first command follow
+  pub data ServesAll (first last : Standing C S) (ending : Ending) : Type 0 where
+    closed : OpensSession first last (Some ending) → ServesAll first last ending
+    opened : (middle : Standing C S) → OpensSession first middle None → ServesToEnd middle last ending → ServesAll first last ending
 
 -- the same with another desk
 abbrev pub with_desk : {C S : Type 0} → Standing C S → C → Standing C S
@@ -105,4 +182,4 @@ module _ {C S : Type 0} (rights : Rights) (makes : C → Call → Reply → C �
   pub record ServesSession (first last : Standing C S) (ending : Ending) : Type 0 where
     pub begun : C
     pub begins_so : begins first.sides.desk begun
-    pub served : ServesToEnd rights makes awaits greets loads refuses_to_load saves refuses_to_save lists notes tells_saved (with_desk first begun) last ending
+    pub served : ServesAll rights makes awaits greets loads refuses_to_load saves refuses_to_save lists notes tells_saved (with_desk first begun) last ending

@@ -15,6 +15,9 @@ use std::sync::Wait;
 use std::time::{Clock, Duration};
 use text_ports::Counted;
 
+/// How long a client may take nothing of a reply, in seconds.
+const UNTAKEN_SECONDS: u64 = 30;
+
 /// Why a thread serves no further connection.
 #[derive(Clone, Copy)]
 pub(crate) enum Closed {
@@ -26,8 +29,14 @@ pub(crate) enum Closed {
     Asked,
 }
 
-/// Serves a connection to its end, whose client may be idle so long, or take so long to read on. Where
-/// there is no memory for its buffers it is closed at once.
+/// How long a client may take nothing of a reply that may be idle so long.
+fn untaken_time(idle: Duration) -> Duration {
+    let most = Duration::from_secs(UNTAKEN_SECONDS);
+    if idle < most { idle } else { most }
+}
+
+/// Serves a connection to its end, whose client may be idle so long, or take nothing of a reply for half a
+/// minute. Where there is no memory for its buffers it is closed at once.
 fn serve_connection<R: Clock, C: Calls, S: Shelf>(
     rt: &R,
     alloc: Global,
@@ -40,7 +49,7 @@ fn serve_connection<R: Clock, C: Calls, S: Shelf>(
     ensures { ServesConnection rights C.makes C.awaits C.greets C.begins S.loads S.refuses_to_load S.saves S.refuses_to_save S.lists S.notes S.tells_saved desk.old shelf.old desk.new shelf.new }
 {
     let _ = stream.set_nodelay(true);
-    let _ = stream.set_write_timeout(Some(idle));
+    let _ = stream.set_write_timeout(Some(untaken_time(idle)));
     let Ok(reader) = BufReader::new(alloc, PatientReader::new(rt, stream, idle)) else {
         return;
     };

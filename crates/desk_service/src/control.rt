@@ -5,11 +5,16 @@
 //! end. The toolchain knows no signals; a signal ends the process at once, and the journal keeps what was
 //! answered.
 
+ghost use Rattle.std.specs.Prelude.{◌≡◌};
+ghost use Rattle.desk_service.specs.Services.{fits_socket};
+
+use crate::faults::ServeFault;
+use crate::lobby::{Guest, Heard, Lobby, Speak};
 use crate::root::path_in;
 use crate::service_end::ServiceEnd;
 use std::alloc::Global;
 use std::fs::Permissions;
-use std::io::{Read, Write};
+use std::io::{ErrorKind, Read, Write};
 use std::net::{Net, SocketAddr, TcpStream};
 use std::os::unix::fs::PermissionsExt;
 use std::os::unix::net::{UnixListener, UnixStream};
@@ -21,30 +26,66 @@ use std::{fs, thread};
 /// The name of the control connection in its folder.
 const CONTROL: &str = ".beskloun.control";
 
+/// How many bytes the address of a socket has for its path, with a zero behind it.
+const MOST_PATH: usize = 108;
+
 /// How long the service sleeps before it looks again, in milliseconds.
 const PAUSE: u64 = 50;
 
 /// How often it looks whether all replies are out before it closes the connections.
 const LOOKS: u32 = 12;
 
-/// How long a line may take on the control connection, in milliseconds.
+/// How long who connects may take for its line, in milliseconds.
 const PATIENCE: u64 = 1_000;
+
+/// How long the control connection is not looked at while somebody there has said nothing yet, in milliseconds.
+const LOOK: u64 = 20;
+
+/// How long waking the thread that receives clients may take, in milliseconds.
+const WAKING: u64 = 200;
 
 /// The control connection of a service.
 #[derive(Drop)]
 pub(crate) struct Control {
+    alloc: Global,
     listener: UnixListener,
     path: String,
 }
 
-/// Whether what comes over the connection is the line `STOP`.
-fn says_stop(stream: &UnixStream) -> bool {
-    let _ = stream.set_read_timeout(Some(Duration::from_millis(PATIENCE)));
-    let mut line = [0; 8];
-    let mut input = stream;
-    match input.read(&mut line) {
-        Ok(count) => line.get(..count) == Some(b"STOP\n".as_slice()),
-        Err(_) => false,
+/// Whether a path has room in the address of a socket.
+fn fits_socket(path: &str) -> bool
+    ensures { result ≡ fits_socket path.now }
+{
+    path.len() < MOST_PATH
+}
+
+/// Whether the control connection of a folder can have its place; `LongRoot` where the path is too long.
+pub(crate) fn try_path(alloc: Global, folder: &str) -> Result<(), ServeFault> {
+    let path = path_in(alloc, folder, CONTROL)?;
+    if fits_socket(path.as_str()) {
+        Ok(())
+    } else {
+        Err(ServeFault::LongRoot)
+    }
+}
+
+/// Somebody at the control connection who has said nothing yet.
+#[derive(Drop)]
+struct Keeper(UnixStream);
+
+impl Speak for Keeper {
+    fn hear(&self) -> Heard {
+        let mut line = [0; 8];
+        let mut input = &self.0;
+        match input.read(&mut line) {
+            Ok(count) if line.get(..count) == Some(b"STOP\n".as_slice()) => Heard::Something,
+            Ok(_) => {
+                tell(&self.0, b"NO BadCommand\n");
+                Heard::Gone
+            }
+            Err(error) if error.kind() == ErrorKind::WouldBlock => Heard::Nothing,
+            Err(_) => Heard::Gone,
+        }
     }
 }
 
@@ -52,6 +93,23 @@ fn says_stop(stream: &UnixStream) -> bool {
 fn tell(stream: &UnixStream, line: &[u8]) {
     let mut output = stream;
     let _ = output.write_all(line);
+}
+
+/// Takes who connects; while somebody has said nothing yet it does not wait for that.
+fn let_keeper_in<R: Wait + Clock>(rt: &R, listener: &UnixListener, silent: &mut Lobby<Keeper>) {
+    let _ = listener.set_nonblocking(!silent.is_empty());
+    match listener.accept() {
+        Ok((stream, _)) => {
+            let _ = stream.set_nonblocking(true);
+            silent.crowd_in(Guest::new(rt, Keeper(stream)));
+        }
+        Err(error) if error.kind() == ErrorKind::WouldBlock => {
+            let _ = thread::sleep(rt, Duration::from_millis(LOOK));
+        }
+        Err(_) => {
+            let _ = thread::sleep(rt, Duration::from_millis(PAUSE));
+        }
+    }
 }
 
 impl Control {
@@ -62,7 +120,11 @@ impl Control {
         let listener = UnixListener::bind(rt, path.as_str()).ok()?;
         let own = Permissions::from_mode(0o600);
         fs::set_permissions(rt, path.as_str(), own).ok()?;
-        Some(Control { listener, path })
+        Some(Control {
+            alloc,
+            listener,
+            path,
+        })
     }
 
     /// Waits until somebody says `STOP`, or the service ends, and then until the replies that were under
@@ -73,22 +135,26 @@ impl Control {
         address: SocketAddr,
         end: &ServiceEnd,
     ) -> Option<UnixStream> {
+        let stream = self.asked_by(rt, end)?;
+        end.ask(rt);
+        let _ = TcpStream::connect_timeout(rt, &address, Duration::from_millis(WAKING));
+        finish(rt, end);
+        let _ = stream.set_nonblocking(false);
+        tell(&stream, b"OK\n");
+        Some(stream)
+    }
+
+    /// Waits until somebody says `STOP`, or the service ends. Who says nothing keeps nobody waiting.
+    fn asked_by<R: Wait + Clock>(&self, rt: &R, end: &ServiceEnd) -> Option<UnixStream> {
+        let mut silent = Lobby::new(self.alloc);
         for _ in rt.forever() {
-            let Ok((stream, _)) = self.listener.accept() else {
-                let _ = thread::sleep(rt, Duration::from_millis(PAUSE));
-                continue;
-            };
+            let_keeper_in(rt, &self.listener, &mut silent);
             if end.is_asked(rt) {
                 return None;
             }
-            if says_stop(&stream) {
-                end.ask(rt);
-                let _ = TcpStream::connect(rt, address);
-                finish(rt, end);
-                tell(&stream, b"OK\n");
-                return Some(stream);
+            if let Some(keeper) = silent.take_speaker(rt, Duration::from_millis(PATIENCE)) {
+                return Some(keeper.0);
             }
-            tell(&stream, b"NO BadCommand\n");
         }
         None
     }

@@ -14,8 +14,16 @@ pub enum ServeFault {
     OutOfMemory,
     /// The folder is not there, or can't be written in.
     NoFolder,
-    /// Another service has the folder.
+    /// Another service has the folder, or the journal in it.
     FolderTaken,
+    /// The file system of the folder has no locks, by which a service has its folder.
+    NoLocks,
+    /// The path of the folder is too long for the socket by which a service is stopped.
+    LongRoot,
+    /// The process may open fewer files than it takes to serve.
+    FewFiles,
+    /// Another service has the journal, which is not in the folder.
+    JournalTaken,
     /// The journal can't be read or written.
     NoJournal,
     /// This record of the journal, counted from 1, is none, and not the last; or it tells a change that the
@@ -38,6 +46,10 @@ impl fmt::Display for ServeFault {
             ServeFault::OutOfMemory => write!(f, "OutOfMemory"),
             ServeFault::NoFolder => write!(f, "NoFolder"),
             ServeFault::FolderTaken => write!(f, "FolderTaken"),
+            ServeFault::NoLocks => write!(f, "NoLocks"),
+            ServeFault::LongRoot => write!(f, "LongRoot"),
+            ServeFault::FewFiles => write!(f, "FewFiles"),
+            ServeFault::JournalTaken => write!(f, "JournalTaken"),
             ServeFault::NoJournal => write!(f, "NoJournal"),
             ServeFault::BadJournal { .. } => write!(f, "BadJournal"),
             ServeFault::BadVersions => write!(f, "BadVersions"),

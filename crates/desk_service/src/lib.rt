@@ -6,7 +6,7 @@
 //! | receiving | 1 | accepts connections, gives each to a session that is free | in `accept` |
 //! | session | 1 to 16 | takes a connection, serves it to its end, takes the next | till one comes, in a read of the connection, till a version is published |
 //! | worker | 1 to 16 | claims what is due, runs it, delivers it | on the bell |
-//! | page | 4, or none | accepts a connection of a browser, answers it, takes the next | in `accept`, some seconds for a request |
+//! | page | 4, or none | takes a connection of a browser that said something, answers it, takes the next | in `accept`, or for one of the four who is there, some seconds for a request |
 //! | control | 1 | hears whether the service is to end | at the socket of the folder |
 //!
 //! Each has a seat of one office over the desk, and waits while others have their turn at it. The bell
@@ -21,8 +21,9 @@
 //!
 //! A client that goes away, sends a line that is too long or never ends, or sends what is no command,
 //! ends its session or is told so, and nothing else; so does one that sends nothing for longer than it may
-//! be idle, takes longer than half a minute for a line that has begun, or does not read on. One that finds
-//! all sessions taken is told `NO Busy`. A bell that finds no memory is not rung; the change stands, and is
+//! be idle, takes longer than half a minute for a line that has begun, or does not read on. A session that begins
+//! with a request of HTTP, or with sixteen lines that are no commands, ends there. A client that finds all
+//! sessions taken for a fifth of a second is told `NO Busy`. A bell that finds no memory is not rung; the change stands, and is
 //! assembled after the next one. A job that a worker gave up for want of memory it claims again by itself,
 //! at growing intervals.
 //!
@@ -44,6 +45,7 @@
 // One session, over any ports.
 mod attending;
 mod bells;
+mod openings;
 mod page_lines;
 mod sessions;
 mod waiting;
@@ -66,6 +68,7 @@ mod arrivals;
 mod company;
 mod connections;
 mod control;
+mod lobby;
 mod pages;
 mod patience;
 mod places;

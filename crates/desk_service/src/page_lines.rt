@@ -15,7 +15,7 @@ fn is_whole(ending: Ending) -> bool
     ensures { result ≡ is_whole ending }
 {
     match ending {
-        Ending::Left | Ending::Full => true,
+        Ending::Left | Ending::Full | Ending::Request | Ending::Stranger => true,
         Ending::ReadFault | Ending::WriteFault => false,
     }
 }

@@ -1,7 +1,9 @@
 //! The threads of the page: each answers browsers, one connection after the other.
 //!
-//! They wait at a listener of their own, and have seats, a shelf and places in the journal of their own. A
-//! browser that says nothing, or does not take its answer, holds one of them for some seconds and nobody else.
+//! They wait at a listener of their own, and have seats, a shelf and places in the journal of their own. One of
+//! those that serve nobody keeps the door: it takes connections, and gives itself the first that says something.
+//! A browser that says nothing holds no thread, and goes after a second, or when too many come; one that does
+//! not finish its request, or does not take its answer, holds a thread for some seconds.
 ghost use Rattle.std.specs.Prelude.{◌≡◌, ◌+◌, ◌-◌, ◌≤◌, All, length, map, IfOk, IfSome, OnOk};
 ghost use Rattle.std.specs.List.{range_with_len};
 ghost use Rattle.turn_office.specs.Seats.{AreOf};
@@ -10,6 +12,7 @@ ghost use Rattle.desk_service.specs.PageThreads.{page_threads};
 use crate::attending::{Attending, CompanyEnd};
 use crate::bells::{Ringing, WorkBell};
 use crate::journals::{Journal, SessionKeeper};
+use crate::lobby::{Guest, Heard, Lobby, Speak};
 use crate::page_lines::DeskLines;
 use crate::places::{Serve, take_seat};
 use crate::service_end::ServiceEnd;
@@ -25,7 +28,7 @@ use session_line::{Calls, SeatCalls};
 use std::alloc::{AllocError, AllocGlobal, Global};
 use std::fs::File;
 use std::hash::RandomState;
-use std::io::Read;
+use std::io::{ErrorKind, Read};
 use std::net::{Shutdown, TcpListener, TcpStream};
 use std::rt::Files;
 use std::sync::{Mutex, Wait};
@@ -36,8 +39,14 @@ use turn_office::{Office, SeatList};
 /// How many connections of browsers are served at once, each by a thread of its own; others wait.
 pub(crate) const PAGE_THREADS: usize = 4;
 
-/// How long a request may take from the moment that its connection is taken, in seconds.
+/// How long a request may take once its connection has said something, in seconds.
 const REQUEST_SECONDS: u64 = 3;
+
+/// How long a connection may be silent before its request, in milliseconds.
+const SILENCE: u64 = 1_000;
+
+/// How long the door is not looked at while connections are silent and none comes, in milliseconds.
+const LOOK: u64 = 10;
 
 /// How long an answer may take to be sent, in seconds.
 const ANSWER_SECONDS: u64 = 5;
@@ -51,10 +60,28 @@ const MOST_READS: u32 = 64;
 /// How long a thread sleeps after it could not accept a connection, in milliseconds.
 const PAUSE: u64 = 100;
 
-/// Where browsers come in: the listener, and the keys by which the names of their fields are spread.
+/// A connection of a browser that has said nothing yet.
+#[derive(Drop)]
+pub(crate) struct Browser(TcpStream);
+
+impl Speak for Browser {
+    fn hear(&self) -> Heard {
+        let mut byte = [0; 1];
+        match self.0.peek(&mut byte) {
+            Ok(0) => Heard::Gone,
+            Ok(_) => Heard::Something,
+            Err(error) if error.kind() == ErrorKind::WouldBlock => Heard::Nothing,
+            Err(_) => Heard::Gone,
+        }
+    }
+}
+
+/// Where browsers come in: the listener, those who have said nothing yet, and the keys by which the names of
+/// their fields are spread.
 #[derive(Clone, Copy)]
 pub(crate) struct Door<'a> {
     pub(crate) listener: &'a TcpListener,
+    pub(crate) silent: &'a Mutex<Lobby<Browser>>,
     pub(crate) port: u16,
     pub(crate) keys: RandomState,
 }
@@ -108,7 +135,41 @@ fn serve_browser<R: Clock, C: Calls, S: Shelf>(
     let_go(rt, stream);
 }
 
-/// Accepts a connection and serves it: whether another may come.
+/// Takes a connection that comes; while others are silent it does not wait for one.
+fn let_browser_in<R: Wait + Clock>(rt: &R, listener: &TcpListener, silent: &mut Lobby<Browser>) {
+    let _ = listener.set_nonblocking(!silent.is_empty());
+    match listener.accept() {
+        Ok((stream, _)) => {
+            let _ = stream.set_nonblocking(true);
+            silent.crowd_in(Guest::new(rt, Browser(stream)));
+        }
+        Err(error) if error.kind() == ErrorKind::WouldBlock => {
+            let _ = thread::sleep(rt, Duration::from_millis(LOOK));
+        }
+        Err(_) => {
+            let _ = thread::sleep(rt, Duration::from_millis(PAUSE));
+        }
+    }
+}
+
+/// Keeps the door until a connection says something; none where the end of the service is asked for. Others
+/// who serve nobody wait for the door meanwhile.
+fn next_browser<R: Wait + Clock>(rt: &R, door: Door<'_>, end: &ServiceEnd) -> Option<TcpStream> {
+    let mut silent = door.silent.lock(rt);
+    for _ in rt.forever() {
+        if end.is_asked(rt) {
+            return None;
+        }
+        if let Some(browser) = silent.take_speaker(rt, Duration::from_millis(SILENCE)) {
+            let _ = browser.0.set_nonblocking(false);
+            return Some(browser.0);
+        }
+        let_browser_in(rt, door.listener, &mut silent);
+    }
+    None
+}
+
+/// Serves the next connection that says something: whether another may come.
 fn serve_next<R: Wait + Clock, C: Calls, S: Shelf>(
     rt: &R,
     alloc: Global,
@@ -117,9 +178,8 @@ fn serve_next<R: Wait + Clock, C: Calls, S: Shelf>(
     end: &ServiceEnd,
     page: &mut PageService<DeskLines<C, S>>,
 ) -> bool {
-    let Ok((stream, _)) = door.listener.accept() else {
-        let _ = thread::sleep(rt, Duration::from_millis(PAUSE));
-        return !end.is_asked(rt);
+    let Some(stream) = next_browser(rt, door, end) else {
+        return false;
     };
     if end.enter(rt, session, &stream) {
         serve_browser(rt, alloc, door.keys, &stream, page);

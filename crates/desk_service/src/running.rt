@@ -2,12 +2,13 @@
 ghost use Rattle.desk_service.specs.Services.{AreInRange, IsLocal};
 
 use crate::arrivals::{Arrivals, receive_clients};
-use crate::control::{Control, hear};
+use crate::control::{Control, hear, try_path};
 use crate::faults::ServeFault;
+use crate::lobby::Lobby;
 use crate::opening::{Opened, open};
 use crate::pages::{Door, PAGE_THREADS, PagePlace, page_threads};
 use crate::places::{Serve, SessionPlace, WorkerPlace};
-use crate::root::take_folder;
+use crate::root::{take_folder, take_journal, try_files};
 use crate::seating::{Places, open_channels, seat_all};
 use crate::service_end::ServiceEnd;
 use crate::settings::{JOURNAL, Settings};
@@ -88,6 +89,7 @@ fn most_clients(settings: &Settings<'_>) -> Option<usize> {
 #[derive(Drop)]
 struct Receiving<'a, R> {
     rt: &'a R,
+    alloc: Global,
     listener: &'a TcpListener,
     settings: &'a Settings<'a>,
     port: u16,
@@ -103,7 +105,14 @@ impl<R: Wait + Clock + Eprint> Serve for Receiving<'_, R> {
         announce_readers(self.rt, self.settings.readers);
         announce_page(self.rt, self.page);
         let most = most_clients(self.settings);
-        receive_clients(self.rt, self.listener, &self.arrivals, most, self.end);
+        receive_clients(
+            self.rt,
+            self.alloc,
+            self.listener,
+            &self.arrivals,
+            most,
+            self.end,
+        );
     }
 }
 
@@ -440,6 +449,7 @@ where
     };
     let receiving = Receiving {
         rt,
+        alloc,
         listener,
         settings,
         port,
@@ -530,6 +540,7 @@ where
 {
     let threads = settings.sessions + settings.readers + page_threads(door);
     let opened = open_in_folder(rt, alloc, settings, threads)?;
+    let _journal = take_journal(rt, alloc, settings)?;
     let control = Control::open(rt, alloc, settings.root);
     serve_opened(
         rt,
@@ -544,7 +555,8 @@ where
 
 /// Serves on a port of 127.0.0.1, where no other service has the folder; what saves of a killed service
 /// left there is taken away. With a port for the page, browsers are served there, at 127.0.0.1 too. The faults
-/// come in this order: want of memory for the name of a file, `NoFolder`, `FolderTaken`, `SocketFault`,
+/// come in this order: want of memory for the name of a file, `NoFolder`, `FolderTaken`, `NoLocks`, `LongRoot`,
+/// `FewFiles`, the journal's `FolderTaken` and `JournalTaken`, `SocketFault`,
 /// `PageFault`, then those of versions and journal, and want of memory. A port that can't be listened on is
 /// the one fault that is told of sockets: later ones end a session at most. It returns without a fault where
 /// `STOP` is said at the control connection of the folder, and with `once` as `serve_on`, where there is no
@@ -571,7 +583,14 @@ where
     R::Dir: Send,
     requires { AreInRange settings.now }
 {
-    let _taken = take_folder(rt, alloc, settings.root)?;
+    let taken = take_folder(rt, alloc, settings.root)?;
+    try_path(alloc, settings.root)?;
+    try_files(
+        alloc,
+        &taken,
+        settings.sessions + settings.readers + PAGE_THREADS,
+    )?;
+    drop(take_journal(rt, alloc, settings)?);
     clear_folder(rt, settings.root, &[VERSIONS, JOURNAL]);
     let Ok(listener) = TcpListener::bind(rt, local_address(settings.port)) else {
         return Err(ServeFault::SocketFault);
@@ -585,8 +604,10 @@ where
     let Ok(keys) = RandomState::new(rt) else {
         return Err(ServeFault::PageFault);
     };
+    let silent = Mutex::new(Lobby::new(alloc));
     let door = Door {
         listener: &browsers,
+        silent: &silent,
         port: port_of(&browsers, port),
         keys,
     };

@@ -5,13 +5,14 @@ ghost use Rattle.text_ports.specs.Faults.{count_after_flush};
 ghost use Rattle.session_line.specs.Serving.{sides};
 ghost use Rattle.desk_service.specs.Sessions.{ServesLine, ServesSession, ServesToEnd, ending_after, is_fault, standing, read_faults_at, write_faults_at};
 
+use crate::openings::open_session;
 use deck_files::Shelf;
 use session_line::{Calls, Outcome, Rights, serve_one};
 use std::alloc::Global;
 use std::io::{Read, Write};
 use text_ports::Counted;
 
-/// How many commands a session serves at most.
+/// How many lines a session serves at most behind its first command.
 pub const MOST_COMMANDS: u32 = 1_000_000;
 
 /// How a session ended.
@@ -25,10 +26,14 @@ pub enum Ending {
     WriteFault,
     /// All commands that a session may have were served.
     Full,
+    /// Its first line was a request of HTTP.
+    Request,
+    /// So many lines were no commands before the first that is one.
+    Stranger,
 }
 
 /// How a session ends after a line; none where the next line may come.
-fn ending_after(outcome: Outcome, flushed: bool) -> Option<Ending>
+pub(crate) fn ending_after(outcome: Outcome, flushed: bool) -> Option<Ending>
     ensures { result ≡ ending_after outcome flushed }
 {
     match outcome {
@@ -41,7 +46,7 @@ fn ending_after(outcome: Outcome, flushed: bool) -> Option<Ending>
 
 /// Sends on what the writer keeps back of a reply, and nothing after a fault: whether the writer did
 /// not fail.
-fn send_on<W: Write>(output: &mut Counted<W>, outcome: Outcome) -> bool
+pub(crate) fn send_on<W: Write>(output: &mut Counted<W>, outcome: Outcome) -> bool
     ensures bytes { Keeps (W.contents output.old.0) (W.contents output.new.0) }
     ensures count { output.new.1 ≡ count_after_flush result output.old.1 }
     ensures fault { is_fault outcome ≡ true → result ≡ true }
@@ -73,9 +78,9 @@ fn serve_line<R: Read, W: Write, C: Calls, S: Shelf>(
     ending_after(outcome, flushed)
 }
 
-/// Serves the lines of a session one after the other, each once and each reply sent on before the next
-/// line is read, up to the first that ends it, or to the millionth command. It ends by a fault of the
-/// reader or the writer only where that one's count rose.
+/// Serves the lines of a session behind its first command one after the other, each once and each reply sent
+/// on before the next line is read, up to the first that ends it, or to the millionth. It ends by a fault of
+/// the reader or the writer only where that one's count rose.
 fn serve_lines<R: Read, W: Write, C: Calls, S: Shelf>(
     alloc: Global,
     rights: Rights,
@@ -99,8 +104,10 @@ fn serve_lines<R: Read, W: Write, C: Calls, S: Shelf>(
 }
 
 /// Serves a session, which has told no name yet, and may do this: its lines one after the other, each once and each reply
-/// sent on before the next line is read, up to the first that ends it, or to the millionth command. It ends
-/// by a fault of the reader or the writer only where that one's count rose.
+/// sent on before the next line is read, up to the first that ends it, or to the millionth behind the first
+/// command. One whose first line is a request of HTTP ends there: that line is not executed, and has no
+/// reply. One that begins with sixteen lines that are no commands ends behind these. A session ends by a fault
+/// of the reader or the writer only where that one's count rose.
 pub fn serve_session<R: Read, W: Write, C: Calls, S: Shelf>(
     alloc: Global,
     rights: Rights,
@@ -116,5 +123,8 @@ pub fn serve_session<R: Read, W: Write, C: Calls, S: Shelf>(
     ensures write_faults { output.new.1 ≡ write_faults_at (Some result) output.old.1 }
 {
     desk.begin_session();
-    serve_lines(alloc, rights, input, output, desk, shelf)
+    match open_session(alloc, rights, input, output, desk, shelf) {
+        Some(ending) => ending,
+        None => serve_lines(alloc, rights, input, output, desk, shelf),
+    }
 }
