@@ -20,23 +20,6 @@ test-false rest many = le-ltb rest 10 many
 pub decimal_in-more : (count rest : ℕ) → 10 ≤ rest → decimal_in (suc count) rest ≡ decimal_in count (rest / 10) ++ (48 + rest % 10) ∷ []
 decimal_in-more count rest many = ap (λ t. elim t [ true ↦ (48 + rest) ∷ [] | false ↦ decimal_in count (rest / 10) ++ (48 + rest % 10) ∷ [] ]) (test-false rest many)
 
--- no digit is written yet
-pub decimal_in-none : (text : List ℕ) (value : ℕ) → text ≡ [] → decimal_in (20 - length text) value ++ text ≡ decimal_in 20 value
-decimal_in-none text value none = ap (λ (l : List ℕ). decimal_in (20 - length l) value ++ l) none ∙ append-nil (decimal_in 20 value)
-
--- a digit more is written
-pub decimal_in-step : (text : List ℕ) (left rest : ℕ) → 10 ≤ rest → decimal_in left (rest / 10) ++ (48 + rest % 10) ∷ text ≡ decimal_in (left + 1) rest ++ text
-decimal_in-step text left rest many =
-    sym (append_assoc (decimal_in left (rest / 10)) ((48 + rest % 10) ∷ []) text)
-    ∙ ap (λ (l : List ℕ). l ++ text) (sym (decimal_in-more left rest many))
-    ∙ ap (λ n. decimal_in n rest ++ text) (let e : suc left ≡ left + 1 = omega arith in e)
-
--- the first digit is written
-pub decimal_in-last : (text : List ℕ) (left rest : ℕ) → rest < 10 → (48 + rest) ∷ text ≡ decimal_in (left + 1) rest ++ text
-decimal_in-last text left rest few =
-    ap (λ t. (elim t [ true ↦ (48 + rest) ∷ [] | false ↦ decimal_in left (rest / 10) ++ (48 + rest % 10) ∷ [] ]) ++ text) (sym (lt-ltb rest 10 few))
-    ∙ ap (λ n. decimal_in n rest ++ text) (let e : suc left ≡ left + 1 = omega arith in e)
-
 -- what has two digits or more needs room for two
 pub room_in_front : (begin rest : ℕ) → 10 ≤ rest → rest < 10 ^ (begin + 1) → 0 < begin
 room_in_front zero rest many below = omega arith

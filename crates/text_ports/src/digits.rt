@@ -3,6 +3,7 @@ ghost use Rattle.std.specs.Prelude.{◌≡◌, ◌<◌, ◌≤◌, ◌^◌};
 ghost use Rattle.definitions.specs.Numerals.{decimal_of, digits_of, octal_of};
 
 use crate::prepended_text::PrependedText;
+use itoa::Buffer;
 
 /// How many digits a number has at most.
 const MOST_DIGITS: usize = 20;
@@ -20,18 +21,12 @@ pub(crate) fn last_digits<const BASE: u64>(count: u32, value: u64) -> PrependedT
     text
 }
 
-/// The decimal digits of a value, without leading zeros.
-pub(crate) fn decimal_digits(value: u64) -> PrependedText<MOST_DIGITS>
-    ensures { result ≡ decimal_of value }
+/// The decimal digits of a value, without leading zeros, as they stand in a buffer.
+#[inline(always)]
+pub(crate) fn decimal_text(buffer: &mut Buffer, value: u64) -> &[u8]
+    ensures { result.now ≡ decimal_of value }
 {
-    let mut text = PrependedText::new();
-    let mut rest = value;
-    while rest >= 10 {
-        text.put_byte(b'0' + (rest % 10) as u8);
-        rest /= 10;
-    }
-    text.put_byte(b'0' + rest as u8);
-    text
+    buffer.format(value).as_bytes()
 }
 
 /// The value as `digits` octal digits, with leading zeros.

@@ -2,9 +2,10 @@
 ghost use Rattle.std.specs.Prelude.{◌≡◌, ◌≤◌, ◌++◌, [], IfOk};
 ghost use Rattle.definitions.specs.Numerals.{decimal_of, octal_of};
 
-use crate::digits::{decimal_digits, last_digits};
+use crate::digits::{decimal_text, last_digits};
 use crate::history::{History, Lost};
 use crate::text::Text;
+use itoa::Buffer;
 use std::alloc::{AllocError, Global};
 use std::marker::Model;
 
@@ -80,7 +81,8 @@ impl Piece {
     pub fn put_decimal(&mut self, number: u64)
         ensures { self.new ≡ self.old ++ decimal_of number }
     {
-        self.put(decimal_digits(number).as_slice());
+        let mut buffer = Buffer::new();
+        self.put(decimal_text(&mut buffer, number));
     }
 
     /// The text, where there was memory for all of it.

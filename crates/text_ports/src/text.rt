@@ -2,7 +2,8 @@
 ghost use Rattle.std.specs.Prelude.{◌≡◌, ◌≤◌, ◌++◌, ◌∷◌, [], length, IfOk, OnOk, OnErr};
 ghost use Rattle.definitions.specs.Numerals.{decimal_of, digits_of, octal_of};
 
-use crate::digits::{decimal_digits, last_digits};
+use crate::digits::{decimal_text, last_digits};
+use itoa::Buffer;
 use std::alloc::{AllocError, Global};
 use std::marker::Model;
 
@@ -113,6 +114,7 @@ impl Text {
         ensures ok { OnOk result (self.new ≡ self.old ++ decimal_of number) }
         ensures err { OnErr result (self.new ≡ self.old) }
     {
-        self.push_bytes(decimal_digits(number).as_slice())
+        let mut buffer = Buffer::new();
+        self.push_bytes(decimal_text(&mut buffer, number))
     }
 }

@@ -5,9 +5,11 @@ ghost use Rattle.text_ports.specs.Faults.{count_up};
 
 use crate::counted::Counted;
 use std::io::Write;
+use thiserror::Error;
 
 /// A write that failed: `sent` bytes went out before.
-#[derive(Clone, Copy, Debug)]
+#[derive(Clone, Copy, Debug, Error)]
+#[error("the write failed behind {sent} bytes")]
 pub struct Broken {
     pub sent: usize,
 }
