@@ -12,6 +12,7 @@ use crate::field_parts::Parts;
 use definitions::has_display_code;
 use std::fmt;
 use std::marker::Model;
+use thiserror::Error;
 
 /// How many columns a card has.
 const COLUMNS: usize = 80;
@@ -41,7 +42,7 @@ impl Model for Card {
 }
 
 /// Why a line is no card.
-#[derive(Clone, Copy, Debug, PartialEq, Eq)]
+#[derive(Clone, Copy, Debug, PartialEq, Eq, Error)]
 pub enum CardFault {
     /// It has more than 80 columns without its trailing blanks.
     TooWide,

@@ -6,6 +6,7 @@ ghost use Rattle.definitions.specs.DeckInput.{is_deck_name};
 
 use definitions::InlineText;
 use std::marker::Model;
+use thiserror::Error;
 
 /// How many characters the name of a deck has at most.
 const MOST_CHARACTERS: usize = 7;
@@ -25,7 +26,8 @@ impl Model for DeckName {
 }
 
 /// The characters are no name of a deck.
-#[derive(Clone, Copy, Debug)]
+#[derive(Clone, Copy, Debug, Error)]
+#[error("the name of a deck is 1 to 7 letters and digits")]
 pub struct BadName;
 
 impl DeckName {

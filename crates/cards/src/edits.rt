@@ -3,6 +3,7 @@ ghost use Rattle.std.specs.Prelude.{◌≡◌};
 ghost use Rattle.cards.specs.Carrying.{placed};
 
 use crate::Card;
+use thiserror::Error;
 
 /// An edit of a deck's cards. Places count from 1.
 #[derive(Drop)]
@@ -16,11 +17,13 @@ pub enum Edit {
 }
 
 /// Why an edit does not apply.
-#[derive(Clone, Copy, Debug, PartialEq, Eq)]
+#[derive(Clone, Copy, Debug, PartialEq, Eq, Error)]
 pub enum EditFault {
     /// The deck has no such place.
+    #[error("the deck has no card at this place")]
     NoSuchCard,
     /// The deck has 20,000 cards.
+    #[error("the deck has 20000 cards, and takes no more")]
     DeckFull,
 }
 
