@@ -1,4 +1,5 @@
 pub mod OffsetLaws
+pub mod LiteralLaws
 pub mod ReachLaws
 pub mod BaseLaws
 pub mod SizeLaws

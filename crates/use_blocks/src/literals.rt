@@ -3,40 +3,38 @@ ghost use Rattle.std.specs.Prelude.{◌≡◌, ◌==◌, ◌<◌, ◌≤◌, [],
 ghost use Rattle.std.specs.List.{list_any};
 ghost use Rattle.definitions.specs.Literals.{offset_of, with_word};
 
+use indexmap::IndexSet;
 use std::alloc::{AllocError, Global};
-use std::collections::BTreeMap;
+use std::hash::RandomState;
 use std::marker::Model;
 
 /// How many words the literals block has at most (ours).
 const MOST_LITERALS: usize = 131072;
 
 /// The words of the literals block. Contracts see their list, in order of first use. A look-up takes
-/// about as long whatever the words are, since a tree keeps where each stands.
+/// about as long whatever the words are, since their places among the others go by keys that nobody knows.
 #[derive(Drop)]
 pub struct Literals {
-    words: Vec<u64>,
-    offsets: BTreeMap<u64, usize>,
+    words: IndexSet<u64, RandomState>,
 }
 
 impl Model for Literals {
     ghost use Rattle.std.specs.Prelude.{ℕ, List, ◌≤◌, length};
-    ghost use Rattle.use_blocks.specs.Joins.Offsets.{HasOffsets};
 
     ghost Value = { List ℕ };
 
-    ghost view = { λ l. l.words.items };
+    ghost view = { λ l. l.words.keys };
 
-    ghost invariant = { λ l. (length l.words.items ≤ 131072) × HasOffsets l.words.items l.offsets };
+    ghost invariant = { λ l. length l.words.keys ≤ 131072 };
 }
 
 impl Literals {
-    /// No literals.
-    pub fn new(alloc: Global) -> Literals
+    /// No literals, in a table that is kept by these keys.
+    pub fn new(alloc: Global, keys: RandomState) -> Literals
         ensures { result ≡ [] }
     {
         Literals {
-            words: Vec::new(alloc),
-            offsets: BTreeMap::new(alloc),
+            words: IndexSet::with_hasher(alloc, keys),
         }
     }
 
@@ -48,13 +46,10 @@ impl Literals {
         ensures absent { OnErr result (list_any (λ other. other == word) self.old ≡ false) }
         ensures room { OnErr result (length self.old < 131072) }
     {
-        let offset = self.words.len();
-        if offset >= MOST_LITERALS || self.offsets.contains_key(&word) {
+        if self.words.len() >= MOST_LITERALS {
             return Ok(());
         }
-        self.words.reserve(1)?;
-        self.offsets.insert(word, offset)?;
-        self.words.push(word)?;
+        self.words.insert(word)?;
         Ok(())
     }
 
@@ -62,8 +57,8 @@ impl Literals {
     pub fn offset(&self, word: u64) -> usize
         ensures { result ≡ offset_of word self.now }
     {
-        match self.offsets.get(&word) {
-            Some(offset) => *offset,
+        match self.words.get_index_of(&word) {
+            Some(offset) => offset,
             None => self.words.len(),
         }
     }

@@ -1,0 +1,55 @@
+-- Where a word stands in the set of literals.
+use Rattle.std.proofs.Common.{ℕ, suc, ◌≡◌, ◌+◌, ◌<◌, ◌≤◌, Bool, true, false, cond, List, [], ◌∷◌, length, position, nat_lt, Option, Some, None, refl, sym, ◌∙◌, ap, arith, ◌⊎◌, inl, inr}
+use Rattle.std.specs.Prelude.{◌==◌, nat_eq, if◌then◌else◌}
+use Rattle.std.specs.List.{position_or_len}
+use Rattle.std.proofs.lemmas.Bool.{lt-ltb}
+use Rattle.std.proofs.lemmas.Bool.Decides.{eqb_tells, leb_tells}
+use Rattle.std.proofs.lemmas.List.Recursion.{is_position_or_len}
+use Rattle.definitions.specs.Literals.{offset_of}
+
+-- which of two numbers stands first makes no difference
+swapped : (a b : ℕ) → nat_eq a b ≡ (b == a)
+swapped a b = by (eqb_tells a b) (eqb_tells b a)
+  where
+    by : ((nat_eq a b ≡ true) × (a ≡ b)) ⊎ ((nat_eq a b ≡ false) × ((a ≡ b) → ⊥)) → (((b == a) ≡ true) × (b ≡ a)) ⊎ (((b == a) ≡ false) × ((b ≡ a) → ⊥)) → nat_eq a b ≡ (b == a)
+    by (inl h) (inl k) = h.0 ∙ sym k.0
+    by (inl h) (inr k) = absurd (k.1 (sym h.1))
+    by (inr h) (inl k) = absurd (h.1 (sym k.1))
+    by (inr h) (inr k) = h.0 ∙ sym k.0
+
+-- the offset is the first place of the word
+offset-first : (word : ℕ) (words : List ℕ) → offset_of word words ≡ position_or_len (nat_eq word) words
+offset-first word words = is_position_or_len (offset_of word) (nat_eq word) refl (λ w ws. ap (λ (b : Bool). if b then 0 else 1 + offset_of word ws) (sym (swapped word w))) words
+
+offset-within : (word : ℕ) (words : List ℕ) → offset_of word words ≤ length words
+offset-within word [] = omega arith
+offset-within word (w ∷ words) = by (w == word) (offset-within word words)
+  where
+    by : (b : Bool) → offset_of word words ≤ length words → (if b then 0 else 1 + offset_of word words) ≤ suc (length words)
+    by true h = omega arith
+    by false h = omega (arith, h)
+
+-- the place of a word that is there
+pub offset-Some : (word k : ℕ) (words : List ℕ) → position (nat_eq word) words ≡ Some k → k ≡ offset_of word words
+offset-Some word k words e = by (nat_lt (position_or_len (nat_eq word) words) (length words)) e ∙ sym (offset-first word words)
+  where
+    by : (b : Bool) → cond b (Some (position_or_len (nat_eq word) words)) None ≡ Some k → k ≡ position_or_len (nat_eq word) words
+    by true h = cc
+    by false h = cc
+
+-- a word that is not there
+pub offset-None : (word : ℕ) (words : List ℕ) → position (nat_eq word) words ≡ None → length words ≡ offset_of word words
+offset-None word words e = by (nat_lt (position_or_len (nat_eq word) words) (length words)) refl e
+  where
+    by : (b : Bool) → nat_lt (position_or_len (nat_eq word) words) (length words) ≡ b → cond b (Some (position_or_len (nat_eq word) words)) None ≡ None → length words ≡ offset_of word words
+    by true h none = cc
+    by false h none =
+        let first = offset-first word words in
+        let within = offset-within word words in
+        elim (leb_tells (length words) (position_or_len (nat_eq word) words)) [
+          | inl k ↦ let behind : length words ≤ position_or_len (nat_eq word) words = k.1 in omega (arith, first, within, behind)
+          | inr k ↦ absurd (absurd_test (sym (lt-ltb (position_or_len (nat_eq word) words) (length words) k.1) ∙ h))
+        ]
+      where
+        absurd_test : true ≡ false → ⊥
+        absurd_test e = cc
