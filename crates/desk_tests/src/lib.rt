@@ -8,6 +8,7 @@ mod inputs;
 mod outputs;
 
 // Steps, lowest first.
+mod breaking;
 mod faults;
 mod files;
 mod jobs;

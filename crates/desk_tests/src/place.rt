@@ -2,13 +2,14 @@
 //!
 //! A step that begins with no word below is a session's command; `say` stands in front of one that
 //! would begin so, and `asking` in front of one of a session that may ask alone. `cut LINES`: lines that end without their end. `failing PIECE READ WRITE LINES`: the
-//! ports give and take so many bytes at a time, and fail at the calls of these numbers. `turns LINES`:
-//! two sessions, whose lines have a zero byte between them.
+//! ports give and take so many bytes at a time, and fail at the calls of these numbers. `breaking BYTES LINE`: a command
+//! by a shelf whose writer takes so many bytes and then breaks. `turns LINES`: two sessions, whose lines have a zero byte between them.
 //!
 //! `bytes LINES`: these are the file; `times NUMBER LINES`: they are put behind it so many times.
 //! `shelf NAME`: the file is that of the deck on the shelf; `file NAME`: the deck's file there.
 ghost use Rattle.std.specs.Prelude.{◌≤◌};
 
+use crate::breaking::BreakingShelf;
 use crate::inputs::{cut_number, name_of};
 use crate::jobs::Jobs;
 use crate::outputs::Answer;
@@ -50,6 +51,7 @@ impl Place {
             "asking" => self.ask(rest, answer),
             "cut" => self.serve(rest.as_bytes(), answer),
             "failing" => self.fail(rest, answer),
+            "breaking" => self.serve_by_breaking(rest, answer),
             "turns" => self.take_turns(rest, answer),
             "bytes" => self.begin(rest, answer),
             "times" => self.append(rest, answer),
@@ -119,6 +121,22 @@ impl Place {
             output,
             answer,
         );
+    }
+
+    /// Serves one command by a shelf whose writer breaks.
+    fn serve_by_breaking(&mut self, text: &str, answer: &mut Answer) {
+        let (most, line) = cut_number(text);
+        let alloc = self.alloc;
+        let most = most as usize;
+        let mut shelf = BreakingShelf { alloc, most };
+        match format!(in alloc; "{line}\n") {
+            Ok(lines) => {
+                let input = FaultyReader::new(lines.as_bytes(), 1, 0);
+                let output = FaultyWriter::new(alloc, 1, 0);
+                serve_ports(alloc, &mut self.desk, &mut shelf, input, output, answer);
+            }
+            Err(error) => answer.keep(Err(error)),
+        }
     }
 
     /// Serves four commands of a session, another session to its end, and then the first to its own.

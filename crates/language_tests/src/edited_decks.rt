@@ -4,6 +4,7 @@
 use crate::deck_topics::{record_of, repeated_cards};
 use crate::inputs::{cut, decimal};
 use crate::outputs::Answer;
+use crate::statement_topics::meter;
 use cards::{Card, Edit, edited_copy};
 use deck_linker::{Publication, link};
 use deck_objects::SharedObject;
@@ -11,22 +12,28 @@ use edit_core::{Kept, RecordFault, assemble};
 use statement_coder::Meter;
 use std::alloc::{AllocError, Global};
 
-/// Whether this is the topic here; what is found of the text is then in the answer.
+/// Whether this is a topic here; what is found of the text is then in the answer.
 pub fn answer(answer: &mut Answer, topic: &str, text: &str) -> Result<bool, AllocError> {
-    if topic != "edited_decks" {
+    let is_counted = topic == "counted_edits";
+    if !is_counted && topic != "edited_decks" {
         return Ok(false);
     }
     let (deck, edits) = text.split_once("EDITS\n").unwrap_or((text, ""));
-    edited_deck(answer, deck, edits)?;
+    edited_deck(answer, deck, edits, is_counted)?;
     Ok(true)
 }
 
 /// Makes the edits of these lines in the record of a deck.
-fn edited_deck(answer: &mut Answer, deck: &str, edits: &str) -> Result<(), AllocError> {
+fn edited_deck(
+    answer: &mut Answer,
+    deck: &str,
+    edits: &str,
+    is_counted: bool,
+) -> Result<(), AllocError> {
     let mut done = Meter { sized: 0, coded: 0 };
     let cards = repeated_cards(answer.alloc, deck)?;
     match record_of(answer.alloc, cards, &mut done)? {
-        Some(mut kept) => edited(answer, &mut kept, edits),
+        Some(mut kept) => edited(answer, &mut kept, edits, is_counted),
         None => {
             answer.word("no deck");
             Ok(())
@@ -35,11 +42,17 @@ fn edited_deck(answer: &mut Answer, deck: &str, edits: &str) -> Result<(), Alloc
 }
 
 /// Makes the edits of these lines, one after the other, and looks after each.
-fn edited(answer: &mut Answer, kept: &mut Kept, edits: &str) -> Result<(), AllocError> {
+fn edited(
+    answer: &mut Answer,
+    kept: &mut Kept,
+    edits: &str,
+    is_counted: bool,
+) -> Result<(), AllocError> {
     let mut are_same = true;
     for line in edits.lines() {
-        match edit_of(line) {
-            Some(edit) => are_same = is_edited(answer.alloc, kept, &edit)?,
+        match edits_of_line(answer.alloc, kept, line)? {
+            Some(most) if is_counted => meter(answer, &most),
+            Some(_) => {}
             None => are_same = false,
         }
         if !are_same {
@@ -49,6 +62,30 @@ fn edited(answer: &mut Answer, kept: &mut Kept, edits: &str) -> Result<(), Alloc
     }
     answer.either(are_same, "same", "differs");
     Ok(())
+}
+
+/// Makes the edit of a line, and three times where it begins with `#3`: how many statements were sized and coded for
+/// one of them, at most; none where the record is not as a new one then.
+fn edits_of_line(alloc: Global, kept: &mut Kept, line: &str) -> Result<Option<Meter>, AllocError> {
+    let (times, line) = match line.strip_prefix("#") {
+        Some(counted) => cut(counted),
+        None => ("1", line),
+    };
+    let Some(edit) = edit_of(line) else {
+        return Ok(None);
+    };
+    let mut most = Meter { sized: 0, coded: 0 };
+    for _ in 0..decimal(times) {
+        let mut done = Meter { sized: 0, coded: 0 };
+        if !is_edited(alloc, kept, &edit, &mut done)? {
+            return Ok(None);
+        }
+        most = Meter {
+            sized: most.sized.max(done.sized),
+            coded: most.coded.max(done.coded),
+        };
+    }
+    Ok(Some(most))
 }
 
 /// The edit of a line: `INS 3 CARD`, `REP 3 CARD` or `DEL 3`.
@@ -67,10 +104,14 @@ fn edit_of(line: &str) -> Option<Edit> {
     }
 }
 
-/// Makes an edit, which may be refused: whether the record is as a new one of its cards.
-fn is_edited(alloc: Global, kept: &mut Kept, edit: &Edit) -> Result<bool, AllocError> {
-    let mut done = Meter { sized: 0, coded: 0 };
-    match kept.edit(alloc, edit, &mut done) {
+/// Makes an edit, which may be refused, and counts: whether the record is as a new one of its cards.
+fn is_edited(
+    alloc: Global,
+    kept: &mut Kept,
+    edit: &Edit,
+    done: &mut Meter,
+) -> Result<bool, AllocError> {
+    match kept.edit(alloc, edit, done) {
         Ok(()) => is_as_new(alloc, kept),
         Err(RecordFault::OutOfMemory) => Err(AllocError),
         Err(_) => Ok(true),

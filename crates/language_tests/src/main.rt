@@ -50,7 +50,7 @@ use std::{env, io};
 use tables::{Row, rows_of};
 
 /// The topics, lowest first.
-const TOPICS: [&str; 82] = [
+const TOPICS: [&str; 83] = [
     "displays",
     "octals",
     "lines",
@@ -129,6 +129,7 @@ const TOPICS: [&str; 82] = [
     "record_edits",
     "record_kinds",
     "edited_decks",
+    "counted_edits",
     "listings",
     "ends_of_listings",
     "images",
