@@ -2,13 +2,12 @@
 use Rattle.std.proofs.Common.{ℕ, ◌≡◌, Bool, true, false, true≢false, cond, List, [], ◌∷◌, Option, Some, None, is_some, ◌||◌, refl, sym, ap, ap₂, ◌∙◌, ℤ}
 use Rattle.std.specs.Prelude.{if◌then◌else◌}
 use Rattle.std.specs.Map.{update}
-use Rattle.std.specs.Ordering.{eq_by_cmp}
 use Rattle.std.proofs.lemmas.List.Folds.{list_any-append}
 use Rattle.definitions.specs.Characters.{same_text}
 use Rattle.definitions.specs.Settled.{Definition}
 use Rattle.definitions.specs.Blocks.{is_named}
 use Rattle.definitions.specs.Link.{Based, Common, entered, entered_in, entry_names, entry_value, names_of, or_value}
-use Rattle.deck_linker.specs.Joins.NameKeys.{name_order, same_in_order, same_text_equivalence}
+use Rattle.deck_linker.specs.Joins.NameKeys.{same_text_equivalence}
 use Rattle.deck_linker.specs.Joins.Placing.{entry_alone}
 use Rattle.expr_forms.proofs.NameLaws.{same_text-Decides}
 
@@ -34,9 +33,8 @@ entered-step name commons based entry entries = by_test (same_text name entry.na
 
 -- a value under a name that has none
 pub entered-new : (found : List ℕ → Option ℤ) (name : List ℕ) (value : ℤ) (other : List ℕ) → found name ≡ None →
-    update (eq_by_cmp name_order) found name (Some value) other ≡ or_value (found other) (entry_alone other name value)
-entered-new found name value other none =
-    ap (λ (b : Bool). cond b (Some value) (found other)) (sym (same_in_order name other)) ∙ by_test (same_text name other) refl
+    update same_text found name (Some value) other ≡ or_value (found other) (entry_alone other name value)
+entered-new found name value other none = by_test (same_text name other) refl
   where
     by_test : (t : Bool) → same_text name other ≡ t → update same_text found name (Some value) other ≡ or_value (found other) (entry_alone other name value)
     by_test true e =

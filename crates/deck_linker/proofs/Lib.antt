@@ -1,7 +1,6 @@
 pub mod TestLaws
 pub mod PlaceLaws
-pub mod TableLaws
-pub mod CommonPlaceLaws
+pub mod CommonLaws
 pub mod EntryLaws
 pub mod ValueLaws
 pub mod WordLaws

@@ -1,10 +1,6 @@
 -- Names, each once, and the names that they stand for.
 use Rattle.std.proofs.Common.{◌≡◌, ℕ, List, [], ◌∷◌, ◌++◌, Bool, true, false, ◌||◌, refl, sym, ap, ap₂, ◌∙◌, append-nil, append_assoc}
 use Rattle.std.specs.Prelude.{codes, if◌then◌else◌}
-use Rattle.std.specs.Ordering.{is_eq, match_ordering}
-use Rattle.std.specs.declared.cmp.Ordering.{Ordering}
-use Rattle.std.specs.declared.cmp.Ordering.TheVariants.{Less, Equal, Greater}
-use Rattle.std.specs.List.{list_any}
 use Rattle.std.proofs.lemmas.List.Folds.{list_any-append}
 use Rattle.definitions.specs.Characters.{same_text}
 use Rattle.definitions.specs.Blocks.{is_named}
@@ -12,7 +8,6 @@ use Rattle.definitions.specs.Settled.{Definition}
 use Rattle.definitions.specs.Link.{Based, Common, names_of, doubled_lines, link_line}
 use Rattle.definitions.specs.Map.{entry_line, entry_lines}
 use Rattle.definitions.proofs.TextLaws.{same_text-true}
-use Rattle.deck_linker.specs.Joins.NameKeys.{name_order, same_in_order}
 use Rattle.deck_linker.specs.Joins.Names.{with_name, with_entries, HaveNames}
 
 -- a name that is there already changes nothing
@@ -30,28 +25,13 @@ named_pushed : (other name : List ℕ) (names : List (List ℕ)) → is_named ot
 named_pushed other name names =
     list_any-append (same_text other) names (name ∷ []) ∙ ap (λ (b : Bool). is_named other names || b) (last_alone (same_text other name))
 
-or_turned : (a b : Bool) → (a || b) ≡ (b || a)
-or_turned true true = refl
-or_turned true false = refl
-or_turned false true = refl
-or_turned false false = refl
-
-or_grouped : (a b c : Bool) → (a || (b || c)) ≡ ((a || b) || c)
-or_grouped true b c = refl
-or_grouped false b c = refl
-
--- a name more among names in order
+-- a name more, where it is not among them
 pub added : (name other : List ℕ) (names : List (List ℕ)) → is_named other (with_name name names) ≡ (is_named other names || same_text other name)
-added name other [] = last_alone (same_text other name)
-added name other (x ∷ names) = by_order (name_order name x) (same_in_order name x) (added name other names)
+added name other names = by_test (is_named name names) refl
   where
-    by_order : (order : Ordering) → same_text name x ≡ is_eq order →
-        is_named other (with_name name names) ≡ (is_named other names || same_text other name) →
-        is_named other (match_ordering order (name ∷ x ∷ names) (x ∷ names) (x ∷ with_name name names)) ≡ ((same_text other x || is_named other names) || same_text other name)
-    by_order Less e rest = or_turned (same_text other name) (same_text other x || is_named other names)
-    by_order Equal e rest = or_there (same_text other name) (same_text other x || is_named other names)
-        (λ f. ap (λ (b : Bool). b || is_named other names) (ap (λ (n : List ℕ). same_text n x) (same_text-true other name f) ∙ e))
-    by_order Greater e rest = ap (λ (b : Bool). same_text other x || b) rest ∙ or_grouped (same_text other x) (is_named other names) (same_text other name)
+    by_test : (t : Bool) → is_named name names ≡ t → is_named other (if t then names else names ++ name ∷ []) ≡ (is_named other names || same_text other name)
+    by_test true there = or_there (same_text other name) (is_named other names) (λ same. ap (λ (n : List ℕ). is_named n names) (same_text-true other name same) ∙ there)
+    by_test false there = named_pushed other name names
 
 -- a name is added once
 pub have-name : (set names : List (List ℕ)) (name : List ℕ) → HaveNames set names → HaveNames (with_name name set) (names ++ name ∷ [])
@@ -78,8 +58,3 @@ pub entry_lines-same : (commons : List Common) (set names : List (List ℕ)) (ba
 entry_lines-same commons set names based [] h = refl
 entry_lines-same commons set names based (entry ∷ entries) h =
     ap₂ (λ (b : Bool) (l : List ℕ). (if b then [] else entry_line commons based entry) ++ l) (h entry.name) (entry_lines-same commons set names based entries h)
-
--- a set in order has the names that are among its names
-pub named-ordered : (name : List ℕ) (names : List (List ℕ)) → list_any (λ other. is_eq (name_order name other)) names ≡ is_named name names
-named-ordered name [] = refl
-named-ordered name (other ∷ names) = ap₂ (λ (a b : Bool). a || b) (sym (same_in_order name other)) (named-ordered name names)

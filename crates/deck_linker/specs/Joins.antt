@@ -3,7 +3,8 @@
 pub mod NameKeys
 -- Decks and common blocks in their places, and what names are worth there.
 pub mod Placing
-pub mod CommonPlaces
+pub mod CommonLengths
+pub mod CommonSets
 -- Words of common blocks, and words beyond the end of memory.
 pub mod CommonWords
 pub mod Beyond

@@ -1,80 +1,62 @@
 //! The lengths of the common blocks of a link.
-ghost use Rattle.std.specs.Prelude.{◌≡◌, ◌≤◌, ◌<◌, [], length, map, position, slice_set, OnOk, IfOk};
-ghost use Rattle.definitions.specs.Characters.{same_text};
+ghost use Rattle.std.specs.Prelude.{◌≡◌, ◌≤◌, [], map, OnOk, IfOk};
 ghost use Rattle.definitions.specs.Link.{with_common, with_commons, common_lengths, commons_from};
-ghost use Rattle.deck_linker.specs.Joins.CommonPlaces.{length_at, widened};
-ghost use Rattle.deck_linker.specs.Joins.Placing.{names_of_lengths};
+ghost use Rattle.deck_linker.specs.Joins.CommonLengths.{widened};
 
 use crate::based::Based;
 use crate::commons::{Common, place_common};
 use crate::name_key::NameKey;
-use expr_forms::Name;
+use indexmap::{IndexMap, IndexSet};
 use std::alloc::{AllocError, Global};
-use std::collections::BTreeMap;
+use std::hash::RandomState;
 use std::marker::Model;
 use use_blocks::{BlockRow, is_common};
 
-/// The length of a common block. Contracts see the definitions' record.
-#[derive(Drop)]
-struct CommonLength {
-    name: Name,
-    words: u32,
-}
-
-impl Model for CommonLength {
-    ghost use Rattle.definitions.specs.Lengths.{BlockLength};
-
-    ghost Value = { BlockLength };
-
-    ghost view = { λ l. record { name = l.name; words = l.words } };
-}
-
-/// Common blocks with their lengths. Contracts see them in order of first use, each name once. A look-up
-/// takes about as long whatever the names are, since a tree keeps where each stands.
+/// Common blocks with their lengths. Contracts see them in order of first use, each name once.
 #[derive(Drop)]
 pub(crate) struct CommonTable {
-    lengths: Vec<CommonLength>,
-    places: BTreeMap<NameKey, usize>,
+    lengths: IndexMap<NameKey, u32, RandomState>,
 }
 
 impl Model for CommonTable {
     ghost use Rattle.std.specs.Prelude.{List};
     ghost use Rattle.definitions.specs.Lengths.{BlockLength};
-    ghost use Rattle.deck_linker.specs.Joins.CommonPlaces.{HasPlaces};
+    ghost use Rattle.deck_linker.specs.Joins.CommonLengths.{lengths_shown};
 
     ghost Value = { List BlockLength };
 
-    ghost view = { λ t. t.lengths.items };
-
-    ghost invariant = { λ t. HasPlaces t.lengths.items t.places };
+    ghost view = { λ t. lengths_shown t.lengths.entries };
 }
 
-/// Makes the length at a place that of the greater of two common blocks.
-fn widen(lengths: &mut Vec<CommonLength>, place: usize, words: u32)
-    requires { place < length lengths.old.items }
-    ensures { lengths.new.items ≡ slice_set lengths.old.items place (widened (length_at lengths.old.items place) words) }
+/// The greater of two lengths, where there are two.
+fn widened(length: Option<u32>, words: u32) -> u32
+    ensures { result ≡ widened length words }
 {
-    let name = lengths[place].name;
-    let words = lengths[place].words.max(words);
-    lengths[place] = CommonLength { name, words };
+    match length {
+        Some(length) => length.max(words),
+        None => words,
+    }
 }
 
 impl CommonTable {
     /// No common blocks.
-    pub(crate) fn new(alloc: Global) -> CommonTable
+    pub(crate) fn new(alloc: Global, keys: RandomState) -> CommonTable
         ensures { result ≡ [] }
     {
         CommonTable {
-            lengths: Vec::new(alloc),
-            places: BTreeMap::new(alloc),
+            lengths: IndexMap::with_hasher(alloc, keys),
         }
     }
 
     /// The common blocks of these decks.
-    pub(crate) fn of_decks(alloc: Global, decks: &[Based]) -> Result<CommonTable, AllocError>
+    pub(crate) fn of_decks(
+        alloc: Global,
+        keys: RandomState,
+        decks: &[Based],
+    ) -> Result<CommonTable, AllocError>
         ensures { IfOk result (λ table. table ≡ common_lengths (map (λ based. based.object) decks.now) []) }
     {
-        let mut table = CommonTable::new(alloc);
+        let mut table = CommonTable::new(alloc, keys);
         for based in decks {
             table.add_rows(based.object().parts().bases.rows())?;
         }
@@ -98,38 +80,26 @@ impl CommonTable {
         ensures { OnOk result (self.new ≡ with_common row.now self.old) }
     {
         let key = NameKey::new(row.name());
-        match self.places.get(&key).copied() {
-            Some(place) => widen(&mut self.lengths, place, row.words()),
-            None => {
-                let place = self.lengths.len();
-                self.lengths.reserve(1)?;
-                self.places.insert(key, place)?;
-                self.lengths.push_reserved(CommonLength {
-                    name: *row.name(),
-                    words: row.words(),
-                });
-            }
-        }
+        let words = widened(self.lengths.get(&key).copied(), row.words());
+        self.lengths.insert(key, words)?;
         Ok(())
     }
 
-    /// The index of a common block.
-    pub(crate) fn index_of(&self, name: &Name) -> Option<usize>
-        ensures { result ≡ position (same_text name.now) (names_of_lengths self.now) }
-    {
-        self.places.get(&NameKey::new(name)).copied()
-    }
-
     /// The common blocks one behind the other, from a base on.
-    pub(crate) fn placed(&self, alloc: Global, base: u32) -> Result<Vec<Common>, AllocError>
+    pub(crate) fn placed(
+        &self,
+        alloc: Global,
+        keys: RandomState,
+        base: u32,
+    ) -> Result<IndexSet<Common, RandomState>, AllocError>
         requires { base ≤ 0o400000 }
-        ensures { IfOk result (λ commons. commons.items ≡ commons_from base self.now) }
+        ensures { IfOk result (λ commons. commons.keys ≡ commons_from base self.now) }
     {
-        let mut commons = Vec::with_capacity(alloc, self.lengths.len())?;
+        let mut commons = IndexSet::with_hasher(alloc, keys);
         let mut end = base;
-        for length in self.lengths.as_slice() {
-            let (common, behind) = place_common(end, &length.name, length.words);
-            commons.push(common)?;
+        for (name, words) in self.lengths.iter() {
+            let (common, behind) = place_common(end, name.name(), *words);
+            commons.insert(common)?;
             end = behind;
         }
         Ok(commons)

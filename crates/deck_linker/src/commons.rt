@@ -1,17 +1,21 @@
 //! The common blocks of a link (COMPASS 60492600, labelled common; where they stand is ours).
 ghost use Rattle.std.specs.Prelude.{◌≡◌, ◌≤◌, [], map, IfOk};
+ghost use Rattle.std.specs.Cmp.{partial_equiv_from_equiv};
 ghost use Rattle.definitions.specs.Link.{commons_from, common_base, common_lengths, end_after_common, placed_common};
 ghost use Rattle.deck_linker.specs.Joins.CommonWords.{common_place};
-ghost use Rattle.deck_linker.specs.Joins.Placing.{base_at};
+ghost use Rattle.deck_linker.specs.Joins.CommonSets.{alone_of_alike, are_named_alike, are_named_alike_equivalence};
+ghost use Rattle.deck_linker.specs.Joins.NameKeys.{alone};
 
 use crate::based::{Based, MEMORY_END};
 use crate::common_table::CommonTable;
 use expr_forms::Name;
+use indexmap::IndexSet;
 use std::alloc::{AllocError, Global};
+use std::hash::{Hash, Hasher, RandomState};
 use std::marker::Model;
 
 /// A common block of a link: its length in words, its base, and whether it passes the end of memory.
-/// Contracts see the definitions' record.
+/// A link has one of each name, so two are equal where their names are. Contracts see the definitions' record.
 #[derive(Drop)]
 pub struct Common {
     name: Name,
@@ -29,6 +33,18 @@ impl Model for Common {
 }
 
 impl Common {
+    /// One by which that of its name is found.
+    fn named(name: &Name) -> Common
+        ensures { result.name ≡ name.now }
+    {
+        Common {
+            name: *name,
+            words: 0,
+            base: 0,
+            is_past: false,
+        }
+    }
+
     pub fn name(&self) -> &Name
         ensures { result.now ≡ self.now.name }
     {
@@ -55,6 +71,30 @@ impl Common {
     }
 }
 
+impl PartialEq for Common {
+    ghost eq = { are_named_alike };
+
+    ghost laws = { partial_equiv_from_equiv are_named_alike_equivalence };
+
+    fn eq(&self, other: &Common) -> bool {
+        self.name.is_same(&other.name)
+    }
+}
+
+impl Eq for Common {
+    ghost laws = { are_named_alike_equivalence };
+}
+
+impl Hash for Common {
+    ghost hash_input = { λ c. alone c.name };
+
+    ghost respects_eq = { alone_of_alike };
+
+    fn hash<H: Hasher>(&self, state: &mut H) {
+        state.write(self.name.as_slice());
+    }
+}
+
 /// A common block where those before it end at a base, and where they end with it. One that would pass
 /// the end of memory has base 0 and moves no other.
 pub(crate) fn place_common(base: u32, name: &Name, words: u32) -> (Common, u32)
@@ -76,64 +116,55 @@ pub(crate) fn place_common(base: u32, name: &Name, words: u32) -> (Common, u32)
 /// The common blocks of a link. Contracts see the list of them, in order of first use.
 #[derive(Drop)]
 pub(crate) struct Commons {
-    list: Vec<Common>,
-    table: CommonTable,
+    blocks: IndexSet<Common, RandomState>,
 }
 
 impl Model for Commons {
-    ghost use Rattle.std.specs.Prelude.{◌≡◌, List};
+    ghost use Rattle.std.specs.Prelude.{List};
     ghost use Rattle.definitions.specs.Link as definitions;
-    ghost use Rattle.deck_linker.specs.Joins.Placing.{names_of_commons, names_of_lengths};
 
     ghost Value = { List definitions.Common };
 
-    ghost view = { λ c. c.list.items };
-
-    ghost invariant = { λ c. names_of_commons c.list.items ≡ names_of_lengths c.table };
+    ghost view = { λ c. c.blocks.keys };
 }
 
 impl Commons {
     /// The common blocks of these decks, from a base on.
-    pub(crate) fn new(alloc: Global, base: u32, decks: &[Based]) -> Result<Commons, AllocError>
+    pub(crate) fn new(
+        alloc: Global,
+        keys: RandomState,
+        base: u32,
+        decks: &[Based],
+    ) -> Result<Commons, AllocError>
         requires { base ≤ 0o400000 }
         ensures { IfOk result (λ commons. commons ≡ commons_from base (common_lengths (map (λ based. based.object) decks.now) [])) }
     {
-        let table = CommonTable::of_decks(alloc, decks)?;
-        let list = table.placed(alloc, base)?;
-        Ok(Commons { list, table })
+        let table = CommonTable::of_decks(alloc, keys, decks)?;
+        let blocks = table.placed(alloc, keys, base)?;
+        Ok(Commons { blocks })
     }
 
     /// The common blocks in order of first use.
     pub(crate) fn as_slice(&self) -> &[Common]
         ensures { result.now ≡ self.now }
     {
-        self.list.as_slice()
+        self.blocks.as_slice()
     }
 
     /// The place of a common block, if it is there.
     pub(crate) fn place(&self, name: &Name) -> Option<usize>
         ensures { result ≡ common_place name.now self.now }
     {
-        self.table.index_of(name)
+        self.blocks.get_index_of(&Common::named(name))
     }
 
     /// The base of a common block; 0 of one that is not there.
     pub(crate) fn base(&self, name: &Name) -> u32
         ensures { result ≡ common_base name.now self.now }
     {
-        match self.table.index_of(name) {
-            Some(index) => base_at(self.list.as_slice(), index),
+        match self.blocks.get(&Common::named(name)) {
+            Some(common) => common.base(),
             None => 0,
         }
-    }
-}
-
-/// The base of the common block at an index, or 0 where there is none.
-fn base_at(commons: &[Common], index: usize) -> u32
-    ensures { result ≡ base_at index commons.now }
-{
-    match commons.get(index) {
-        Some(common) => common.base(),
-        None => 0,
     }
 }

@@ -1,8 +1,8 @@
 //! What the decks of a link enter: for each name the value of its first entry in deck order.
 ghost use Rattle.std.specs.Prelude.{ℕ, ◌≡◌, ◌<◌, ◌^◌, List, OnOk, IfOk, unsigned_abs};
-ghost use Rattle.std.specs.BTreeMap.{get};
+ghost use Rattle.indexmap.specs.IndexMap.{get};
+ghost use Rattle.definitions.specs.Characters.{same_text};
 ghost use Rattle.definitions.specs.Link.{entered, entered_in, or_value};
-ghost use Rattle.deck_linker.specs.Joins.NameKeys.{name_order};
 ghost use Rattle.deck_linker.specs.Joins.Placing.{entry_alone};
 
 use crate::based::Based;
@@ -11,8 +11,9 @@ use crate::name_key::NameKey;
 use crate::values::entry_value;
 use deck_objects::Entry;
 use expr_forms::Name;
+use indexmap::IndexMap;
 use std::alloc::{AllocError, Global};
-use std::collections::BTreeMap;
+use std::hash::RandomState;
 use std::marker::Model;
 
 /// The value of an entry. Contracts see the number.
@@ -48,7 +49,7 @@ impl EntryValue {
 }
 
 /// For each name that the decks enter, the value of its first entry.
-pub(crate) type EntryTable = BTreeMap<NameKey, EntryValue>;
+pub(crate) type EntryTable = IndexMap<NameKey, EntryValue, RandomState>;
 
 /// Enters a value under a name that has none yet.
 pub(crate) fn enter(
@@ -56,7 +57,7 @@ pub(crate) fn enter(
     name: &Name,
     value: EntryValue,
 ) -> Result<(), AllocError>
-    ensures { OnOk result ((other : List ℕ) → get name_order table.new other ≡ or_value (get name_order table.old other) (entry_alone other name.now value)) }
+    ensures { OnOk result ((other : List ℕ) → get same_text table.new other ≡ or_value (get same_text table.old other) (entry_alone other name.now value)) }
 {
     let key = NameKey::new(name);
     if !table.contains_key(&key) {
@@ -72,7 +73,7 @@ fn enter_deck(
     based: &Based,
     entries: &[Entry],
 ) -> Result<(), AllocError>
-    ensures { OnOk result ((name : List ℕ) → get name_order table.new name ≡ or_value (get name_order table.old name) (entered_in name commons.now based.now entries.now)) }
+    ensures { OnOk result ((name : List ℕ) → get same_text table.new name ≡ or_value (get same_text table.old name) (entered_in name commons.now based.now entries.now)) }
 {
     for entry in entries {
         let value = entry_value(commons, based, entry);
@@ -84,12 +85,13 @@ fn enter_deck(
 /// What these decks enter.
 pub(crate) fn enter_decks(
     alloc: Global,
+    keys: RandomState,
     commons: &Commons,
     decks: &[Based],
 ) -> Result<EntryTable, AllocError>
-    ensures { IfOk result (λ table. (name : List ℕ) → get name_order table name ≡ entered name commons.now decks.now) }
+    ensures { IfOk result (λ table. (name : List ℕ) → get same_text table name ≡ entered name commons.now decks.now) }
 {
-    let mut table = BTreeMap::new(alloc);
+    let mut table = IndexMap::with_hasher(alloc, keys);
     for based in decks {
         enter_deck(
             &mut table,

@@ -16,6 +16,7 @@ use crate::{Based, Layout};
 use deck_listing::{LinkValue, ListedObject, PlacedSection, SharedText, Sheet, push_section};
 use definitions::DeckKind;
 use std::alloc::{AllocError, Global};
+use std::hash::RandomState;
 use text_ports::Text;
 
 /// Whether a block or an external is worth in a link what stands with it.
@@ -63,6 +64,7 @@ fn made_section(alloc: Global, layout: &Layout, based: &Based) -> Result<Text, A
 /// What is known of a deck in a link, with its section, where it has one.
 fn placed_section(
     alloc: Global,
+    keys: RandomState,
     layout: &Layout,
     based: &Based,
     text: Option<SharedText>,
@@ -72,7 +74,7 @@ fn placed_section(
     ensures kept { IfOk result (λ made. IfSome made.text (IsSection based.now.object made.base made.values)) }
     ensures all_fit { IfOk result (λ made. made.fits ≡ true → DoAllFitAt based.now.object made.base made.values) }
 {
-    let values = taken_values(alloc, layout, based)?;
+    let values = taken_values(alloc, keys, layout, based)?;
     let fits = do_all_fit(alloc, layout, based)?;
     Ok(PlacedSection::new(based.base(), values, text, fits))
 }
@@ -81,6 +83,7 @@ fn placed_section(
 /// whether it is known that all fields of the deck fit.
 fn keep_placed(
     alloc: Global,
+    keys: RandomState,
     layout: &Layout,
     based: &Based,
     object: &mut ListedObject,
@@ -91,7 +94,7 @@ fn keep_placed(
     ensures same { OnOk result (object.new ≡ object.old) }
     ensures fits { IfOk result (λ fits. fits ≡ true → DoAllFit layout.now based.now) }
 {
-    let section = placed_section(alloc, layout, based, text)?;
+    let section = placed_section(alloc, keys, layout, based, text)?;
     let fits = section.fits();
     object.keep_section(alloc, section)?;
     Ok(fits)
@@ -147,6 +150,7 @@ fn shared_section(
 /// The section of a deck in a link, made here: its object keeps it, and shares it.
 fn new_section(
     alloc: Global,
+    keys: RandomState,
     layout: &Layout,
     based: &Based,
     object: &mut ListedObject,
@@ -157,7 +161,7 @@ fn new_section(
     ensures fits { IfOk result (λ deck. deck.fits ≡ true → DoAllFit layout.now based.now) }
 {
     let text = SharedText::new(alloc, made_section(alloc, layout, based)?)?;
-    let fits = keep_placed(alloc, layout, based, object, Some(text.share()?))?;
+    let fits = keep_placed(alloc, keys, layout, based, object, Some(text.share()?))?;
     Ok(DeckSection {
         text: Some(text),
         fits,
@@ -168,6 +172,7 @@ fn new_section(
 /// one that is made here, and kept.
 fn placed_deck(
     alloc: Global,
+    keys: RandomState,
     layout: &Layout,
     based: &Based,
     object: &mut ListedObject,
@@ -179,7 +184,7 @@ fn placed_deck(
 {
     match shared_section(layout, based, object)? {
         Some(deck) => Ok(deck),
-        None => new_section(alloc, layout, based, object),
+        None => new_section(alloc, keys, layout, based, object),
     }
 }
 
@@ -187,6 +192,7 @@ fn placed_deck(
 /// where the deck stands as it stood there; else it is found out here, and kept.
 fn past_deck(
     alloc: Global,
+    keys: RandomState,
     layout: &Layout,
     based: &Based,
     object: &mut ListedObject,
@@ -202,13 +208,14 @@ fn past_deck(
             fits: kept.fits(),
         });
     }
-    let fits = keep_placed(alloc, layout, based, object, None)?;
+    let fits = keep_placed(alloc, keys, layout, based, object, None)?;
     Ok(DeckSection { text: None, fits })
 }
 
 /// The section of a deck, where it has one; a REL deck that passes the end of memory has none.
 fn deck_section(
     alloc: Global,
+    keys: RandomState,
     layout: &Layout,
     based: &Based,
     object: &mut ListedObject,
@@ -221,12 +228,12 @@ fn deck_section(
     match kind(based) {
         DeckKind::Rel => {
             if based.is_past() {
-                return past_deck(alloc, layout, based, object);
+                return past_deck(alloc, keys, layout, based, object);
             }
         }
         DeckKind::Abs | DeckKind::Periph => {}
     }
-    placed_deck(alloc, layout, based, object)
+    placed_deck(alloc, keys, layout, based, object)
 }
 
 /// The sections of decks in order, of those that have one; and of which decks it is known that all their fields
@@ -262,6 +269,7 @@ impl KeptSections {
 /// The sections of decks in order, each as its object keeps it or as it is made here.
 fn sections_of(
     alloc: Global,
+    keys: RandomState,
     layout: &Layout,
     decks: &[Based],
     objects: &mut [ListedObject],
@@ -273,7 +281,7 @@ fn sections_of(
 {
     let mut kept = KeptSections::with_room(alloc, decks.len())?;
     for (index, based) in decks.iter().enumerate() {
-        let deck = deck_section(alloc, layout, based, &mut objects[index])?;
+        let deck = deck_section(alloc, keys, layout, based, &mut objects[index])?;
         kept.push(deck)?;
     }
     Ok(kept)
@@ -282,6 +290,7 @@ fn sections_of(
 /// The sections of all decks of the link of these objects, which keep them.
 pub(crate) fn kept_sections(
     alloc: Global,
+    keys: RandomState,
     layout: &Layout,
     objects: &mut Vec<ListedObject>,
 ) -> Result<KeptSections, AllocError>
@@ -290,5 +299,5 @@ pub(crate) fn kept_sections(
     ensures fits { IfOk result (λ kept. AreKnownToFit layout.now layout.now.decks kept.fits.items) }
     ensures same { OnOk result (objects.new.items ≡ objects.old.items) }
 {
-    sections_of(alloc, layout, layout.decks(), objects.as_mut_slice())
+    sections_of(alloc, keys, layout, layout.decks(), objects.as_mut_slice())
 }

@@ -13,6 +13,7 @@ use crate::values::{block_base, entry_value, external_name, value_with};
 use deck_objects::{Entry, SharedObject};
 use expr_forms::{Form, Name};
 use std::alloc::{AllocError, Global};
+use std::hash::RandomState;
 use std::marker::Model;
 
 /// Where the first REL deck stands.
@@ -28,8 +29,8 @@ pub struct Layout {
 
 impl Model for Layout {
     ghost use Rattle.std.specs.Prelude.{ℕ, ◌≡◌, List};
-    ghost use Rattle.std.specs.BTreeMap.{get};
-    ghost use Rattle.deck_linker.specs.Joins.NameKeys.{name_order};
+    ghost use Rattle.indexmap.specs.IndexMap.{get};
+    ghost use Rattle.definitions.specs.Characters.{same_text};
     ghost use Rattle.definitions.specs.Link as definitions;
     ghost use Rattle.definitions.specs.Link.{entered};
 
@@ -37,7 +38,7 @@ impl Model for Layout {
 
     ghost view = { λ l. record { decks = l.decks.items; commons = l.commons } };
 
-    ghost invariant = { λ l. (name : List ℕ) → get name_order l.entries name ≡ entered name l.commons l.decks.items };
+    ghost invariant = { λ l. (name : List ℕ) → get same_text l.entries name ≡ entered name l.commons l.decks.items };
 }
 
 /// The objects in their places, and where the last REL deck ends that passes no end of memory.
@@ -59,12 +60,16 @@ fn place_decks(alloc: Global, objects: Vec<SharedObject>) -> Result<(Vec<Based>,
 impl Layout {
     /// The layout of these objects, in this order: each REL deck stands at the end of those before it.
     /// Without memory for it the objects are let go.
-    pub fn new(alloc: Global, objects: Vec<SharedObject>) -> Result<Layout, AllocError>
+    pub fn new(
+        alloc: Global,
+        keys: RandomState,
+        objects: Vec<SharedObject>,
+    ) -> Result<Layout, AllocError>
         ensures { IfOk result (λ layout. layout ≡ layout_of (map object_of objects.items)) }
     {
         let (decks, end) = place_decks(alloc, objects)?;
-        let commons = Commons::new(alloc, end, decks.as_slice())?;
-        let entries = enter_decks(alloc, &commons, decks.as_slice())?;
+        let commons = Commons::new(alloc, keys, end, decks.as_slice())?;
+        let entries = enter_decks(alloc, keys, &commons, decks.as_slice())?;
         Ok(Layout {
             decks,
             commons,

@@ -15,6 +15,7 @@ use crate::{Based, Common, Layout};
 use deck_objects::Entry;
 use expr_forms::Name;
 use std::alloc::{AllocError, Global};
+use std::hash::RandomState;
 
 /// Writes a D line for each entry that an earlier deck has.
 fn push_doubled(
@@ -132,6 +133,7 @@ fn push_commons(out: &mut LinkText, commons: &[Common]) -> Result<(), AllocError
 #[tactic(auto, using(crate::proofs::LineLaws::lines_joined))]
 pub(crate) fn push_link_lines(
     alloc: Global,
+    keys: RandomState,
     out: &mut LinkText,
     layout: &Layout,
     fits: &[bool],
@@ -139,7 +141,7 @@ pub(crate) fn push_link_lines(
     requires { AreKnownToFit layout.now layout.now.decks fits.now }
     ensures { OnOk result (out.new ≡ with_lines out.old (link_lines layout.now)) }
 {
-    let mut earlier = NameSet::new(alloc);
+    let mut earlier = NameSet::new(alloc, keys);
     push_decks(out, layout, &mut earlier, layout.decks(), fits)?;
     push_commons(out, layout.commons())
 }

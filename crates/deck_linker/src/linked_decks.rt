@@ -23,6 +23,7 @@ use deck_listing::Sheet;
 use deck_listing::packing::WordSpan;
 use deck_objects::SharedObject;
 use std::alloc::{AllocError, Global};
+use std::hash::RandomState;
 use std::io::Write;
 use std::marker::Model;
 use text_ports::{Broken, Counted, Text};
@@ -58,12 +59,16 @@ impl Model for LinkedDecks {
 
 impl LinkedDecks {
     /// Links decks in this order. All memory is asked for here that their texts need.
-    pub fn new(alloc: Global, objects: Vec<SharedObject>) -> Result<LinkedDecks, AllocError>
+    pub fn new(
+        alloc: Global,
+        keys: RandomState,
+        objects: Vec<SharedObject>,
+    ) -> Result<LinkedDecks, AllocError>
         ensures { IfOk result (λ linked. linked ≡ objects.items) }
     {
-        let layout = Layout::new(alloc, shared(alloc, objects.as_slice())?)?;
+        let layout = Layout::new(alloc, keys, shared(alloc, objects.as_slice())?)?;
         let words = linked_words(alloc, &layout)?;
-        let texts = measured_texts(alloc, &layout, &words, objects.as_slice())?;
+        let texts = measured_texts(alloc, keys, &layout, &words, objects.as_slice())?;
         Ok(LinkedDecks {
             objects,
             layout,
@@ -199,6 +204,7 @@ struct MeasuredTexts {
 
 fn measured_texts(
     alloc: Global,
+    keys: RandomState,
     layout: &Layout,
     words: &LinkedWords,
     objects: &[SharedObject],
@@ -218,7 +224,7 @@ fn measured_texts(
 {
     let errors = errors_in(objects)?;
     let front = measure_listings(alloc, objects, Measure { all: 0, most: 0 })?;
-    let mapped = with_map(alloc, Text::new(alloc), layout, &[])?;
+    let mapped = with_map(alloc, keys, Text::new(alloc), layout, &[])?;
     let most = image_room(
         alloc,
         layout,

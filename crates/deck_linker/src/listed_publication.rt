@@ -20,6 +20,7 @@ use deck_listing::{ListedObject, SharedText};
 use deck_objects::SharedObject;
 use definitions::is_same_text;
 use std::alloc::{AllocError, Global};
+use std::hash::RandomState;
 use std::io::Write;
 use std::marker::Model;
 use text_ports::{Broken, Counted, Text};
@@ -203,6 +204,7 @@ fn check_texts(objects: &[ListedObject], texts: &ListedTexts) -> Result<(), Allo
 /// made here.
 fn texts_in(
     alloc: Global,
+    keys: RandomState,
     layout: &Layout,
     objects: &mut Vec<ListedObject>,
 ) -> Result<ListedTexts, AllocError>
@@ -213,8 +215,8 @@ fn texts_in(
     ensures same { OnOk result (objects.new.items ≡ objects.old.items) }
 {
     let end = image_end(alloc, layout)?;
-    let kept = kept_sections(alloc, layout, objects)?;
-    let mapped = with_map(alloc, Text::new(alloc), layout, kept.fits.as_slice())?;
+    let kept = kept_sections(alloc, keys, layout, objects)?;
+    let mapped = with_map(alloc, keys, Text::new(alloc), layout, kept.fits.as_slice())?;
     Ok(ListedTexts {
         map: mapped.text,
         sections: kept.texts,
@@ -223,14 +225,18 @@ fn texts_in(
 }
 
 /// The texts of the link of these objects, which keep the sections that are made here.
-fn listed_texts(alloc: Global, objects: &mut Vec<ListedObject>) -> Result<ListedTexts, AllocError>
+fn listed_texts(
+    alloc: Global,
+    keys: RandomState,
+    objects: &mut Vec<ListedObject>,
+) -> Result<ListedTexts, AllocError>
     ensures map { IfOk result (λ texts. texts.map ≡ map_of objects.old.items) }
     ensures sections { IfOk result (λ texts. texts.sections.items ≡ sections_of objects.old.items) }
     ensures end { IfOk result (λ texts. texts.end ≡ end_of objects.old.items) }
     ensures same { OnOk result (objects.new.items ≡ objects.old.items) }
 {
-    let layout = Layout::new(alloc, shared(alloc, objects.as_slice())?)?;
-    texts_in(alloc, &layout, objects)
+    let layout = Layout::new(alloc, keys, shared(alloc, objects.as_slice())?)?;
+    texts_in(alloc, keys, &layout, objects)
 }
 
 /// Links decks in this order, and publishes them under a version with the listings that they have. A deck that
@@ -238,13 +244,14 @@ fn listed_texts(alloc: Global, objects: &mut Vec<ListedObject>) -> Result<Listed
 /// one is made, which the object in the publication keeps.
 pub fn publish(
     alloc: Global,
+    keys: RandomState,
     objects: Vec<ListedObject>,
     version: u64,
 ) -> Result<ListedPublication, AllocError>
     ensures { IfOk result (λ publication. publication ≡ record { version = version; decks = objects.items }) }
 {
     let mut objects = objects;
-    let texts = listed_texts(alloc, &mut objects)?;
+    let texts = listed_texts(alloc, keys, &mut objects)?;
     check_texts(objects.as_slice(), &texts)?;
     Ok(ListedPublication {
         version,

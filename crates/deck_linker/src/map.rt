@@ -15,6 +15,7 @@ use crate::name_set::NameSet;
 use crate::{Based, Common, Layout};
 use deck_objects::{Entry, coded_or_zero};
 use std::alloc::{AllocError, Global};
+use std::hash::RandomState;
 use text_ports::Text;
 
 /// A text with a map behind it, and how many LINK lines the map has.
@@ -156,10 +157,15 @@ fn push_entries_of(
 }
 
 /// Writes a map up to its LINK lines.
-fn push_front(alloc: Global, text: &mut Text, layout: &Layout) -> Result<(), AllocError>
+fn push_front(
+    alloc: Global,
+    keys: RandomState,
+    text: &mut Text,
+    layout: &Layout,
+) -> Result<(), AllocError>
     ensures { OnOk result (text.new ≡ text.old ++ map_front layout.now) }
 {
-    let mut earlier = NameSet::new(alloc);
+    let mut earlier = NameSet::new(alloc, keys);
     text.push_bytes(b"MAP\n")?;
     push_decks(text, layout.decks())?;
     push_commons(text, layout.commons())?;
@@ -169,6 +175,7 @@ fn push_front(alloc: Global, text: &mut Text, layout: &Layout) -> Result<(), All
 /// A text with the map of a link behind it; of some decks it is known that all their fields fit.
 pub(crate) fn with_map(
     alloc: Global,
+    keys: RandomState,
     front: Text,
     layout: &Layout,
     fits: &[bool],
@@ -178,9 +185,9 @@ pub(crate) fn with_map(
     ensures links { IfOk result (λ mapped. mapped.links ≡ length (link_lines layout.now)) }
 {
     let mut text = front;
-    push_front(alloc, &mut text, layout)?;
+    push_front(alloc, keys, &mut text, layout)?;
     let mut lines = LinkText::new(text);
-    push_link_lines(alloc, &mut lines, layout, fits)?;
+    push_link_lines(alloc, keys, &mut lines, layout, fits)?;
     let links = lines.lines();
     let mut text = lines.into_text();
     text.push_bytes(b"END\n")?;

@@ -1,17 +1,14 @@
-//! Names as keys of a map in order.
-ghost use Rattle.std.specs.Prelude.{◌≡◌, refl};
-ghost use Rattle.std.specs.Cmp.{partial_equiv_from_equiv, partial_order_from_agreeing_total};
-ghost use Rattle.std.specs.Cmp.Lexicographic.{nat_list_cmp_total};
-ghost use Rattle.std.specs.Ordering.{as_partial_cmp};
+//! Names as keys of a map.
+ghost use Rattle.std.specs.Prelude.{[], ◌≡◌, ◌∷◌};
+ghost use Rattle.std.specs.Cmp.{partial_equiv_from_equiv};
 ghost use Rattle.definitions.specs.Characters.{same_text};
-ghost use Rattle.deck_linker.specs.Joins.NameKeys.{name_order, same_in_order, same_text_equivalence};
+ghost use Rattle.deck_linker.specs.Joins.NameKeys.{alone, alone_same, same_text_equivalence};
 
 use expr_forms::Name;
-use std::cmp::Ordering;
+use std::hash::{Hash, Hasher};
 use std::marker::Model;
 
-/// A name that is the key of a map, in the order of its characters' numbers. Contracts see the list of
-/// its characters.
+/// A name that is the key of a map. Contracts see the list of its characters.
 #[derive(Drop)]
 pub struct NameKey {
     name: Name,
@@ -53,26 +50,12 @@ impl Eq for NameKey {
     ghost laws = { same_text_equivalence };
 }
 
-impl PartialOrd for NameKey {
-    ghost partial_cmp = { as_partial_cmp name_order };
+impl Hash for NameKey {
+    ghost hash_input = { alone };
 
-    ghost laws = { partial_order_from_agreeing_total name_order nat_list_cmp_total (λ a b. refl) same_in_order };
+    ghost respects_eq = { alone_same };
 
-    fn partial_cmp(&self, other: &NameKey) -> Option<Ordering> {
-        Some(self.cmp(other))
-    }
-}
-
-impl Ord for NameKey {
-    ghost cmp = { name_order };
-
-    ghost total = { nat_list_cmp_total };
-
-    ghost matches_partial_cmp = { λ a b. refl };
-
-    ghost matches_eq = { same_in_order };
-
-    fn cmp(&self, other: &NameKey) -> Ordering {
-        self.name.as_slice().cmp(other.name.as_slice())
+    fn hash<H: Hasher>(&self, state: &mut H) {
+        state.write(self.name.as_slice());
     }
 }

@@ -6,14 +6,15 @@ ghost use Rattle.deck_linker.specs.Joins.Names.{with_entries, with_name};
 use crate::NameKey;
 use deck_objects::Entry;
 use expr_forms::Name;
+use indexmap::IndexSet;
 use std::alloc::{AllocError, Global};
-use std::collections::BTreeSet;
+use std::hash::RandomState;
 use std::marker::Model;
 
-/// A set of names. Contracts see the list of the names in order, each once.
+/// A set of names. Contracts see the list of the names in order of first use, each once.
 #[derive(Drop)]
 pub(crate) struct NameSet {
-    names: BTreeSet<NameKey>,
+    names: IndexSet<NameKey, RandomState>,
 }
 
 impl Model for NameSet {
@@ -26,11 +27,11 @@ impl Model for NameSet {
 
 impl NameSet {
     /// No names.
-    pub(crate) fn new(alloc: Global) -> NameSet
+    pub(crate) fn new(alloc: Global, keys: RandomState) -> NameSet
         ensures { result ≡ [] }
     {
         NameSet {
-            names: BTreeSet::new(alloc),
+            names: IndexSet::with_hasher(alloc, keys),
         }
     }
 

@@ -14,6 +14,7 @@ use crate::map::{Mapped, with_map};
 use deck_listing::{Sheet, errors, push_listing};
 use deck_objects::SharedObject;
 use std::alloc::{AllocError, Global};
+use std::hash::RandomState;
 use std::marker::Model;
 use text_ports::Text;
 
@@ -154,6 +155,7 @@ struct MappedListings {
 
 fn mapped_listings(
     alloc: Global,
+    keys: RandomState,
     layout: &Layout,
     objects: &[SharedObject],
 ) -> Result<MappedListings, AllocError>
@@ -163,7 +165,7 @@ fn mapped_listings(
 {
     let front = listings(alloc, objects)?;
     let map_at = front.as_slice().len();
-    let mapped = with_map(alloc, front, layout, &[])?;
+    let mapped = with_map(alloc, keys, front, layout, &[])?;
     Ok(MappedListings { map_at, mapped })
 }
 
@@ -177,6 +179,7 @@ struct LinkTexts {
 
 fn link_texts(
     alloc: Global,
+    keys: RandomState,
     layout: &Layout,
     objects: &[SharedObject],
 ) -> Result<LinkTexts, AllocError>
@@ -187,7 +190,7 @@ fn link_texts(
     ensures errors { IfOk result (λ texts. texts.errors ≡ errors_in (map object_of objects.now)) }
 {
     let errors = errors_in(objects)?;
-    let listings = mapped_listings(alloc, layout, objects)?;
+    let listings = mapped_listings(alloc, keys, layout, objects)?;
     let image = image(alloc, layout)?;
     Ok(LinkTexts {
         listings,
@@ -199,13 +202,14 @@ fn link_texts(
 /// Links decks in this order, and publishes them under a version.
 pub fn link(
     alloc: Global,
+    keys: RandomState,
     objects: Vec<SharedObject>,
     version: u64,
 ) -> Result<Publication, AllocError>
     ensures { IfOk result (λ publication. publication ≡ record { version = version; decks = objects.items }) }
 {
-    let layout = Layout::new(alloc, shared(alloc, objects.as_slice())?)?;
-    let texts = link_texts(alloc, &layout, objects.as_slice())?;
+    let layout = Layout::new(alloc, keys, shared(alloc, objects.as_slice())?)?;
+    let texts = link_texts(alloc, keys, &layout, objects.as_slice())?;
     let map_at = texts.listings.map_at;
     let mapped = texts.listings.mapped;
     Ok(Publication {

@@ -15,6 +15,7 @@ use deck_listing::LinkValue;
 use expr_forms::{Name, Part, Relocation};
 use statement_coder::{Content, Item};
 use std::alloc::{AllocError, Global};
+use std::hash::RandomState;
 use use_blocks::is_common;
 
 /// What fields take: the names of externals and of common blocks so far, and what all of them are worth.
@@ -138,6 +139,7 @@ fn take_fields(
 /// it has the same section, and all its fields fit if they do here.
 pub(crate) fn taken_values(
     alloc: Global,
+    keys: RandomState,
     layout: &Layout,
     based: &Based,
 ) -> Result<Vec<LinkValue>, AllocError>
@@ -147,8 +149,8 @@ pub(crate) fn taken_values(
         DoAllFit layout.now based.now → DoAllFit other there) }
 {
     let mut taken = Taken {
-        externals: NameSet::new(alloc),
-        commons: NameSet::new(alloc),
+        externals: NameSet::new(alloc, keys),
+        commons: NameSet::new(alloc, keys),
         values: Vec::new(alloc),
     };
     take_fields(&mut taken, layout, based, parts(based).items.as_slice())?;

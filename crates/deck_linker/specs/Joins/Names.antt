@@ -1,13 +1,13 @@
--- Names in order, each once.
+-- Names in order of first use, each once.
 use Rattle.std.specs.Prelude.{ℕ, ◌≡◌, List, [], ◌∷◌}
-use Rattle.std.specs.BTreeSet.{insert_key}
+use Rattle.indexmap.specs.IndexSet.{insert_key}
 use Rattle.definitions.specs.Blocks.{is_named}
+use Rattle.definitions.specs.Characters.{same_text}
 use Rattle.definitions.specs.Settled.{Definition}
-use Rattle.deck_linker.specs.Joins.NameKeys.{name_order}
 
 -- names with one more, where it is not among them
 abbrev pub with_name : List ℕ → List (List ℕ) → List (List ℕ)
-with_name name names = insert_key name_order names name
+with_name name names = insert_key same_text names name
 
 -- names with those of entries, each where it is not among them
 abbrev pub with_entries : List Definition → List (List ℕ) → List (List ℕ)

@@ -1,5 +1,5 @@
 -- What common blocks, their names and the parts of a form are, step by step.
-use Rattle.std.specs.Prelude.{ℕ, List, Option, Some, None, map, ℤ, pos, slice_get, if◌then◌else◌}
+use Rattle.std.specs.Prelude.{ℕ, List, Option, Some, None, map, ℤ, pos, if◌then◌else◌}
 use Rattle.std.specs.Option.{option_map_or}
 use Rattle.definitions.specs.Characters.{same_text}
 use Rattle.definitions.specs.Forms.{Part, Added, Subtracted, Relocation, Block, External}
@@ -30,10 +30,6 @@ names_of_lengths blocks = map (λ (block : BlockLength). block.name) blocks
 -- the names of common blocks
 abbrev pub names_of_commons : List Common → List (List ℕ)
 names_of_commons commons = map (λ (common : Common). common.name) commons
-
--- the base of the common block at an index, or 0 where there is none
-abbrev pub base_at : ℕ → List Common → ℕ
-base_at index commons = option_map_or (λ (common : Common). common.base) (slice_get commons index) 0
 
 -- the value of a name where one entry stands alone
 abbrev pub entry_alone : List ℕ → List ℕ → ℤ → Option ℤ
