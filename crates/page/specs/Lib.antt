@@ -1,3 +1,4 @@
 pub mod Admission
 pub mod Requests
 pub mod Answers
+pub mod Limits

@@ -4,6 +4,7 @@ ghost use Rattle.std.specs.Io.KnownBytes.{Appends, Consumes};
 ghost use Rattle.http_server.specs.Exchange.{Calls};
 ghost use Rattle.http_server.specs.History.{History, IsServed};
 ghost use Rattle.page.specs.Answers.{AnswersRequest};
+ghost use Rattle.page.specs.Limits.{page_limits};
 
 use crate::service::{PageService, ServeLines};
 use http_server::{Config, Connection, serve};
@@ -34,7 +35,7 @@ pub fn serve_page<S: ServeLines, R: Read, W: Write>(
     reader: &mut R,
     writer: &mut W,
 ) -> io::Result<()>
-    ensures { (h : History) × ∥ IsServed LIMITS h ∥₁
+    ensures { (h : History) × ∥ IsServed page_limits h ∥₁
         × Consumes (R.remaining reader.old) (R.remaining reader.new) h.received
         × Appends (W.contents writer.old) (W.contents writer.new) h.sent
         × Calls (AnswersRequest S.serves) page.old page.new [] h.calls }

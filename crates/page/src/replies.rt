@@ -1,7 +1,8 @@
 //! Replies in memory.
-ghost use Rattle.std.specs.Prelude.{◌≡◌, ◌≤◌, ◌++◌, [], length, IfOk, OnOk, OnErr};
+ghost use Rattle.std.specs.Prelude.{◌≡◌, ◌+◌, ◌≤◌, ◌++◌, [], length, IfErr, IfOk, OnOk, OnErr};
 ghost use Rattle.std.specs.Io.{WritesAtMost};
 ghost use Rattle.std.specs.Io.KnownBytes.{Keeps, WriteAppends};
+ghost use Rattle.std.specs.IoError.{error_kind};
 
 use bytes::Bytes;
 use std::alloc::{AllocError, Global};
@@ -12,8 +13,8 @@ use std::marker::Model;
 /// How many bytes all replies to one request have at most: 32 MiB.
 pub const MOST_REPLIES: usize = 33_554_432;
 
-/// Replies in memory, 32 MiB at most. A write that finds no room fails, and takes nothing. Contracts see
-/// the list of their bytes.
+/// Replies in memory, 32 MiB at most. A write that finds no room, or no memory, fails, and takes nothing.
+/// Contracts see the list of their bytes.
 #[derive(Drop)]
 pub struct Replies {
     bytes: Vec<u8>,
@@ -65,6 +66,7 @@ impl Write for Replies {
         ensures bytes { WriteAppends (Some self.old) (Some self.new) result buf.now }
         ensures all { OnOk result (self.new ≡ self.old ++ buf.now) }
         ensures none { OnErr result (self.new ≡ self.old) }
+        ensures room { length self.old + length buf.now ≤ 33554432 → IfErr result (λ fault. error_kind fault ≡ ErrorKind.OutOfMemory) }
     {
         if buf.len() > MOST_REPLIES - self.bytes.len() {
             return Err(Error::from(ErrorKind::StorageFull));
