@@ -2,21 +2,18 @@
 ghost use Rattle.std.specs.Prelude.{ℕ};
 ghost use Rattle.desk_service.specs.Connections.{EndsAfter, ServesConnection, ServesConnections};
 
-use crate::patience::PatientReader;
+use crate::patience::{PatientReader, PatientWriter};
 use crate::service_end::ServiceEnd;
-use crate::sessions::serve_session;
+use crate::sessions::{Ending, serve_session};
 use crossbeam_channel::Receiver;
 use deck_files::Shelf;
 use session_line::{Calls, Rights};
 use std::alloc::Global;
 use std::io::{BufReader, BufWriter};
-use std::net::TcpStream;
+use std::net::{Shutdown, TcpStream};
 use std::sync::Wait;
 use std::time::{Clock, Duration};
 use text_ports::Counted;
-
-/// How long a client may take nothing of a reply, in seconds.
-const UNTAKEN_SECONDS: u64 = 30;
 
 /// Why a thread serves no further connection.
 #[derive(Clone, Copy)]
@@ -29,14 +26,15 @@ pub(crate) enum Closed {
     Asked,
 }
 
-/// How long a client may take nothing of a reply that may be idle so long.
-fn untaken_time(idle: Duration) -> Duration {
-    let most = Duration::from_secs(UNTAKEN_SECONDS);
-    if idle < most { idle } else { most }
+/// Closes a connection that could not be written to, before what its writer keeps back waits once more.
+fn close_unwritten(stream: &TcpStream, ending: Ending) {
+    if let Ending::WriteFault = ending {
+        let _ = stream.shutdown(Shutdown::Both);
+    }
 }
 
 /// Serves a connection to its end, whose client may be idle so long, or take nothing of a reply for half a
-/// minute. Where there is no memory for its buffers it is closed at once.
+/// minute at most. Where there is no memory for its buffers it is closed at once.
 fn serve_connection<R: Clock, C: Calls, S: Shelf>(
     rt: &R,
     alloc: Global,
@@ -49,15 +47,15 @@ fn serve_connection<R: Clock, C: Calls, S: Shelf>(
     ensures { ServesConnection rights C.makes C.awaits C.greets C.begins S.loads S.refuses_to_load S.saves S.refuses_to_save S.lists S.notes S.tells_saved desk.old shelf.old desk.new shelf.new }
 {
     let _ = stream.set_nodelay(true);
-    let _ = stream.set_write_timeout(Some(untaken_time(idle)));
     let Ok(reader) = BufReader::new(alloc, PatientReader::new(rt, stream, idle)) else {
         return;
     };
-    let Ok(writer) = BufWriter::new(alloc, stream) else {
+    let Ok(writer) = BufWriter::new(alloc, PatientWriter::new(stream, idle)) else {
         return;
     };
     let (mut input, mut output) = (Counted::new(reader), Counted::new(writer));
-    serve_session(alloc, rights, &mut input, &mut output, desk, shelf);
+    let ending = serve_session(alloc, rights, &mut input, &mut output, desk, shelf);
+    close_unwritten(stream, ending);
 }
 
 /// How a session serves connections.

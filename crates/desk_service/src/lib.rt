@@ -21,7 +21,7 @@
 //!
 //! A client that goes away, sends a line that is too long or never ends, or sends what is no command,
 //! ends its session or is told so, and nothing else; so does one that sends nothing for longer than it may
-//! be idle, takes longer than half a minute for a line that has begun, or does not read on. A session that begins
+//! be idle, takes longer than half a minute for a line that has begun, or takes nothing of a reply for as long. A session that begins
 //! with a request of HTTP, or with sixteen lines that are no commands, ends there. A client that finds all
 //! sessions taken for a fifth of a second is told `NO Busy`. A bell that finds no memory is not rung; the change stands, and is
 //! assembled after the next one. A job that a worker gave up for want of memory it claims again by itself,

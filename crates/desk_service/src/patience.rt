@@ -1,12 +1,18 @@
 //! How long a client may keep a session waiting.
 
 use std::io;
-use std::io::{ErrorKind, Read};
+use std::io::{ErrorKind, Read, Write};
 use std::net::TcpStream;
 use std::time::{Clock, Duration, Instant};
 
 /// How long the rest of a line may take once it has begun, in seconds.
 const LINE_SECONDS: u64 = 30;
+
+/// How long one attempt to write waits for a client that takes nothing, in seconds.
+const ATTEMPT_SECONDS: u64 = 5;
+
+/// How often it is tried to write to a client that takes nothing.
+const ATTEMPTS: u32 = 5;
 
 /// The reads of a connection. A read at the beginning of a line waits as long as a client may be idle, and
 /// the reads of the rest of a line half a minute together; then the reader fails. Contracts see nothing of
@@ -61,5 +67,39 @@ impl<R: Clock> Read for PatientReader<'_, R> {
         let count = stream.read(buf)?;
         self.note(&buf[..count], began.elapsed(self.rt)?);
         Ok(count)
+    }
+}
+
+/// The writes of a connection. Where a client takes nothing of one for 25 seconds, the writer fails: half a
+/// minute after the last byte that it took at most, since that one may have been taken early in the write
+/// before. Contracts see nothing of what a connection takes.
+#[derive(Drop)]
+pub(crate) struct PatientWriter<'a> {
+    stream: &'a TcpStream,
+}
+
+impl<'a> PatientWriter<'a> {
+    /// The writes to a client that may be idle so long, none of which waits for longer.
+    pub(crate) fn new(stream: &'a TcpStream, idle: Duration) -> PatientWriter<'a> {
+        let attempt = Duration::from_secs(ATTEMPT_SECONDS).min(idle);
+        let _ = stream.set_write_timeout(Some(attempt));
+        PatientWriter { stream }
+    }
+}
+
+impl Write for PatientWriter<'_> {
+    fn write(&mut self, buf: &[u8]) -> io::Result<usize> {
+        let mut stream = self.stream;
+        for _ in 0..ATTEMPTS {
+            match stream.write(buf) {
+                Err(error) if error.kind() == ErrorKind::WouldBlock => {}
+                written => return written,
+            }
+        }
+        Err(io::Error::from(ErrorKind::TimedOut))
+    }
+
+    fn flush(&mut self) -> io::Result<()> {
+        Ok(())
     }
 }
