@@ -2,9 +2,10 @@
 
 use std::alloc::{AllocError, AllocFailed};
 use std::fmt;
+use thiserror::Error;
 
 /// Why a service does not start. The text is the name.
-#[derive(Clone, Copy, Debug)]
+#[derive(Clone, Copy, Debug, Error)]
 pub enum ServeFault {
     /// The port can't be listened on.
     SocketFault,
@@ -56,8 +57,6 @@ impl fmt::Display for ServeFault {
         }
     }
 }
-
-impl std::error::Error for ServeFault {}
 
 impl From<AllocError> for ServeFault {
     ghost use Rattle.std.specs.Prelude.{◌≡◌};
