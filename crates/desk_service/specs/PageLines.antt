@@ -14,11 +14,11 @@ use Rattle.desk_service.specs.declared.sessions.Ending.{Ending}
 use Rattle.desk_service.specs.declared.sessions.Ending.TheVariants as ending
 use Rattle.desk_service.specs.Sessions.{ServesSession, standing}
 
--- whether all replies of a session that ended so found room
+-- whether the lines of a session that ended so have their replies: all found room, and the first line is no request of HTTP, which has none
 abbrev pub is_whole : Ending → Bool
 is_whole ending.Left = true
 is_whole ending.Full = true
-is_whole ending.Request = true
+is_whole ending.Request = false
 is_whole ending.Stranger = true
 is_whole ending.ReadFault = false
 is_whole ending.WriteFault = false

@@ -10,13 +10,14 @@ use std::alloc::Global;
 use std::marker::Model;
 use text_ports::Counted;
 
-/// Whether all replies of a session that ended so found room.
+/// Whether each line of a session that ended so has its reply: all replies found room, and the first line is no
+/// request of HTTP, which has none.
 fn is_whole(ending: Ending) -> bool
     ensures { result ≡ is_whole ending }
 {
     match ending {
-        Ending::Left | Ending::Full | Ending::Request | Ending::Stranger => true,
-        Ending::ReadFault | Ending::WriteFault => false,
+        Ending::Left | Ending::Full | Ending::Stranger => true,
+        Ending::Request | Ending::ReadFault | Ending::WriteFault => false,
     }
 }
 
