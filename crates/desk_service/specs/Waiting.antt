@@ -1,5 +1,5 @@
 -- Who waits until a version is published (ours): the questions that are asked meanwhile, and the sleeps between them.
-use Rattle.std.specs.Prelude.{ℕ, ◌≡◌, Bool, true, false, Option, Some, None, nat_le}
+use Rattle.std.specs.Prelude.{ℕ, ◌≡◌, Bool, true, false, Option, Some, None, max, nat_le}
 use Rattle.desk_core.specs.declared.calls.Call.{Call}
 use Rattle.desk_core.specs.declared.calls.Call.TheVariants.{Status}
 use Rattle.desk_core.specs.declared.replies.Reply.{Reply}
@@ -11,6 +11,11 @@ use Rattle.desk_service.specs.declared.waiting.Woken.TheVariants.{Delivered, Tim
 abbrev pub is_reached : ℕ → Option ℕ → Bool
 is_reached version (Some published) = nat_le version published
 is_reached version None = false
+
+-- the latest version that was delivered, once this one was, too: two deliveries may be told in the other order
+abbrev pub later_of : ℕ → Option ℕ → ℕ
+later_of version (Some latest) = max latest version
+later_of version None = version
 
 -- whether nothing is to be waited for behind a reply: it shows that, or it is no status
 abbrev pub is_shown : ℕ → Reply → Bool

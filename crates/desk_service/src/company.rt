@@ -1,5 +1,5 @@
 //! Who is connected: the names of the sessions that are.
-ghost use Rattle.std.specs.Prelude.{◌≡◌, ◌++◌, IfOk, OnOk, None, Some, option_map, set};
+ghost use Rattle.std.specs.Prelude.{◌≡◌, ◌++◌, All, IfOk, OnOk, None, Some, length, option_map, set};
 ghost use Rattle.desk_service.specs.Company.{listed_at, listed_from, rights_at, seated};
 ghost use Rattle.journal.specs.Names.{session_name};
 
@@ -72,11 +72,11 @@ fn push_connected(
 
 impl Company {
     /// So many sessions, of which so many may edit; none is connected.
-    pub(crate) fn new(
-        alloc: Global,
-        sessions: usize,
-        editors: usize,
-    ) -> Result<Company, AllocError> {
+    pub(crate) fn new(alloc: Global, sessions: usize, editors: usize) -> Result<Company, AllocError>
+        ensures editors { IfOk result (λ company. company.editors ≡ editors) }
+        ensures all { IfOk result (λ company. length company.seats ≡ sessions) }
+        ensures nobody { IfOk result (λ company. All (λ seat. seat ≡ None) company.seats) }
+    {
         let mut seats = Vec::new(alloc);
         for _ in 0..sessions {
             seats.push(None)?;

@@ -176,7 +176,10 @@ fn arrivals_for<'a>(
     rights: Rights,
     to_edit: &'a Receiver<TcpStream>,
     to_read: &'a Receiver<TcpStream>,
-) -> &'a Receiver<TcpStream> {
+) -> &'a Receiver<TcpStream>
+    ensures edits { rights ≡ Rights.Edits → result.now ≡ to_edit.now }
+    ensures reads { rights ≡ Rights.Reads → result.now ≡ to_read.now }
+{
     match rights {
         Rights::Edits => to_edit,
         Rights::Reads => to_read,

@@ -1,4 +1,6 @@
 //! What a service knows of its publications: who waits for one sleeps here until a worker delivered it.
+ghost use Rattle.std.specs.Prelude.{◌≡◌, Some};
+ghost use Rattle.desk_service.specs.Waiting.{later_of};
 
 use crate::waiting::{Sleep, Woken, is_reached};
 use deck_workers::Subscriber;
@@ -7,6 +9,16 @@ use std::time::{Clock, Duration};
 
 /// How long a session waits for a publication at most, in seconds.
 const LONGEST: u64 = 60;
+
+/// The latest version that was delivered once this one was, too.
+fn later_of(version: u64, latest: Option<u64>) -> Option<u64>
+    ensures { result ≡ Some (later_of version latest) }
+{
+    match latest {
+        Some(latest) => Some(latest.max(version)),
+        None => Some(version),
+    }
+}
 
 /// What the threads of a service know.
 #[derive(Drop)]
@@ -45,12 +57,10 @@ impl Publications {
     }
 
     /// A publication of this version was delivered: who waits wakes. Two deliveries may be told in the
-    /// other order, so the greater version counts.
+    /// other order.
     fn deliver<R: Wait>(&self, rt: &R, version: u64) {
         let mut known = self.known.lock(rt);
-        if !is_reached(version, known.latest) {
-            known.latest = Some(version);
-        }
+        known.latest = later_of(version, known.latest);
         drop(known);
         self.told.notify_all();
     }

@@ -7,8 +7,8 @@
 //! stands, for the records that are synced together, before any of them is told as kept. A service whose
 //! journal has this name, and begins with the bytes that are noted, goes on behind its last record; any other
 //! begins at the number.
-ghost use Rattle.std.specs.Prelude.{◌≡◌};
-ghost use Rattle.desk_service.specs.Versions.{begun_behind, holds_noted, is_latest, next_bound};
+ghost use Rattle.std.specs.Prelude.{◌≡◌, IfOk, string_bytes};
+ghost use Rattle.desk_service.specs.Versions.{begun_behind, holds_noted, is_far, is_latest, next_bound, versions_line};
 
 use crate::faults::ServeFault;
 use crate::notes::{Notes, mark_in, mark_line};
@@ -75,6 +75,23 @@ fn next_bound(begun: u64) -> u64
     ensures { result ≡ next_bound begun }
 {
     begun.saturating_add(BLOCK)
+}
+
+/// Whether a bound of versions is far enough for a service that goes on behind one: half of those that it may
+/// tell are left.
+fn is_far(bound: u64, begun: u64) -> bool
+    ensures { result ≡ is_far bound begun }
+{
+    bound >= begun.saturating_add(BLOCK / 2)
+}
+
+/// The line of a service that goes on behind a version, with a journal of this name, where all versions that
+/// were told are below a bound.
+fn versions_line(alloc: Global, bound: u64, name: &str, begun: u64) -> Result<String, AllocError>
+    ensures { IfOk result (λ line. string_bytes line ≡ versions_line bound name.now begun) }
+{
+    let bound = bound.max(next_bound(begun));
+    format!(in alloc; "{bound} {name}\n")
 }
 
 /// The path of the file of a folder's versions.
@@ -182,13 +199,12 @@ impl Seen {
         journal: Journaling<'_>,
         begun: u64,
     ) -> Result<String, AllocError> {
-        let (bound, name) = (self.bound.max(next_bound(begun)), journal.name());
-        format!(in alloc; "{bound} {name}\n")
+        versions_line(alloc, self.bound, journal.name(), begun)
     }
 
     /// Whether what the folder tells will do for a service of this journal that goes on behind a version.
     fn has_room(&self, journal: Journaling<'_>, begun: u64) -> bool {
-        self.noted(journal).is_some() && self.bound >= begun.saturating_add(BLOCK / 2)
+        self.noted(journal).is_some() && is_far(self.bound, begun)
     }
 
     /// Takes versions for a service of these settings that goes on behind this one, and notes how much of its
