@@ -1,13 +1,12 @@
 -- Entries, and the table of the names that are seen.
-use Rattle.std.proofs.Common.{◌≡◌, ◌∙◌, ℕ, ◌&&◌, not, Bool, true, false, true≢false, List, [], ◌∷◌, ◌++◌, Option, Some, None, refl, ap, sym, if◌then◌else◌}
+use Rattle.std.proofs.Common.{◌≡◌, ◌∙◌, ℕ, ◌&&◌, Bool, true, false, true≢false, List, [], ◌∷◌, ◌++◌, Option, Some, None, refl, ap, sym, if◌then◌else◌}
 use Rattle.std.specs.Prelude.{is_some}
 use Rattle.definitions.specs.Characters.{same_text}
 use Rattle.definitions.specs.Entries.{entry_fault, with_entry}
 use Rattle.definitions.specs.Forms.{Form}
 use Rattle.definitions.specs.Settled.{Settled, Definition, defined_in, defined, or_form}
 use Rattle.definitions.specs.declared.letter.Letter.TheVariants as letter
-use Rattle.definitions.proofs.TextLaws.{same_text-true}
-use Rattle.deck_assembler.proofs.DefinitionLaws.{defined_in-push, or_form-none, or_form-some}
+use Rattle.deck_assembler.proofs.DefinitionLaws.{defined_in-push}
 use Rattle.deck_assembler.specs.Joins.FirstSymbols.{is_known_name, symbol_in, with_symbol}
 use Rattle.deck_assembler.specs.Joins.SharedNames.{AreSeen}
 
@@ -62,27 +61,6 @@ enter-seen old new entries after name form known e pushed are = λ i other. at o
         ∙ ap (λ t. or_form (defined_in other entries) (if t && same_text other name then Some form else None)) known
         ∙ sym (defined_in-push other entries (record { name = name; form = form }))
         ∙ ap (defined_in other) (sym pushed)
-
--- one that was seen stays as it was
-pub seen-still : (old new : List (ℕ × Form)) (entries : List Definition) (name : List ℕ) (form : Form) → is_known_name name ≡ true → symbol_in new ≡ with_symbol name form (symbol_in old) →
-    is_some (symbol_in old name) ≡ true → AreSeen old entries → AreSeen new entries
-seen-still old new entries name form known e some are = e ∙ (λ i other. still other i) ∙ are
-  where
-    still : (other : List ℕ) → with_symbol name form (symbol_in old) other ≡ symbol_in old other
-    still other = ap (λ t. or_form (symbol_in old other) (if t && same_text other name then Some form else None)) known ∙ by (same_text other name) refl
-      where
-        by : (b : Bool) → same_text other name ≡ b → or_form (symbol_in old other) (if b then Some form else None) ≡ symbol_in old other
-        by true same = or_form-some (symbol_in old other) (Some form) (ap (λ n. is_some (symbol_in old n)) (same_text-true other name same) ∙ some)
-        by false other_name = or_form-none (symbol_in old other)
-
--- what is told of a definition
-pub told-first : (b first : Bool) → first ≡ not b → first ≡ true → b ≡ false
-told-first true first e h = absurd (true≢false (sym h ∙ e))
-told-first false first e h = refl
-
-pub told-later : (b first : Bool) → first ≡ not b → first ≡ false → b ≡ true
-told-later true first e h = refl
-told-later false first e h = absurd (true≢false (sym e ∙ h))
 
 -- a name by its value among all definitions
 pub entry-none : (seen : List (ℕ × Form)) (settled : List Settled) (name : List ℕ) (entries : List Definition) → symbol_in seen ≡ (λ name. defined name settled) → symbol_in seen name ≡ None →

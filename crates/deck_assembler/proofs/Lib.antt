@@ -37,6 +37,7 @@ pub mod ShortLaws
 pub mod KeptLaws
 -- Entries and externals.
 pub mod EntryLaws
+pub mod EntryTables
 pub mod ExternalLaws
 -- Two facts of one value.
 pub mod ResultLaws

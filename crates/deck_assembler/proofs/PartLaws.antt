@@ -127,7 +127,7 @@ pub record AreMade (whole : Whole) (made : Making) (parts : ObjectParts) : Type 
   pub literals : parts.literals.items ≡ whole.deck.literals
   pub lines : parts.lines.items ≡ made.lines.lines.items
   pub items : parts.items.items ≡ made.lines.items.items
-  pub entries : parts.entries.items ≡ made.names.entries.items
+  pub entries : parts.entries.items ≡ made.names
   pub externals : parts.externals.items ≡ whole.deck.externals
 
 made-parts : (name : List ℕ) (whole : Whole) (made : Making) (parts : ObjectParts) → IsWhole whole → IsDone whole made → AreMade whole made parts →
@@ -149,7 +149,7 @@ made-parts name whole made parts is done are =
       kind = are.kind;
       rows = are.rows ∙ is.rows;
       literals = are.literals ∙ is.sized.literals;
-      entries = are.entries ∙ done.noted.entries ∙ entries-all kind settled;
+      entries = are.entries ∙ done.noted ∙ entries-all kind settled;
       externals = are.externals ∙ is.sized.externals;
       shown = moved (λ k r i l. AreShown k r i 0 whole.cards l (reverse (map only_listed whole.others ++ map (shown_of context) settled)))
           (subst (AreShown kind whole.rows made.lines.items.items 0 whole.cards made.lines.lines.items) listing shown);

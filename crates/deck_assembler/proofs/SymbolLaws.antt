@@ -4,11 +4,7 @@ use Rattle.std.specs.Prelude.{nat_eq, slice_index_or}
 use Rattle.std.specs.List.{list_all}
 use Rattle.std.specs.Map.{lookup}
 use Rattle.std.specs.Option.{is_some}
-use Rattle.std.specs.Ordering.{nat_cmp, is_eq}
-use Rattle.std.specs.Cmp.{nat_cmp_is}
-use Rattle.std.specs.declared.cmp.Ordering.TheVariants.{Less, Equal, Greater}
 use Rattle.std.proofs.lemmas.Bool.Decides.{eqb_tells}
-use Rattle.std.proofs.lemmas.Bool.{cases_order}
 use Rattle.std.proofs.lemmas.Bool.{lt-ltb, eq-eqb, eqb-true, ltb-true}
 use Rattle.definitions.specs.Characters.{same_text}
 use Rattle.definitions.specs.Forms.{Form}
@@ -101,43 +97,21 @@ define-known old new name form known kept other = by (is_known_name other) refl
         none true f = absurd (true≢false (sym known ∙ ap is_known_name (sym (same_text-true other name f)) ∙ e))
         none false f = refl
 
--- the order of two numbers tells whether they are the same
-same_order : (a b : ℕ) → is_eq (nat_cmp a b) ≡ nat_eq a b
-same_order a b = elim (cases_order a b) [
-  | inl e ↦ ap is_eq (sym (nat_cmp_is a b Equal e)) ∙ sym (eq-eqb a b e)
-  | inr r ↦ elim r [
-    | inl k ↦ ap is_eq (sym (nat_cmp_is a b Less k)) ∙ sym (neq a b (λ e. absurd (omega arith)))
-    | inr k ↦ ap is_eq (sym (nat_cmp_is a b Greater k)) ∙ sym (neq a b (λ e. absurd (omega arith)))
-  ]
-]
-  where
-    neq : (a b : ℕ) → (a ≡ b → ⊥) → nat_eq a b ≡ false
-    neq a b h = elim (eqb_tells a b) [ inl e ↦ absurd (h e.1) | inr e ↦ e.0 ]
-
--- what a map in order has is what its entries have
-pub lookup-ordered : (code : ℕ) (forms : List (ℕ × Form)) → lookup (λ other. is_eq (nat_cmp code other)) forms ≡ lookup (nat_eq code) forms
-lookup-ordered code [] = refl
-lookup-ordered code (entry ∷ forms) =
-    ap (λ b. cond b (Some entry.1) (lookup (λ other. is_eq (nat_cmp code other)) forms)) (same_order code entry.0)
-    ∙ ap (λ r. cond (nat_eq code entry.0) (Some entry.1) r) (lookup-ordered code forms)
-
 -- whether a name has no value
-pub is-first : (forms : List (ℕ × Form)) (code : ℕ) → lookup (λ other. is_eq (nat_cmp code other)) forms ≡ None → true ≡ not (is_some (lookup (nat_eq code) forms))
-is-first forms code h = ap (λ (o : Option Form). not (is_some o)) (sym h ∙ lookup-ordered code forms)
+pub is-first : (forms : List (ℕ × Form)) (code : ℕ) → lookup (nat_eq code) forms ≡ None → true ≡ not (is_some (lookup (nat_eq code) forms))
+is-first forms code h = ap (λ (o : Option Form). not (is_some o)) (sym h)
 
-pub is-later : (forms : List (ℕ × Form)) (code : ℕ) → is_some (lookup (λ other. is_eq (nat_cmp code other)) forms) ≡ true → false ≡ not (is_some (lookup (nat_eq code) forms))
-is-later forms code h = ap not (sym h ∙ ap (λ (o : Option Form). is_some o) (lookup-ordered code forms))
+pub is-later : (forms : List (ℕ × Form)) (code : ℕ) → is_some (lookup (nat_eq code) forms) ≡ true → false ≡ not (is_some (lookup (nat_eq code) forms))
+is-later forms code h = ap not (sym h)
 
 -- a name that has no value gets this one
-keep-new : (old new : List (ℕ × Form)) (code : ℕ) (form : Form) → is_some (lookup (λ other. is_eq (nat_cmp code other)) old) ≡ false →
-    ((other : ℕ) → lookup (λ o. is_eq (nat_cmp other o)) new ≡ cond (is_eq (nat_cmp code other)) (Some form) (lookup (λ o. is_eq (nat_cmp other o)) old)) →
+keep-new : (old new : List (ℕ × Form)) (code : ℕ) (form : Form) → is_some (lookup (nat_eq code) old) ≡ false →
+    ((other : ℕ) → lookup (nat_eq other) new ≡ cond (nat_eq code other) (Some form) (lookup (nat_eq other) old)) →
     (other : ℕ) → lookup (nat_eq other) new ≡ kept_form other code form (lookup (nat_eq other) old)
 keep-new old new code form absent updates other =
-    sym (lookup-ordered other new) ∙ updates other
-    ∙ ap (λ r. cond (is_eq (nat_cmp code other)) (Some form) r) (lookup-ordered other old)
-    ∙ ap (λ b. cond b (Some form) (lookup (nat_eq other) old)) (same_order code other)
+    updates other
     ∙ elim (eqb_tells other code) [
-      | inl e ↦ rw (e.0, eq-eqb code other (sym e.1)) (sym (put (lookup (nat_eq other) old) (ap is_some (sym (lookup-ordered other old)) ∙ ap (λ n. is_some (lookup (λ o. is_eq (nat_cmp n o)) old)) e.1 ∙ absent)))
+      | inl e ↦ rw (e.0, eq-eqb code other (sym e.1)) (sym (put (lookup (nat_eq other) old) (ap (λ n. is_some (lookup (nat_eq n) old)) e.1 ∙ absent)))
       | inr e ↦ rw (e.0, apart e.1) (sym (or_none (lookup (nat_eq other) old)))
     ]
   where
@@ -153,11 +127,11 @@ keep-new old new code form absent updates other =
     apart h = elim (eqb_tells code other) [ inl k ↦ absurd (h (sym k.1)) | inr k ↦ k.0 ]
 
 -- the same where a vacant entry is written
-pub keep-entered : (old new : List (ℕ × Form)) {written : List (ℕ × Form)} (code : ℕ) (form : Form) → written ≡ new → lookup (λ other. is_eq (nat_cmp code other)) old ≡ None →
-    ((other : ℕ) → lookup (λ o. is_eq (nat_cmp other o)) written ≡ cond (is_eq (nat_cmp code other)) (Some form) (lookup (λ o. is_eq (nat_cmp other o)) old)) →
+pub keep-entered : (old new : List (ℕ × Form)) {written : List (ℕ × Form)} (code : ℕ) (form : Form) → written ≡ new → lookup (nat_eq code) old ≡ None →
+    ((other : ℕ) → lookup (nat_eq other) written ≡ cond (nat_eq code other) (Some form) (lookup (nat_eq other) old)) →
     (other : ℕ) → lookup (nat_eq other) new ≡ kept_form other code form (lookup (nat_eq other) old)
 keep-entered old new code form same absent updates =
-    keep-new old new code form (ap is_some absent) (λ other. sym (ap (lookup (λ o. is_eq (nat_cmp other o))) same) ∙ updates other)
+    keep-new old new code form (ap is_some absent) (λ other. sym (ap (lookup (nat_eq other)) same) ∙ updates other)
 
 -- a symbol more
 pub symbol_in-kept : (old new : List (ℕ × Form)) (name : List ℕ) (found : SymbolKey) (form : Form) → ((i : ℕ) → slice_index_or name i 0 < 256) → key_of name ≡ Some found →

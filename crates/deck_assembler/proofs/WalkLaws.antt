@@ -26,10 +26,9 @@ use Rattle.statement_coder.proofs.CodingLaws.{codable}
 use Rattle.deck_objects.specs.Joins.CodedLines.{IsNamed, IsShown, IsStored}
 use Rattle.deck_objects.specs.declared.lines.CodedLine.{CodedLine}
 use Rattle.deck_objects.specs.declared.lines.Line.{Line}
-use Rattle.deck_assembler.specs.Joins.SharedNames.{AreSeen, enters, entries_to}
+use Rattle.deck_assembler.specs.Joins.SharedNames.{enters, entries_to}
 use Rattle.deck_assembler.specs.Joins.Walks.{Whole, all_settled, has_row, AreNoted, AreShownTo, AreLinedAs}
 use Rattle.deck_assembler.specs.declared.deck_lines.DeckLines.{DeckLines}
-use Rattle.deck_assembler.specs.declared.entry_names.EntryNames.{EntryNames}
 use Rattle.deck_assembler.proofs.KeptLaws.{coded-longer}
 
 -- a statement that was read, as it is settled
@@ -62,8 +61,8 @@ not-entered Rel all settled before e = passed-over all settled.read.operation se
 not-entered Abs all settled before e = passed-over all settled.read.operation settled.read.operand (entries_among all before) e
 
 -- no statement enters names
-pub none-noted : (whole : Whole) (names : EntryNames) → names.entries.items ≡ [] → AreSeen names.seen names.entries.items → AreNoted whole [] names
-none-noted whole names none seen = record { entries = none ∙ none-entered whole.deck.kind (all_settled whole); seen = seen }
+pub none-noted : (whole : Whole) (names : List Definition) → names ≡ [] → AreNoted whole [] names
+none-noted whole names none = none ∙ none-entered whole.deck.kind (all_settled whole)
   where
     none-entered : (kind : DeckKind) (all : List Settled) → [] ≡ entries_to kind all []
     none-entered Rel all = refl
@@ -71,15 +70,12 @@ none-noted whole names none seen = record { entries = none ∙ none-entered whol
     none-entered Periph all = refl
 
 -- behind a statement that enters none the names are as they were
-pub silent-noted : (whole : Whole) (earlier : List Statement) (given : Statement) (names : EntryNames) →
+pub silent-noted : (whole : Whole) (earlier : List Statement) (given : Statement) (names : List Definition) →
     enters whole.deck.kind (settle whole.deck.kind (settled_all whole.deck.kind earlier) given).read.operation ≡ false → AreNoted whole earlier names → AreNoted whole (given ∷ earlier) names
 silent-noted whole earlier given names silent noted =
     let kind = whole.deck.kind in
     let before = settled_all kind earlier in
-    record {
-      entries = noted.entries ∙ not-entered kind (all_settled whole) (settle kind before given) before silent;
-      seen = noted.seen;
-    }
+    noted ∙ not-entered kind (all_settled whole) (settle kind before given) before silent
 
 -- a line stays what it is where fields are put behind those that there are
 stored-longer : (kind : DeckKind) (rows : List BlockRow) (before after : List code.Item) (line : Option CodedLine) (coded : Option Coded) → IsKept before after → IsStored kind rows before line coded → IsStored kind rows after line coded

@@ -19,6 +19,7 @@ use crate::{Piece, SizedDeck, SizedStatement};
 use cards::StatementRoom;
 use statement_coder::{Meter, Statement, kept_operand};
 use std::alloc::{AllocError, Global};
+use std::hash::RandomState;
 
 /// The lines of the statements so far, and the names that they enter.
 #[derive(Drop)]
@@ -35,14 +36,19 @@ fn line_room(deck: &SizedDeck) -> usize {
 
 impl Making {
     /// Those of no statement, with memory for the lines of all of them, and for so many fields.
-    fn new(alloc: Global, view: &DeckView<'_>, items: usize) -> Result<Making, AllocError>
+    fn new(
+        alloc: Global,
+        keys: RandomState,
+        view: &DeckView<'_>,
+        items: usize,
+    ) -> Result<Making, AllocError>
         ensures made { IfOk result (λ made. (known others : List statements.Statement) (former : FormerLines) → let whole = whole_of view.now known others in
             IsWhole whole → IsBeside whole.deck.kind whole.cards [] (reverse known) 0 former → IsWalkedBeside whole (sized_in whole.deck.pieces) made former) }
         ensures stood { IfOk result (λ made. made.lines.stood ≡ 0) }
     {
         Ok(Making {
             lines: DeckLines::new(alloc, line_room(view.deck), items)?,
-            names: EntryNames::new(alloc),
+            names: EntryNames::new(alloc, keys),
         })
     }
 
@@ -229,6 +235,7 @@ fn list_all(lines: &mut DeckLines, counts: &[u32]) -> Result<(), AllocError>
 /// memory runs out, some of them.
 pub(crate) fn walk(
     alloc: Global,
+    keys: RandomState,
     view: &DeckView<'_>,
     former: FormerLines<'_>,
     same: bool,
@@ -244,7 +251,7 @@ pub(crate) fn walk(
         IsWhole whole → IsPlanned known plan → IsDueBeside whole.deck.kind whole.cards plan [] (reverse known) 0 former.entry → meter.new.coded ≤ meter.old.coded + code_due_in whole plan known }
     ensures sized { meter.new.sized ≡ meter.old.sized }
 {
-    let mut made = Making::new(alloc, view, former.items.len())?;
+    let mut made = Making::new(alloc, keys, view, former.items.len())?;
     let mut left = former;
     let mut room = StatementRoom::new();
     made.add_pieces(view, &mut room, view.deck.pieces(), &mut left, same, meter)?;

@@ -15,6 +15,7 @@ use definitions::DeckKind;
 use expr_forms::Form;
 use std::alloc::{AllocError, Global};
 use std::collections::VecDeque;
+use std::hash::RandomState;
 use use_blocks::BlockState;
 
 /// The statements of a head in order, and how many cards they have.
@@ -89,6 +90,7 @@ fn taken_head(
 /// of them stand unchanged.
 pub(crate) fn head_deck<'a>(
     alloc: Global,
+    keys: RandomState,
     old: OldCards<'a>,
     pieces: Vec<Piece>,
     kind: DeckKind,
@@ -97,7 +99,7 @@ pub(crate) fn head_deck<'a>(
 {
     let state = BlockState::new(alloc)?;
     let counter = state.origin(kind, 0);
-    let mut whole = OldDeck::of(alloc, old, pieces, kind, Stage::Over)?;
+    let mut whole = OldDeck::of(alloc, keys, old, pieces, kind, Stage::Over)?;
     let head = taken_head(alloc, &mut whole, old.before, kind, counter)?;
     let ahead = old.cards.split_at(head.cards.min(old.cards.len())).0;
     Ok(OldDeck {
@@ -109,7 +111,7 @@ pub(crate) fn head_deck<'a>(
         behind: 0,
         stage: Stage::Front,
         state,
-        symbols: SymbolTable::new(alloc),
+        symbols: SymbolTable::new(alloc, keys),
         missed: None,
     })
 }

@@ -21,6 +21,7 @@ use cards::Card;
 use deck_objects::{Object, ObjectParts};
 use statement_coder::Meter;
 use std::alloc::{AllocError, Global};
+use std::hash::RandomState;
 use use_blocks::Bases;
 
 /// The lines of the object before, or none.
@@ -49,6 +50,7 @@ fn do_mean_same(former: &Option<FormerLines<'_>>, view: &DeckView<'_>) -> bool
 /// if there are any.
 fn parts_beside<'a>(
     alloc: Global,
+    keys: RandomState,
     cards: &'a [Card],
     deck: &'a SizedDeck,
     former: Option<FormerLines<'a>>,
@@ -74,16 +76,23 @@ fn parts_beside<'a>(
         bases: &bases,
     };
     let same = do_mean_same(&former, &view);
-    let made = walk(alloc, &view, lines_or_none(former, &view), same, meter)?;
+    let made = walk(
+        alloc,
+        keys,
+        &view,
+        lines_or_none(former, &view),
+        same,
+        meter,
+    )?;
     let lines = made.lines;
-    let names = made.names;
+    let entries = made.names.into_entries(alloc)?;
     Ok(ObjectParts {
         kind: deck.kind(),
         lines: lines.lines,
         items: lines.items,
         bases,
         literals,
-        entries: names.entries,
+        entries,
         externals,
     })
 }
@@ -92,6 +101,7 @@ fn parts_beside<'a>(
 /// up to END is coded once at most, and counted in the meter; none is sized.
 pub fn object_parts<'a>(
     alloc: Global,
+    keys: RandomState,
     cards: &'a [Card],
     deck: &'a SizedDeck,
     meter: &mut Meter,
@@ -104,7 +114,7 @@ pub fn object_parts<'a>(
     ensures all { OnOk result (RisesBy (length (up_to_end (statements_of (reverse cards.now)))) meter.old.coded meter.new.coded) }
     ensures sized { meter.new.sized ≡ meter.old.sized }
 {
-    parts_beside(alloc, cards, deck, None, meter)
+    parts_beside(alloc, keys, cards, deck, None, meter)
 }
 
 /// The parts of the object of an edited deck, as `object_parts` makes them: a statement of the
@@ -112,6 +122,7 @@ pub fn object_parts<'a>(
 /// before, unless a name is bound otherwise; and no more are coded than are due (`code_due_of`).
 pub fn edited_parts<'a>(
     alloc: Global,
+    keys: RandomState,
     cards: &'a [Card],
     edited: &'a EditedDeck,
     object: &'a Object,
@@ -133,5 +144,5 @@ pub fn edited_parts<'a>(
         object.cards().len(),
         cards.len(),
     );
-    parts_beside(alloc, cards, &edited.deck, Some(lines), meter)
+    parts_beside(alloc, keys, cards, &edited.deck, Some(lines), meter)
 }

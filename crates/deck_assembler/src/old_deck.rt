@@ -27,6 +27,7 @@ use definitions::DeckKind;
 use statement_coder::Statement;
 use std::alloc::{AllocError, Global};
 use std::collections::VecDeque;
+use std::hash::RandomState;
 use use_blocks::BlockState;
 
 /// The cards of a deck before an edit, and how many of the first and of the last of them stand
@@ -71,6 +72,7 @@ impl<'a> OldDeck<'a> {
     /// All of a deck of this kind, which is made of these cards.
     pub(crate) fn of(
         alloc: Global,
+        keys: RandomState,
         old: OldCards<'a>,
         pieces: Vec<Piece>,
         kind: DeckKind,
@@ -94,7 +96,7 @@ impl<'a> OldDeck<'a> {
             behind: old.behind,
             stage,
             state: BlockState::new(alloc)?,
-            symbols: SymbolTable::new(alloc),
+            symbols: SymbolTable::new(alloc, keys),
             missed: None,
         })
     }

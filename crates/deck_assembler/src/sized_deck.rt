@@ -29,6 +29,7 @@ use definitions::DeckKind;
 use expr_forms::Name;
 use statement_coder::Meter;
 use std::alloc::{AllocError, Global};
+use std::hash::RandomState;
 use std::marker::Model;
 use use_blocks::{Lengths, Literals};
 
@@ -56,7 +57,12 @@ impl Model for SizedDeck {
 impl SizedDeck {
     /// What these cards make: each statement up to END is sized once, behind those before it, and
     /// counted in the meter. An error where memory runs out: then some of them were counted.
-    pub fn new(alloc: Global, cards: &[Card], meter: &mut Meter) -> Result<SizedDeck, AllocError>
+    pub fn new(
+        alloc: Global,
+        keys: RandomState,
+        cards: &[Card],
+        meter: &mut Meter,
+    ) -> Result<SizedDeck, AllocError>
         ensures deck { IfOk result (IsSizedDeck cards.now) }
         ensures sized { meter.new.sized ≤ meter.old.sized + length (up_to_end (statements_of (reverse cards.now))) }
         ensures rises { meter.old.sized ≤ meter.new.sized }
@@ -70,8 +76,8 @@ impl SizedDeck {
             before: 0,
             behind: 0,
         };
-        let old_deck = OldDeck::of(alloc, none, Vec::new(alloc), kind, Stage::Over)?;
-        let all = made(alloc, kind, cards, list.as_slice(), old_deck, meter)?;
+        let old_deck = OldDeck::of(alloc, keys, none, Vec::new(alloc), kind, Stage::Over)?;
+        let all = made(alloc, keys, kind, cards, list.as_slice(), old_deck, meter)?;
         Ok(all.deck)
     }
 
@@ -83,6 +89,7 @@ impl SizedDeck {
     pub fn edited(
         self,
         alloc: Global,
+        keys: RandomState,
         old: OldCards<'_>,
         cards: &[Card],
         meter: &mut Meter,
@@ -108,8 +115,16 @@ impl SizedDeck {
     {
         let list = statements(alloc, cards)?;
         let kind = kind_of(cards, list.as_slice());
-        let parted = self.parted(alloc, kind, old)?;
-        let all = made(alloc, kind, cards, list.as_slice(), parted.old_deck, meter)?;
+        let parted = self.parted(alloc, keys, kind, old)?;
+        let all = made(
+            alloc,
+            keys,
+            kind,
+            cards,
+            list.as_slice(),
+            parted.old_deck,
+            meter,
+        )?;
         Ok(EditedDeck {
             deck: all.deck,
             former: parted.former.with_tail(kind, all.tail),
@@ -120,6 +135,7 @@ impl SizedDeck {
     fn parted<'a>(
         self,
         alloc: Global,
+        keys: RandomState,
         kind: DeckKind,
         old: OldCards<'a>,
     ) -> Result<Parted<'a>, AllocError>
@@ -131,7 +147,7 @@ impl SizedDeck {
         ensures former { IfOk result (λ parted. IsFormerOf old.entry.cards.now parted.former) }
         ensures before { IfOk result (λ parted. parted.former.before ≡ old.entry.before) }
     {
-        let old_deck = what_stays(alloc, self.pieces, self.kind, old, kind)?;
+        let old_deck = what_stays(alloc, keys, self.pieces, self.kind, old, kind)?;
         Ok(Parted {
             old_deck,
             former: Former {
@@ -209,6 +225,7 @@ struct TailedDeck {
 /// else its head.
 fn what_stays<'a>(
     alloc: Global,
+    keys: RandomState,
     pieces: Vec<Piece>,
     first: DeckKind,
     old: OldCards<'a>,
@@ -218,15 +235,16 @@ fn what_stays<'a>(
     ensures other { IfOk result (λ deck. (first ≡ kind) ⊎ IsHeadDeck kind old.entry.before old.entry.cards.now (sized_in pieces.items) deck) }
 {
     if first == kind {
-        OldDeck::of(alloc, old, pieces, kind, Stage::Front)
+        OldDeck::of(alloc, keys, old, pieces, kind, Stage::Front)
     } else {
-        head_deck(alloc, old, pieces, kind)
+        head_deck(alloc, keys, old, pieces, kind)
     }
 }
 
 /// What these statements make, in a deck of this kind, beside the old deck.
 fn made(
     alloc: Global,
+    keys: RandomState,
     kind: DeckKind,
     cards: &[Card],
     spans: &[Span],
@@ -250,7 +268,7 @@ fn made(
     ensures all { OnOk result (old_deck.entry.stage ≡ stages.Over → RisesBy (length (up_to_end (statements_of (reverse cards.now)))) meter.old.sized meter.new.sized) }
     ensures coded { meter.new.coded ≡ meter.old.coded }
 {
-    let mut sizer = Sizer::new(alloc)?;
+    let mut sizer = Sizer::new(alloc, keys)?;
     let taken = sizer.take_up_to_end(alloc, kind, cards, spans, old_deck, meter)?;
     let behind = card_counts(alloc, spans.split_at(taken.count).1)?;
     let deck = SizedDeck {

@@ -27,6 +27,7 @@ use crate::symbol_table::SymbolTable;
 use expr_forms::Name;
 use statement_coder::{Defines, KeptSizing, Meter, Reading, Statement, read_operand, size_reading};
 use std::alloc::{AllocError, Global};
+use std::hash::RandomState;
 use use_blocks::{BlockState, Effect, Lengths, Literals};
 
 /// What the first statements of a deck make.
@@ -43,15 +44,15 @@ pub(crate) struct Sizer {
 
 impl Sizer {
     /// What no statement makes.
-    pub(crate) fn new(alloc: Global) -> Result<Sizer, AllocError>
+    pub(crate) fn new(alloc: Global, keys: RandomState) -> Result<Sizer, AllocError>
         ensures { IfOk result (λ sizer. (kind : kinds.DeckKind) (cards : List cards.Card) → IsSizer kind cards [] sizer) }
     {
         Ok(Sizer {
             state: BlockState::new(alloc)?,
             pieces: Vec::new(alloc),
-            symbols: SymbolTable::new(alloc),
+            symbols: SymbolTable::new(alloc, keys),
             externals: Vec::new(alloc),
-            literals: Literals::new(alloc),
+            literals: Literals::new(alloc, keys),
             lengths: Lengths::new(alloc)?,
         })
     }

@@ -7,19 +7,24 @@ ghost use Rattle.deck_assembler.specs.Joins.FirstSymbols.{symbol_in, with_symbol
 
 use crate::symbol_key::SymbolKey;
 use expr_forms::Form;
+use indexmap::IndexMap;
+use indexmap::map::Entry;
 use statement_coder::EarlySymbols;
 use std::alloc::{AllocError, Global};
-use std::collections::BTreeMap;
-use std::collections::btree_map::Entry;
+use std::hash::RandomState;
 use std::marker::Model;
 use use_blocks::is_same_form;
 
-/// The values of symbols by name. Contracts see each name as a number with its value. A look-up takes
-/// about as long whatever the names are.
+/// The values of symbols by name, in the order in which they were defined. Contracts see each name as a
+/// number with its value. A look-up takes about as long whatever the names are, since their places in the
+/// table go by keys that nobody knows.
 #[derive(Drop)]
 pub struct SymbolTable {
-    forms: BTreeMap<u64, Form>,
+    forms: Forms,
 }
+
+/// The value of each name, which is a number here.
+type Forms = IndexMap<u64, Form, RandomState>;
 
 impl Model for SymbolTable {
     ghost use Rattle.std.specs.Prelude.{ℕ, List};
@@ -31,12 +36,12 @@ impl Model for SymbolTable {
 }
 
 impl SymbolTable {
-    /// No symbols.
-    pub fn new(alloc: Global) -> SymbolTable
+    /// No symbols, in a table that is kept by these keys.
+    pub fn new(alloc: Global, keys: RandomState) -> SymbolTable
         ensures { symbol_in result ≡ (λ name. None) }
     {
         SymbolTable {
-            forms: BTreeMap::new(alloc),
+            forms: IndexMap::with_hasher(alloc, keys),
         }
     }
 
@@ -58,7 +63,7 @@ impl SymbolTable {
         }
     }
 
-    /// Whether both have the same names, each with the same value.
+    /// Whether both have the same names in the same order, each with the same value.
     pub(crate) fn is_same(&self, other: &SymbolTable) -> bool
         ensures { result ≡ true → self.now ≡ other.now }
     {
@@ -81,7 +86,7 @@ impl SymbolTable {
 
 /// Gives a name its value, unless it has one, and tells whether it had none. Without memory all is as
 /// before.
-fn keep(forms: &mut BTreeMap<u64, Form>, code: u64, form: Form) -> Result<bool, AllocError>
+fn keep(forms: &mut Forms, code: u64, form: Form) -> Result<bool, AllocError>
     ensures kept { OnOk result ((other : ℕ) → lookup (nat_eq other) forms.new.entries ≡ or_form (lookup (nat_eq other) forms.old.entries) (if other == code then Some form else None)) }
     ensures first { IfOk result (λ first. first ≡ not (is_some (lookup (nat_eq code) forms.old.entries))) }
     ensures without_memory { OnErr result (forms.new.entries ≡ forms.old.entries) }
@@ -103,7 +108,7 @@ fn is_entry_same(entry: (&u64, &Form), other: (&u64, &Form)) -> bool
 }
 
 /// Whether two maps have the same entries: they are looked at in order, up to the first that differ.
-fn are_entries_same(forms: &BTreeMap<u64, Form>, others: &BTreeMap<u64, Form>) -> bool
+fn are_entries_same(forms: &Forms, others: &Forms) -> bool
     ensures { result ≡ true → forms.now.entries ≡ others.now.entries }
 {
     let mut left = forms.iter();

@@ -1,5 +1,6 @@
 -- Entries and externals, as they are found in the order of the deck.
-use Rattle.std.specs.Prelude.{ℕ, ◌≡◌, ◌∷◌, ◌++◌, List, [], Bool, true, false, Option, Some, None, is_some, if◌then◌else◌}
+use Rattle.std.specs.Prelude.{ℕ, ◌≡◌, ◌∷◌, ◌++◌, List, [], Bool, true, false, Option, Some, None, is_some, map, nat_eq, if◌then◌else◌}
+use Rattle.std.specs.Map.{lookup, values_of}
 use Rattle.definitions.specs.Forms.{Form}
 use Rattle.definitions.specs.Operands.{Operand, NamesOperand}
 use Rattle.definitions.specs.Operations as op
@@ -16,6 +17,18 @@ use Rattle.deck_assembler.specs.Joins.FirstSymbols.{symbol_in, with_symbol}
 -- the names that are seen are those of the entries, each with its value
 abbrev pub AreSeen : List (ℕ × Form) → List Definition → Type 0
 AreSeen seen entries = symbol_in seen ≡ (λ name. defined_in name entries)
+
+-- the value of each name in a table of entries, where a name is a number
+abbrev pub forms_in : List (ℕ × Definition) → List (ℕ × Form)
+forms_in table = map (λ (row : ℕ × Definition). (row.0, row.1.form)) table
+
+-- each entry stands under the number of its name
+abbrev pub IsEntryTable : List (ℕ × Definition) → Type 0
+IsEntryTable table = AreSeen (forms_in table) (values_of table)
+
+-- a table with an entry more under this number, unless there is one
+abbrev pub with_row : ℕ → Definition → List (ℕ × Definition) → List (ℕ × Definition)
+with_row code entry table = if is_some (lookup (nat_eq code) table) then table else table ++ (code, entry) ∷ []
 
 -- the externals so far with the names of an EXT that have no value yet
 abbrev pub with_new : List (Option (List ℕ)) → View → List (List ℕ) → List (List ℕ)

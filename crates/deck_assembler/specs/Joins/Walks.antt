@@ -6,7 +6,7 @@ use Rattle.definitions.specs.Characters.{same_text}
 use Rattle.definitions.specs.Expressions.{Literal, OfNumber}
 use Rattle.definitions.specs.Lengths.{BlockRow, block_rows}
 use Rattle.definitions.specs.Objects.{Shown, shown_of}
-use Rattle.definitions.specs.Settled.{Settled}
+use Rattle.definitions.specs.Settled.{Settled, Definition}
 use Rattle.definitions.specs.Settling.{settled_all}
 use Rattle.definitions.specs.StatementItems.{Context}
 use Rattle.definitions.specs.Statements.{Statement}
@@ -17,10 +17,9 @@ use Rattle.deck_objects.specs.Joins.CodedLines.{IsShown}
 use Rattle.deck_objects.specs.declared.lines.Line.{Line}
 use Rattle.deck_assembler.specs.Joins.DeckParts.{DeckParts}
 use Rattle.deck_assembler.specs.Joins.SizedDecks.{IsSizedUp}
-use Rattle.deck_assembler.specs.Joins.SharedNames.{AreSeen, entries_to}
+use Rattle.deck_assembler.specs.Joins.SharedNames.{entries_to}
 use Rattle.deck_assembler.specs.declared.deck_lines.DeckLines.{DeckLines}
 use Rattle.deck_assembler.specs.declared.deck_view.DeckView.{DeckView}
-use Rattle.deck_assembler.specs.declared.entry_names.EntryNames.{EntryNames}
 
 -- whether a literal is a number that is too great
 abbrev pub is_too_great : Literal → Bool
@@ -74,6 +73,5 @@ abbrev pub AreLined : Whole → List Statement → DeckLines → Type 0
 AreLined whole earlier lines = AreLinedAs whole (reverse (map (shown_of (context_in whole)) (settled_all whole.deck.kind earlier))) lines
 
 -- the names are those that statements up to END enter, read newest first
-pub record AreNoted (whole : Whole) (earlier : List Statement) (names : EntryNames) : Type 0 where
-  pub entries : names.entries.items ≡ entries_to whole.deck.kind (all_settled whole) (settled_all whole.deck.kind earlier)
-  pub seen : AreSeen names.seen names.entries.items
+abbrev pub AreNoted : Whole → List Statement → List Definition → Type 0
+AreNoted whole earlier names = names ≡ entries_to whole.deck.kind (all_settled whole) (settled_all whole.deck.kind earlier)

@@ -9,13 +9,13 @@ use Rattle.operations.specs.Joins.OperationsAs.{operation_as}
 use Rattle.deck_assembler.specs.Joins.FirstSymbols.{symbol_in}
 use Rattle.deck_assembler.specs.Joins.SharedNames.{enters}
 use Rattle.deck_assembler.specs.Joins.Walks.{whole_of, all_settled}
-use Rattle.deck_assembler.proofs.ResultLaws.{on_ok_both}
+use Rattle.std.proofs.lemmas.Result.{on_ok_weaker}
 use Rattle.deck_assembler.proofs.WalkLaws.{settle-codable, enters-step, silent-noted}
 use Rattle.deck_assembler.proofs.deck_names.enter.Goals as goal
 
 pub returns-then-enters : goal.returns-then-enters
 returns-then-enters c =
-    on_ok_both c.enter_operand.result (λ entered seen known others earlier given is read base noted.
+    on_ok_weaker c.enter_operand.result (λ entered known others earlier given is read base noted.
     let whole = whole_of c.args.view.now known others in
     let kind = whole.deck.kind in
     let before = settled_all kind earlier in
@@ -23,14 +23,10 @@ returns-then-enters c =
     let code = c.args.statement.now in
     let codes = settle-codable kind before given c.args.statement.now c.args.sizing.now read base in
     let reading : IsReading c.operand.result settled.read.operand = subst (IsReading c.operand.result) (ap (λ b. operand_of code.kind b (operation_as code.operation) code.name.now code.variable.now) c.number_base.ensures ∙ sym codes.operand) c.operand.ensures in
-    record {
-      entries =
-          entered (all_settled whole) settled.read.operand (ap symbol_in c.symbols.ensures ∙ is.sized.symbols) reading noted.seen
-          ∙ ap (entries_by (all_settled whole) op.Entry settled.read.operand) noted.entries
-          ∙ enters-step kind (all_settled whole) settled before
-          (ap₂ enters (sym read.kind) codes.operation ∙ sym c.enters.ensures ∙ c.if-enters.true);
-      seen = seen noted.seen;
-    }) c.enter_operand.ensures.entries c.enter_operand.ensures.seen
+    entered (all_settled whole) settled.read.operand (ap symbol_in c.symbols.ensures ∙ is.sized.symbols) reading
+    ∙ ap (entries_by (all_settled whole) op.Entry settled.read.operand) noted
+    ∙ enters-step kind (all_settled whole) settled before
+    (ap₂ enters (sym read.kind) codes.operation ∙ sym c.enters.ensures ∙ c.if-enters.true)) c.enter_operand.ensures
 
 pub returns-else-enters : goal.returns-else-enters
 returns-else-enters c =

@@ -24,6 +24,15 @@ returns-in_err-made-clause-coded c =
     let coded = c.in_err-made.ensures.coded in
     omega (arith, counted, turned, coded)
 
+pub returns-in_err-entries-clause-coded : goal.returns-in_err-entries-clause-coded
+returns-in_err-entries-clause-coded c =
+    let all = statements_of (reverse c.args.cards.now) in
+    let deck = c.args.deck.now in
+    let counted = sized-length deck.kind _ 0 c.args.cards.now (sized_in deck.pieces) (reverse (up_to_end all)) deck.behind (reverse (behind_end all)) c.requires.deck.sized in
+    let turned = length-reverse (up_to_end all) in
+    let coded = c.in_ok-made.ensures.coded in
+    omega (arith, counted, turned, coded)
+
 pub returns-clause-coded : goal.returns-clause-coded
 returns-clause-coded c =
     let all = statements_of (reverse c.args.cards.now) in
@@ -54,7 +63,7 @@ returns-clause-parts c =
       items = made.lines.items;
       bases = c.in_ok-bases.bases;
       literals = c.in_ok-literals.literals;
-      entries = made.names.entries;
+      entries = c.in_ok-entries.entries;
       externals = c.in_ok-externals.externals;
     } in
     let is : IsWhole whole = record {
@@ -68,7 +77,7 @@ returns-clause-parts c =
       literals = c.in_ok-literals.ensures.items ∙ c.words.ensures ∙ c.literals.ensures;
       lines = refl;
       items = refl;
-      entries = refl;
+      entries = c.in_ok-entries.ensures;
       externals = c.in_ok-externals.ensures.items ∙ c.externals.ensures;
     } in
     let beside = chosen-beside whole.deck.kind whole.cards whole.known c.args.former c.lines_or_none.result c.requires.beside c.lines_or_none.ensures.some c.lines_or_none.ensures.none in
@@ -85,6 +94,19 @@ returns-in_err-made-clause-due c = λ lines plan given planned beside.
     } in
     let chosen = subst (λ (former : Option FormerLines). IfSome former (λ l. c.lines_or_none.result ≡ l)) given c.lines_or_none.ensures.some in
     let due = c.in_err-made.ensures.due (up_to_end all) (behind_end all) plan is planned (subst (λ l. IsDueBeside whole.deck.kind whole.cards plan [] (reverse whole.known) 0 l) (sym chosen) beside) in
+    subst (λ n. c.walk.new.meter.coded ≤ c.args.meter.now.coded + n) (due-of-deck whole plan is refl) due
+
+pub returns-in_err-entries-clause-due : goal.returns-in_err-entries-clause-due
+returns-in_err-entries-clause-due c = λ lines plan given planned beside.
+    let all = statements_of (reverse c.args.cards.now) in
+    let whole : Whole = record { cards = c.args.cards.now; deck = c.args.deck.now; rows = c.in_ok-bases.bases; known = up_to_end all; others = behind_end all } in
+    let is : IsWhole whole = record {
+      sized = c.requires.deck;
+      rows = c.in_ok-bases.ensures.rows ∙ ap₂ rows_of (c.lengths.ensures ∙ c.requires.deck.lengths) (c.literals-2.ensures ∙ c.requires.deck.literals);
+      few = c.requires.few;
+    } in
+    let chosen = subst (λ (former : Option FormerLines). IfSome former (λ l. c.lines_or_none.result ≡ l)) given c.lines_or_none.ensures.some in
+    let due = c.in_ok-made.ensures.due (up_to_end all) (behind_end all) plan is planned (subst (λ l. IsDueBeside whole.deck.kind whole.cards plan [] (reverse whole.known) 0 l) (sym chosen) beside) in
     subst (λ n. c.walk.new.meter.coded ≤ c.args.meter.now.coded + n) (due-of-deck whole plan is refl) due
 
 pub returns-clause-due : goal.returns-clause-due

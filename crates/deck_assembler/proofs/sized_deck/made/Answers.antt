@@ -1,10 +1,12 @@
 -- What is kept of a deck is what its cards make.
-use Rattle.std.proofs.Common.{◌∙◌, All, List, length, sym, ap, arith, subst}
+use Rattle.std.proofs.Common.{◌≡◌, ◌∙◌, All, List, length, sym, ap, arith, subst}
 use Rattle.cards.specs.Joins.Spans.{IsSpan}
 use Rattle.definitions.specs.DeckKinds.{up_to_end, kind_of_statements}
 use Rattle.definitions.specs.Statements.{Statement}
+use Rattle.statement_coder.specs.Joins.Meters.{RisesBy}
 use Rattle.deck_assembler.specs.Joins.OldDecks.{StandsInFront}
 use Rattle.deck_assembler.specs.Joins.Tails.{HasTailIfAny, HasTailWithin}
+use Rattle.deck_assembler.specs.declared.old_deck.Stage.TheVariants as stages
 use Rattle.deck_assembler.proofs.DeckLaws.{all-statements, all-numbered, all-behind, deck-made, counts_of}
 use Rattle.deck_assembler.proofs.FrontLaws.{front-in, stands-still}
 use Rattle.deck_assembler.proofs.sized_deck.made.Goals as goal
@@ -81,3 +83,8 @@ returns-clause-within c = λ of front limit kept stands few more will.
     let known = ap up_to_end (sym all) ∙ c.in_ok-taken.ensures.ended.front in
     subst (λ (l : List Statement). HasTailWithin c.args.kind of cards c.in_ok-taken.taken.tail l limit) (sym known)
     (c.in_ok-taken.ensures.within of front limit kept (subst (λ (l : List Statement). StandsInFront of (up_to_end l) front c.args.old_deck) (sym all) stands) (record { all = all; few = few; more = more }) will)
+
+pub returns-clause-all : goal.returns-clause-all
+returns-clause-all c =
+    subst (λ (l : List Statement). c.args.old_deck.stage ≡ stages.Over → RisesBy (length (up_to_end l)) c.args.meter.now.sized c.take_up_to_end.new.meter.sized)
+    (all-statements c.args.cards.now c.args.spans.now c.requires.statements) c.in_ok-taken.ensures.all

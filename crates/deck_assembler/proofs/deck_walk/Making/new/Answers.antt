@@ -8,4 +8,4 @@ returns-clause-made c =
     λ known others former is beside.
     let whole = whole_of c.args.view.now known others in
     beside-begin whole (record { lines = c.in_ok-new.field-0; names = c.new-2.result }) former is c.in_ok-new.ensures.stood (c.in_ok-new.ensures.lined whole)
-    (none-noted whole c.new-2.result c.new-2.ensures.entries c.new-2.ensures.seen) beside
+    (none-noted whole c.new-2.result c.new-2.ensures) beside

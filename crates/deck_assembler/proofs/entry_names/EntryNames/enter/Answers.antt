@@ -1,33 +1,22 @@
-use Rattle.std.proofs.Common.{◌≡◌, ◌∙◌, ℕ, List, [], ◌∷◌, ◌++◌, ap}
-use Rattle.std.specs.Prelude.{is_some}
+use Rattle.std.proofs.Common.{◌≡◌, ◌∙◌, ℕ, List, [], Some, ap, arith}
+use Rattle.std.proofs.lemmas.Result.{on_ok_weaker}
+use Rattle.definitions.specs.Entries.{with_entry}
 use Rattle.definitions.specs.Settled.{Definition}
-use Rattle.deck_assembler.specs.Joins.FirstSymbols.{symbol_in}
-use Rattle.deck_assembler.proofs.EntryLaws.{enter-new, enter-old, enter-seen, seen-still, told-first, told-later}
+use Rattle.deck_assembler.proofs.EntryTables.{known-key, row-after, row-entered}
 use Rattle.deck_assembler.proofs.entry_names.EntryNames.enter.Goals as goal
 
-pub returns-in_ok-push-clause-entries : goal.returns-in_ok-push-clause-entries
-returns-in_ok-push-clause-entries c =
-    let old = c.args.self.now in
-    let pushed : c.push.new.self.items ≡ old.entries.items ++ record { name = c.args.name.now; form = c.args.form } ∷ [] =
-    c.in_ok-push.ensures.items ∙ ap (λ (last : Definition). old.entries.items ++ last ∷ []) (c.new-then-branch.ensures ∙ ap (λ (n : List ℕ). record { name = n; form = c.args.form }) c.new.ensures) in
-    λ seen. enter-new old.seen old.entries.items c.push.new.self.items c.args.name.now c.args.form
-    (told-first (is_some (symbol_in old.seen c.args.name.now)) _ c.in_ok-define.ensures.first c.if-branch.true) pushed seen
+pub returns-in-None : goal.returns-in-None
+returns-in-None c = absurd (known-key c.args.name.now c.requires.known (cc))
 
-pub returns-in_ok-push-clause-seen : goal.returns-in_ok-push-clause-seen
-returns-in_ok-push-clause-seen c =
-    let old = c.args.self.now in
-    let pushed : c.push.new.self.items ≡ old.entries.items ++ record { name = c.args.name.now; form = c.args.form } ∷ [] =
-    c.in_ok-push.ensures.items ∙ ap (λ (last : Definition). old.entries.items ++ last ∷ []) (c.new-then-branch.ensures ∙ ap (λ (n : List ℕ). record { name = n; form = c.args.form }) c.new.ensures) in
-    λ seen. enter-seen old.seen c.define.new.self old.entries.items c.push.new.self.items c.args.name.now c.args.form c.requires.known c.in_ok-define.ensures.defined pushed seen
+pub returns-in-Some : goal.returns-in-Some
+returns-in-Some c =
+    let put : c.new-in-Some.result ≡ record { name = c.args.name.now; form = c.args.form } = c.new-in-Some.ensures ∙ ap (λ (n : List ℕ). record { name = n; form = c.args.form }) c.new.ensures in
+    on_ok_weaker c.keep_entry.result
+    (λ kept. row-entered c.self.inside.entries.entries c.args.name.now c.args.form c.in-Some.key (λ i. omega (arith, c.type_inv.name i)) (cc) c.requires.known c.self.invariant c.keep_entry.new.entries.entries c.new-in-Some.result put kept
+    ∙ ap (λ (l : List Definition). with_entry c.args.name.now [] (Some c.args.form) l) c.self.view_is)
+    c.keep_entry.ensures.kept
 
-pub returns-else-branch-clause-entries : goal.returns-else-branch-clause-entries
-returns-else-branch-clause-entries c =
-    let old = c.args.self.now in
-    λ seen. enter-old old.seen old.entries.items c.args.name.now c.args.form
-    (told-later (is_some (symbol_in old.seen c.args.name.now)) _ c.in_ok-define.ensures.first c.if-branch.false) seen
-
-pub returns-else-branch-clause-seen : goal.returns-else-branch-clause-seen
-returns-else-branch-clause-seen c =
-    let old = c.args.self.now in
-    λ seen. seen-still old.seen c.define.new.self old.entries.items c.args.name.now c.args.form c.requires.known c.in_ok-define.ensures.defined
-    (told-later (is_some (symbol_in old.seen c.args.name.now)) _ c.in_ok-define.ensures.first c.if-branch.false) seen
+pub invariant_of-self : goal.invariant_of-self
+invariant_of-self c =
+    let put : c.new-in-Some.result ≡ record { name = c.args.name.now; form = c.args.form } = c.new-in-Some.ensures ∙ ap (λ (n : List ℕ). record { name = n; form = c.args.form }) c.new.ensures in
+    row-after c.self.inside.entries.entries c.args.name.now c.args.form c.in-Some.key (λ i. omega (arith, c.type_inv.name i)) (cc) c.requires.known c.self.invariant c.keep_entry.result c.keep_entry.new.entries.entries c.new-in-Some.result put c.keep_entry.ensures.kept c.keep_entry.ensures.without_memory
