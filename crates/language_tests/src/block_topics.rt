@@ -19,7 +19,7 @@ pub fn answer(answer: &mut Answer, topic: &str, text: &str) -> Result<bool, Allo
 /// offset of the second number.
 fn many_literals(answer: &mut Answer, text: &str) -> Result<(), AllocError> {
     let (last, word) = cut(text);
-    let mut literals = Literals::new(answer.alloc);
+    let mut literals = Literals::new(answer.alloc, answer.keys);
     for word in 1..=decimal(last) {
         literals.add(word)?;
     }
@@ -32,7 +32,7 @@ fn many_literals(answer: &mut Answer, text: &str) -> Result<(), AllocError> {
 fn literals(answer: &mut Answer, text: &str) -> Result<(), AllocError> {
     blocks_are_few();
     blocks_are_bounded();
-    let mut literals = Literals::new(answer.alloc);
+    let mut literals = Literals::new(answer.alloc, answer.keys);
     for word in text.split_whitespace() {
         literals.add(octal(word))?;
     }

@@ -36,7 +36,7 @@ fn deck(answer: &mut Answer, topic: &str, text: &str) -> Result<(), AllocError> 
 /// What a topic tells of the deck of these cards.
 fn deck_of(answer: &mut Answer, topic: &str, cards: &[Card]) -> Result<(), AllocError> {
     let mut done = Meter { sized: 0, coded: 0 };
-    let deck = SizedDeck::new(answer.alloc, cards, &mut done)?;
+    let deck = SizedDeck::new(answer.alloc, answer.keys, cards, &mut done)?;
     match topic {
         "sized_decks" => {
             sized(answer, &deck);
@@ -45,7 +45,7 @@ fn deck_of(answer: &mut Answer, topic: &str, cards: &[Card]) -> Result<(), Alloc
         "symbols_of_decks" => values(answer, &deck),
         _ if cards.len() > 20_000 => answer.word("too many"),
         _ => {
-            let parts = object_parts(answer.alloc, cards, &deck, &mut done)?;
+            let parts = object_parts(answer.alloc, answer.keys, cards, &deck, &mut done)?;
             object(answer, topic, &parts, &done);
         }
     }

@@ -25,6 +25,7 @@ mod edit_topics;
 mod edited_decks;
 mod expression_topics;
 mod field_topics;
+mod fixed_keys;
 mod inputs;
 mod item_topics;
 mod known_bases;
@@ -38,6 +39,7 @@ mod statement_topics;
 mod tables;
 
 use cases::run_cases;
+use fixed_keys::fixed_keys;
 use outputs::Answer;
 use score::Score;
 use std::alloc::{AllocError, AllocGlobal, Global};
@@ -172,7 +174,7 @@ fn upper_answer(answer: &mut Answer, topic: &str, text: &str) -> Result<bool, Al
 
 /// What the topic's layer makes of a text.
 fn answer(alloc: Global, topic: &str, text: &str) -> Result<String, AllocError> {
-    let mut answer = Answer::new(alloc);
+    let mut answer = Answer::new(alloc, fixed_keys()?);
     let is_known = lower_answer(&mut answer, topic, text)?
         || field_answer(&mut answer, topic, text)?
         || upper_answer(&mut answer, topic, text)?;

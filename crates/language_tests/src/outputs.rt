@@ -2,20 +2,24 @@
 
 use std::alloc::{AllocError, Global};
 use std::fmt::Debug;
+use std::hash::RandomState;
 
 /// Words with a blank between two of them. Where there is no memory for one, it is left out, and the
 /// answer is an error at its end.
 #[derive(Drop)]
 pub struct Answer {
     pub alloc: Global,
+    /// The keys of the tables that are made for it.
+    pub keys: RandomState,
     text: String,
     lost: bool,
 }
 
 impl Answer {
-    pub fn new(alloc: Global) -> Answer {
+    pub fn new(alloc: Global, keys: RandomState) -> Answer {
         Answer {
             alloc,
+            keys,
             text: String::new(alloc),
             lost: false,
         }

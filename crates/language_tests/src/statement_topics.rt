@@ -204,7 +204,7 @@ fn state(answer: &mut Answer, text: &str) -> Result<(), AllocError> {
 /// The rows of the blocks behind cards, with the literals that the first line has.
 fn bases(answer: &mut Answer, text: &str) -> Result<(), AllocError> {
     let (words, cards) = text.split_once("\n").unwrap_or((text, ""));
-    let mut literals = Literals::new(answer.alloc);
+    let mut literals = Literals::new(answer.alloc, answer.keys);
     for word in words.split_whitespace() {
         literals.add(octal(word))?;
     }

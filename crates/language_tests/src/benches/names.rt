@@ -1,4 +1,5 @@
 //! A deck of 20,000 names, each defined once.
+use crate::fixed_keys::fixed_keys;
 use deck_assembler::SymbolTable;
 use expr_forms::Form;
 use std::alloc::{AllocError, Global};
@@ -28,7 +29,7 @@ fn find_all(symbols: &SymbolTable) -> u64 {
 
 /// Defines 20,000 names, and counts those that are found.
 pub fn define_and_find(alloc: Global) -> io::Result<u64> {
-    let mut symbols = SymbolTable::new(alloc);
+    let mut symbols = SymbolTable::new(alloc, fixed_keys()?);
     define_all(&mut symbols)?;
     Ok(find_all(&symbols))
 }
