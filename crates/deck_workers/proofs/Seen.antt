@@ -1,5 +1,6 @@
 -- What a seat has seen after its calls.
-use Rattle.std.proofs.Common.{◌≡◌, ℕ, ◌+◌, ◌==◌, Bool, true, false, cond, [], ◌∷◌, ◌++◌, length, map, Some, None, refl, sym, ap, ◌∙◌, subst, arith, append_assoc, append-nil, length-append, eq-eqb}
+use Rattle.std.proofs.Common.{◌≡◌, ℕ, ◌+◌, ◌==◌, Bool, true, false, cond, List, [], ◌∷◌, ◌++◌, length, map, Option, Some, None, refl, sym, ap, ◌∙◌, subst, append_assoc, append-nil, eq-eqb}
+use Rattle.std.specs.Prelude.{slice_get, IfSome}
 use Rattle.std.proofs.lemmas.List.{map-append, flat_map_more}
 use Rattle.std.proofs.lemmas.List.Elements.{All-nil, All-push, filter-append}
 use Rattle.turn_office.specs.declared.history.Entry.{Entry}
@@ -13,10 +14,11 @@ use Rattle.desk_core.specs.Steps.{Steps}
 use Rattle.desk_core.specs.Runs.{History}
 use Rattle.deck_workers.specs.declared.jobs.Job.{Job}
 use Rattle.deck_workers.specs.declared.made.Made.{Made}
-use Rattle.deck_workers.specs.Jobs.{MayMake}
+use Rattle.deck_workers.specs.Jobs.{MayMake, is_result}
 use Rattle.deck_workers.specs.Rounds.{Working, job_in, call_of, published_in, entries_of}
-use Rattle.deck_workers.specs.WorkerRounds.{AtOnce, ByDesk, IsWorkerRound, is_starved, offer_entry, desk_entries, worker_entries, worker_entries_in}
-use Rattle.deck_workers.specs.Joins.Linking.{Offers, HasPublished, Delivers, in_one_call, by_desk}
+use Rattle.deck_workers.specs.WorkerRounds.{AtOnce, ByDesk, IsWorkerRound, Offer, none_yet, left_out, offered_at, is_starved, offer_entry, desk_entries, worker_entries, worker_entries_in}
+use Rattle.deck_workers.specs.Joins.Linking.{Offers, OffersIfAny, HasPublished, Delivers, in_one_call, by_desk}
+use Rattle.deck_workers.specs.Joins.Rests.{round_with_job, told_as, went_well}
 use Rattle.deck_workers.specs.Subscribers.{HearsAfter, unheard, heard}
 use Rattle.deck_workers.specs.Working.{Calls, MakesRound, Works}
 
@@ -57,40 +59,42 @@ worked number other claimed answered result call seen middle now same is earlier
     (subst (λ (n : ℕ). Calls n (entry n (call_of result) answered ∷ []) middle now) same ends)
 
 -- nothing is offered
-pub none-offered : (most number lease : ℕ) (seen : History) → Offers most number lease seen seen
-none-offered most number lease seen = record { offers = []; few = omega arith; made = record { begins = ([], append-nil seen); calls = sym (append-nil (entries_by number seen)) } }
+pub none-offered : (decks : List Deck) (number lease : ℕ) (seen : History) → Offers decks 0 number lease seen seen
+none-offered decks number lease seen = record { offers = []; of = none_yet; made = record { begins = ([], append-nil seen); calls = sym (append-nil (entries_by number seen)) } }
 
--- one object is offered
-pub one-offered : (number lease place : ℕ) (object : Deck) (reply : Reply) (seen now : History) → Calls number (entry number (OfferObject lease place object) reply ∷ []) seen now → Offers 1 number lease seen now
-one-offered number lease place object reply seen now calls = record { offers = record { place = place; object = object; reply = reply } ∷ []; few = omega arith; made = calls }
-
--- one more is offered, or not
-pub more-offered : (most number other lease : ℕ) (seen middle now : History) → other ≡ number → Offers most number lease seen middle → Offers 1 other lease middle now → Offers (most + 1) number lease seen now
-more-offered most number other lease seen middle now same offered more =
-    let later = subst (λ (n : ℕ). Calls n (map (offer_entry n lease) more.offers) middle now) same more.made in
-    let joined = more-calls number (map (offer_entry number lease) offered.offers) (map (offer_entry number lease) more.offers) seen middle now offered.made later in
-    let count = length-append offered.offers more.offers in
-    let few = offered.few in
-    let one = more.few in
+-- one more is offered, or left out
+pub more-offered : (decks : List Deck) (most number other lease : ℕ) (object : Deck) (found : Option Deck) (seen middle now : History) → other ≡ number → slice_get decks most ≡ Some object → IfSome found (λ shared. shared ≡ object) →
+    Offers decks most number lease seen middle → OffersIfAny other lease most found middle now → Offers decks (most + 1) number lease seen now
+more-offered decks most number other lease object None seen middle now same at is before called =
+    let offers : History = map (offer_entry number lease) before.offers in
     record {
-      offers = offered.offers ++ more.offers;
-      few = omega (arith, count, few, one);
-      made = subst (λ (entries : History). Calls number entries seen now) (sym (map-append (offer_entry number lease) offered.offers more.offers)) joined;
+      offers = before.offers;
+      of = left_out most before.offers before.of;
+      made = subst (λ (entries : History). Calls number entries seen now) (append-nil offers) (more-calls number offers [] seen middle now before.made (subst (λ (n : ℕ). Calls n [] middle now) same called));
+    }
+more-offered decks most number other lease object (Some shared) seen middle now same at is before called =
+    let offer : Offer = record { place = most; object = shared; reply = called.0 } in
+    let later = subst (λ (n : ℕ). Calls n (entry n (OfferObject lease most shared) called.0 ∷ []) middle now) same called.1 in
+    let joined = more-calls number (map (offer_entry number lease) before.offers) (entry number (OfferObject lease most shared) called.0 ∷ []) seen middle now before.made later in
+    record {
+      offers = before.offers ++ offer ∷ [];
+      of = offered_at before.offers offer (at ∙ ap Some (sym is)) before.of;
+      made = subst (λ (entries : History). Calls number entries seen now) (sym (map-append (offer_entry number lease) before.offers (offer ∷ []))) joined;
     }
 
 -- the desk answered, and not that it had no memory
-pub has-published : (number other lease : ℕ) (publication : Publication) (answered : Reply) (seen middle now : History) → other ≡ number → is_starved answered ≡ false → Offers (length publication.decks) number lease seen middle →
+pub has-published : (number other lease : ℕ) (publication : Publication) (answered : Reply) (seen middle now : History) → other ≡ number → is_starved answered ≡ false → Offers publication.decks (length publication.decks) number lease seen middle →
     Calls other (entry other (Publish lease) answered ∷ []) middle now → HasPublished number lease publication answered seen now
 has-published number other lease publication answered seen middle now same fed offered calls = record {
   offers = offered.offers;
   given_up = None;
-  few = offered.few;
+  of = offered.of;
   ended = sym fed;
   made = more-calls number (map (offer_entry number lease) offered.offers) (entry number (Publish lease) answered ∷ []) seen middle now offered.made (subst (λ (n : ℕ). Calls n (entry n (Publish lease) answered ∷ []) middle now) same calls);
 }
 
 -- it had none, and the lease was given up
-pub has-given_up : (number other another lease : ℕ) (publication : Publication) (answered cleared : Reply) (seen middle later now : History) → other ≡ number → another ≡ number → is_starved answered ≡ true → Offers (length publication.decks) number lease seen middle →
+pub has-given_up : (number other another lease : ℕ) (publication : Publication) (answered cleared : Reply) (seen middle later now : History) → other ≡ number → another ≡ number → is_starved answered ≡ true → Offers publication.decks (length publication.decks) number lease seen middle →
     Calls other (entry other (Publish lease) answered ∷ []) middle later → Calls another (entry another (GiveUp lease) cleared ∷ []) later now → HasPublished number lease publication answered seen now
 has-given_up number other another lease publication answered cleared seen middle later now same again starved offered asked given =
     let offers : History = map (offer_entry number lease) offered.offers in
@@ -99,29 +103,36 @@ has-given_up number other another lease publication answered cleared seen middle
     record {
       offers = offered.offers;
       given_up = Some cleared;
-      few = offered.few;
+      of = offered.of;
       ended = sym starved;
       made = more-calls number offers (entry number (Publish lease) answered ∷ entry number (GiveUp lease) cleared ∷ []) seen middle now offered.made
           (more-calls number (entry number (Publish lease) answered ∷ []) (entry number (GiveUp lease) cleared ∷ []) middle later now asks gives);
     }
 
 module _ {S : Type 0} (hears : S → ℕ → S → Type 0) where
-  -- the round of a claim that gave a job, and of what was made of it
+  -- the round of a claim that gave a job, and of what was made of it; and what it is told as
   pub worked-round : (number other : ℕ) (claimed answered : Reply) (given : Job) (result : Made) (seen middle now : History) (old new : S) → other ≡ number → job_in claimed ≡ Some given → MayMake given result →
-      Calls number (entry number Claim claimed ∷ []) seen middle → Delivers other answered middle now result → HearsAfter hears answered (published_in result) old new → MakesRound hears number seen now old new
-  worked-round number other claimed answered given result seen middle now old new same is may earlier (in_one_call delivered later) hear = record {
-    round = AtOnce (Working claimed delivered answered);
-    is_round = (given, is, may);
-    made = worked number other claimed answered delivered (call_of delivered) seen middle now same refl earlier later;
-    heard = hear;
-  }
-  worked-round number other claimed answered given result seen middle now old new same is may earlier (by_desk lease publication has) hear = record {
-    round = ByDesk claimed lease publication has.offers answered has.given_up;
-    is_round = record { given = given; claims = is; may_make = may; few = has.few; ended = has.ended };
-    made = more-calls number (entry number Claim claimed ∷ []) (desk_entries number lease has.offers answered has.given_up) seen middle now earlier
-        (subst (λ (n : ℕ). Calls n (desk_entries n lease has.offers answered has.given_up) middle now) same has.made);
-    heard = hear;
-  }
+      Calls number (entry number Claim claimed ∷ []) seen middle → Delivers other answered middle now result → HearsAfter hears answered (published_in result) old new →
+      (makes : MakesRound hears number seen now old new) × (told_as makes.round ≡ round_with_job (went_well (is_result result) answered))
+  worked-round number other claimed answered given result seen middle now old new same is may earlier (in_one_call delivered later) hear = (
+    record {
+      round = AtOnce (Working claimed delivered answered);
+      is_round = (given, is, may);
+      made = worked number other claimed answered delivered (call_of delivered) seen middle now same refl earlier later;
+      heard = hear;
+    },
+    refl,
+  )
+  worked-round number other claimed answered given result seen middle now old new same is may earlier (by_desk lease publication has) hear = (
+    record {
+      round = ByDesk claimed lease publication has.offers answered has.given_up;
+      is_round = record { given = given; claims = is; may_make = may; of = has.of; ended = has.ended };
+      made = more-calls number (entry number Claim claimed ∷ []) (desk_entries number lease has.offers answered has.given_up) seen middle now earlier
+          (subst (λ (n : ℕ). Calls n (desk_entries n lease has.offers answered has.given_up) middle now) same has.made);
+      heard = hear;
+    },
+    refl,
+  )
 
   -- no calls yet
   pub no-calls : (number : ℕ) (seen : History) (first : S) → Works hears number seen seen first first

@@ -2,3 +2,4 @@
 pub mod Language
 pub mod Settling
 pub mod Linking
+pub mod Rests

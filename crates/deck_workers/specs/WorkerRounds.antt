@@ -1,5 +1,5 @@
 -- What a worker asks of a desk (ours): rounds as of one who works alone; and such in which the desk publishes what a link job is for, so that no turn compares more than one deck.
-use Rattle.std.specs.Prelude.{◌≡◌, ℕ, ◌≤◌, Bool, true, false, List, [], ◌∷◌, ◌++◌, length, map, is_some, Option, Some, None}
+use Rattle.std.specs.Prelude.{◌≡◌, ℕ, ◌+◌, Bool, true, false, List, [], ◌∷◌, ◌++◌, length, map, slice_get, is_some, Option, Some, None}
 use Rattle.std.specs.List.{flat_map}
 use Rattle.turn_office.specs.declared.history.Entry.{Entry}
 use Rattle.turn_office.specs.Histories.{entry}
@@ -18,6 +18,12 @@ pub record Offer : Type 0 where
   pub object : Deck
   pub reply : Reply
 
+-- for each of the first so many of some decks, in order, an offer of it at its place, or none
+pub data OffersOf (decks : List Deck) : ℕ → List Offer → Type 0 where
+  none_yet : OffersOf decks 0 []
+  left_out : (place : ℕ) (offers : List Offer) → OffersOf decks place offers → OffersOf decks (place + 1) offers
+  offered_at : (offers : List Offer) (offer : Offer) → slice_get decks offer.place ≡ Some offer.object → OffersOf decks offer.place offers → OffersOf decks (offer.place + 1) (offers ++ offer ∷ [])
+
 -- a round as of one who works alone; or a claim that gave a job, the lease and the publication that were made of it, what was offered to the desk, the reply when it was to publish, and that to the call that gives the lease up, where there is one
 pub data WorkerRound : Type 0 where
   AtOnce : Round → WorkerRound
@@ -28,12 +34,12 @@ abbrev pub is_starved : Reply → Bool
 is_starved (Refused refusal.OutOfMemory) = true
 is_starved _ = false
 
--- this publication may be made under this lease of the job that the claim gave; no more objects are offered than it has decks; and where the desk had no memory to publish, the lease is given up
+-- this publication may be made under this lease of the job that the claim gave; each of its decks is offered at its place, in order, or left out; and where the desk had no memory to publish, the lease is given up
 pub record IsByDesk (claimed : Reply) (lease : ℕ) (publication : Publication) (offers : List Offer) (answered : Reply) (given_up : Option Reply) : Type 0 where
   pub given : Job
   pub claims : job_in claimed ≡ Some given
   pub may_make : MayMake given (made.Link lease publication)
-  pub few : length offers ≤ length publication.decks
+  pub of : OffersOf publication.decks (length publication.decks) offers
   pub ended : is_some given_up ≡ is_starved answered
 
 -- a round as of one who works alone; or one in which the desk publishes

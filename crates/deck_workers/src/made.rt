@@ -1,5 +1,5 @@
 //! What is made of a job.
-ghost use Rattle.std.specs.Prelude.{◌≡◌};
+ghost use Rattle.std.specs.Prelude.{◌≡◌, IfSome};
 ghost use Rattle.deck_workers.specs.Jobs.{is_result};
 ghost use Rattle.deck_workers.specs.Rounds.{call_of, published_in};
 
@@ -49,10 +49,7 @@ impl Made {
     /// older version. None where it can't be shared.
     pub(crate) fn object(&self) -> Option<ListedObject> {
         match self {
-            Made::Deck(done) => match done.object.share() {
-                Ok(object) => Some(object),
-                Err(_) => None,
-            },
+            Made::Deck(done) => shared(&done.object),
             Made::Link { .. } | Made::Lost { .. } => None,
         }
     }
@@ -66,5 +63,15 @@ impl Made {
             Made::Link { lease, publication } => Call::DeliverLink { lease, publication },
             Made::Lost { lease, .. } => Call::GiveUp(lease),
         }
+    }
+}
+
+/// An object once more; none where it can't be shared.
+pub(crate) fn shared(object: &ListedObject) -> Option<ListedObject>
+    ensures { IfSome result (λ shared. shared ≡ object.now) }
+{
+    match object.share() {
+        Ok(object) => Some(object),
+        Err(_) => None,
     }
 }

@@ -3,12 +3,14 @@ ghost use Rattle.std.specs.Prelude.{◌≡◌, length};
 ghost use Rattle.turn_office.specs.Histories.{IsLegal};
 ghost use Rattle.desk_core.specs.Steps.{Steps};
 ghost use Rattle.deck_workers.specs.Jobs.{MayMake};
-ghost use Rattle.deck_workers.specs.Joins.Linking.{Delivers, HasPublished, Offers};
+ghost use Rattle.deck_workers.specs.Joins.Linking.{Delivers, HasPublished, Offers, OffersIfAny};
+ghost use Rattle.deck_workers.specs.Joins.Rests.{is_refused, told_as, went_well};
 ghost use Rattle.deck_workers.specs.WorkerRounds.{is_starved};
 ghost use Rattle.deck_workers.specs.Working.{MakesRound, Works};
 
 use crate::bells::{Bell, Patience, Round, goes_on};
 use crate::gates::Gate;
+use crate::made::shared;
 use crate::subscribers::{Subscriber, tell_after};
 use crate::{Job, Made, Runs, job_in};
 use crossbeam_channel::Receiver;
@@ -57,7 +59,7 @@ pub fn worker<R: Wait + Clock, G: Gate, S: Subscriber>(
     unreachable!()
 }
 
-/// Claims, and does the job that the claim gives, if it gives one.
+/// Claims, and does the job that the claim gives, if it gives one; and tells what that came to.
 fn make_round<R: Wait, G: Gate, S: Subscriber>(
     rt: &R,
     alloc: Global,
@@ -69,11 +71,11 @@ fn make_round<R: Wait, G: Gate, S: Subscriber>(
 ) -> Round
     requires { seat.old.office ≡ office.now.id }
     ensures same { (seat.new.office ≡ seat.old.office) × (seat.new.number ≡ seat.old.number) }
-    ensures round { MakesRound S.hears seat.old.number seat.old.seen seat.new.seen subscriber.old subscriber.new }
+    ensures round { (made : MakesRound S.hears seat.old.number seat.old.seen seat.new.seen subscriber.old subscriber.new) × (result ≡ told_as made.round) }
     ensures legal { IsLegal Steps office.now.seats office.now.first seat.new.seen }
 {
     let reply = seat.call(rt, office, Call::Claim);
-    let is_refused = matches!(reply, Reply::Refused(_));
+    let is_refused = is_refused(&reply);
     match job_in(reply) {
         Some(job) => {
             let before = job.cards_before(alloc);
@@ -140,7 +142,7 @@ fn publish_at_desk<R: Wait>(
     ensures published { HasPublished seat.old.number lease publication result seat.old.seen seat.new.seen }
     ensures legal { IsLegal Steps office.now.seats office.now.first seat.new.seen }
 {
-    offer_objects(rt, office, seat, lease, &publication);
+    offer_objects(rt, office, seat, lease, publication.publication().objects());
     let answered = seat.call(rt, office, Call::Publish(lease));
     if is_starved(&answered) {
         let_go(seat.call(rt, office, Call::GiveUp(lease)));
@@ -149,37 +151,37 @@ fn publish_at_desk<R: Wait>(
 }
 
 /// Offers the objects of a publication to the desk, each in a turn of its own: those of its decks that lack their
-/// section in this link have it then.
+/// section in this link have it then. What can't be shared once more is left out.
 fn offer_objects<R: Wait>(
     rt: &R,
     office: &Office<Desk>,
     seat: &mut Seat<Desk>,
     lease: u64,
-    publication: &SharedPublication,
+    objects: &[ListedObject],
 )
     requires { seat.old.office ≡ office.now.id }
     ensures same { (seat.new.office ≡ seat.old.office) × (seat.new.number ≡ seat.old.number) }
-    ensures offered { Offers (length publication.now.decks) seat.old.number lease seat.old.seen seat.new.seen }
+    ensures offered { Offers objects.now (length objects.now) seat.old.number lease seat.old.seen seat.new.seen }
 {
-    for (place, object) in publication.publication().objects().iter().enumerate() {
-        offer_object(rt, office, seat, lease, place, object);
+    for (place, object) in objects.iter().enumerate() {
+        offer(rt, office, seat, lease, place, shared(object));
     }
 }
 
-/// Offers an object to the desk; none where it can't be shared once more.
-fn offer_object<R: Wait>(
+/// Offers an object to the desk for the deck at a place, by one call; where there is none it calls nothing.
+fn offer<R: Wait>(
     rt: &R,
     office: &Office<Desk>,
     seat: &mut Seat<Desk>,
     lease: u64,
     place: usize,
-    object: &ListedObject,
+    object: Option<ListedObject>,
 )
     requires { seat.old.office ≡ office.now.id }
     ensures same { (seat.new.office ≡ seat.old.office) × (seat.new.number ≡ seat.old.number) }
-    ensures offered { Offers 1 seat.old.number lease seat.old.seen seat.new.seen }
+    ensures offered { OffersIfAny seat.old.number lease place object seat.old.seen seat.new.seen }
 {
-    if let Ok(object) = object.share() {
+    if let Some(object) = object {
         let offered = Call::OfferObject {
             lease,
             place,
@@ -195,8 +197,17 @@ fn let_go(reply: Reply) {
 }
 
 /// Whether something was made of a job, and the desk had the memory that it takes to publish.
-fn went_well(is_result: bool, answered: &Reply) -> bool {
+fn went_well(is_result: bool, answered: &Reply) -> bool
+    ensures { result ≡ went_well is_result answered.now }
+{
     is_result && !is_starved(answered)
+}
+
+/// Whether a reply is a refusal.
+fn is_refused(reply: &Reply) -> bool
+    ensures { result ≡ is_refused reply.now }
+{
+    matches!(reply, Reply::Refused(_))
 }
 
 /// Whether a reply tells want of memory.

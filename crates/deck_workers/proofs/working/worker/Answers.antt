@@ -12,10 +12,10 @@ loop-preserved g c =
       office = round.same.0 ∙ c.loop.invariant.office;
       number = round.same.1 ∙ c.loop.invariant.number;
       works = more-work g.S.Subscriber.hears c.args.seat.number c.loop.seat.number c.args.seat.seen c.loop.seat.seen c.make_round-round.new.seat.seen
-          c.args.subscriber.now c.loop.subscriber c.make_round-round.new.subscriber c.loop.invariant.number c.loop.invariant.works round.round;
+          c.args.subscriber.now c.loop.subscriber c.make_round-round.new.subscriber c.loop.invariant.number c.loop.invariant.works round.round.0;
     }
 
 pub returns-then-not-goes_on-clause-works : goal.returns-then-not-goes_on-clause-works
 returns-then-not-goes_on-clause-works g c =
     more-work g.S.Subscriber.hears c.args.seat.number c.loop.seat.number c.args.seat.seen c.loop.seat.seen c.make_round-round.new.seat.seen
-    c.args.subscriber.now c.loop.subscriber c.make_round-round.new.subscriber c.loop.invariant.number c.loop.invariant.works c.make_round-round.ensures.round
+    c.args.subscriber.now c.loop.subscriber c.make_round-round.new.subscriber c.loop.invariant.number c.loop.invariant.works c.make_round-round.ensures.round.0

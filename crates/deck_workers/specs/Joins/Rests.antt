@@ -1,0 +1,58 @@
+-- What a worker does behind a round, by what the round was and what its sleep gave (ours).
+use Rattle.std.specs.Prelude.{ℕ, ◌*◌, Bool, true, false, ◌&&◌, not, min, Result, Ok, Err}
+use Rattle.crossbeam_channel.specs.declared.err.RecvTimeoutError.{RecvTimeoutError}
+use Rattle.crossbeam_channel.specs.declared.err.RecvTimeoutError.TheVariants.{Timeout, Disconnected}
+use Rattle.deck_workers.specs.declared.bells.Bell.{Bell}
+use Rattle.deck_workers.specs.declared.bells.Bell.TheVariants as bell
+use Rattle.deck_workers.specs.declared.bells.Next.{Next}
+use Rattle.deck_workers.specs.declared.bells.Next.TheVariants.{Claims, SleepsFor, SleepsUntilBell}
+use Rattle.deck_workers.specs.declared.bells.Round.{Round}
+use Rattle.deck_workers.specs.declared.bells.Round.TheVariants.{Delivered, GaveUp, NoJob}
+use Rattle.deck_workers.specs.Joins.Language.{Reply, Refused}
+use Rattle.deck_workers.specs.Jobs.{is_result}
+use Rattle.deck_workers.specs.Rounds as rounds
+use Rattle.deck_workers.specs.WorkerRounds.{WorkerRound, AtOnce, ByDesk, is_starved}
+
+-- a round with a job, which was delivered or given up
+abbrev pub round_with_job : Bool → Round
+round_with_job true = Delivered
+round_with_job false = GaveUp
+
+-- a round without a job, whose claim was refused or not
+abbrev pub round_without_job : Bool → Round
+round_without_job true = GaveUp
+round_without_job false = NoJob
+
+-- whether something was made of a job, and the desk had the memory that it takes to publish
+abbrev pub went_well : Bool → Reply → Bool
+went_well is_made answered = is_made && not (is_starved answered)
+
+-- whether a reply is a refusal
+abbrev pub is_refused : Reply → Bool
+is_refused (Refused refusal) = true
+is_refused _ = false
+
+-- what the round of a worker is told as
+abbrev pub told_as : WorkerRound → Round
+told_as (AtOnce (rounds.Resting claimed)) = round_without_job (is_refused claimed)
+told_as (AtOnce (rounds.Working claimed result answered)) = round_with_job (went_well (is_result result) answered)
+told_as (ByDesk claimed lease publication offers answered given_up) = round_with_job (went_well true answered)
+
+-- what a worker does behind a round, where it sleeps for so many milliseconds if it does for a while
+abbrev pub next_behind : Round → ℕ → Next
+next_behind Delivered milliseconds = Claims
+next_behind GaveUp milliseconds = SleepsFor milliseconds
+next_behind NoJob milliseconds = SleepsUntilBell
+
+-- for how many it sleeps the next time: from a tenth of a second on twice as long each time, up to a minute
+abbrev pub patience_behind : Round → ℕ → ℕ
+patience_behind Delivered milliseconds = 100
+patience_behind GaveUp milliseconds = min (2 * milliseconds) 60000
+patience_behind NoJob milliseconds = milliseconds
+
+-- whether there may be work, by what a sleep gave: a bell that tells so, or none in the time
+abbrev pub may_work : Result Bell RecvTimeoutError → Bool
+may_work (Ok bell.Work) = true
+may_work (Ok bell.Stop) = false
+may_work (Err Timeout) = true
+may_work (Err Disconnected) = false
