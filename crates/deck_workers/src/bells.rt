@@ -134,7 +134,10 @@ pub(crate) fn goes_on<R: Wait + Clock>(
 {
     match next_behind(round, patience) {
         Next::Claims => true,
-        Next::SleepsFor(milliseconds) => may_work(bells.recv_timeout(rt, Duration::from_millis(milliseconds))),
+        Next::SleepsFor(milliseconds) => may_work(bells.recv_timeout(
+            rt,
+            Duration::from_millis(milliseconds),
+        )),
         Next::SleepsUntilBell => may_work(hear(rt, bells)),
     }
 }
