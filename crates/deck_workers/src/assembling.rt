@@ -11,6 +11,7 @@ use desk_core::{Held, SharedPublication, Start};
 use edit_core::{Kept, RecordFault};
 use statement_coder::Meter;
 use std::alloc::{AllocError, Global};
+use std::hash::RandomState;
 
 /// How many cards a job begins with.
 fn start_len(start: &Start) -> usize
@@ -37,6 +38,7 @@ fn edits_fault(start: &Start, edits: &[Edit]) -> Option<RecordFault>
 /// is made here and nowhere else. An edit that does not apply is told before anything takes memory.
 pub(crate) fn assembled(
     alloc: Global,
+    keys: RandomState,
     name: DeckName,
     start: Start,
     edits: &[Edit],
@@ -53,14 +55,15 @@ pub(crate) fn assembled(
     if let Some(fault) = edits_fault(&start, edits) {
         return Err(fault);
     }
-    let mut kept = begun(alloc, name, start, meter)?;
-    kept.edit_in_order(alloc, edits, meter)?;
+    let mut kept = begun(alloc, keys, name, start, meter)?;
+    kept.edit_in_order(alloc, keys, edits, meter)?;
     finished(alloc, kept)
 }
 
 /// The record that a job begins with.
 fn begun(
     alloc: Global,
+    keys: RandomState,
     name: DeckName,
     start: Start,
     meter: &mut Meter,
@@ -75,7 +78,7 @@ fn begun(
     match start {
         Start::FromRecord(held) => Ok(held.into_kept()),
         Start::FromCards(cards) => match cards.into_items(alloc) {
-            Ok(cards) => begun_anew(alloc, name, cards, meter),
+            Ok(cards) => begun_anew(alloc, keys, name, cards, meter),
             Err(_) => Err(RecordFault::OutOfMemory),
         },
     }
@@ -84,6 +87,7 @@ fn begun(
 /// A new record of cards.
 fn begun_anew(
     alloc: Global,
+    keys: RandomState,
     name: DeckName,
     cards: Vec<Card>,
     meter: &mut Meter,
@@ -95,7 +99,7 @@ fn begun_anew(
     ensures meter { CountsAtMost (statement_count cards.items) meter.old meter.new }
     ensures all { OnOk result (RisesBy (statement_count cards.items) meter.old.sized meter.new.sized × RisesBy (statement_count cards.items) meter.old.coded meter.new.coded) }
 {
-    match Kept::new(alloc, name, cards, meter) {
+    match Kept::new(alloc, keys, name, cards, meter) {
         Ok(kept) => Ok(kept),
         Err(_) => Err(RecordFault::OutOfMemory),
     }
@@ -133,10 +137,11 @@ fn finished(alloc: Global, kept: Kept) -> Result<(Held, ListedObject), RecordFau
 /// The publication of objects under a version.
 pub(crate) fn published(
     alloc: Global,
+    keys: RandomState,
     objects: Vec<ListedObject>,
     version: u64,
 ) -> Result<SharedPublication, AllocError>
     ensures { IfOk result (λ publication. publication ≡ record { version = version; decks = objects.items }) }
 {
-    SharedPublication::new(alloc, publish(alloc, objects, version)?)
+    SharedPublication::new(alloc, publish(alloc, keys, objects, version)?)
 }

@@ -8,6 +8,7 @@ use desk_core::{DeckWork, Done, Held, LinkWork};
 use edit_core::RecordFault;
 use statement_coder::Meter;
 use std::alloc::Global;
+use std::hash::RandomState;
 
 /// What can be run: what may be made of it, and how many statements that sizes and codes, at least where
 /// it is not lost, at most, and by what is due.
@@ -29,7 +30,7 @@ pub trait Runs {
     ghost counts: { Self → Meter → Meter → Type 0 };
 
     /// Runs it. The meter counts what is sized and coded, also where memory runs out.
-    fn run(self, alloc: Global, meter: &mut Meter) -> Made
+    fn run(self, alloc: Global, keys: RandomState, meter: &mut Meter) -> Made
         ensures made { gives self result }
         ensures meter { CountsWithin (if_made result (at_least self)) (at_most self) meter.old meter.new }
         ensures due { counts self meter.old meter.new };
@@ -51,7 +52,7 @@ impl Runs for DeckWork {
 
     ghost counts = { DeckCounts };
 
-    fn run(self, alloc: Global, meter: &mut Meter) -> Made {
+    fn run(self, alloc: Global, keys: RandomState, meter: &mut Meter) -> Made {
         let DeckWork {
             lease,
             deck,
@@ -60,7 +61,7 @@ impl Runs for DeckWork {
             start,
             edits,
         } = self;
-        match assembled(alloc, name, start, edits.as_slice(), meter) {
+        match assembled(alloc, keys, name, start, edits.as_slice(), meter) {
             Ok((kept, object)) => Made::Deck(Done {
                 lease,
                 deck,
@@ -87,14 +88,14 @@ impl Runs for LinkWork {
 
     ghost counts = { λ _ old new. new ≡ old };
 
-    fn run(self, alloc: Global, meter: &mut Meter) -> Made {
+    fn run(self, alloc: Global, keys: RandomState, meter: &mut Meter) -> Made {
         let _ = meter;
         let LinkWork {
             lease,
             version,
             objects,
         } = self;
-        match published(alloc, objects.into_items(), version) {
+        match published(alloc, keys, objects.into_items(), version) {
             Ok(publication) => Made::Link { lease, publication },
             Err(_) => Made::Lost {
                 lease,
@@ -116,10 +117,10 @@ impl Runs for Job {
 
     ghost counts = { JobCounts };
 
-    fn run(self, alloc: Global, meter: &mut Meter) -> Made {
+    fn run(self, alloc: Global, keys: RandomState, meter: &mut Meter) -> Made {
         match self {
-            Job::Deck(work) => work.run(alloc, meter),
-            Job::Link(work) => work.run(alloc, meter),
+            Job::Deck(work) => work.run(alloc, keys, meter),
+            Job::Link(work) => work.run(alloc, keys, meter),
         }
     }
 }

@@ -12,6 +12,7 @@ use crate::runs::Runs;
 use desk_core::{Call, Desk, Refusal, Reply};
 use statement_coder::Meter;
 use std::alloc::Global;
+use std::hash::RandomState;
 
 /// What settling a desk ended with.
 #[derive(Clone, Copy, Debug)]
@@ -30,14 +31,20 @@ pub enum Settled {
 /// the job and its delivery, or the lease given up where the job is lost. No card and no version
 /// changes, and at `Idle` the publication is of the present version and decks. The meter counts at
 /// most what the bounds of its jobs allow.
-pub fn settle(alloc: Global, desk: &mut Desk, meter: &mut Meter, turns: u32) -> Settled
+pub fn settle(
+    alloc: Global,
+    keys: RandomState,
+    desk: &mut Desk,
+    meter: &mut Meter,
+    turns: u32,
+) -> Settled
     ensures steps { SettlesOn turns desk.old result desk.new meter.old meter.new }
     ensures version { desk.new.version ≡ desk.old.version }
     ensures decks { decks_of desk.new ≡ decks_of desk.old }
     ensures settled { IsSettled desk.old result desk.new }
 {
     for turn in 0..turns {
-        if let Some(end) = settle_turn(alloc, desk, meter) {
+        if let Some(end) = settle_turn(alloc, keys, desk, meter) {
             return end;
         }
     }
@@ -45,14 +52,19 @@ pub fn settle(alloc: Global, desk: &mut Desk, meter: &mut Meter, turns: u32) -> 
 }
 
 /// One turn, and what it ends settling with, if it ends it.
-fn settle_turn(alloc: Global, desk: &mut Desk, meter: &mut Meter) -> Option<Settled>
+fn settle_turn(
+    alloc: Global,
+    keys: RandomState,
+    desk: &mut Desk,
+    meter: &mut Meter,
+) -> Option<Settled>
     ensures { IsTurn desk.old result desk.new meter.old meter.new }
 {
     let claimed = desk.step(Call::Claim);
     let end = end_of_claim(&claimed);
     match job_in(claimed) {
         None => end,
-        Some(job) => end_job(desk, job.run(alloc, meter)),
+        Some(job) => end_job(desk, job.run(alloc, keys, meter)),
     }
 }
 

@@ -18,6 +18,7 @@ use deck_listing::ListedObject;
 use desk_core::{Call, Desk, Refusal, Reply, SharedPublication};
 use statement_coder::Meter;
 use std::alloc::Global;
+use std::hash::RandomState;
 use std::sync::Wait;
 use std::time::Clock;
 use turn_office::{Office, Seat};
@@ -37,6 +38,7 @@ use turn_office::{Office, Seat};
 pub fn worker<R: Wait + Clock, G: Gate, S: Subscriber>(
     rt: &R,
     alloc: Global,
+    keys: RandomState,
     office: &Office<Desk>,
     mut seat: Seat<Desk>,
     gate: &G,
@@ -51,7 +53,9 @@ pub fn worker<R: Wait + Clock, G: Gate, S: Subscriber>(
     let mut meter = Meter { sized: 0, coded: 0 };
     let mut patience = Patience::new();
     for _ in rt.forever() {
-        let round = make_round(rt, alloc, office, &mut seat, gate, subscriber, &mut meter);
+        let round = make_round(
+            rt, alloc, keys, office, &mut seat, gate, subscriber, &mut meter,
+        );
         if !goes_on(rt, &bells, round, &mut patience) {
             return seat;
         }
@@ -63,6 +67,7 @@ pub fn worker<R: Wait + Clock, G: Gate, S: Subscriber>(
 fn make_round<R: Wait, G: Gate, S: Subscriber>(
     rt: &R,
     alloc: Global,
+    keys: RandomState,
     office: &Office<Desk>,
     seat: &mut Seat<Desk>,
     gate: &G,
@@ -79,7 +84,7 @@ fn make_round<R: Wait, G: Gate, S: Subscriber>(
     match job_in(reply) {
         Some(job) => {
             let before = job.cards_before(alloc);
-            let made = run(alloc, gate, job, meter);
+            let made = run(alloc, keys, gate, job, meter);
             let is_result = made.is_result();
             let published = made.published();
             let answered = deliver(rt, office, seat, made);
@@ -218,12 +223,12 @@ fn is_starved(reply: &Reply) -> bool
 }
 
 /// Runs a job behind the gate.
-fn run<G: Gate>(alloc: Global, gate: &G, job: Job, meter: &mut Meter) -> Made
+fn run<G: Gate>(alloc: Global, keys: RandomState, gate: &G, job: Job, meter: &mut Meter) -> Made
     ensures { MayMake job result }
 {
     let lease = job.lease();
     gate.enter(lease);
-    let made = job.run(alloc, meter);
+    let made = job.run(alloc, keys, meter);
     gate.leave(lease);
     made
 }

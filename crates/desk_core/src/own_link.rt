@@ -65,7 +65,10 @@ impl Desk {
         ensures { IfOk result (λ publication. publication ≡ own_publication self.now) }
     {
         let objects = objects(self.alloc, self.decks())?;
-        SharedPublication::new(self.alloc, publish(self.alloc, objects, self.version)?)
+        SharedPublication::new(
+            self.alloc,
+            publish(self.alloc, self.keys, objects, self.version)?,
+        )
     }
 
     /// A publication of its decks is the last one, and they share its objects: so what the link added to an object

@@ -13,11 +13,13 @@ use deck_assembler::{EditedDeck, SizedDeck, edited_parts, object_parts};
 use deck_objects::{Object, SharedObject};
 use statement_coder::Meter;
 use std::alloc::{AllocError, Global};
+use std::hash::RandomState;
 
 /// The object of the deck of this name and these cards, whose statements are sized. Each up to END is
 /// coded once.
 pub(crate) fn object_of(
     alloc: Global,
+    keys: RandomState,
     name: DeckName,
     cards: Vec<Card>,
     sized: &SizedDeck,
@@ -31,7 +33,7 @@ pub(crate) fn object_of(
     ensures coded_rises { meter.old.coded ≤ meter.new.coded }
     ensures coded_all { OnOk result (RisesBy (length (up_to_end (statements_of (reverse cards.items)))) meter.old.coded meter.new.coded) }
 {
-    let parts = object_parts(alloc, &cards, sized, meter)?;
+    let parts = object_parts(alloc, keys, &cards, sized, meter)?;
     SharedObject::new(alloc, Object::new(name, cards, parts))
 }
 
@@ -40,6 +42,7 @@ pub(crate) fn object_of(
 /// stayed as it was sized, keeps its line, unless a name is bound otherwise.
 pub(crate) fn edited_object(
     alloc: Global,
+    keys: RandomState,
     object: &Object,
     cards: Vec<Card>,
     edited: &EditedDeck,
@@ -55,7 +58,7 @@ pub(crate) fn edited_object(
     ensures coded_due { (plan : CodePlan) → IsPlanOf (kind_of_statements (known_in cards.items)) object.now.cards cards.items edited.now.former plan → meter.new.coded ≤ meter.old.coded + code_due_of cards.items plan }
     ensures coded_rises { meter.old.coded ≤ meter.new.coded }
 {
-    let parts = edited_parts(alloc, &cards, edited, object, meter)?;
+    let parts = edited_parts(alloc, keys, &cards, edited, object, meter)?;
     SharedObject::new(alloc, Object::new(object.name().copied(), cards, parts))
 }
 
@@ -63,6 +66,7 @@ pub(crate) fn edited_object(
 /// counts one statement sized, and one coded, for each up to END; where memory runs out, for some.
 pub fn assemble(
     alloc: Global,
+    keys: RandomState,
     name: DeckName,
     cards: Vec<Card>,
     meter: &mut Meter,
@@ -76,6 +80,6 @@ pub fn assemble(
     ensures coded_rises { meter.old.coded ≤ meter.new.coded }
     ensures coded_all { OnOk result (RisesBy (length (up_to_end (statements_of (reverse cards.items)))) meter.old.coded meter.new.coded) }
 {
-    let sized = SizedDeck::new(alloc, &cards, meter)?;
-    object_of(alloc, name, cards, &sized, meter)
+    let sized = SizedDeck::new(alloc, keys, &cards, meter)?;
+    object_of(alloc, keys, name, cards, &sized, meter)
 }

@@ -23,8 +23,10 @@ use deck_assembler::{OldCards, SizedDeck};
 use deck_objects::SharedObject;
 use statement_coder::Meter;
 use std::alloc::{AllocError, Global};
+use std::hash::RandomState;
 use std::marker::Model;
 use std::slice;
+use thiserror::Error;
 
 /// The record of a deck of at most 20,000 cards: its statements up to END in pieces of at most 128,
 /// each with the state before it, and its object. Contracts see its name, its cards, whether it is
@@ -39,11 +41,13 @@ pub struct Kept {
 }
 
 /// Why a record gives no object.
-#[derive(Clone, Copy)]
+#[derive(Clone, Copy, Debug, Error)]
 pub enum FinishFault {
     /// The record is spent.
+    #[error("the record is spent")]
     Spent,
     /// No memory was left.
+    #[error("no memory was left")]
     OutOfMemory,
 }
 
@@ -65,6 +69,7 @@ impl Kept {
     /// some.
     pub fn new(
         alloc: Global,
+        keys: RandomState,
         name: DeckName,
         cards: Vec<Card>,
         meter: &mut Meter,
@@ -81,8 +86,8 @@ impl Kept {
         ensures coded_rises { meter.old.coded ≤ meter.new.coded }
         ensures coded_all { OnOk result (RisesBy (length (up_to_end (statements_of (reverse cards.items)))) meter.old.coded meter.new.coded) }
     {
-        let sized = SizedDeck::new(alloc, &cards, meter)?;
-        let object = object_of(alloc, name, cards, &sized, meter)?;
+        let sized = SizedDeck::new(alloc, keys, &cards, meter)?;
+        let object = object_of(alloc, keys, name, cards, &sized, meter)?;
         Kept::of(alloc, object, sized)
     }
 
@@ -109,7 +114,13 @@ impl Kept {
     /// edited cards; none of those that stand untouched in front of both decks, and behind the first
     /// place where both decks agree again no more than the 128 of a piece, but for those coded that are
     /// bound otherwise.
-    pub fn edit(&mut self, alloc: Global, edit: &Edit, meter: &mut Meter) -> Result<(), RecordFault>
+    pub fn edit(
+        &mut self,
+        alloc: Global,
+        keys: RandomState,
+        edit: &Edit,
+        meter: &mut Meter,
+    ) -> Result<(), RecordFault>
         ensures refused { ForSome (against edit.now self.old.is_spent self.old.cards) (λ fault. (result ≡ Err fault) × (self.new ≡ self.old) × (meter.new ≡ meter.old)) }
         ensures accepted { against edit.now self.old.is_spent self.old.cards ≡ None → IfErr result (λ fault. fault ≡ RecordFault.OutOfMemory) }
         ensures made { IfOk result (λ _. IsRecordOf self.old.name (edited self.old.cards edit.now) self.new) }
@@ -122,7 +133,7 @@ impl Kept {
         ensures coded { meter.new.coded ≤ meter.old.coded + statement_count (edited self.old.cards edit.now) }
         ensures coded_rises { meter.old.coded ≤ meter.new.coded }
     {
-        self.edit_all(alloc, slice::from_ref(edit), meter)
+        self.edit_all(alloc, keys, slice::from_ref(edit), meter)
     }
 
     /// Makes edits in order, all at once: the cards are edited first, and then their statements are
@@ -137,6 +148,7 @@ impl Kept {
     pub fn edit_all(
         &mut self,
         alloc: Global,
+        keys: RandomState,
         edits: &[Edit],
         meter: &mut Meter,
     ) -> Result<(), RecordFault>
@@ -156,7 +168,7 @@ impl Kept {
     {
         match self.fault_against(edits) {
             Some(fault) => Err(fault),
-            None => self.edit_soundly(alloc, edits, meter),
+            None => self.edit_soundly(alloc, keys, edits, meter),
         }
     }
 
@@ -168,6 +180,7 @@ impl Kept {
     pub fn edit_in_order(
         &mut self,
         alloc: Global,
+        keys: RandomState,
         edits: &[Edit],
         meter: &mut Meter,
     ) -> Result<(), RecordFault>
@@ -183,7 +196,7 @@ impl Kept {
     {
         match self.fault_against(edits) {
             Some(fault) => Err(fault),
-            None => self.edit_groups(alloc, edits, meter),
+            None => self.edit_groups(alloc, keys, edits, meter),
         }
     }
 
@@ -192,6 +205,7 @@ impl Kept {
     fn edit_groups(
         &mut self,
         alloc: Global,
+        keys: RandomState,
         edits: &[Edit],
         meter: &mut Meter,
     ) -> Result<(), RecordFault>
@@ -208,7 +222,7 @@ impl Kept {
                 return Ok(());
             };
             let near = near_edits(first, others, self.cards().len());
-            left = self.edit_first(alloc, left, near + 1, meter)?;
+            left = self.edit_first(alloc, keys, left, near + 1, meter)?;
         }
     }
 
@@ -216,6 +230,7 @@ impl Kept {
     fn edit_first<'a>(
         &mut self,
         alloc: Global,
+        keys: RandomState,
         edits: &'a [Edit],
         count: usize,
         meter: &mut Meter,
@@ -230,7 +245,7 @@ impl Kept {
         ensures counts { CountsInOrder edits.now self.old.cards meter.old meter.new }
     {
         let (first, others) = edits.split_at(count);
-        match self.edit_all(alloc, first, meter) {
+        match self.edit_all(alloc, keys, first, meter) {
             Ok(()) => Ok(others),
             Err(_) => Err(RecordFault::OutOfMemory),
         }
@@ -240,6 +255,7 @@ impl Kept {
     fn edit_soundly(
         &mut self,
         alloc: Global,
+        keys: RandomState,
         edits: &[Edit],
         meter: &mut Meter,
     ) -> Result<(), RecordFault>
@@ -262,7 +278,7 @@ impl Kept {
         let Some(sized) = self.sized.take() else {
             return Err(RecordFault::Spent);
         };
-        match self.remade(alloc, sized, edits, meter) {
+        match self.remade(alloc, keys, sized, edits, meter) {
             Ok(made) => {
                 *self = made;
                 Ok(())
@@ -295,6 +311,7 @@ impl Kept {
     fn remade(
         &self,
         alloc: Global,
+        keys: RandomState,
         sized: SizedDeck,
         edits: &[Edit],
         meter: &mut Meter,
@@ -318,8 +335,8 @@ impl Kept {
             behind: cards_behind_all(edits, own.len()),
         };
         let cards = edited_copy(alloc, own, edits)?;
-        let edited = sized.edited(alloc, old, &cards, meter)?;
-        let object = edited_object(alloc, self.object.object(), cards, &edited, meter)?;
+        let edited = sized.edited(alloc, keys, old, &cards, meter)?;
+        let object = edited_object(alloc, keys, self.object.object(), cards, &edited, meter)?;
         Kept::of(alloc, object, edited.deck)
     }
 

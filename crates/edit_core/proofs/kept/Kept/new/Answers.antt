@@ -15,3 +15,8 @@ returns-clause-sized_all c =
     always c.of.result
     (subst (λ (n : ℕ). RisesBy (length (up_to_end (statements_of (reverse c.args.cards.items)))) c.args.meter.now.sized n) (sym c.object_of.ensures.sized)
     (subst (λ (cards : List Card). RisesBy (length (up_to_end (statements_of (reverse cards)))) c.args.meter.now.sized c.new.new.meter.sized) c.deref.ensures.value c.in_ok-sized.ensures.all))
+
+pub returns-clause-coded_all : goal.returns-clause-coded_all
+returns-clause-coded_all c =
+    always c.of.result
+    (subst (λ (n : ℕ). RisesBy (length (up_to_end (statements_of (reverse c.args.cards.items)))) n c.object_of.new.meter.coded) c.new.ensures.coded c.in_ok-object.ensures.coded_all)
