@@ -1,11 +1,12 @@
 -- Steps of a folder: they go on from each other, and change no other paths together than each.
-use Rattle.std.proofs.Common.{ℕ, zero, suc, ◌≡◌, inl, inr, List, [], ◌∷◌, ◌++◌, Option, Result, Ok, Err, IfErr, IsOk, refl, sym, subst, append_assoc}
+use Rattle.std.proofs.Common.{ℕ, zero, suc, ◌≡◌, inl, inr, List, [], ◌∷◌, ◌++◌, Option, Result, Ok, Err, IfErr, OnOk, IsOk, refl, sym, subst, append_assoc}
 use Rattle.std.proofs.KnownBytes.{Consumes-nil}
 use Rattle.definitions.specs.Cards.{Card}
 use Rattle.deck_files.specs.declared.load_fault.LoadFault.{LoadFault}
 use Rattle.deck_files.specs.declared.load_fault.LoadFault.TheVariants.{OutOfMemory}
 use Rattle.deck_files.specs.declared.deck_shelf.ShelfLoadFault.{ShelfLoadFault}
 use Rattle.deck_files.specs.declared.deck_shelf.ShelfSaveFault.{ShelfSaveFault}
+use Rattle.deck_files.specs.declared.file_sums.FileSum.{FileSum}
 use Rattle.deck_files.specs.Loads.{LoadsFault}
 use Rattle.deck_files.specs.Folders.{Place, deck_path}
 use Rattle.deck_files.specs.Steps.{Asked, Answered, Step, Refused, Done, Found, Gave, Holds, changed_by, AreAmong, ChangesAmong, ChangeAmong, TakesSteps, ChangesOnly}
@@ -16,6 +17,11 @@ use Rattle.deck_files.specs.FolderSaves.{IsFaultOfFolder, IsFaultOfNew, refused_
 pub err-map : {T E : Type 0} {P Q : E → Type 0} (result : Result T E) → ((error : E) → P error → Q error) → IfErr result P → IfErr result Q
 err-map (Ok value) weaker holds = tt
 err-map (Err error) weaker holds = weaker error holds
+
+-- what is left where nothing went wrong says of a weaker relation too
+pub ok-map : {T E P Q : Type 0} (result : Result T E) → (P → Q) → OnOk result P → OnOk result Q
+ok-map (Ok value) weaker holds = weaker holds
+ok-map (Err error) weaker holds = tt
 
 -- a folder's fault is one of a new file
 pub fault-of-new : (text : List ℕ) (fault : ShelfSaveFault) → IsFaultOfFolder fault → IsFaultOfNew text fault
@@ -97,6 +103,6 @@ module _ {F : Type 0} (has_done : F → List Step → Type 0) where
       read bytes rest (subst (λ (p : List ℕ). TakesSteps has_done old (opened_steps p bytes) new) is steps) loads
 
   -- no memory was left to note that the file is known
-  pub fails-noting : (path : List ℕ) (cards : List Card) (old new : F) → LoadsFile has_done path cards old new → HasFault has_done path OutOfMemory old new
-  fails-noting path cards old new loaded =
+  pub fails-noting : (path : List ℕ) (cards : List Card) (sum : FileSum) (old new : F) → LoadsFile has_done path cards sum old new → HasFault has_done path OutOfMemory old new
+  fails-noting path cards sum old new loaded =
       read loaded.bytes loaded.rest loaded.steps (loaded.read.0, loaded.read.1, subst (λ (r : Result (List Card) LoadFault). IsOk r) (sym loaded.read.3) refl)

@@ -1,32 +1,33 @@
 -- A place makes nothing known.
 use Rattle.std.proofs.Common.{ℕ, ◌≡◌, List, [], ◌∷◌, Bool, true, false, cond, Option, Some, None, refl, is_some, true≢false}
 use Rattle.definitions.specs.Characters.{same_text}
+use Rattle.deck_files.specs.declared.known_rows.Known.{Known}
 use Rattle.deck_files.specs.Files.{Named, named, with_named}
-use Rattle.deck_files.specs.KnownFiles.{after_place, known_at, version_known}
+use Rattle.deck_files.specs.KnownFiles.{after_place, file_known, known_at}
 
 known-none : (t : Bool) → known_at (cond t (Some None) None) ≡ None
 known-none true = refl
 known-none false = refl
 
-known-pick : (t : Bool) (known : Option ℕ) (first second : Option (Option ℕ)) → known_at first ≡ known_at second → known_at (cond t (Some known) first) ≡ known_at (cond t (Some known) second)
+known-pick : (t : Bool) (known : Option Known) (first second : Option (Option Known)) → known_at first ≡ known_at second → known_at (cond t (Some known) first) ≡ known_at (cond t (Some known) second)
 known-pick true known first second same = refl
 known-pick false known first second same = same
 
-place-step : (t : Bool) (other : List ℕ) (first : List ℕ × Option ℕ) (others placed : Named (Option ℕ)) (found : Option (Option ℕ)) → is_some (cond t (Some first.1) found) ≡ false →
-    (is_some found ≡ false → version_known other placed ≡ version_known other others) → version_known other (cond t ((first.0, None) ∷ others) (first ∷ placed)) ≡ version_known other (first ∷ others)
+place-step : (t : Bool) (other : List ℕ) (first : List ℕ × Option Known) (others placed : Named (Option Known)) (found : Option (Option Known)) → is_some (cond t (Some first.1) found) ≡ false →
+    (is_some found ≡ false → file_known other placed ≡ file_known other others) → file_known other (cond t ((first.0, None) ∷ others) (first ∷ placed)) ≡ file_known other (first ∷ others)
 place-step true other first others placed found lacks same = absurd (true≢false lacks)
 place-step false other first others placed found lacks same = known-pick (same_text other first.0) first.1 (named other placed) (named other others) (same lacks)
 
 -- a place for a name that had none
-place-new : (name other : List ℕ) (files : Named (Option ℕ)) → is_some (named name files) ≡ false → version_known other (with_named name None files) ≡ version_known other files
+place-new : (name other : List ℕ) (files : Named (Option Known)) → is_some (named name files) ≡ false → file_known other (with_named name None files) ≡ file_known other files
 place-new name other [] lacks = known-none (same_text other name)
 place-new name other (first ∷ others) lacks =
     place-step (same_text name first.0) other first others (with_named name None others) (named name others) lacks (place-new name other others)
 
-place-choose : (t : Bool) (other : List ℕ) (files placed : Named (Option ℕ)) → (t ≡ false → version_known other placed ≡ version_known other files) →
-    version_known other (cond t files placed) ≡ version_known other files
+place-choose : (t : Bool) (other : List ℕ) (files placed : Named (Option Known)) → (t ≡ false → file_known other placed ≡ file_known other files) →
+    file_known other (cond t files placed) ≡ file_known other files
 place-choose true other files placed same = refl
 place-choose false other files placed same = same refl
 
-pub place-known : (name other : List ℕ) (files : Named (Option ℕ)) → version_known other (after_place name files) ≡ version_known other files
+pub place-known : (name other : List ℕ) (files : Named (Option Known)) → file_known other (after_place name files) ≡ file_known other files
 place-known name other files = place-choose (is_some (named name files)) other files (with_named name None files) (place-new name other files)

@@ -2,6 +2,8 @@ pub mod LoadSteps
 pub mod SaveSteps
 pub mod FileSteps
 pub mod KnownSteps
+pub mod RowTexts
+pub mod SumSteps
 pub mod FolderSteps
 pub mod SaveFaults
 pub mod PathSteps

@@ -1,17 +1,20 @@
 -- The steps of loading a file: the lines so far show these cards, whatever follows.
-use Rattle.std.proofs.Common.{ℕ, ◌≡◌, ◌+◌, List, [], ◌∷◌, ◌++◌, Option, Result, Ok, Err, IsOk, length, refl, sym, ap, subst, ◌∙◌, arith, append_assoc, append-nil, length-append}
+use Rattle.std.proofs.Common.{ℕ, ◌≡◌, ◌+◌, ◌*◌, ◌≤◌, List, [], ◌∷◌, ◌++◌, Option, Result, Ok, Err, IsOk, length, refl, sym, ap, subst, ◌∙◌, arith, append_assoc, append-nil, length-append}
 use Rattle.std.specs.Io.KnownBytes.{Consumes}
 use Rattle.std.proofs.KnownBytes.{Consumes-nil, Consumes-trans}
 use Rattle.definitions.specs.Cards.{Card}
-use Rattle.definitions.specs.InputLines.{InputLine, Line, TooLong, lines_of}
-use Rattle.text_ports.specs.Lines.{ReadsLine}
+use Rattle.definitions.specs.InputLines.{InputLine, Line, TooLong, lines_of, without_cr}
+use Rattle.text_ports.specs.Lines.{ReadsLine, ReadsWholeLine}
 use Rattle.text_ports.specs.declared.lines.LineIs.TheVariants as is
 use Rattle.text_ports.proofs.LineLaws.{lines_of-taken, lines_of-cut, lines_of-few, lines_of-long}
 use Rattle.cards.specs.declared.card.CardFault.TheVariants as card
 use Rattle.deck_files.specs.declared.load_fault.LoadFault.{LoadFault}
 use Rattle.deck_files.specs.declared.load_fault.LoadFault.TheVariants.{ReadFault, BadLine, LastLineCut, DeckFull, OutOfMemory}
 use Rattle.deck_files.specs.DeckFiles.{card_in, in_front, with_first, cards_behind, cards_of_file}
-use Rattle.deck_files.specs.Loads.{GaveFault, LoadsCards, LoadsFault, IsFaultOf, count_after_load}
+use Rattle.deck_files.specs.declared.file_sums.FileSum.{FileSum}
+use Rattle.deck_files.specs.declared.file_sums.Summing.{Summing}
+use Rattle.deck_files.specs.FileSums.{Sums, sum_of}
+use Rattle.deck_files.specs.Loads.{GaveFault, LoadsFault, LoadsSummed, IsFaultOf, count_after_load}
 
 -- no cards in front
 in_front-nil : (read : Result (List Card) LoadFault) → in_front [] read ≡ read
@@ -23,19 +26,27 @@ in_front-more : (cards : List Card) (columns : Card) (read : Result (List Card) 
 in_front-more cards columns (Ok others) = ap Ok (sym (append_assoc cards (columns ∷ []) others))
 in_front-more cards columns (Err fault) = refl
 
--- the reader lost whole lines that show these cards, whatever follows
-pub record IsLoaded (old new : Option (List ℕ)) (cards : List Card) : Type 0 where
+-- a line with all that stands in front of its line feed, as the line that it shows
+pub shown-line : (old new : Option (List ℕ)) (line : List ℕ) → ReadsWholeLine old new is.Line line → ReadsLine old new is.Line (without_cr line)
+shown-line old new line read = (read.0, read.1, (line, read.2.0, read.2.1, read.2.2, refl), read.3)
+
+-- the reader lost whole lines that show these cards, whatever follows, and this is their sum so far
+pub record IsLoaded (old new : Option (List ℕ)) (cards : List Card) (summing : Summing) : Type 0 where
   pub taken : List ℕ
   pub consumed : Consumes old new taken
+  pub sums : Sums summing taken
+  pub short : summing.length ≤ 257 * length cards
   pub whole : (rest : List ℕ) → cards_of_file (taken ++ rest) ≡ in_front cards (cards_behind (length cards) (lines_of rest))
 
 -- nothing is read
-pub IsLoaded-none : (old : Option (List ℕ)) (cards : List Card) → cards ≡ [] → IsLoaded old old cards
-IsLoaded-none old cards none =
-    let P : List Card → Type 0 = λ (c : List Card). IsLoaded old old c in
+pub IsLoaded-none : (old : Option (List ℕ)) (cards : List Card) (summing : Summing) → cards ≡ [] → Sums summing [] → IsLoaded old old cards summing
+IsLoaded-none old cards summing none sums =
+    let P : List Card → Type 0 = λ (c : List Card). IsLoaded old old c summing in
     subst P (sym none) (record {
       taken = [];
       consumed = Consumes-nil old;
+      sums = sums;
+      short = omega (arith, sums.0);
       whole = λ rest. sym (in_front-nil (cards_behind 0 (lines_of rest)));
     })
 
@@ -47,18 +58,22 @@ file-behind taken more rest cards line later whole e =
     ap cards_of_file (append_assoc taken more rest) ∙ whole (more ++ rest) ∙ ap (λ (l : List InputLine). in_front cards (cards_behind (length cards) l)) e
 
 -- a line that shows a card
-pub IsLoaded-more : (old new next : Option (List ℕ)) (cards after : List Card) (columns : Card) (line text : List ℕ) → IsLoaded old new cards → ReadsLine new next is.Line line →
-    text ≡ line → card_in (length cards + 1) (Line text) ≡ Ok columns → after ≡ cards ++ columns ∷ [] → IsLoaded old next after
-IsLoaded-more old new next cards after columns line text loaded read same shows more =
-    let P : List Card → Type 0 = λ (c : List Card). IsLoaded old next c in
+pub IsLoaded-more : (old new next : Option (List ℕ)) (cards after : List Card) (summing summed : Summing) (columns : Card) (line text : List ℕ) → IsLoaded old new cards summing →
+    ReadsWholeLine new next is.Line line → text ≡ line → card_in (length cards + 1) (Line (without_cr text)) ≡ Ok columns → after ≡ cards ++ columns ∷ [] →
+    ((bytes : List ℕ) → Sums summing bytes → Sums summed (bytes ++ (text ++ 10 ∷ []))) → summed.length ≤ summing.length + 257 → IsLoaded old next after summed
+IsLoaded-more old new next cards after summing summed columns line text loaded read same shows more adds longer =
+    let P : List Card → Type 0 = λ (c : List Card). IsLoaded old next c summed in
     let count : length cards + 1 ≡ length (cards ++ columns ∷ []) = omega (arith, length-append cards (columns ∷ [])) in
+    let taken : text ++ 10 ∷ [] ≡ read.0 = ap (λ (t : List ℕ). t ++ 10 ∷ []) same ∙ sym read.2.0 in
     subst P (sym more) (record {
       taken = loaded.taken ++ read.0;
       consumed = Consumes-trans old new next loaded.taken read.0 loaded.consumed read.1;
+      sums = subst (λ (t : List ℕ). Sums summed (loaded.taken ++ t)) taken (adds loaded.taken loaded.sums);
+      short = omega (arith, longer, loaded.short, count);
       whole = λ rest.
-          file-behind loaded.taken read.0 rest cards (Line line) (lines_of rest) loaded.whole (lines_of-taken read.0 line rest read.2)
+          file-behind loaded.taken read.0 rest cards (Line (without_cr line)) (lines_of rest) loaded.whole (lines_of-taken read.0 (without_cr line) rest (line, read.2.0, read.2.1, read.2.2, refl))
           ∙ ap (λ (r : Result Card LoadFault). in_front cards (with_first r (cards_behind (length cards + 1) (lines_of rest))))
-          (ap (λ (t : List ℕ). card_in (length cards + 1) (Line t)) (sym same) ∙ shows)
+          (ap (λ (t : List ℕ). card_in (length cards + 1) (Line (without_cr t))) (sym same) ∙ shows)
           ∙ in_front-more cards columns (cards_behind (length cards + 1) (lines_of rest))
           ∙ ap (λ (n : ℕ). in_front (cards ++ columns ∷ []) (cards_behind n (lines_of rest))) count;
     })
@@ -69,19 +84,21 @@ cards-so_far : (taken : List ℕ) (cards : List Card) → ((rest : List ℕ) →
 cards-so_far taken cards whole = ap cards_of_file (sym (append-nil taken)) ∙ whole [] ∙ ap Ok (append-nil cards)
 
 -- the end of the file
-pub LoadsCards-end : (old new next : Option (List ℕ)) (cards : List Card) (line : List ℕ) → IsLoaded old new cards → ReadsLine new next is.End line → LoadsCards old next cards
-LoadsCards-end old new next cards line loaded read = (
+pub LoadsSummed-end : (old new next : Option (List ℕ)) (cards : List Card) {summing : Summing} (sum : FileSum) (line : List ℕ) → IsLoaded old new cards summing → ReadsLine new next is.End line →
+    ((bytes : List ℕ) → Sums summing bytes → sum ≡ sum_of bytes) → LoadsSummed old next cards sum
+LoadsSummed-end old new next cards sum line loaded read told = (
   loaded.taken ++ read.0,
   Consumes-trans old new next loaded.taken read.0 loaded.consumed read.1,
   read.3,
   ap (λ (l : List ℕ). cards_of_file (loaded.taken ++ l)) read.2.0 ∙ whole-end,
+  told loaded.taken loaded.sums ∙ ap sum_of (sym (ap (λ (l : List ℕ). loaded.taken ++ l) read.2.0 ∙ append-nil loaded.taken)),
 )
   where
     whole-end : cards_of_file (loaded.taken ++ []) ≡ Ok cards
     whole-end = ap cards_of_file (append-nil loaded.taken) ∙ cards-so_far loaded.taken cards loaded.whole
 
 -- a last line that no line feed ends
-pub LoadsFault-cut : (old new next : Option (List ℕ)) (cards : List Card) (line : List ℕ) → IsLoaded old new cards → ReadsLine new next is.Cut line → LoadsFault LastLineCut old next
+pub LoadsFault-cut : (old new next : Option (List ℕ)) (cards : List Card) {summing : Summing} (line : List ℕ) → IsLoaded old new cards summing → ReadsLine new next is.Cut line → LoadsFault LastLineCut old next
 LoadsFault-cut old new next cards line loaded read = (
   loaded.taken ++ read.0,
   Consumes-trans old new next loaded.taken read.0 loaded.consumed read.1,
@@ -90,7 +107,7 @@ LoadsFault-cut old new next cards line loaded read = (
 )
 
 -- a line that is too long
-pub LoadsFault-long : (old new next : Option (List ℕ)) (cards : List Card) (line : List ℕ) (fault : LoadFault) → IsLoaded old new cards → ReadsLine new next is.TooLong line →
+pub LoadsFault-long : (old new next : Option (List ℕ)) (cards : List Card) {summing : Summing} (line : List ℕ) (fault : LoadFault) → IsLoaded old new cards summing → ReadsLine new next is.TooLong line →
     fault ≡ BadLine (length cards + 1) card.TooWide → LoadsFault fault old next
 LoadsFault-long old new next cards line fault loaded read is_wide =
     let P : LoadFault → Type 0 = λ (f : LoadFault). LoadsFault f old next in
@@ -103,7 +120,7 @@ LoadsFault-long old new next cards line fault loaded read is_wide =
     )
 
 -- a fault of the reader
-pub LoadsFault-read : (old new next : Option (List ℕ)) (cards : List Card) (line : List ℕ) → IsLoaded old new cards → ReadsLine new next is.Fault line → LoadsFault ReadFault old next
+pub LoadsFault-read : (old new next : Option (List ℕ)) (cards : List Card) {summing : Summing} (line : List ℕ) → IsLoaded old new cards summing → ReadsLine new next is.Fault line → LoadsFault ReadFault old next
 LoadsFault-read old new next cards line loaded read = record {
   front = loaded.taken;
   line = read.0;
@@ -114,7 +131,7 @@ LoadsFault-read old new next cards line loaded read = record {
 }
 
 -- the file has the fault of this line
-GaveFault-line : (old new next : Option (List ℕ)) (cards : List Card) (line : List ℕ) (fault : LoadFault) → IsLoaded old new cards → ReadsLine new next is.Line line →
+GaveFault-line : (old new next : Option (List ℕ)) (cards : List Card) {summing : Summing} (line : List ℕ) (fault : LoadFault) → IsLoaded old new cards summing → ReadsLine new next is.Line line →
     card_in (length cards + 1) (Line line) ≡ Err fault → GaveFault old next fault
 GaveFault-line old new next cards line fault loaded read shows = (
   loaded.taken ++ read.0,
@@ -129,7 +146,7 @@ in_front-Ok cards (Ok columns) h = refl
 in_front-Ok cards (Err fault) h = cc
 
 -- a line that was read whole, and whose card was not added
-LoadsFault-whole : (old new next : Option (List ℕ)) (cards : List Card) (line : List ℕ) (fault : LoadFault) → IsLoaded old new cards → ReadsLine new next is.Line line →
+LoadsFault-whole : (old new next : Option (List ℕ)) (cards : List Card) {summing : Summing} (line : List ℕ) (fault : LoadFault) → IsLoaded old new cards summing → ReadsLine new next is.Line line →
     IsFaultOf fault (card_in (length cards + 1) (Line line)) → LoadsFault fault old next
 LoadsFault-whole old new next cards line ReadFault loaded read h = absurd h
 LoadsFault-whole old new next cards line (BadLine number fault) loaded read h = GaveFault-line old new next cards line (BadLine number fault) loaded read h
@@ -145,7 +162,7 @@ LoadsFault-whole old new next cards line OutOfMemory loaded read h = (
       ),
 )
 
-pub LoadsFault-line : (old new next : Option (List ℕ)) (cards : List Card) (line text : List ℕ) (fault : LoadFault) → IsLoaded old new cards → ReadsLine new next is.Line line →
+pub LoadsFault-line : (old new next : Option (List ℕ)) (cards : List Card) {summing : Summing} (line text : List ℕ) (fault : LoadFault) → IsLoaded old new cards summing → ReadsLine new next is.Line line →
     text ≡ line → IsFaultOf fault (card_in (length cards + 1) (Line text)) → LoadsFault fault old next
 LoadsFault-line old new next cards line text fault loaded read same h =
     let P : List ℕ → Type 0 = λ (t : List ℕ). IsFaultOf fault (card_in (length cards + 1) (Line t)) in

@@ -1,36 +1,62 @@
 -- What a save that failed left of the deck's file.
-use Rattle.std.proofs.Common.{ℕ, ◌≡◌, ◌⊎◌, inl, inr, List, [], ◌∷◌, ◌++◌, Bool, true, false, Option, refl, sym, subst, is_some}
+use Rattle.std.proofs.Common.{ℕ, ◌≡◌, ◌⊎◌, inl, inr, List, [], ◌∷◌, ◌++◌, Bool, true, false, Option, Some, None, refl, sym, subst, is_some}
 use Rattle.deck_files.specs.declared.deck_shelf.SaveOver.{SaveOver}
 use Rattle.deck_files.specs.declared.deck_shelf.SaveOver.TheVariants.{Known}
+use Rattle.deck_files.specs.declared.deck_shelf.ShelfSaveFault.TheVariants.{FileExists, OutOfMemory}
 use Rattle.deck_files.specs.declared.deck_shelf.ShelfSaveFault.{ShelfSaveFault}
-use Rattle.deck_files.specs.declared.deck_shelf.ShelfSaveFault.TheVariants.{FileExists}
 use Rattle.deck_files.specs.declared.folders.Standing.{Standing}
-use Rattle.deck_files.specs.declared.folders.Standing.TheVariants.{PlainFile}
+use Rattle.deck_files.specs.declared.folders.Standing.TheVariants.{Nothing, PlainFile}
 use Rattle.std.specs.Io.KnownBytes.{Appends}
-use Rattle.deck_files.specs.Folders.{Place, deck_path, new_path}
-use Rattle.deck_files.specs.Steps.{Step, Answered, Look, Make, Put, Remove, Found, Gave, Refused, ChangeAmong, TakesStep, TakesSteps, ChangesOnly}
-use Rattle.deck_files.specs.FolderSaves.{IsFaultOfFolder, IsFaultOfNew, IsNew, IsUnkept, LeavesInPlace, MakesAnew, MakesWay, SaveFails, untouched, unknown, looked, filled, linked, put_in_place, refused_tries, way_steps}
+use Rattle.deck_files.specs.declared.file_sums.FileSum.{FileSum}
+use Rattle.deck_files.specs.Folders.{Place, deck_path, new_path, old_path}
+use Rattle.deck_files.specs.Steps.{Step, Answered, Look, Open, Make, Put, Remove, Done, Found, Gave, Refused, ChangeAmong, TakesStep, TakesSteps, ChangesOnly}
+use Rattle.deck_files.specs.FolderSaves.{BarsWay, Compares, GivesWay, IsFaultOfFolder, IsFaultOfNew, IsNew, IsUnkept, LeavesInPlace, MakesAnew, MakesWay, SaveFails, SavesSo, barred, filled, is_any, is_changed, is_free, is_given, is_known, linked, looked, put_in_place, refused_tries, untouched}
 use Rattle.deck_files.specs.DeckFiles.{file_of}
 use Rattle.deck_files.specs.Savings.{Saving}
-use Rattle.deck_files.specs.FolderShelves.{FolderShelf, SavesNoDeck, place_on}
-use Rattle.deck_files.proofs.FolderSteps.{ChangeAmong-links, ChangeAmong-tries, ChangesAmong-asked, fault-of-new, only-join, only-more, takes-join}
-
--- making way changes nothing
-way-only : (A : List ℕ → Type 0) (at : Place) (keeps : Bool) (standing aside : Standing) → ChangeAmong A (way_steps at keeps standing aside)
-way-only A at false standing aside = (tt, tt)
-way-only A at true standing aside = (tt, (tt, tt))
+use Rattle.deck_files.specs.FolderShelves.{FolderShelf, SavesDeck, SavesNoDeck, place_on}
+use Rattle.deck_files.proofs.FolderSteps.{ChangeAmong-links, ChangeAmong-tries, ChangesAmong-asked, fault-of-new, only-join, only-more, only-none, takes-join}
 
 module _ {F : Type 0} (has_done : F → List Step → Type 0) where
+  -- what was found stands at the deck's path
+  looked-as : (at : Place) (deck : List ℕ) (standing found : Standing) (old middle : F) → deck ≡ deck_path at → standing ≡ found → TakesStep has_done old (Look deck, Found standing) middle →
+      TakesSteps has_done old (looked at found) middle
+  looked-as at deck standing found old middle is plain look =
+      subst (λ (s : Standing). TakesSteps has_done old (looked at s) middle) plain
+      (subst (λ (path : List ℕ). TakesSteps has_done old ((Look path, Found standing) ∷ []) middle) is look)
+
+  -- nothing stands there
+  pub gives-free : (at : Place) (over : SaveOver) (known : Option FileSum) (deck : List ℕ) (standing : Standing) (old middle : F) → deck ≡ deck_path at → standing ≡ Nothing →
+      TakesStep has_done old (Look deck, Found standing) middle → MakesWay has_done at over known false old middle
+  gives-free at over known deck standing old middle is nothing look = is_free refl (looked-as at deck standing Nothing old middle is nothing look)
+
+  -- the file was compared, and has just what is known
+  pub known-gives : (at : Place) (known : Option FileSum) (sum : FileSum) (just : Bool) (old new : F) → known ≡ Some sum → just ≡ true → Compares has_done at sum just old new →
+      GivesWay has_done at Known known false old new
+  known-gives at known sum just old new is told compares = is_known sum refl refl is (subst (λ (j : Bool). Compares has_done at sum j old new) told compares)
+
+  -- it has something else
+  pub known-bars : (at : Place) (known : Option FileSum) (sum : FileSum) (just : Bool) (old new : F) → known ≡ Some sum → just ≡ false → Compares has_done at sum just old new →
+      BarsWay has_done at Known known FileExists old new
+  known-bars at known sum just old new is told compares = is_changed sum refl refl is (subst (λ (j : Bool). Compares has_done at sum j old new) told compares)
+
+  -- it may be written over
+  pub gives-over : (at : Place) (over : SaveOver) (known : Option FileSum) (keeps : Bool) (deck : List ℕ) (standing : Standing) (old middle new : F) → deck ≡ deck_path at → standing ≡ PlainFile →
+      TakesStep has_done old (Look deck, Found standing) middle → GivesWay has_done at over known keeps middle new → MakesWay has_done at over known keeps old new
+  gives-over at over known keeps deck standing old middle new is plain look gives = is_given middle (looked-as at deck standing PlainFile old middle is plain look) gives
+
+  -- making way changes nothing
+  way-only : (A : List ℕ → Type 0) (at : Place) (over : SaveOver) (known : Option FileSum) (keeps : Bool) (old new : F) → MakesWay has_done at over known keeps old new → ChangesOnly has_done A old new
+  way-only A at over known keeps old new (is_free same steps) = (looked at Nothing, (tt, tt), steps)
+  way-only A at over known keeps old new (is_given middle look (is_known sum same is none compares)) =
+      only-join has_done A old middle new (looked at PlainFile, (tt, tt), look) ((Open (deck_path at), Gave compares.0) ∷ [], (tt, tt), compares.2)
+  way-only A at over known keeps old new (is_given middle look (is_any aside same is may steps)) =
+      only-join has_done A old middle new (looked at PlainFile, (tt, tt), look) ((Look (old_path at), Found aside) ∷ [], (tt, tt), steps)
+
   -- a plain file was not written over
-  pub stays-over : (at : Place) (over : SaveOver) (known : Bool) (text deck : List ℕ) (fault : ShelfSaveFault) (standing : Standing) (old middle new : F) → deck ≡ deck_path at →
+  pub stays-over : (at : Place) (over : SaveOver) (known : Option FileSum) (text deck : List ℕ) (fault : ShelfSaveFault) (standing : Standing) (old middle new : F) → deck ≡ deck_path at →
       standing ≡ PlainFile → TakesStep has_done old (Look deck, Found standing) middle →
-      ((fault ≡ FileExists) × (over ≡ Known) × (known ≡ false) × (new ≡ middle)) ⊎ (IsFaultOfFolder fault × ChangesOnly has_done (λ path. ⊥) middle new) →
-      LeavesInPlace has_done at over known text fault old new
-  stays-over at over known text deck fault standing old middle new is plain look (inl told) =
-      unknown told.0 told.1 told.2
-      (subst (λ (f : F). TakesSteps has_done old (looked at PlainFile) f) (sym told.3)
-      (subst (λ (s : Standing). TakesSteps has_done old (looked at s) middle) plain
-      (subst (λ (path : List ℕ). TakesSteps has_done old ((Look path, Found standing) ∷ []) middle) is look)))
+      BarsWay has_done at over known fault middle new ⊎ (IsFaultOfFolder fault × ChangesOnly has_done (λ path. ⊥) middle new) → LeavesInPlace has_done at over known text fault old new
+  stays-over at over known text deck fault standing old middle new is plain look (inl bars) = barred middle (looked-as at deck standing PlainFile old middle is plain look) bars
   stays-over at over known text deck fault standing old middle new is plain look (inr told) =
       untouched (fault-of-new text fault told.0)
       (only-join has_done (IsNew at) old middle new ((Look deck, Found standing) ∷ [], (tt, tt), look)
@@ -76,23 +102,39 @@ module _ {F : Type 0} (has_done : F → List Step → Type 0) where
       ((Remove again, answer) ∷ [], (ChangesAmong-asked (IsNew at) (Remove again) answer ((tries, is_again), tt), tt), removed)
 
   -- the way was made, and no new file
-  pub stays-unmade : (at : Place) (over : SaveOver) (known keeps : Bool) (text : List ℕ) (fault : ShelfSaveFault) (old middle new : F) → MakesWay has_done at over known keeps old middle →
+  pub stays-unmade : (at : Place) (over : SaveOver) (known : Option FileSum) (keeps : Bool) (text : List ℕ) (fault : ShelfSaveFault) (old middle new : F) → MakesWay has_done at over known keeps old middle →
       IsFaultOfNew text fault → ChangesOnly has_done (IsNew at) middle new → LeavesInPlace has_done at over known text fault old new
   stays-unmade at over known keeps text fault old middle new way told only =
       untouched told
-      (only-join has_done (IsNew at) old middle new
-      (way_steps at keeps way.standing way.aside, way-only (IsNew at) at keeps way.standing way.aside, way.steps)
-      only)
+      (only-join has_done (IsNew at) old middle new (way-only (IsNew at) at over known keeps old middle way) only)
 
-  -- a save fails as one or the other
-  pub fails-either : {K L : Type 0} (at : Place) (over : SaveOver) (known : Bool) (text : List ℕ) (fault : ShelfSaveFault) (old new : F) →
-      (K × LeavesInPlace has_done at over known text fault old new) ⊎ (L × IsUnkept has_done at over known text fault old new) → SaveFails has_done at over known text fault old new
-  fails-either at over known text fault old new (inl left) = inl left.1
-  fails-either at over known text fault old new (inr unkept) = inr unkept.1
+  -- a save in its turn fails as one or the other
+  fails-either : {B C D K : Type 0} {E : K → Type 0} (at : Place) (saved : Saving) (fault : ShelfSaveFault) (old new : F) →
+      ((fault ≡ OutOfMemory) × D × (new ≡ old))
+      ⊎ ((known : Option FileSum) × (middle : K) × B
+      × ((E middle × LeavesInPlace has_done at saved.over known (file_of saved.cards) fault old new) ⊎ (C × IsUnkept has_done at saved.over known (file_of saved.cards) fault old new))) →
+      (known : Option FileSum) × SaveFails has_done at saved.over known (file_of saved.cards) fault old new
+  fails-either at saved fault old new (inl lacking) = (None, inl (untouched (fault-of-new (file_of saved.cards) fault (inr lacking.0)) (only-none has_done (IsNew at) old new lacking.2)))
+  fails-either at saved fault old new (inr (known, middle, turn, inl left)) = (known, inl left.1)
+  fails-either at saved fault old new (inr (known, middle, turn, inr unkept)) = (known, inr unkept.1)
 
   -- the shelf's save of a deck fails so
-  pub shelf-fails : (at : Place) (shelf old : FolderShelf F) (saved : Saving) (fault : ShelfSaveFault) (known : Bool) (next : F) → shelf ≡ old → at ≡ place_on shelf saved.name →
-      SaveFails has_done at saved.over known (file_of saved.cards) fault shelf.files next → SavesNoDeck has_done old saved fault (record { files = next; folder = shelf.folder; number = shelf.number })
-  shelf-fails at shelf old saved fault known next same is_place fails =
+  pub shelf-fails : {B C D K : Type 0} {E : K → Type 0} (at : Place) (shelf old : FolderShelf F) (saved : Saving) (fault : ShelfSaveFault) (next : F) → shelf ≡ old → at ≡ place_on shelf saved.name →
+      ((fault ≡ OutOfMemory) × D × (next ≡ shelf.files))
+      ⊎ ((known : Option FileSum) × (middle : K) × B
+      × ((E middle × LeavesInPlace has_done at saved.over known (file_of saved.cards) fault shelf.files next) ⊎ (C × IsUnkept has_done at saved.over known (file_of saved.cards) fault shelf.files next))) →
+      SavesNoDeck has_done old saved fault (record { files = next; folder = shelf.folder; number = shelf.number })
+  shelf-fails at shelf old saved fault next same is_place fails =
+      let failed = fails-either at saved fault shelf.files next fails in
       subst (λ (o : FolderShelf F). SavesNoDeck has_done o saved fault (record { files = next; folder = shelf.folder; number = shelf.number })) same
-      ((refl, refl), (known, subst (λ (a : Place). SaveFails has_done a saved.over known (file_of saved.cards) fault shelf.files next) is_place fails))
+      ((refl, refl), (failed.0, subst (λ (a : Place). SaveFails has_done a saved.over failed.0 (file_of saved.cards) fault shelf.files next) is_place failed.1))
+
+  -- the shelf saves a deck so
+  pub shelf-saves : {A B C K : Type 0} (at : Place) (shelf old : FolderShelf F) (saved : Saving) (next : F) → shelf ≡ old → at ≡ place_on shelf saved.name →
+      (A × (next ≡ shelf.files)) ⊎ ((known : Option FileSum) × (middle : K) × B × C × SavesSo has_done Done at saved.over known (file_of saved.cards) shelf.files next) →
+      SavesDeck has_done old saved (record { files = next; folder = shelf.folder; number = shelf.number })
+  shelf-saves at shelf old saved next same is_place (inl newer) =
+      subst (λ (o : FolderShelf F). SavesDeck has_done o saved (record { files = next; folder = shelf.folder; number = shelf.number })) same ((refl, refl), inl newer.1)
+  shelf-saves at shelf old saved next same is_place (inr (known, middle, turn, noted, saves)) =
+      subst (λ (o : FolderShelf F). SavesDeck has_done o saved (record { files = next; folder = shelf.folder; number = shelf.number })) same
+      ((refl, refl), inr (known, subst (λ (a : Place). SavesSo has_done Done a saved.over known (file_of saved.cards) shelf.files next) is_place saves))

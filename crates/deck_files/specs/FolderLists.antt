@@ -6,6 +6,7 @@ use Rattle.deck_files.specs.declared.deck_shelf.ShelfLoadFault.{ShelfLoadFault}
 use Rattle.deck_files.specs.declared.deck_shelf.ShelfLoadFault.TheVariants.{BadFile}
 use Rattle.deck_files.specs.declared.file_rows.DeckEntry.{DeckEntry}
 use Rattle.deck_files.specs.declared.file_rows.FileRow.{FileRow}
+use Rattle.deck_files.specs.declared.file_sums.FileSum.{FileSum}
 use Rattle.deck_files.specs.FileRows.{row_of, with_row}
 use Rattle.deck_files.specs.Folders.{Place, place, deck_path, folder_path}
 use Rattle.deck_files.specs.FolderLoads.{IsUnopened, LoadsFile, LoadFails}
@@ -18,7 +19,7 @@ is_lacking = BadFile OutOfMemory
 module _ {F : Type 0} (has_done : F → List Step → Type 0) where
   -- so many cards has the deck's file, as the folder gave it; or it is not loaded, and not for want of memory
   abbrev pub Counts : Place → Option ℕ → F → F → Type 0
-  Counts at (Some count) old new = (cards : List Card) × (length cards ≡ count) × LoadsFile has_done (deck_path at) cards old new
+  Counts at (Some count) old new = (cards : List Card) × (sum : FileSum) × (length cards ≡ count) × LoadsFile has_done (deck_path at) cards sum old new
   Counts at None old new = (fault : ShelfLoadFault) × (¬ (fault ≡ is_lacking)) × LoadFails has_done at fault old new
 
   -- these decks' files were read one after the other, on the shelf with this number, and these are their rows

@@ -6,7 +6,8 @@ use Rattle.deck_files.specs.declared.load_fault.LoadFault.TheVariants.{OutOfMemo
 use Rattle.deck_files.specs.declared.deck_shelf.ShelfLoadFault.{ShelfLoadFault}
 use Rattle.deck_files.specs.declared.deck_shelf.ShelfLoadFault.TheVariants.{CannotOpen, BadFile}
 use Rattle.deck_files.specs.declared.folders.Standing.TheVariants.{Nothing, PlainFile, Other}
-use Rattle.deck_files.specs.Loads.{LoadsCards, LoadsFault}
+use Rattle.deck_files.specs.declared.file_sums.FileSum.{FileSum}
+use Rattle.deck_files.specs.Loads.{LoadsFault, LoadsSummed}
 use Rattle.deck_files.specs.Folders.{Place, deck_path}
 use Rattle.deck_files.specs.Steps.{Step, Look, Open, Refused, Found, Gave, TakesStep, TakesSteps}
 
@@ -19,12 +20,12 @@ abbrev pub IsUnopened : ShelfLoadFault → Type 0
 IsUnopened fault = (fault ≡ CannotOpen) ⊎ (fault ≡ BadFile OutOfMemory)
 
 module _ {F : Type 0} (has_done : F → List Step → Type 0) where
-  -- these are the cards of the file at the path, as the folder gave it
-  pub record LoadsFile (path : List ℕ) (cards : List Card) (old new : F) : Type 0 where
+  -- these are the cards of the file at the path, as the folder gave it, and this is its sum
+  pub record LoadsFile (path : List ℕ) (cards : List Card) (sum : FileSum) (old new : F) : Type 0 where
     pub bytes : Option (List ℕ)
     pub rest : Option (List ℕ)
     pub steps : TakesSteps has_done old (opened_steps path bytes) new
-    pub read : LoadsCards bytes rest cards
+    pub read : LoadsSummed bytes rest cards sum
 
   -- the file at the path was not opened: the folder refused to look, no plain file stands there, or it refused to open it
   pub data DoesNotOpen (path : List ℕ) (old new : F) : Type 0 where

@@ -1,5 +1,5 @@
--- SAVE in a folder (ours): what stands at the deck's path is looked at; the text goes to a new file with owner and mode of the old one, and is kept there; where any file may be written over, what stands there gets a second name; the new file gets the deck's path; what stood there is renamed to NAME.OLD; and the folder is kept.
-use Rattle.std.specs.Prelude.{ℕ, zero, suc, ◌≡◌, ◌<◌, ⊤, ◌⊎◌, List, [], ◌∷◌, ◌++◌, Bool, true, false, Option, Some, None, IsTrue, length, is_some, string_bytes}
+-- SAVE in a folder (ours): what stands at the deck's path is looked at, and read where it is to be what is known; the text goes to a new file with owner and mode of the old one, and is kept there; where any file may be written over, what stands there gets a second name; the new file gets the deck's path; what stood there is renamed to NAME.OLD; and the folder is kept.
+use Rattle.std.specs.Prelude.{ℕ, zero, suc, ◌≡◌, ◌<◌, ⊤, ◌⊎◌, List, [], ◌∷◌, ◌++◌, Bool, true, false, Option, Some, None, IfSome, IsTrue, length, is_some, string_bytes}
 use Rattle.std.specs.Option.{option_map}
 use Rattle.std.specs.Io.KnownBytes.{Appends}
 use Rattle.deck_files.specs.declared.deck_shelf.SaveOver.{SaveOver}
@@ -9,22 +9,10 @@ use Rattle.deck_files.specs.declared.deck_shelf.ShelfSaveFault.TheVariants.{Cann
 use Rattle.deck_files.specs.declared.second_names.Aside.{Aside}
 use Rattle.deck_files.specs.declared.folders.Standing.{Standing}
 use Rattle.deck_files.specs.declared.folders.Standing.TheVariants.{Nothing, PlainFile, Other}
+use Rattle.deck_files.specs.declared.file_sums.FileSum.{FileSum}
+use Rattle.deck_files.specs.FileSums.{has_just}
 use Rattle.deck_files.specs.Folders.{Place, deck_path, old_path, new_path, folder_path}
-use Rattle.deck_files.specs.Steps.{Step, Answered, Look, Make, Keep, TakeAfter, Put, Rename, Link, KeepFolder, Refused, Done, Found, Gave, TakesStep, TakesSteps, ChangesOnly}
-
--- whether what stands at the deck's path may be written over: a plain file that is known, or any plain file
-abbrev pub may_write_over : Standing → SaveOver → Bool → Bool
-may_write_over Nothing over known = true
-may_write_over Other over known = false
-may_write_over PlainFile Known known = known
-may_write_over PlainFile Any known = true
-
--- whether what stands at the deck's path is to keep a name: a plain file, where any may be written over
-abbrev pub keeps_old : Standing → SaveOver → Bool
-keeps_old Nothing over = false
-keeps_old Other over = false
-keeps_old PlainFile Known = false
-keeps_old PlainFile Any = true
+use Rattle.deck_files.specs.Steps.{Step, Answered, Look, Open, Make, Keep, TakeAfter, Put, Rename, Link, KeepFolder, Refused, Done, Found, Gave, TakesStep, TakesSteps, ChangesOnly}
 
 -- whether another file may have the name NAME.OLD: where nothing has it, or a plain file
 abbrev pub may_be_old : Standing → Bool
@@ -34,14 +22,6 @@ may_be_old PlainFile = true
 
 abbrev pub looked : Place → Standing → List Step
 looked at standing = (Look (deck_path at), Found standing) ∷ []
-
--- what has the name NAME.OLD is looked at where it is to be given
-abbrev pub old_looked : Place → Bool → Standing → List Step
-old_looked at false old = []
-old_looked at true old = (Look (old_path at), Found old) ∷ []
-
-abbrev pub way_steps : Place → Bool → Standing → Standing → List Step
-way_steps at keeps standing old = old_looked at keeps old ++ looked at standing
 
 -- so many names were tried that something has
 abbrev pub refused_tries : Place → ℕ → List Step
@@ -107,14 +87,24 @@ IsFaultOfNew text (WriteFault sent) = sent < length text
 IsFaultOfNew text OutOfMemory = ⊤
 
 module _ {F : Type 0} (has_done : F → List Step → Type 0) where
-  -- what stands at the deck's path may be written over; and where it is to have the name NAME.OLD, that may be given
-  pub record MakesWay (at : Place) (over : SaveOver) (known keeps : Bool) (old new : F) : Type 0 where
-    pub standing : Standing
-    pub aside : Standing
-    pub may : IsTrue (may_write_over standing over known)
-    pub same : keeps ≡ keeps_old standing over
-    pub free : IsTrue (may_be_old aside)
-    pub steps : TakesSteps has_done old (way_steps at keeps standing aside) new
+  -- the file at the deck's path was opened and read, and tells whether it has just this sum, by what the folder gave of it
+  abbrev pub Compares : Place → FileSum → Bool → F → F → Type 0
+  Compares at sum just old new = (bytes : Option (List ℕ)) × IfSome bytes (λ file. just ≡ has_just sum file) × TakesStep has_done old (Open (deck_path at), Gave bytes) new
+
+  -- the plain file there may be written over: it has just what is known; or any may be, and it is to have the name NAME.OLD then, which may be given
+  pub data GivesWay (at : Place) (over : SaveOver) (known : Option FileSum) (keeps : Bool) (old new : F) : Type 0 where
+    is_known : (sum : FileSum) → keeps ≡ false → over ≡ Known → known ≡ Some sum → Compares at sum true old new → GivesWay at over known keeps old new
+    is_any : (aside : Standing) → keeps ≡ true → over ≡ Any → IsTrue (may_be_old aside) → TakesStep has_done old (Look (old_path at), Found aside) new → GivesWay at over known keeps old new
+
+  -- it may not: it is not known, or has something else than is known
+  pub data BarsWay (at : Place) (over : SaveOver) (known : Option FileSum) (fault : ShelfSaveFault) (old new : F) : Type 0 where
+    is_unknown : fault ≡ FileExists → over ≡ Known → known ≡ None → new ≡ old → BarsWay at over known fault old new
+    is_changed : (sum : FileSum) → fault ≡ FileExists → over ≡ Known → known ≡ Some sum → Compares at sum false old new → BarsWay at over known fault old new
+
+  -- nothing stands at the deck's path, or a plain file that may be written over
+  pub data MakesWay (at : Place) (over : SaveOver) (known : Option FileSum) (keeps : Bool) (old new : F) : Type 0 where
+    is_free : keeps ≡ false → TakesSteps has_done old (looked at Nothing) new → MakesWay at over known keeps old new
+    is_given : (middle : F) → TakesSteps has_done old (looked at PlainFile) middle → GivesWay at over known keeps middle new → MakesWay at over known keeps old new
 
   -- the whole text went into a new file, which has the deck's path; and what stood there has a second name, where it keeps one
   pub record MakesAnew (at : Place) (text : List ℕ) (keeps : Bool) (second : Option ℕ) (old new : F) : Type 0 where
@@ -126,23 +116,23 @@ module _ {F : Type 0} (has_done : F → List Step → Type 0) where
     pub steps : TakesSteps has_done old (new_steps at tries made kept second) new
 
   -- the deck's file is the new one, with the whole text
-  pub record PutsInPlace (at : Place) (over : SaveOver) (known : Bool) (text : List ℕ) (second : Option ℕ) (old new : F) : Type 0 where
+  pub record PutsInPlace (at : Place) (over : SaveOver) (known : Option FileSum) (text : List ℕ) (second : Option ℕ) (old new : F) : Type 0 where
     pub keeps : Bool
     pub middle : F
     pub way : MakesWay at over known keeps old middle
     pub anew : MakesAnew at text keeps second middle new
 
   -- and then what stood there got the name NAME.OLD, where it keeps one, and the folder was asked to keep which files it has
-  pub record SavesSo (answer : Answered) (at : Place) (over : SaveOver) (known : Bool) (text : List ℕ) (old new : F) : Type 0 where
+  pub record SavesSo (answer : Answered) (at : Place) (over : SaveOver) (known : Option FileSum) (text : List ℕ) (old new : F) : Type 0 where
     pub second : Option ℕ
     pub middle : F
     pub placed : PutsInPlace at over known text second old middle
     pub after : TakesSteps has_done middle (settled at second answer) new
 
-  -- the deck's path and NAME.OLD are as they were: no step changes them; or a plain file stands there that is not known
-  pub data LeavesInPlace (at : Place) (over : SaveOver) (known : Bool) (text : List ℕ) (fault : ShelfSaveFault) (old new : F) : Type 0 where
+  -- the deck's path and NAME.OLD are as they were: no step changes them; or a plain file stands there that may not be written over
+  pub data LeavesInPlace (at : Place) (over : SaveOver) (known : Option FileSum) (text : List ℕ) (fault : ShelfSaveFault) (old new : F) : Type 0 where
     untouched : IsFaultOfNew text fault → ChangesOnly has_done (IsNew at) old new → LeavesInPlace at over known text fault old new
-    unknown : fault ≡ FileExists → over ≡ Known → known ≡ false → TakesSteps has_done old (looked at PlainFile) new → LeavesInPlace at over known text fault old new
+    barred : (middle : F) → TakesSteps has_done old (looked at PlainFile) middle → BarsWay at over known fault middle new → LeavesInPlace at over known text fault old new
 
   -- what stood there has its second name alone: the folder refused to give it NAME.OLD, which is as it was
   abbrev pub IsNotOld : Place → Option ℕ → F → F → Type 0
@@ -150,15 +140,15 @@ module _ {F : Type 0} (has_done : F → List Step → Type 0) where
   IsNotOld at (Some second) old new = TakesStep has_done old (Rename (new_path at second) (old_path at), Refused) new
 
   -- the deck's file is the new one, with the whole text, but the folder refused a step behind that
-  pub record IsUnsettled (at : Place) (over : SaveOver) (known : Bool) (text : List ℕ) (old new : F) : Type 0 where
+  pub record IsUnsettled (at : Place) (over : SaveOver) (known : Option FileSum) (text : List ℕ) (old new : F) : Type 0 where
     pub second : Option ℕ
     pub middle : F
     pub placed : PutsInPlace at over known text second old middle
     pub after : TakesSteps has_done middle (settled at second Refused) new ⊎ IsNotOld at second middle new
 
-  abbrev pub IsUnkept : Place → SaveOver → Bool → List ℕ → ShelfSaveFault → F → F → Type 0
+  abbrev pub IsUnkept : Place → SaveOver → Option FileSum → List ℕ → ShelfSaveFault → F → F → Type 0
   IsUnkept at over known text fault old new = IsFaultOfFolder fault × IsUnsettled at over known text old new
 
   -- a save of the deck fails so
-  abbrev pub SaveFails : Place → SaveOver → Bool → List ℕ → ShelfSaveFault → F → F → Type 0
+  abbrev pub SaveFails : Place → SaveOver → Option FileSum → List ℕ → ShelfSaveFault → F → F → Type 0
   SaveFails at over known text fault old new = LeavesInPlace at over known text fault old new ⊎ IsUnkept at over known text fault old new

@@ -1,8 +1,10 @@
 pub mod DeckFiles
+pub mod FileSums
 pub mod Loads
 pub mod FaultTexts
 pub mod Files
 pub mod KnownFiles
+pub mod KnownTexts
 pub mod Savings
 pub mod Moments
 pub mod Folders
@@ -12,5 +14,6 @@ pub mod SizeLimits
 pub mod Steps
 pub mod FolderLoads
 pub mod FolderSaves
+pub mod TurnSaves
 pub mod FolderLists
 pub mod FolderShelves

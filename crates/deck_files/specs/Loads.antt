@@ -7,6 +7,8 @@ use Rattle.text_ports.specs.Faults.{count_up}
 use Rattle.deck_files.specs.declared.load_fault.LoadFault.{LoadFault}
 use Rattle.deck_files.specs.declared.load_fault.LoadFault.TheVariants.{ReadFault, BadLine, LastLineCut, DeckFull, OutOfMemory}
 use Rattle.deck_files.specs.DeckFiles.{cards_of_file}
+use Rattle.deck_files.specs.FileSums.{sum_of}
+use Rattle.deck_files.specs.declared.file_sums.FileSum.{FileSum}
 
 -- the reader gave a whole file, which is this
 abbrev pub GaveFile : Option (List ℕ) → Option (List ℕ) → Result (List Card) LoadFault → Type 0
@@ -27,6 +29,10 @@ pub record GaveCards (old new : Option (List ℕ)) : Type 0 where
 -- all was read, and the file has these cards
 abbrev pub LoadsCards : Option (List ℕ) → Option (List ℕ) → List Card → Type 0
 LoadsCards old new cards = GaveFile old new (Ok cards)
+
+-- the same, and this is the sum of the file
+abbrev pub LoadsSummed : Option (List ℕ) → Option (List ℕ) → List Card → FileSum → Type 0
+LoadsSummed old new cards sum = (file : List ℕ) × Consumes old new file × IsAtEnd new × (cards_of_file file ≡ Ok cards) × (sum ≡ sum_of file)
 
 -- what each fault says of the file
 abbrev pub LoadsFault : LoadFault → Option (List ℕ) → Option (List ℕ) → Type 0

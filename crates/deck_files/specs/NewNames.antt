@@ -27,3 +27,10 @@ is_new_ending text = same_text (take (min (length text) 4) text) (codes ".NEW") 
 -- a deck's name and such an ending
 abbrev pub is_of_a_save : List ℕ → Bool
 is_of_a_save name = is_some (deck_named (take (point_in name) name)) && is_new_ending (drop (point_in name) name)
+
+-- a name of these, .NEW and a number
+abbrev pub is_new_tail : List ℕ → Bool
+is_new_tail tail = same_text (take (min (length tail) 4) tail) (codes ".NEW") && is_number (drop (min (length tail) 4) tail)
+
+abbrev pub is_of_whole : List ℕ → List ℕ → Bool
+is_of_whole name whole = same_text (take (min (length name) (length whole)) name) whole && is_new_tail (drop (min (length name) (length whole)) name)

@@ -3,35 +3,43 @@
 use crate::file_rows::FileRow;
 use crate::load_fault::LoadFault;
 use cards::{Card, DeckName};
+use thiserror::Error;
 
 /// Why a deck was not loaded from a shelf.
-#[derive(Clone, Copy, Debug)]
+#[derive(Clone, Copy, Debug, Error)]
 pub enum ShelfLoadFault {
     /// The deck's file is not there, or does not open.
+    #[error("the deck's file is not there, or does not open")]
     CannotOpen,
     /// The file is not read as cards.
+    #[error(transparent)]
     BadFile(LoadFault),
 }
 
 /// What a save may write over.
 #[derive(Clone, Copy, Debug)]
 pub enum SaveOver {
-    /// A file that was saved on this shelf, or loaded and its version noted.
+    /// A file that has just what was saved on this shelf, or was loaded and its version noted.
     Known,
     /// Any file.
     Any,
 }
 
 /// Why a deck was not saved on a shelf.
-#[derive(Clone, Copy, Debug)]
+#[derive(Clone, Copy, Debug, Error)]
 pub enum ShelfSaveFault {
     /// The deck's file can't be made.
+    #[error("the deck's file can't be made")]
     CannotOpen,
-    /// A file stands there that was neither saved on this shelf nor loaded and its version noted.
+    /// A file stands there that is not known: it has something else than what was saved on this shelf, or loaded
+    /// and its version noted.
+    #[error("a file stands there that is not known")]
     FileExists,
     /// The writer failed when it had taken `sent` bytes.
+    #[error("the write failed behind {sent} bytes")]
     WriteFault { sent: usize },
     /// No memory was left.
+    #[error("no memory was left")]
     OutOfMemory,
 }
 

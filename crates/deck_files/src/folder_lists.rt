@@ -36,7 +36,7 @@ fn count_cards<F: Folder>(
         return Ok(None);
     };
     match load_deck(files, &place) {
-        Ok(cards) => Ok(Some(cards.len())),
+        Ok(loaded) => Ok(Some(loaded.cards.len())),
         Err(ShelfLoadFault::BadFile(LoadFault::OutOfMemory)) => Err(AllocError),
         Err(_) => Ok(None),
     }

@@ -2,26 +2,25 @@
 ghost use Rattle.std.specs.Prelude.{◌≡◌, ◌≢◌, ℕ, List, Option, string_bytes, IfOk, IfErr};
 ghost use Rattle.deck_files.specs.Folders.{deck_path};
 ghost use Rattle.deck_files.specs.FolderLoads.{DoesNotOpen, IsUnopened, LoadFails, LoadsFile, opened_steps};
-ghost use Rattle.deck_files.specs.Loads.{LoadsCards, LoadsFault};
+ghost use Rattle.deck_files.specs.Loads.{LoadsFault, LoadsSummed};
 ghost use Rattle.deck_files.specs.Steps.{Gave, Open, Refused, TakesStep, TakesSteps};
 
 use crate::deck_places::DeckPlace;
 use crate::deck_shelf::ShelfLoadFault;
 use crate::folders::{Folder, Standing};
 use crate::load_fault::LoadFault;
-use crate::loading::load;
-use cards::Card;
+use crate::loading::{Loaded, load_summed};
 use std::alloc::Global;
 use std::io::{BufReader, ErrorKind, Read};
 use text_ports::Counted;
 
-/// The cards of an open file.
-fn read_cards<R: Read + Drop>(alloc: Global, file: R) -> Result<Vec<Card>, LoadFault>
-    ensures cards { IfOk result (λ cards. (rest : Option (List ℕ)) × LoadsCards (R.remaining file) rest cards.items) }
+/// The cards of an open file, and what it has.
+fn read_cards<R: Read + Drop>(alloc: Global, file: R) -> Result<Loaded, LoadFault>
+    ensures cards { IfOk result (λ loaded. (rest : Option (List ℕ)) × LoadsSummed (R.remaining file) rest loaded.cards.items loaded.sum) }
     ensures fault { IfErr result (λ fault. (rest : Option (List ℕ)) × LoadsFault fault (R.remaining file) rest) }
 {
     match BufReader::new(alloc, file) {
-        Ok(reader) => load(alloc, &mut Counted::new(reader)),
+        Ok(reader) => load_summed(alloc, &mut Counted::new(reader)),
         Err(_) => Err(LoadFault::OutOfMemory),
     }
 }
@@ -62,12 +61,12 @@ fn open_plain<F: Folder>(files: &mut F, path: &str) -> Result<F::File, ShelfLoad
     }
 }
 
-/// Loads the cards of a deck's file.
+/// Loads the cards of a deck's file, and tells what it has.
 pub(crate) fn load_deck<F: Folder>(
     files: &mut F,
     place: &DeckPlace<'_>,
-) -> Result<Vec<Card>, ShelfLoadFault>
-    ensures cards { IfOk result (λ cards. LoadsFile F.has_done (deck_path place.now) cards.items files.old files.new) }
+) -> Result<Loaded, ShelfLoadFault>
+    ensures cards { IfOk result (λ loaded. LoadsFile F.has_done (deck_path place.now) loaded.cards.items loaded.sum files.old files.new) }
     ensures fault { IfErr result (λ fault. LoadFails F.has_done place.now fault files.old files.new) }
 {
     let Ok(path) = place.deck_path() else {
@@ -78,7 +77,7 @@ pub(crate) fn load_deck<F: Folder>(
         Err(fault) => return Err(fault),
     };
     match read_cards(place.alloc(), file) {
-        Ok(cards) => Ok(cards),
+        Ok(loaded) => Ok(loaded),
         Err(fault) => Err(ShelfLoadFault::BadFile(fault)),
     }
 }

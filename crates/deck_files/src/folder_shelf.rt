@@ -1,29 +1,38 @@
 //! A shelf over a folder.
-ghost use Rattle.std.specs.Prelude.{ℕ, List, ◌≡◌, ◌⊎◌, ◌≤◌, Ok, false, IsTrue, length, IfOk, IfErr, OnOk};
+ghost use Rattle.std.specs.Prelude.{◌≡◌, ◌⊎◌, ◌≤◌, length, IfOk, IfErr, OnOk};
 ghost use Rattle.deck_files.specs.DeckFiles.{file_of};
-ghost use Rattle.deck_files.specs.KnownFiles.{after_save, has_newer, is_known};
+ghost use Rattle.deck_files.specs.FileSums.{sum_of};
 ghost use Rattle.deck_files.specs.Folders.{deck_path};
 ghost use Rattle.deck_files.specs.FolderLoads.{LoadFails, LoadsFile};
 ghost use Rattle.deck_files.specs.FolderSaves.{IsAsideIf, IsUnkept, LeavesInPlace, PutsInPlace, SavesSo, second_of};
+ghost use Rattle.deck_files.specs.KnownFiles.{known_as};
+ghost use Rattle.deck_files.specs.Savings.{saving};
+ghost use Rattle.deck_files.specs.TurnSaves.{FailsInTurn, SavesInTurn};
 ghost use Rattle.deck_files.specs.Steps.{Done};
 
 use crate::deck_places::DeckPlace;
 use crate::deck_shelf::{SaveOver, Shelf, ShelfLoadFault, ShelfSaveFault};
 use crate::file_rows::FileRow;
+use crate::file_sums::FileSum;
 use crate::folder_lists::{Within, list_files};
 use crate::folder_loads::load_deck;
 use crate::folder_saves::make_way;
 use crate::folders::Folder;
-use crate::known_files::KnownFiles;
+use crate::known_files::{KnownFiles, Turns};
+use crate::known_rows::Known;
 use crate::load_fault::LoadFault;
+use crate::loading::Loaded;
 use crate::new_files::make_anew;
+use crate::save_turns::{SaveTurns, Turn};
 use crate::saving::save_file;
 use crate::second_names::{Aside, settle};
 use crate::system_folder::SystemFolder;
 use cards::{Card, DeckName};
-use std::alloc::Global;
+use std::alloc::{AllocGlobal, Global};
+use std::fs::File;
 use std::marker::Model;
-use std::sync::{Mutex, Wait};
+use std::rt::Files;
+use std::sync::Wait;
 
 /// A shelf over a folder: deck NAME is the file `NAME.DECK` in it. No name leads out of the folder,
 /// since a name has letters and digits alone.
@@ -34,9 +43,9 @@ use std::sync::{Mutex, Wait};
 /// too. So who loads the deck meanwhile, or after the machine failed, finds the file that was there, or
 /// the new one whole, with the mode and the owner that the old one had. Only a plain file is loaded or
 /// written over. Saves are made one after the other, and the cards of an older version than one that was
-/// saved are not written any more. A file that no shelf of the service saved, or loaded for a desk that took
-/// it, is not written over but where any may be; what stood there is `NAME.OLD` then, once the new one has its
-/// place.
+/// saved are not written any more. A file is known that has just what a shelf of the folder's services saved, or
+/// loaded for a desk that took it: it is read before it is written over. Any other is not written over but where
+/// any may be; what stood there is `NAME.OLD` then, once the new one has its place.
 ///
 /// Contracts see the folder, its text, and the shelf's number: what is loaded are the cards of the deck's
 /// file as the folder gave it, and a save is the steps that it asked the folder for. What a file of the
@@ -48,9 +57,11 @@ pub struct FolderShelf<'a, R, F = SystemFolder<'a, R>> {
     files: F,
     folder: &'a str,
     number: usize,
-    known: &'a Mutex<KnownFiles>,
+    known: &'a KnownFiles,
     /// The newest version that was known of the deck loaded last, before its file was read.
     seen: Option<u64>,
+    /// What that file had.
+    loaded: Option<FileSum>,
 }
 
 impl<'a, R, F> Model for FolderShelf<'a, R, F> {
@@ -70,7 +81,7 @@ impl<'a, R> FolderShelf<'a, R> {
         alloc: Global,
         folder: &'a str,
         number: usize,
-        known: &'a Mutex<KnownFiles>,
+        known: &'a KnownFiles,
     ) -> FolderShelf<'a, R>
         ensures folder { result.folder ≡ folder.now }
         ensures number { result.number ≡ number }
@@ -87,7 +98,7 @@ impl<'a, R, F> FolderShelf<'a, R, F> {
         alloc: Global,
         folder: &'a str,
         number: usize,
-        known: &'a Mutex<KnownFiles>,
+        known: &'a KnownFiles,
     ) -> FolderShelf<'a, R, F>
         ensures files { result.files ≡ files }
         ensures folder { result.folder ≡ folder.now }
@@ -101,6 +112,7 @@ impl<'a, R, F> FolderShelf<'a, R, F> {
             number,
             known,
             seen: None,
+            loaded: None,
         }
     }
 }
@@ -110,21 +122,28 @@ impl<'a, R, F> FolderShelf<'a, R, F> {
 fn load_placed<R: Wait, F: Folder>(
     files: &mut F,
     rt: &R,
-    known: &Mutex<KnownFiles>,
+    known: &KnownFiles,
     place: &DeckPlace<'_>,
     name: &DeckName,
-) -> Result<Vec<Card>, ShelfLoadFault>
-    ensures cards { IfOk result (λ cards. LoadsFile F.has_done (deck_path place.now) cards.items files.old files.new) }
+) -> Result<Loaded, ShelfLoadFault>
+    ensures cards { IfOk result (λ loaded. LoadsFile F.has_done (deck_path place.now) loaded.cards.items loaded.sum files.old files.new) }
     ensures fault { IfErr result (λ fault. LoadFails F.has_done place.now fault files.old files.new) }
 {
-    let cards = match load_deck(files, place) {
-        Ok(cards) => cards,
+    let loaded = match load_deck(files, place) {
+        Ok(loaded) => loaded,
         Err(fault) => return Err(fault),
     };
-    match known.lock(rt).make_place(name) {
-        Ok(()) => Ok(cards),
+    match known.make_place(rt, name) {
+        Ok(()) => Ok(loaded),
         Err(_) => Err(ShelfLoadFault::BadFile(LoadFault::OutOfMemory)),
     }
+}
+
+/// A deck's file that was made anew: what it has, and the second name of what stood there, where it keeps one.
+#[derive(Drop)]
+struct Placed {
+    sum: FileSum,
+    aside: Option<Aside>,
 }
 
 /// Makes the file of a deck anew, where it may be written over; what stood there has a second name, where it
@@ -133,13 +152,14 @@ fn save_cards<F: Folder>(
     files: &mut F,
     place: &DeckPlace<'_>,
     over: SaveOver,
-    is_known: bool,
+    known: Option<FileSum>,
     cards: &[Card],
-) -> Result<Option<Aside>, ShelfSaveFault>
+) -> Result<Placed, ShelfSaveFault>
     requires { length cards.now ≤ 20000 }
-    ensures aside { IfOk result (λ aside. IsAsideIf place.now aside) }
-    ensures placed { IfOk result (λ aside. PutsInPlace F.has_done place.now over is_known (file_of cards.now) (second_of aside) files.old files.new) }
-    ensures fault { IfErr result (λ fault. LeavesInPlace F.has_done place.now over is_known (file_of cards.now) fault files.old files.new) }
+    ensures sum { IfOk result (λ placed. placed.sum ≡ sum_of (file_of cards.now)) }
+    ensures aside { IfOk result (λ placed. IsAsideIf place.now placed.aside) }
+    ensures placed { IfOk result (λ placed. PutsInPlace F.has_done place.now over known (file_of cards.now) (second_of placed.aside) files.old files.new) }
+    ensures fault { IfErr result (λ fault. LeavesInPlace F.has_done place.now over known (file_of cards.now) fault files.old files.new) }
 {
     let Ok(deck) = place.deck_path() else {
         return Err(ShelfSaveFault::OutOfMemory);
@@ -147,52 +167,74 @@ fn save_cards<F: Folder>(
     let Ok(file) = save_file(place.alloc(), cards) else {
         return Err(ShelfSaveFault::OutOfMemory);
     };
-    let keeps = match make_way(files, place, deck.as_str(), over, is_known) {
+    let keeps = match make_way(files, place, deck.as_str(), over, known) {
         Ok(keeps) => keeps,
         Err(fault) => return Err(fault),
     };
+    let sum = FileSum::of(file.as_slice());
     match make_anew(files, place, deck.as_str(), file.as_slice(), keeps) {
-        Ok(aside) => Ok(aside),
+        Ok(aside) => Ok(Placed { sum, aside }),
         Err(fault) => Err(fault),
     }
 }
 
-/// Makes the file of a deck anew and notes the version of its cards as soon as the file has its place, also
-/// where what stood there gets no other name or the folder is not kept then; where a newer one was saved, that
-/// stays.
-fn save_in_order<F: Folder>(
-    files: &mut F,
-    known: &mut KnownFiles,
-    place: &DeckPlace<'_>,
-    name: &DeckName,
+/// What is saved: the deck, with the cards that it had at this version, and what may be written over.
+#[derive(Drop)]
+struct Saved<'a> {
+    name: &'a DeckName,
     over: SaveOver,
     version: u64,
-    cards: &[Card],
+    cards: &'a [Card],
+}
+
+/// Makes the file of a deck anew and notes what it has as soon as it has its place, also where what stood there
+/// gets no other name or the folder is not kept then.
+fn save_placed<F: Folder, K: SaveTurns>(
+    files: &mut F,
+    turns: &mut K,
+    place: &DeckPlace<'_>,
+    saved: &Saved<'_>,
+    known: Option<FileSum>,
 ) -> Result<(), ShelfSaveFault>
-    requires { length cards.now ≤ 20000 }
-    ensures newest { OnOk result (known.new.files ≡ after_save name.now version known.old.files) }
-    ensures older { IsTrue (has_newer name.now version known.old.files) → (result ≡ Ok tt) × (files.new ≡ files.old) }
-    ensures saved { has_newer name.now version known.old.files ≡ false
-        → OnOk result (SavesSo F.has_done Done place.now over (is_known name.now known.old.files) (file_of cards.now) files.old files.new) }
+    requires { length saved.now.cards.now ≤ 20000 }
+    ensures saved { OnOk result (K.notes turns.old saved.now.name.now (known_as (file_of saved.now.cards.now) saved.now.version) turns.new
+        × SavesSo F.has_done Done place.now saved.now.over known (file_of saved.now.cards.now) files.old files.new) }
     ensures fault { IfErr result (λ fault.
-        ((known.new.files ≡ known.old.files) × LeavesInPlace F.has_done place.now over (is_known name.now known.old.files) (file_of cards.now) fault files.old files.new)
-        ⊎ ((known.new.files ≡ after_save name.now version known.old.files) × IsUnkept F.has_done place.now over (is_known name.now known.old.files) (file_of cards.now) fault files.old files.new)) }
+        ((turns.new ≡ turns.old) × LeavesInPlace F.has_done place.now saved.now.over known (file_of saved.now.cards.now) fault files.old files.new)
+        ⊎ (K.notes turns.old saved.now.name.now (known_as (file_of saved.now.cards.now) saved.now.version) turns.new
+        × IsUnkept F.has_done place.now saved.now.over known (file_of saved.now.cards.now) fault files.old files.new)) }
 {
-    if known.has_newer(name, version) {
-        return Ok(());
-    }
-    let Ok(key) = known.make_room(name) else {
-        return Err(ShelfSaveFault::OutOfMemory);
-    };
-    let aside = match save_cards(files, place, over, known.is_known(name), cards) {
-        Ok(aside) => aside,
+    let Placed { sum, aside } = match save_cards(files, place, saved.over, known, saved.cards) {
+        Ok(placed) => placed,
         Err(fault) => return Err(fault),
     };
-    known.note(key, version);
+    let version = Some(saved.version);
+    turns.note(saved.name, Known { sum, version });
     settle(files, place, &aside)
 }
 
-impl<'a, R: Wait, F: Folder> Shelf for FolderShelf<'a, R, F> {
+/// Saves a deck in its turn: where a newer version was saved, nothing is written.
+fn save_in_turn<F: Folder, K: SaveTurns>(
+    files: &mut F,
+    turns: &mut K,
+    place: &DeckPlace<'_>,
+    saved: &Saved<'_>,
+) -> Result<(), ShelfSaveFault>
+    requires { length saved.now.cards.now ≤ 20000 }
+    ensures saved { OnOk result (SavesInTurn K.turns K.lacks K.notes F.has_done place.now (saving saved.now.name.now saved.now.over saved.now.version saved.now.cards.now) turns.old turns.new files.old files.new) }
+    ensures fault { IfErr result (λ fault. FailsInTurn K.turns K.lacks K.notes F.has_done place.now (saving saved.now.name.now saved.now.over saved.now.version saved.now.cards.now) fault turns.old turns.new files.old files.new) }
+{
+    match turns.begin(saved.name, saved.version) {
+        Ok(Turn::Newer) => Ok(()),
+        Ok(Turn::Older(known)) => save_placed(files, turns, place, saved, known),
+        Err(_) => Err(ShelfSaveFault::OutOfMemory),
+    }
+}
+
+impl<'a, R, F: Folder> Shelf for FolderShelf<'a, R, F>
+where
+    R: Files<File = File> + AllocGlobal + Clone + Drop + Wait,
+{
     ghost use Rattle.deck_files.specs.FolderShelves.{ListsDecks, LoadsDeck, LoadsNoDeck, SavesDeck, SavesNoDeck};
     ghost use Rattle.std.specs.Prelude.{◌≡◌};
 
@@ -214,8 +256,15 @@ impl<'a, R: Wait, F: Folder> Shelf for FolderShelf<'a, R, F> {
         let Some(place) = DeckPlace::new(self.alloc, self.folder, self.number, name) else {
             return Err(ShelfLoadFault::CannotOpen);
         };
-        self.seen = self.known.lock(self.rt).newest(name);
-        load_placed(&mut self.files, self.rt, self.known, &place, name)
+        self.seen = self.known.newest(self.rt, name);
+        self.loaded = None;
+        match load_placed(&mut self.files, self.rt, self.known, &place, name) {
+            Ok(loaded) => {
+                self.loaded = Some(loaded.sum);
+                Ok(loaded.cards)
+            }
+            Err(fault) => Err(fault),
+        }
     }
 
     fn save(
@@ -228,9 +277,16 @@ impl<'a, R: Wait, F: Folder> Shelf for FolderShelf<'a, R, F> {
         let Some(place) = DeckPlace::new(self.alloc, self.folder, self.number, name) else {
             return Err(ShelfSaveFault::CannotOpen);
         };
-        let mut known = self.known.lock(self.rt);
-        let files = &mut self.files;
-        save_in_order(files, &mut known, &place, name, over, version, cards)
+        let saved = Saved {
+            name,
+            over,
+            version,
+            cards,
+        };
+        let (rt, known) = (self.rt, self.known);
+        let _turn = known.saving().lock(rt);
+        let mut turns = Turns { rt, known };
+        save_in_turn(&mut self.files, &mut turns, &place, &saved)
     }
 
     fn list(&mut self) -> Result<Vec<FileRow>, ShelfLoadFault> {
@@ -243,11 +299,14 @@ impl<'a, R: Wait, F: Folder> Shelf for FolderShelf<'a, R, F> {
     }
 
     fn note(&mut self, name: &DeckName, version: u64) {
-        let mut known = self.known.lock(self.rt);
-        known.note_at(name, self.seen, version);
+        if let Some(sum) = self.loaded {
+            let version = Some(version);
+            let known = Known { sum, version };
+            self.known.note_loaded(self.rt, name, self.seen, known);
+        }
     }
 
     fn is_saved(&mut self, name: &DeckName, version: u64) -> bool {
-        self.known.lock(self.rt).is_saved(name, version)
+        self.known.is_saved(self.rt, name, version)
     }
 }

@@ -1,186 +1,233 @@
-//! Which files of a folder a service knows, and the newest version of each that it saved.
-ghost use Rattle.std.specs.Prelude.{◌≡◌, ◌≤◌, ℕ, List, Some, [], true, IfOk, OnErr, OnOk};
-ghost use Rattle.deck_files.specs.Files.{named, with_named};
-ghost use Rattle.deck_files.specs.KnownFiles.{after_note, after_place, has_newer, has_place, is_at, is_known, is_newer, is_same, is_saved, is_still, version_known};
+//! The files of a folder that a service knows, for all of its shelves, and the file in which that is kept.
+//!
+//! A file is known by what it has: its length, its digest and the version of the deck whose cards these are.
+//! That is kept in the file `.beskloun.files` of the folder, so that a service knows the files of an earlier
+//! one. It is written again after each save and each load that a desk took: first as `.beskloun.files.NEW0`,
+//! which takes its place once the system has kept it. Where it can't be written, the save stands as it is, and
+//! nobody is told: a later service does not know that file, and asks before it is written over. So does one
+//! that finds a line that is damaged, which knows none.
 
+use crate::deck_places::path_of;
+use crate::folders::Folder;
+use crate::known_rows::{Known, KnownRows};
+use crate::known_texts::row_in;
+use crate::new_files::write;
+use crate::save_turns::{SaveTurns, Turn};
+use crate::system_folder::SystemFolder;
 use cards::DeckName;
-use indexmap::IndexMap;
-use std::alloc::{AllocError, Global};
-use std::marker::Model;
+use std::alloc::{AllocError, AllocGlobal, Global};
+use std::fs::File;
+use std::hash::RandomState;
+use std::io::{self, ErrorKind, Read};
+use std::rt::Files;
+use std::sync::{Mutex, Wait};
+use text_ports::{Counted, LineBuf, LineIs, next_whole_line};
 
-/// The decks whose files in a folder are known, since they were saved or the desk took what was loaded, with
-/// the newest version of each; and those that have a place only, since their files were loaded and the desk
-/// was not asked yet or refused. The versions of one desk grow, also where a deck was dropped and added again.
-/// Contracts see the list of names and versions, and for how many more memory is there.
+/// The file of a folder in which it is kept what is known.
+pub const FILES: &str = ".beskloun.files";
+
+/// How many bytes of it are read at most.
+const MOST_BYTES: u64 = 1 << 24;
+
+/// Where it is kept what is known: the path of the file, and that under which it is written first.
+#[derive(Drop)]
+struct KeptAt {
+    path: String,
+    new: String,
+}
+
+/// The files of a folder that a service knows, for all of its shelves. What is known is looked up without
+/// waiting for a disk. Saves are made one after the other.
 #[derive(Drop)]
 pub struct KnownFiles {
     alloc: Global,
-    versions: IndexMap<Vec<u8>, Option<u64>>,
+    rows: Mutex<KnownRows>,
+    /// Held by the save whose turn it is.
+    saving: Mutex<()>,
+    /// Held by who writes what is known.
+    keeping: Mutex<()>,
+    kept: Option<KeptAt>,
 }
 
-impl Model for KnownFiles {
-    ghost use Rattle.std.specs.Prelude.{map, vec_items};
-    ghost use Rattle.indexmap.specs.IndexMap.{spare};
-    ghost use Rattle.deck_files.specs.KnownFiles.{KnownFiles};
-
-    ghost Value = { KnownFiles };
-
-    ghost view = { λ s. record { files = map (λ e. (vec_items e.0, e.1)) s.versions.entries; room = spare s.versions } };
-}
-
-/// Whether the version that was saved, if one was, is newer than this one.
-fn is_newer(saved: Option<u64>, version: u64) -> bool
-    ensures { result ≡ is_newer saved version }
-{
-    match saved {
-        Some(saved) => version < saved,
-        None => false,
+/// What a file of rows tells a desk that goes on behind a version, line by line; none where one of them is no
+/// row.
+fn rows_of(
+    alloc: Global,
+    keys: RandomState,
+    text: &[u8],
+    last: u64,
+) -> Result<Option<KnownRows>, AllocError> {
+    let mut rows = KnownRows::new(alloc, keys);
+    let mut input = Counted::new(text);
+    let mut line = LineBuf::new();
+    for _ in 0..=text.len() {
+        match next_whole_line(&mut input, &mut line) {
+            LineIs::Line => {
+                let Some(row) = row_in(line.as_slice()) else {
+                    return Ok(None);
+                };
+                rows.add(&row.name, row.known.up_to(last))?;
+            }
+            LineIs::End => return Ok(Some(rows)),
+            LineIs::Cut | LineIs::TooLong | LineIs::Fault => return Ok(None),
+        }
     }
+    Ok(None)
 }
 
-/// Whether this is the version that is known.
-pub(crate) fn is_at(version: u64, known: Option<u64>) -> bool
-    ensures { result ≡ is_at version known }
+/// The bytes of a plain file, as many as are read.
+fn bytes_at<R>(rt: &R, alloc: Global, path: &str) -> io::Result<Vec<u8>>
+where
+    R: Files<File = File> + AllocGlobal + Clone + Drop,
 {
-    match known {
-        Some(known) => known == version,
-        None => false,
-    }
+    let mut bytes = Vec::new(alloc);
+    let mut file = SystemFolder::new(rt).open(path)?.take(MOST_BYTES);
+    file.read_to_end(&mut bytes)?;
+    Ok(bytes)
 }
 
-/// Whether the version that is known, if one is, is the one that was seen before.
-fn is_same(seen: Option<u64>, known: Option<u64>) -> bool
-    ensures { result ≡ is_same seen known }
-{
-    match known {
-        Some(version) => is_at(version, seen),
-        None => seen.is_none(),
-    }
+/// Makes the file of what is known anew.
+fn write_rows<F: Folder>(files: &mut F, kept: &KeptAt, bytes: &[u8]) -> io::Result<()> {
+    let (new, path) = (kept.new.as_str(), kept.path.as_str());
+    files.remove(new)?;
+    let file = files.make(new)?;
+    let Ok(full) = write(file, bytes) else {
+        return Err(io::Error::from(ErrorKind::WriteZero));
+    };
+    files.keep(&full)?;
+    files.put(full, new, path)
 }
 
-/// Whether a deck has a place, and what is known of it is what was seen before.
-fn is_still(seen: Option<u64>, place: Option<Option<u64>>) -> bool
-    ensures { result ≡ is_still seen place }
-{
-    match place {
-        Some(known) => is_same(seen, known),
-        None => false,
+impl KeptAt {
+    fn new(alloc: Global, folder: &str) -> Result<KeptAt, AllocError> {
+        let folder = path_of(folder);
+        Ok(KeptAt {
+            path: format!(in alloc; "{folder}/{FILES}")?,
+            new: format!(in alloc; "{folder}/{FILES}.NEW0")?,
+        })
     }
 }
 
 impl KnownFiles {
-    /// No file is known.
-    pub fn new(alloc: Global) -> KnownFiles
-        ensures { result.files ≡ [] }
-    {
+    fn over(alloc: Global, rows: KnownRows, kept: Option<KeptAt>) -> KnownFiles {
         KnownFiles {
             alloc,
-            versions: IndexMap::new(alloc),
+            rows: Mutex::new(rows),
+            saving: Mutex::new(()),
+            keeping: Mutex::new(()),
+            kept,
         }
     }
 
-    /// The place of the deck, if it has one, with the version that is known.
-    fn place(&self, name: &DeckName) -> Option<Option<u64>>
-        ensures { result ≡ named name.now self.now.files }
+    /// No file is known, and what comes to be known is kept nowhere.
+    pub fn new(alloc: Global, keys: RandomState) -> KnownFiles {
+        KnownFiles::over(alloc, KnownRows::new(alloc, keys), None)
+    }
+
+    /// The files that are known in a folder, by what was kept there, for a desk that goes on behind the version
+    /// `last`; what comes to be known is kept there, too. The empty text is the folder that the process runs in.
+    /// None is known where nothing is kept there, or it can't be read, or a line of it is damaged. A fault is
+    /// that of memory, or of the file that is written again before anything is known by it.
+    ///
+    /// A version that is kept there means the cards that the deck had then, as long as the folder tells no
+    /// version twice. A version up to `last` is in the journal, or was told before the desk of another journal
+    /// was begun anew, whose decks have versions behind all that were told in the folder. A greater one was
+    /// shown, and its record was never kept: the desk will give it to other cards, so it is left out here, and in
+    /// the file before the desk gives any. What the file has stays known.
+    pub fn kept_in<R>(
+        rt: &R,
+        alloc: Global,
+        keys: RandomState,
+        folder: &str,
+        last: u64,
+    ) -> io::Result<KnownFiles>
+    where
+        R: Files<File = File> + AllocGlobal + Clone + Drop,
     {
-        match self.versions.get(name.as_slice()) {
-            Some(version) => Some(*version),
-            None => None,
+        let kept = KeptAt::new(alloc, folder)?;
+        let rows = match bytes_at(rt, alloc, kept.path.as_str()) {
+            Ok(bytes) => rows_of(alloc, keys, &bytes, last)?,
+            Err(error) if error.kind() == ErrorKind::OutOfMemory => return Err(error),
+            Err(_) => None,
+        };
+        let Some(rows) = rows else {
+            return Ok(KnownFiles::over(alloc, KnownRows::new(alloc, keys), Some(kept)));
+        };
+        write_rows(&mut SystemFolder::new(rt), &kept, rows.text()?.as_slice())?;
+        Ok(KnownFiles::over(alloc, rows, Some(kept)))
+    }
+
+    /// Keeps what is known by now, as far as that can be done.
+    fn keep<R>(&self, rt: &R)
+    where
+        R: Files<File = File> + AllocGlobal + Clone + Drop + Wait,
+    {
+        let Some(kept) = &self.kept else {
+            return;
+        };
+        let _keeping = self.keeping.lock(rt);
+        let text = self.rows.lock(rt).text();
+        if let Ok(text) = text {
+            let _ = write_rows(&mut SystemFolder::new(rt), kept, text.as_slice());
         }
+    }
+
+    /// The turn of a save, as long as it is held.
+    pub(crate) fn saving(&self) -> &Mutex<()> {
+        &self.saving
     }
 
     /// The newest version of the deck whose cards its file has, none where it is not known.
-    pub(crate) fn newest(&self, name: &DeckName) -> Option<u64>
-        ensures { result ≡ version_known name.now self.now.files }
-    {
-        match self.place(name) {
-            Some(version) => version,
-            None => None,
-        }
+    pub(crate) fn newest<R: Wait>(&self, rt: &R, name: &DeckName) -> Option<u64> {
+        self.rows.lock(rt).newest(name)
     }
 
-    /// Whether the deck's file is known.
-    pub(crate) fn is_known(&self, name: &DeckName) -> bool
-        ensures { result ≡ is_known name.now self.now.files }
-    {
-        self.newest(name).is_some()
-    }
-
-    /// Whether a newer version of the deck was saved.
-    pub(crate) fn has_newer(&self, name: &DeckName, version: u64) -> bool
-        ensures { result ≡ has_newer name.now version self.now.files }
-    {
-        is_newer(self.newest(name), version)
+    /// Gives the deck a place.
+    pub(crate) fn make_place<R: Wait>(&self, rt: &R, name: &DeckName) -> Result<(), AllocError> {
+        self.rows.lock(rt).make_place(name)
     }
 
     /// Whether the deck's file has the cards of this version.
-    pub(crate) fn is_saved(&self, name: &DeckName, version: u64) -> bool
-        ensures { result ≡ is_saved name.now version self.now.files }
-    {
-        is_at(version, self.newest(name))
+    pub(crate) fn is_saved<R: Wait>(&self, rt: &R, name: &DeckName, version: u64) -> bool {
+        self.rows.lock(rt).is_saved(name, version)
     }
 
-    /// A key for the deck, with memory for one file more.
-    pub(crate) fn make_room(&mut self, name: &DeckName) -> Result<Vec<u8>, AllocError>
-        ensures key { IfOk result (λ key. key.items ≡ name.now) }
-        ensures room { OnOk result (1 ≤ self.new.room) }
-        ensures unchanged { self.new.files ≡ self.old.files }
+    /// Notes the version that the desk gave to what was loaded, where nobody saved meanwhile, and keeps it.
+    pub(crate) fn note_loaded<R>(&self, rt: &R, name: &DeckName, seen: Option<u64>, known: Known)
+    where
+        R: Files<File = File> + AllocGlobal + Clone + Drop + Wait,
     {
-        let key = Vec::from_slice(self.alloc, name.as_slice())?;
-        self.versions.reserve(1)?;
-        Ok(key)
+        self.rows.lock(rt).note_at(name, seen, known);
+        self.keep(rt);
+    }
+}
+
+/// The turn of a save among those of all shelves.
+#[derive(Drop)]
+pub(crate) struct Turns<'a, R> {
+    pub(crate) rt: &'a R,
+    pub(crate) known: &'a KnownFiles,
+}
+
+impl<R> SaveTurns for Turns<'_, R>
+where
+    R: Files<File = File> + AllocGlobal + Clone + Drop + Wait,
+{
+    ghost use Rattle.std.specs.Prelude.{⊤};
+
+    ghost turns = { λ _ _ _ _ _. ⊤ };
+
+    ghost lacks = { λ _ _. ⊤ };
+
+    ghost notes = { λ _ _ _ _. ⊤ };
+
+    fn begin(&mut self, name: &DeckName, version: u64) -> Result<Turn, AllocError> {
+        self.known.rows.lock(self.rt).begin(name, version)
     }
 
-    /// Puts what is known under a key.
-    fn insert(&mut self, key: Vec<u8>, known: Option<u64>)
-        requires { 1 ≤ self.old.room }
-        ensures { self.new.files ≡ with_named key.items known self.old.files }
-    {
-        match self.versions.insert(key, known) {
-            Ok(_) => {}
-            Err(_) => unreachable!(),
-        }
-    }
-
-    /// Notes a version for a deck.
-    pub(crate) fn note(&mut self, key: Vec<u8>, version: u64)
-        requires { 1 ≤ self.old.room }
-        ensures { self.new.files ≡ with_named key.items (Some version) self.old.files }
-    {
-        self.insert(key, Some(version));
-    }
-
-    /// Gives the deck a place, so that its version can be noted without memory. Nothing is known by it.
-    pub(crate) fn make_place(&mut self, name: &DeckName) -> Result<(), AllocError>
-        ensures placed { OnOk result (self.new.files ≡ after_place name.now self.old.files) }
-        ensures unchanged { OnErr result (self.new.files ≡ self.old.files) }
-    {
-        if self.place(name).is_some() {
-            return Ok(());
-        }
-        let key = self.make_room(name)?;
-        self.insert(key, None);
-        Ok(())
-    }
-
-    /// Puts a version for a deck that has a place.
-    fn put(&mut self, name: &DeckName, version: u64)
-        requires { has_place name.now self.old.files ≡ true }
-        ensures { self.new.files ≡ with_named name.now (Some version) self.old.files }
-    {
-        let Some(known) = self.versions.get_mut(name.as_slice()) else {
-            return;
-        };
-        *known = Some(version);
-    }
-
-    /// Notes the version that the desk gave to what was loaded, where what is known is what was seen before
-    /// the file was read.
-    pub(crate) fn note_at(&mut self, name: &DeckName, seen: Option<u64>, version: u64)
-        ensures { self.new.files ≡ after_note name.now seen version self.old.files }
-    {
-        if is_still(seen, self.place(name)) {
-            self.put(name, version);
-        }
+    /// Notes what was saved, and keeps it.
+    fn note(&mut self, name: &DeckName, known: Known) {
+        self.known.rows.lock(self.rt).note(name, known);
+        self.known.keep(self.rt);
     }
 }

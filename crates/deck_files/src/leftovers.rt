@@ -1,17 +1,21 @@
 //! Files that are left of a service that was killed while it wrote one.
+ghost use Rattle.std.specs.Prelude.{◌≡◌};
+ghost use Rattle.std.specs.List.{list_any};
+ghost use Rattle.deck_files.specs.NewNames.{is_of_whole};
 
-use crate::new_names::{is_number, is_of_a_save};
+use crate::new_names::{is_of_a_save, is_of_whole};
 use std::alloc::AllocGlobal;
 use std::fs;
 use std::rt::Files;
 
 /// Whether a file has the name of one that is written first where a file of one of these names is made
-/// anew whole: that name, `.NEW`, and a number.
-fn is_of_whole(name: &str, wholes: &[&str]) -> bool {
-    let Some((whole, number)) = name.rsplit_once(".NEW") else {
-        return false;
-    };
-    wholes.contains(&whole) && is_number(number.as_bytes())
+/// anew whole.
+fn is_of_one(name: &[u8], wholes: &[&str]) -> bool
+    ensures { result ≡ list_any (λ whole. is_of_whole name.now whole.now) wholes.now }
+{
+    wholes
+        .iter()
+        .any(|whole| is_of_whole(name, whole.as_bytes()))
 }
 
 /// Takes the files away that a service left in a folder when it was killed, as far as that can be done:
@@ -25,7 +29,7 @@ pub fn clear_folder<R: Files + AllocGlobal + Clone + Drop>(rt: &R, folder: &str,
     for entry in entries {
         if let Ok(entry) = entry
             && (is_of_a_save(entry.file_name().as_bytes())
-                || is_of_whole(entry.file_name(), wholes))
+                || is_of_one(entry.file_name().as_bytes(), wholes))
         {
             let _ = fs::remove_file(rt, entry.path());
         }

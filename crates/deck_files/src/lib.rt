@@ -10,6 +10,7 @@
 
 // One file.
 mod card_line;
+mod file_sums;
 mod load_fault;
 mod loading;
 mod saving;
@@ -26,11 +27,14 @@ mod folder_saves;
 mod folder_shelf;
 mod folders;
 mod known_files;
+mod known_rows;
+mod known_texts;
 mod leftovers;
 mod memory_shelf;
 mod moments;
 mod new_files;
 mod new_names;
+mod save_turns;
 mod second_names;
 mod system_folder;
 
@@ -41,10 +45,13 @@ mod whole_files;
 
 pub use deck_shelf::{SaveOver, Shelf, ShelfLoadFault, ShelfSaveFault};
 pub use file_rows::{DeckEntry, FileRow, MOST_FILES};
-pub use folder_laws::{decks_stand_apart, places_make_nothing_known};
+pub use folder_laws::{
+    a_byte_more_tells_the_file, decks_stand_apart, known_files_are_read_back,
+    places_make_nothing_known,
+};
 pub use folder_shelf::FolderShelf;
 pub use folders::{Folder, Standing};
-pub use known_files::KnownFiles;
+pub use known_files::{FILES, KnownFiles};
 pub use leftovers::clear_folder;
 pub use load_fault::LoadFault;
 pub use loading::load;

@@ -3,11 +3,12 @@
 use cards::CardFault;
 use std::alloc::{AllocError, AllocFailed};
 use std::fmt;
+use thiserror::Error;
 
 /// Why the cards of a file were not loaded. Lines count from 1.
 ///
 /// The text is the name, then the line and the fault of its card, each after one blank.
-#[derive(Clone, Copy, Debug)]
+#[derive(Clone, Copy, Debug, Error)]
 pub enum LoadFault {
     /// The reader failed.
     ReadFault,
@@ -37,8 +38,6 @@ impl fmt::Display for LoadFault {
         }
     }
 }
-
-impl std::error::Error for LoadFault {}
 
 impl From<AllocError> for LoadFault {
     ghost use Rattle.std.specs.Prelude.{◌≡◌};

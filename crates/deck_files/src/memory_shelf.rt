@@ -7,7 +7,7 @@ ghost use Rattle.deck_files.specs.Files.{bytes_of, kept_file, named, version_of,
 
 use crate::deck_shelf::{SaveOver, Shelf, ShelfLoadFault, ShelfSaveFault};
 use crate::file_rows::FileRow;
-use crate::known_files::is_at;
+use crate::known_rows::is_at;
 use crate::load_fault::LoadFault;
 use crate::loading::load;
 use crate::saving::save_file;

@@ -49,7 +49,7 @@ fn make_unused<F: Folder>(
 }
 
 /// Writes these bytes into a new file.
-fn write<W: Write + Drop>(file: W, bytes: &[u8]) -> Result<W, ShelfSaveFault>
+pub(crate) fn write<W: Write + Drop>(file: W, bytes: &[u8]) -> Result<W, ShelfSaveFault>
     ensures whole { IfOk result (λ full. Appends (W.contents file) (W.contents full) bytes.now) }
     ensures fault { IfErr result (λ fault. IsFaultOfNew bytes.now fault) }
 {

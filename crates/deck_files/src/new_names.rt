@@ -2,7 +2,7 @@
 ghost use Rattle.std.specs.Prelude.{◌≡◌, ◌==◌, ◌≤◌, length, position};
 ghost use Rattle.std.specs.List.{list_all};
 ghost use Rattle.definitions.specs.Characters.{is_digit};
-ghost use Rattle.deck_files.specs.NewNames.{are_numbers, is_behind_point, is_new_ending, is_number, is_of_a_save, point_in};
+ghost use Rattle.deck_files.specs.NewNames.{are_numbers, is_behind_point, is_new_ending, is_new_tail, is_number, is_of_a_save, is_of_whole, point_in};
 
 use crate::file_rows::deck_named;
 use definitions::{is_digit, is_same_text};
@@ -15,7 +15,7 @@ fn are_digits(text: &[u8]) -> bool
 }
 
 /// Whether these are digits, and at least one.
-pub(crate) fn is_number(text: &[u8]) -> bool
+fn is_number(text: &[u8]) -> bool
     ensures { result ≡ is_number text.now }
 {
     text.len() > 0 && are_digits(text)
@@ -70,4 +70,21 @@ pub(crate) fn is_of_a_save(name: &[u8]) -> bool
 {
     let (deck, ending) = name.split_at(point_in(name));
     deck_named(deck).is_some() && is_new_ending(ending)
+}
+
+/// Whether a text is `.NEW` and a number.
+fn is_new_tail(text: &[u8]) -> bool
+    ensures { result ≡ is_new_tail text.now }
+{
+    let (ending, number) = text.split_at(text.len().min(4));
+    is_same_text(ending, b".NEW") && is_number(number)
+}
+
+/// Whether a file has the name of one that is written first where a file of this name is made anew whole: that
+/// name, `.NEW`, and a number.
+pub(crate) fn is_of_whole(name: &[u8], whole: &[u8]) -> bool
+    ensures { result ≡ is_of_whole name.now whole.now }
+{
+    let (front, tail) = name.split_at(name.len().min(whole.len()));
+    is_same_text(front, whole) && is_new_tail(tail)
 }

@@ -4,10 +4,11 @@ use crate::file_rows::{DeckEntry, MOST_FILES, deck_in};
 use crate::folders::{Folder, Standing};
 use crate::moments::Moment;
 use crate::size_limits::{Limited, size_limit};
+use crate::whole_files::take_owner_and_mode;
 use std::alloc::{AllocGlobal, Global};
 use std::fs::{DirEntry, File, Metadata, OpenOptions};
 use std::io::ErrorKind;
-use std::os::unix::fs::{MetadataExt, fchown};
+use std::os::unix::fs::MetadataExt;
 use std::rt::Files;
 use std::{fs, io};
 
@@ -32,15 +33,6 @@ fn plain_at<R: Files>(rt: &R, path: &str) -> io::Result<Option<Metadata>> {
         Err(error) if error.kind() == ErrorKind::NotFound => Ok(None),
         Err(error) => Err(error),
     }
-}
-
-/// Gives an open file the owner and the mode of another.
-fn take_owner_and_mode(file: &File, old: &Metadata) -> io::Result<()> {
-    let made = file.metadata()?;
-    if made.uid() != old.uid() || made.gid() != old.gid() {
-        fchown(file, Some(old.uid()), Some(old.gid()))?;
-    }
-    file.set_permissions(old.permissions())
 }
 
 /// Refused where an open file is another than the one that was seen.

@@ -91,7 +91,7 @@ fn refuse_unwritable<R: Files>(rt: &R, path: &str, about: &Metadata) -> io::Resu
 
 /// Gives an open file the owner and the mode of another: it is the one that is open, whatever has its name by
 /// now.
-fn take_owner_and_mode<F: OpenFile + AsFd>(file: &F, old: &Metadata) -> io::Result<()> {
+pub(crate) fn take_owner_and_mode<F: OpenFile + AsFd>(file: &F, old: &Metadata) -> io::Result<()> {
     let made = file.metadata()?;
     if made.uid() != old.uid() || made.gid() != old.gid() {
         fchown(file, Some(old.uid()), Some(old.gid()))?;
