@@ -229,7 +229,7 @@ pub(crate) fn page_places<'a, R, F: RecordsFile>(
     settings: &Settings<'a>,
     door: Option<Door<'a>>,
     bells: &Sender<Bell>,
-    known: &'a Mutex<KnownFiles>,
+    known: &'a KnownFiles,
     end: &'a ServiceEnd,
     journal: Option<&'a Journal<F>>,
 ) -> Result<Vec<PagePlace<'a, R, F>>, AllocError>

@@ -23,7 +23,7 @@ use std::alloc::{AllocError, AllocGlobal, Global};
 use std::fs::File;
 use std::net::TcpStream;
 use std::rt::Files;
-use std::sync::{Mutex, Wait};
+use std::sync::Wait;
 use std::time::{Clock, Duration};
 use turn_office::{Office, Seat, SeatList};
 
@@ -198,7 +198,7 @@ pub(crate) fn session_places<'a, R, F: RecordsFile>(
     bells: &Sender<Bell>,
     to_edit: &Receiver<TcpStream>,
     to_read: &Receiver<TcpStream>,
-    known: &'a Mutex<KnownFiles>,
+    known: &'a KnownFiles,
     end: &'a ServiceEnd,
     journal: Option<&'a Journal<F>>,
 ) -> Result<Vec<SessionPlace<'a, R, F>>, AllocError>

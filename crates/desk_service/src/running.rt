@@ -14,11 +14,12 @@ use crate::service_end::ServiceEnd;
 use crate::settings::{JOURNAL, Settings};
 use crate::system_file::SystemFile;
 use crate::versions::{Seen, VERSIONS};
-use deck_files::{KnownFiles, clear_folder};
+use deck_files::{FILES, KnownFiles, clear_folder};
 use desk_core::Desk;
 use std::alloc::{AllocError, AllocGlobal, Global};
 use std::fs::File;
 use std::hash::RandomState;
+use std::io::ErrorKind;
 use std::net::{IpAddr, Ipv4Addr, Net, SocketAddr, TcpListener, TcpStream};
 use std::os::fd::AsFd;
 use std::os::unix::net::UnixStream;
@@ -405,6 +406,7 @@ fn serve_opened<'a, R>(
     control: Option<&'a Control>,
     settings: &'a Settings<'a>,
     opened: Opened<SystemFile<R::File>>,
+    known: KnownFiles,
 ) -> Result<(), ServeFault>
 where
     R: Threads
@@ -427,7 +429,6 @@ where
     let sessions = settings.sessions + settings.readers;
     let threads = sessions + page_threads(door);
     let (office, seats) = Office::open(alloc, desk, settings.workers + threads)?;
-    let known = Mutex::new(KnownFiles::new(alloc));
     let end = &ServiceEnd::new(alloc, threads, sessions, settings.sessions)?;
     let channels = open_channels(alloc)?;
     let journal = journal.as_ref();
@@ -481,6 +482,7 @@ where
         + Drop
         + Clock
         + Eprint
+        + RandomSource
         + Net,
     R::File: Send,
     R::Dir: Send,
@@ -495,7 +497,11 @@ where
         settings.sessions + settings.readers,
         &Seen::unasked(alloc),
     )?;
-    serve_opened(rt, alloc, listener, None, None, settings, opened)
+    let Ok(keys) = RandomState::new(rt) else {
+        return Err(ServeFault::SocketFault);
+    };
+    let known = KnownFiles::new(alloc, keys);
+    serve_opened(rt, alloc, listener, None, None, settings, opened, known)
 }
 
 /// What a service begins with in its folder, which has kept the versions that it may tell, where so many
@@ -513,6 +519,24 @@ where
     open(rt, alloc, settings, threads, &seen)
 }
 
+/// The files that are known in a folder, for a desk that goes on behind a version.
+fn known_in<R>(
+    rt: &R,
+    alloc: Global,
+    keys: RandomState,
+    folder: &str,
+    last: u64,
+) -> Result<KnownFiles, ServeFault>
+where
+    R: Files<File = File> + AllocGlobal + Clone + Drop,
+{
+    match KnownFiles::kept_in(rt, alloc, keys, folder, last) {
+        Ok(known) => Ok(known),
+        Err(error) if error.kind() == ErrorKind::OutOfMemory => Err(ServeFault::OutOfMemory),
+        Err(_) => Err(ServeFault::NoFolder),
+    }
+}
+
 /// Serves a folder on a listener, and browsers at a door, if there is one.
 fn serve_folder<'a, R>(
     rt: &'a R,
@@ -520,6 +544,7 @@ fn serve_folder<'a, R>(
     listener: &'a TcpListener,
     door: Option<Door<'a>>,
     settings: &'a Settings<'a>,
+    keys: RandomState,
 ) -> Result<(), ServeFault>
 where
     R: Threads
@@ -542,6 +567,7 @@ where
     let opened = open_in_folder(rt, alloc, settings, threads)?;
     let _journal = take_journal(rt, alloc, settings)?;
     let control = Control::open(rt, alloc, settings.root);
+    let known = known_in(rt, alloc, keys, settings.root, opened.desk.version())?;
     serve_opened(
         rt,
         alloc,
@@ -550,6 +576,7 @@ where
         control.as_ref(),
         settings,
         opened,
+        known,
     )
 }
 
@@ -591,17 +618,17 @@ where
         settings.sessions + settings.readers + PAGE_THREADS,
     )?;
     drop(take_journal(rt, alloc, settings)?);
-    clear_folder(rt, settings.root, &[VERSIONS, JOURNAL]);
+    clear_folder(rt, settings.root, &[VERSIONS, JOURNAL, FILES]);
     let Ok(listener) = TcpListener::bind(rt, local_address(settings.port)) else {
         return Err(ServeFault::SocketFault);
     };
+    let Ok(keys) = RandomState::new(rt) else {
+        return Err(ServeFault::SocketFault);
+    };
     let Some(port) = page else {
-        return serve_folder(rt, alloc, &listener, None, settings);
+        return serve_folder(rt, alloc, &listener, None, settings, keys);
     };
     let Ok(browsers) = TcpListener::bind(rt, local_address(port)) else {
-        return Err(ServeFault::PageFault);
-    };
-    let Ok(keys) = RandomState::new(rt) else {
         return Err(ServeFault::PageFault);
     };
     let silent = Mutex::new(Lobby::new(alloc));
@@ -611,5 +638,5 @@ where
         port: port_of(&browsers, port),
         keys,
     };
-    serve_folder(rt, alloc, &listener, Some(door), settings)
+    serve_folder(rt, alloc, &listener, Some(door), settings, keys)
 }

@@ -16,7 +16,6 @@ use desk_core::Desk;
 use journal::RecordsFile;
 use std::alloc::{AllocError, Global};
 use std::net::TcpStream;
-use std::sync::Mutex;
 use turn_office::{Office, SeatList};
 
 /// What the threads of a service talk by: the bell of the workers, and the clients that arrive.
@@ -70,7 +69,7 @@ pub(crate) fn seat_all<'a, R, F: RecordsFile>(
     settings: &Settings<'a>,
     door: Option<Door<'a>>,
     channels: &Channels,
-    known: &'a Mutex<KnownFiles>,
+    known: &'a KnownFiles,
     end: &'a ServiceEnd,
     journal: Option<&'a Journal<F>>,
 ) -> Result<Places<'a, R, F>, AllocError>
