@@ -4,6 +4,7 @@
 #![tactic(auto)]
 
 // What steps are read from, and what they write.
+mod fixed_keys;
 mod inputs;
 mod outputs;
 
@@ -26,6 +27,7 @@ mod turns;
 mod sweeps;
 
 use deck_files::KnownFiles;
+pub use fixed_keys::fixed_keys;
 pub use inputs::{card_of, cards_of, cut, cut_line, cut_number, name_of, number, plain_text};
 pub use jobs::{ask, push_told};
 pub use outputs::Answer;
@@ -33,7 +35,7 @@ pub use place::Place;
 use std::alloc::AllocGlobal;
 use std::fs::File;
 use std::rt::Files;
-use std::sync::{Mutex, Wait};
+use std::sync::Wait;
 use std::thread::Threads;
 use std::time::Clock;
 pub use sweeps::{Ended, run_chosen};
@@ -42,7 +44,7 @@ pub use turns::measure_turns;
 /// Makes a step that stands in no place, and answers whether there is one of this word.
 fn make_alone<R: AllocGlobal + Threads + Wait + Sync + Files<File = File> + Clock + Clone + Drop>(
     rt: &R,
-    known: &Mutex<KnownFiles>,
+    known: &KnownFiles,
     word: &str,
     rest: &str,
     answer: &mut Answer,
@@ -58,7 +60,7 @@ fn make_alone<R: AllocGlobal + Threads + Wait + Sync + Files<File = File> + Cloc
 pub fn make<R: AllocGlobal + Threads + Wait + Sync + Files<File = File> + Clock + Clone + Drop>(
     rt: &R,
     place: &mut Place,
-    known: &Mutex<KnownFiles>,
+    known: &KnownFiles,
     word: &str,
     rest: &str,
     answer: &mut Answer,

@@ -18,12 +18,12 @@ use std::alloc::{AllocError, AllocGlobal, Global};
 use std::fs::{self, File};
 use std::io::{self, ErrorKind};
 use std::rt::Files;
-use std::sync::{Mutex, Wait};
+use std::sync::Wait;
 
 /// Makes a step of this word, if it is one of folders, and answers whether it is.
 pub fn make<R: AllocGlobal + Files<File = File> + Wait + Clone + Drop>(
     rt: &R,
-    known: &Mutex<KnownFiles>,
+    known: &KnownFiles,
     word: &str,
     rest: &str,
     answer: &mut Answer,
@@ -89,7 +89,7 @@ fn push_saved<S: Shelf>(shelf: &mut S, saved: &Saved, answer: &mut Answer) {
 /// Saves by a shelf of a folder, whose call of the first number is refused, and none where it is 0.
 fn save_refused<R: AllocGlobal + Files<File = File> + Wait + Clone + Drop>(
     rt: &R,
-    known: &Mutex<KnownFiles>,
+    known: &KnownFiles,
     text: &str,
     answer: &mut Answer,
 ) {
@@ -107,7 +107,7 @@ fn save_refused<R: AllocGlobal + Files<File = File> + Wait + Clone + Drop>(
 
 fn load_from<R: AllocGlobal + Files<File = File> + Wait + Clone + Drop>(
     rt: &R,
-    known: &Mutex<KnownFiles>,
+    known: &KnownFiles,
     text: &str,
     answer: &mut Answer,
 ) {
@@ -134,7 +134,7 @@ fn load<S: Shelf>(shelf: &mut S, of: &str, answer: &mut Answer) {
 /// Saves an empty deck by a shelf of its own.
 fn save_empty<R: AllocGlobal + Files<File = File> + Wait + Clone + Drop>(
     rt: &R,
-    known: &Mutex<KnownFiles>,
+    known: &KnownFiles,
     folder: &str,
     name: &DeckName,
     version: u64,
@@ -149,7 +149,7 @@ fn save_empty<R: AllocGlobal + Files<File = File> + Wait + Clone + Drop>(
 /// Loads by a shelf, which notes a version then; another may have saved in between.
 fn note_in<R: AllocGlobal + Files<File = File> + Wait + Clone + Drop>(
     rt: &R,
-    known: &Mutex<KnownFiles>,
+    known: &KnownFiles,
     text: &str,
     answer: &mut Answer,
 ) {
@@ -170,7 +170,7 @@ fn note_in<R: AllocGlobal + Files<File = File> + Wait + Clone + Drop>(
 /// Whether the file of a deck has the cards of a version.
 fn saved_in<R: AllocGlobal + Files<File = File> + Wait + Clone + Drop>(
     rt: &R,
-    known: &Mutex<KnownFiles>,
+    known: &KnownFiles,
     text: &str,
     answer: &mut Answer,
 ) {
@@ -188,7 +188,7 @@ fn saved_in<R: AllocGlobal + Files<File = File> + Wait + Clone + Drop>(
 /// where it is 0.
 fn list_refused<R: AllocGlobal + Files<File = File> + Wait + Clone + Drop>(
     rt: &R,
-    known: &Mutex<KnownFiles>,
+    known: &KnownFiles,
     text: &str,
     answer: &mut Answer,
 ) {

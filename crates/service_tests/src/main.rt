@@ -17,13 +17,13 @@ mod replies;
 mod sockets;
 
 use deck_files::KnownFiles;
-use desk_tests::{Answer, Place, cut, measure_turns, plain_text, run_chosen};
+use desk_tests::{Answer, Place, cut, fixed_keys, measure_turns, plain_text, run_chosen};
 use std::alloc::AllocGlobal;
 use std::fs::File;
 use std::net::{Net, TcpListener, TcpStream};
 use std::process::ExitCode;
 use std::rt::{Env, Files};
-use std::sync::{Mutex, Wait};
+use std::sync::Wait;
 use std::thread::Threads;
 use std::time::{Clock, CpuClock};
 use std::{env, fs, io};
@@ -41,7 +41,7 @@ const DIFFERS_STATUS: u8 = 1;
 const NOTHING_STATUS: u8 = 2;
 
 /// Makes a step.
-fn make<R>(rt: &R, place: &mut Place, known: &Mutex<KnownFiles>, step: &str, answer: &mut Answer)
+fn make<R>(rt: &R, place: &mut Place, known: &KnownFiles, step: &str, answer: &mut Answer)
 where
     R: AllocGlobal
         + Threads
@@ -83,7 +83,10 @@ where
     R::File: Send,
     R::Dir: Send,
 {
-    let known = Mutex::new(KnownFiles::new(rt.alloc()));
+    let Ok(keys) = fixed_keys() else {
+        return 0;
+    };
+    let known = KnownFiles::new(rt.alloc(), keys);
     let mut place = Place::new(rt.alloc());
     let mut steps = 0u64;
     for line in transcript.lines() {

@@ -1,5 +1,6 @@
 //! A scenario of a folder: decks that are saved there and loaded, by reads and writes of the system.
 
+use crate::fixed_keys::fixed_keys;
 use crate::inputs::{cards_of, name_of};
 use crate::sweeps::decks::{DECKS, DeckText, are_same};
 use crate::sweeps::notes::Called;
@@ -11,7 +12,7 @@ use deck_files::{
 use std::alloc::{AllocError, AllocGlobal, Global};
 use std::fs::File;
 use std::rt::Files;
-use std::sync::{Mutex, Wait};
+use std::sync::Wait;
 
 /// A deck with its cards, and the version that is saved.
 #[derive(Drop)]
@@ -151,7 +152,7 @@ pub fn folder<R: AllocGlobal + Files<File = File> + Clone + Drop + Wait>(
     rt: &R,
     scene: &mut Scene,
 ) -> Result<(), AllocError> {
-    let known = Mutex::new(KnownFiles::new(scene.alloc));
+    let known = KnownFiles::new(scene.alloc, fixed_keys()?);
     let mut shelf = FolderShelf::new(rt, scene.alloc, "", 0, &known);
     save_all(scene, &mut shelf)?;
     list(scene, &mut shelf)
