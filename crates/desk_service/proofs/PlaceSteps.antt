@@ -1,5 +1,5 @@
 -- The places of sessions, one more each time.
-use Rattle.std.proofs.Common.{◌≡◌, ℕ, ◌+◌, All, List, [], ◌∷◌, ◌++◌, map, sym, ap, ap₂, ◌∙◌, subst, map-id, arith}
+use Rattle.std.proofs.Common.{◌≡◌, ℕ, ◌+◌, ◌<◌, ◌≤◌, All, IfSome, List, [], ◌∷◌, ◌++◌, None, Option, Some, map, option_map, sym, ap, ap₂, ◌∙◌, subst, map-id, arith}
 use Rattle.std.specs.List.{range_with_len}
 use Rattle.std.proofs.lemmas.List.{map-append}
 use Rattle.std.proofs.lemmas.List.Elements.{All-push}
@@ -29,3 +29,23 @@ module _ {X : Type 0} where
   -- what is true of each place
   pub all-more : (P : X → Type 0) (xs new : List X) (x : X) → All P xs → new ≡ xs ++ x ∷ [] → P x → All P new
   all-more P xs new x all pushed one = subst (λ (ys : List X). All P ys) (sym pushed) (All-push P xs x all one)
+
+  -- a session of a number has a place in the journal, if there is one, where that has as many as there are sessions
+  pub has-place : (journal : Option X) (places : X → ℕ) (number count : ℕ) → number < count → IfSome journal (λ journal. count ≤ places journal) → IfSome journal (λ journal. number < places journal)
+  has-place None places number count below all = tt
+  has-place (Some journal) places number count below all = omega (arith, below, all)
+
+  -- as many places as there are, or fewer, are there
+  pub has-fewer : (journal : Option X) (places : X → ℕ) (some all : ℕ) → some ≤ all → IfSome journal (λ journal. all ≤ places journal) → IfSome journal (λ journal. some ≤ places journal)
+  has-fewer None places some all fewer is = tt
+  has-fewer (Some journal) places some all fewer is = omega (arith, fewer, is)
+
+  -- one number for another that is the same
+  pub has-as-many : (journal : Option X) (places : X → ℕ) (some all : ℕ) → some ≡ all → IfSome journal (λ journal. places journal ≡ some) → IfSome journal (λ journal. places journal ≡ all)
+  has-as-many None places some all same is = tt
+  has-as-many (Some journal) places some all same is = is ∙ same
+
+-- what is known of a journal is known of a reference to it
+pub has-behind : {X Y : Type 0} (own : Option X) (refs : Option Y) (now : Y → X) (places : X → ℕ) (all : ℕ) → option_map now refs ≡ own → IfSome own (λ journal. places journal ≡ all) → IfSome refs (λ journal. all ≤ places (now journal))
+has-behind own None now places all same is = tt
+has-behind own (Some one) now places all same is = let known : places (now one) ≡ all = subst (λ own. IfSome own (λ journal. places journal ≡ all)) (sym same) is in omega (arith, known)

@@ -2,6 +2,8 @@
 use Rattle.std.specs.Prelude.{ℕ, ◌≡◌, ⊤, ◌⊎◌, List, Bool, true, false, Option, Some, None, Result, Ok, Err}
 use Rattle.desk_core.specs.declared.replies.Refusal.{Refusal}
 use Rattle.desk_core.specs.declared.replies.Refusal.TheVariants.{NotKept, OutOfMemory}
+use Rattle.desk_service.specs.declared.journals.News.{News}
+use Rattle.desk_service.specs.declared.journals.News.TheVariants.{Fails, GoesOn}
 use Rattle.journal.specs.declared.changes.Change.{Change}
 use Rattle.journal.specs.declared.drafts.Stamp.{Stamp}
 use Rattle.journal.specs.Drafts.{takes_memory}
@@ -24,6 +26,12 @@ keeper_name keeper = keeper.name
 abbrev pub NamesKeeper : SessionKeeper → Option (List ℕ) → SessionKeeper → Type 0
 NamesKeeper old (Some name) new = new ≡ record old { name = name }
 NamesKeeper old None new = new ≡ record old { name = session_name old.session }
+
+-- what is told of a journal behind a write, by whether the one before failed, and whether this one did: each time only that it is otherwise than before
+abbrev pub news_of : Bool → Bool → Option News
+news_of false true = Some Fails
+news_of true false = Some GoesOn
+news_of failed fails = None
 
 -- the record of a change that a session of this name asks for at some moment
 abbrev pub IsDraft : List ℕ → Change → List ℕ → Type 0

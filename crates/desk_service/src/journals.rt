@@ -5,9 +5,11 @@
 //! | a session whose change was made | puts its record into the queue; writes where the next record is there and nobody writes, and else sleeps |
 //! | who writes | takes a copy of all records that may go out, leaves the queue to others, writes and syncs once, and tells those who wait |
 //! | a session that wants to change | is refused where a record was given up, unless that can be written now |
-ghost use Rattle.std.specs.Prelude.{◌≡◌, is_some, true, None};
+//!
+//! That records can't be written is told on standard error once, and once that they can be again.
+ghost use Rattle.std.specs.Prelude.{◌≡◌, ◌<◌, is_some, true, IfOk, IfSome, None};
 ghost use Rattle.journal.specs.JournalFiles.{IsKept};
-ghost use Rattle.desk_service.specs.SessionKeepers.{IsMadeUp};
+ghost use Rattle.desk_service.specs.SessionKeepers.{IsMadeUp, news_of};
 ghost use Rattle.journal.specs.Names.{session_name};
 
 use desk_core::Refusal;
@@ -20,15 +22,61 @@ use std::marker::Model;
 use std::sync::{Condvar, Mutex, MutexGuard, Wait};
 use std::time::{Clock, SystemTime, UNIX_EPOCH};
 
+/// What is told of a journal on standard error.
+#[derive(Clone, Copy)]
+enum News {
+    /// It can't be written, as it could before.
+    Fails,
+    /// It can be written again.
+    GoesOn,
+}
+
+/// What is told behind a write, by whether the one before failed, and whether this one did.
+fn news_of(failed: bool, fails: bool) -> Option<News>
+    ensures { result ≡ news_of failed fails }
+{
+    match (failed, fails) {
+        (false, true) => Some(News::Fails),
+        (true, false) => Some(News::GoesOn),
+        _ => None,
+    }
+}
+
+/// Tells it.
+fn tell_news<R: Eprint>(rt: &R, news: News) {
+    let _ = match news {
+        News::Fails => eprintln!(rt;
+            "compass: the journal can't be written, as on a full disk; changes are told as UNKEPT, or refused as NotKept, until it can"
+        ),
+        News::GoesOn => eprintln!(rt;
+            "compass: the journal can be written again; all changes up to now are kept"
+        ),
+    };
+}
+
 /// What the sessions share.
 #[derive(Drop)]
 struct Shared<F: RecordsFile> {
     queue: Queue<F>,
     /// Somebody writes.
     writing: bool,
+    /// The last write failed.
+    fails: bool,
 }
 
 impl<F: RecordsFile> Shared<F> {
+    /// Notes what a write kept, if it kept anything: what is told of that.
+    fn settle(&mut self, kept: Option<KeptRecords<F>>) -> Option<News> {
+        let news = news_of(self.fails, kept.is_none());
+        self.fails = kept.is_none();
+        self.writing = false;
+        match kept {
+            Some(kept) => self.queue.settle(kept),
+            None => self.queue.give_up(),
+        }
+        news
+    }
+
     /// Whether a change may be made: no record was given up, and that of this version is kept, if there is
     /// one.
     fn may_change(&self, missed: Option<u64>) -> bool
@@ -44,14 +92,23 @@ impl<F: RecordsFile> Shared<F> {
     }
 }
 
-/// The journal of a service.
+/// The journal of a service. Contracts see how many sessions have a place in it.
 #[derive(Drop)]
 pub struct Journal<F: RecordsFile> {
     alloc: Global,
+    places: usize,
     shared: Mutex<Shared<F>>,
     file: Mutex<JournalFile<F>>,
     /// Something was written, or could not be.
     told: Condvar,
+}
+
+impl<F: RecordsFile> Model for Journal<F> {
+    ghost use Rattle.std.specs.Prelude.{ℕ};
+
+    ghost Value = { ℕ };
+
+    ghost view = { λ j. j.places };
 }
 
 impl<F: RecordsFile + Drop> Journal<F> {
@@ -60,12 +117,16 @@ impl<F: RecordsFile + Drop> Journal<F> {
         alloc: Global,
         file: JournalFile<F>,
         sessions: usize,
-    ) -> Result<Journal<F>, AllocError> {
+    ) -> Result<Journal<F>, AllocError>
+        ensures { IfOk result (λ journal. journal ≡ sessions) }
+    {
         Ok(Journal {
             alloc,
+            places: sessions,
             shared: Mutex::new(Shared {
                 queue: Queue::new(alloc, sessions, file.kept())?,
                 writing: false,
+                fails: false,
             }),
             file: Mutex::new(file),
             told: Condvar::new(),
@@ -77,8 +138,9 @@ impl<F: RecordsFile + Drop> Journal<F> {
         self.file.lock(rt).append(batch)
     }
 
-    /// Writes what may go out of the queue, and tells those who wait.
-    fn write<'a, R: Wait>(
+    /// Writes what may go out of the queue, tells those who wait, and then what is news of the journal: nobody
+    /// waits for standard error but this one.
+    fn write<'a, R: Wait + Eprint>(
         &'a self,
         rt: &R,
         mut shared: MutexGuard<'a, Shared<F>>,
@@ -91,18 +153,19 @@ impl<F: RecordsFile + Drop> Journal<F> {
             Err(_) => None,
         };
         let mut shared = self.shared.lock(rt);
-        match kept {
-            Some(kept) => shared.queue.settle(kept),
-            None => shared.queue.give_up(),
-        }
-        shared.writing = false;
+        let news = shared.settle(kept);
         self.told.notify_all();
-        shared
+        let Some(news) = news else {
+            return shared;
+        };
+        drop(shared);
+        tell_news(rt, news);
+        self.shared.lock(rt)
     }
 
     /// Whether a change may be made: no record was given up, or all such are kept now, that of this version
     /// among them.
-    fn may_change<R: Wait>(&self, rt: &R, missed: Option<u64>) -> bool
+    fn may_change<R: Wait + Eprint>(&self, rt: &R, missed: Option<u64>) -> bool
         ensures { result ≡ true → IsMadeUp F.has_done missed }
     {
         let mut shared = self.shared.lock(rt);
@@ -120,7 +183,7 @@ impl<F: RecordsFile + Drop> Journal<F> {
     }
 
     /// Keeps the record of a session: whether it is kept, with all before it.
-    fn keep<R: Wait>(&self, rt: &R, session: usize, version: u64, draft: Draft) -> bool
+    fn keep<R: Wait + Eprint>(&self, rt: &R, session: usize, version: u64, draft: Draft) -> bool
         ensures { result ≡ true → IsKept F.has_done version }
     {
         let mut shared = self.shared.lock(rt);
@@ -179,12 +242,14 @@ impl<'a, R, F: RecordsFile> Model for SessionKeeper<'a, R, F> {
 }
 
 impl<'a, R, F: RecordsFile> SessionKeeper<'a, R, F> {
+    /// The end of a session that has a place in the journal, if there is one.
     pub fn new(
         rt: &'a R,
         alloc: Global,
         journal: Option<&'a Journal<F>>,
         session: usize,
     ) -> SessionKeeper<'a, R, F>
+        requires { IfSome journal (λ journal. session < journal.now) }
         ensures journaled { result.journaled ≡ is_some journal.entry }
         ensures session { result.session ≡ session }
         ensures missed { result.missed ≡ None }
@@ -201,7 +266,7 @@ impl<'a, R, F: RecordsFile> SessionKeeper<'a, R, F> {
     }
 }
 
-impl<R: Wait + Clock, F: RecordsFile + Drop> Keep for SessionKeeper<'_, R, F> {
+impl<R: Wait + Clock + Eprint, F: RecordsFile + Drop> Keep for SessionKeeper<'_, R, F> {
     ghost use Rattle.desk_service.specs.SessionKeepers.{BeginsRecord, KeepsRecord, NamesKeeper, OpensRecord, keeper_name};
 
     ghost begins = { BeginsRecord F.has_done };

@@ -1,8 +1,9 @@
 //! The desk of a service at its start: new, or as its journal leaves it.
+ghost use Rattle.std.specs.Prelude.{◌≡◌, ◌+◌, ◌-◌, ◌^◌, false, min, IfOk, IfSome};
 
 use crate::faults::ServeFault;
 use crate::journals::{Journal, moment_now};
-use crate::root::path_in;
+use crate::root::{JournalLock, journal_path};
 use crate::settings::{Journaling, Settings};
 use crate::system_file::SystemFile;
 use crate::versions::Seen;
@@ -13,8 +14,9 @@ use journal::{
     mark_of_front, next_record, replay,
 };
 use std::alloc::Global;
+use std::hash::RandomState;
 use std::fs;
-use std::fs::OpenOptions;
+use std::fs::{File, OpenOptions};
 use std::io::{BufReader, ErrorKind};
 use std::os::fd::AsFd;
 use std::rt::Files;
@@ -56,6 +58,16 @@ struct Found {
     is_latest: bool,
 }
 
+/// What a service goes on with of a journal that may have been begun anew: how many bytes it had before, how
+/// many of them were kept, and behind which version it was begun, where it is not the latest of its folder.
+#[derive(Drop)]
+struct Begun {
+    found: Found,
+    length: u64,
+    kept: u64,
+    behind: Option<u64>,
+}
+
 /// How many bytes the file of a journal has; none where it is not there.
 fn length_of<R: Files>(rt: &R, path: &str) -> Result<Option<u64>, ServeFault> {
     match fs::metadata(rt, path) {
@@ -78,16 +90,21 @@ fn reader_of<R: Files>(
 }
 
 /// Makes the changes of a journal again. A file that is not there has none.
-fn read_records<R: Files>(rt: &R, alloc: Global, path: &str) -> Result<Records, ServeFault> {
+fn read_records<R: Files>(
+    rt: &R,
+    alloc: Global,
+    keys: RandomState,
+    path: &str,
+) -> Result<Records, ServeFault> {
     let Some(length) = length_of(rt, path)? else {
         return Ok(Records {
-            desk: Desk::new(alloc),
+            desk: Desk::new(alloc, keys),
             ending: Ending::Whole,
             length: 0,
         });
     };
     let mut input = Counted::new(reader_of(rt, alloc, path)?);
-    let replayed = replay(alloc, &mut input, u64::MAX)?;
+    let replayed = replay(alloc, keys, &mut input, u64::MAX)?;
     Ok(Records {
         desk: replayed.desk,
         ending: replayed.ending.unwrap_or(Ending::Whole),
@@ -138,6 +155,7 @@ fn fault_of<R: Files>(rt: &R, alloc: Global, path: &str, ending: Ending) -> Serv
 fn find<R: Files>(
     rt: &R,
     alloc: Global,
+    keys: RandomState,
     path: &str,
     journal: Journaling<'_>,
     seen: &Seen,
@@ -146,7 +164,7 @@ fn find<R: Files>(
         desk,
         ending,
         length,
-    } = read_records(rt, alloc, path)?;
+    } = read_records(rt, alloc, keys, path)?;
     let noted = seen.noted(journal);
     let most = match noted {
         Some(mark) => mark.length,
@@ -169,6 +187,7 @@ fn find<R: Files>(
 fn begin_anew<R: Files + Clock>(
     rt: &R,
     alloc: Global,
+    keys: RandomState,
     path: &str,
     begun: u64,
     desk: &Desk,
@@ -180,13 +199,30 @@ where
     if write_whole(rt, alloc, path, text.as_slice()).is_err() {
         return Err(ServeFault::NoJournal);
     }
-    let Records { desk, length, .. } = read_records(rt, alloc, path)?;
+    let Records { desk, length, .. } = read_records(rt, alloc, keys, path)?;
     Ok(Found {
         desk,
         mark: front_of(rt, path, length)?,
         length,
         is_latest: true,
     })
+}
+
+/// Makes the file of a journal where nothing stands at its path, and takes it: what is read of it and written
+/// in it afterwards is nobody else's.
+fn make_and_take<R: Files<File = File>>(
+    rt: &R,
+    path: &str,
+    lock: &mut JournalLock,
+) -> Result<(), ServeFault> {
+    if length_of(rt, path)?.is_none() {
+        let mut how = OpenOptions::new();
+        how.append(true).create(true);
+        if how.open(rt, path).is_err() {
+            return Err(ServeFault::NoJournal);
+        }
+    }
+    lock.take(rt, path)
 }
 
 /// Opens the file of a journal, and cuts off what stands behind so many bytes: the system has kept it when
@@ -217,45 +253,94 @@ fn tell_cut<R: Eprint>(rt: &R, path: &str, length: u64, kept: u64) {
 
 /// Tells on standard error behind which version a service goes on, where its journal is not the latest of the
 /// folder.
-fn tell_begun<R: Eprint>(rt: &R, path: &str, begun: u64) {
-    let _ = eprintln!(rt;
-        "compass: {path} is not the latest journal of the folder; it was begun anew with its decks, and the versions go on behind {begun}"
-    );
+fn tell_begun<R: Eprint>(rt: &R, path: &str, behind: Option<u64>) {
+    if let Some(version) = behind {
+        let _ = eprintln!(rt;
+            "compass: {path} is not the latest journal of the folder; it was begun anew with its decks, and the versions go on behind {version}"
+        );
+    }
 }
 
-/// The desk that the journal at a path leaves, and the journal, for so many threads that change decks. It is
-/// begun anew where the settings say so, or where the folder has seen versions that are not in it. What is
-/// kept of it is noted in the folder before anything else is.
-fn open_at<R: Files + Eprint + Clock>(
+/// The file of a journal whose whole records have this mark and leave this desk: the record of the version
+/// behind the desk's comes next.
+fn file_behind<F: RecordsFile>(file: F, mark: Mark, desk: &Desk) -> JournalFile<F>
+    ensures first { result.next ≡ min (desk.now.version + 1) (2 ^ 64 - 1) }
+    ensures begun { result.begun ≡ mark }
+    ensures clean { result.clean ≡ false }
+{
+    JournalFile::new(file, mark, desk.version().saturating_add(1))
+}
+
+/// What the journal at a path leaves, begun anew where the settings say so, or where the folder has seen
+/// versions that are not in it; and behind which version that is, where it is not the latest of the folder.
+fn find_or_begin<R: Files<File = File> + Clock>(
     rt: &R,
     alloc: Global,
+    keys: RandomState,
+    settings: &Settings<'_>,
+    path: &str,
+    seen: &Seen,
+    lock: &mut JournalLock,
+) -> Result<Begun, ServeFault>
+where
+    R::File: AsFd,
+{
+    let found = find(rt, alloc, keys, path, settings.journal, seen)?;
+    let (length, kept) = (found.length, found.mark.length);
+    let last = found.desk.version();
+    let begun = seen.begun(found.is_latest, last);
+    let behind = if begun > last { Some(begun) } else { None };
+    if !settings.compact && behind.is_none() {
+        return Ok(Begun {
+            found,
+            length,
+            kept,
+            behind,
+        });
+    }
+    let found = begin_anew(rt, alloc, keys, path, begun, &found.desk)?;
+    lock.take(rt, path)?;
+    Ok(Begun {
+        found,
+        length,
+        kept,
+        behind,
+    })
+}
+
+/// The desk that the journal at a path leaves, and the journal, for so many threads that change decks. The
+/// journal is taken before anything is read or written. What is kept of it is noted in the folder before
+/// anything else is.
+fn open_at<R: Files<File = File> + Eprint + Clock>(
+    rt: &R,
+    alloc: Global,
+    keys: RandomState,
     settings: &Settings<'_>,
     threads: usize,
     path: &str,
     seen: &Seen,
+    lock: &mut JournalLock,
 ) -> Result<Opened<SystemFile<R::File>>, ServeFault>
 where
     R::File: AsFd,
+    ensures places { IfOk result (λ opened. IfSome opened.journal (λ journal. journal ≡ threads)) }
 {
-    let mut found = find(rt, alloc, path, settings.journal, seen)?;
-    let (length, kept) = (found.length, found.mark.length);
-    let last = found.desk.version();
-    let begun = seen.begun(found.is_latest, last);
-    if settings.compact || begun > last {
-        found = begin_anew(rt, alloc, path, begun, &found.desk)?;
-    }
+    make_and_take(rt, path, lock)?;
+    let Begun {
+        found,
+        length,
+        kept,
+        behind,
+    } = find_or_begin(rt, alloc, keys, settings, path, seen, lock)?;
     let Found { desk, mark, .. } = found;
     let file = open_cut(rt, path, mark.length)?;
-    let version = desk.version();
-    let notes = seen.take(rt, alloc, settings, version, Some(mark))?;
-    let mut file = JournalFile::new(file.noting(notes), mark, version.saturating_add(1));
+    let notes = seen.take(rt, alloc, settings, desk.version(), Some(mark))?;
+    let mut file = file_behind(file.noting(notes), mark, &desk);
     if !file.begin() {
         return Err(ServeFault::NoJournal);
     }
     tell_cut(rt, path, length, kept);
-    if begun > last {
-        tell_begun(rt, path, begun);
-    }
+    tell_begun(rt, path, behind);
     Ok(Opened {
         desk,
         journal: Some(Journal::new(alloc, file, threads)?),
@@ -263,41 +348,42 @@ where
 }
 
 /// The desk of a service that keeps no journal.
-fn open_without<R: Files>(
+fn desk_without<R: Files>(
     rt: &R,
     alloc: Global,
+    keys: RandomState,
     settings: &Settings<'_>,
     seen: &Seen,
-) -> Result<Opened<SystemFile<R::File>>, ServeFault>
+) -> Result<Desk, ServeFault>
 where
     R::File: AsFd,
 {
-    let desk = Desk::behind(alloc, seen.begun(false, 0));
+    let desk = Desk::behind(alloc, keys, seen.begun(false, 0));
     seen.take(rt, alloc, settings, desk.version(), None)?;
-    Ok(Opened {
-        desk,
-        journal: None,
-    })
+    Ok(desk)
 }
 
 /// What a service of these settings begins with in a folder that has seen this, where so many threads change
-/// decks: the folder has kept the versions that it may tell.
-pub(crate) fn open<R: Files + Eprint + Clock>(
+/// decks: the folder has kept the versions that it may tell, and the journal, if there is one, is taken and
+/// has a place for each of them.
+pub(crate) fn open<R: Files<File = File> + Eprint + Clock>(
     rt: &R,
     alloc: Global,
+    keys: RandomState,
     settings: &Settings<'_>,
     threads: usize,
     seen: &Seen,
+    lock: &mut JournalLock,
 ) -> Result<Opened<SystemFile<R::File>>, ServeFault>
 where
     R::File: AsFd,
+    ensures places { IfOk result (λ opened. IfSome opened.journal (λ journal. journal ≡ threads)) }
 {
-    match settings.journal {
-        Journaling::Off => open_without(rt, alloc, settings, seen),
-        Journaling::InRoot => {
-            let path = path_in(alloc, settings.root, settings.journal.name())?;
-            open_at(rt, alloc, settings, threads, path.as_str(), seen)
-        }
-        Journaling::At(path) => open_at(rt, alloc, settings, threads, path, seen),
+    match journal_path(alloc, settings)? {
+        None => Ok(Opened {
+            desk: desk_without(rt, alloc, keys, settings, seen)?,
+            journal: None,
+        }),
+        Some(path) => open_at(rt, alloc, keys, settings, threads, path.as_str(), seen, lock),
     }
 }

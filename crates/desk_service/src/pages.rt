@@ -189,8 +189,10 @@ fn serve_next<R: Wait + Clock, C: Calls, S: Shelf>(
 }
 
 /// A page thread serves connections until the end of the service is asked for.
-impl<R: Wait + Clock + Files<File = File> + AllocGlobal + Clone + Drop, F: RecordsFile + Drop> Serve
-    for PagePlace<'_, R, F> {
+impl<
+    R: Wait + Clock + Eprint + Files<File = File> + AllocGlobal + Clone + Drop,
+    F: RecordsFile + Drop,
+> Serve for PagePlace<'_, R, F> {
     fn serve(self) {
         let PagePlace {
             rt,
@@ -236,6 +238,7 @@ pub(crate) fn page_places<'a, R, F: RecordsFile>(
     requires own { AreOf office.now.id seats.old.items }
     requires enough { page_threads door ≤ length seats.old.items }
     requires few { settings.now.sessions + settings.now.readers ≤ 32 }
+    requires kept { IfSome journal (λ journal. settings.now.sessions + settings.now.readers + page_threads door ≤ journal.now) }
     ensures own { OnOk result (AreOf office.now.id seats.new.items) }
     ensures left { OnOk result (length seats.new.items ≡ length seats.old.items - page_threads door.entry) }
     ensures all { IfOk result (λ places. length places.items ≡ page_threads door.entry) }

@@ -1,5 +1,5 @@
 //! The places of a service's threads: what each works with, made before any thread starts.
-ghost use Rattle.std.specs.Prelude.{◌≡◌, ◌+◌, ◌-◌, ◌≤◌, All, length, map, IfOk, OnOk};
+ghost use Rattle.std.specs.Prelude.{◌≡◌, ◌+◌, ◌-◌, ◌<◌, ◌≤◌, All, length, map, IfOk, IfSome, OnOk};
 ghost use Rattle.std.specs.List.{range_with_len};
 ghost use Rattle.desk_service.specs.Company.{rights_at};
 ghost use Rattle.turn_office.specs.Seats.{AreOf};
@@ -20,6 +20,7 @@ use desk_core::Desk;
 use journal::{Keeping, RecordsFile};
 use session_line::{Rights, SeatCalls};
 use std::alloc::{AllocError, AllocGlobal, Global};
+use std::hash::RandomState;
 use std::fs::File;
 use std::net::TcpStream;
 use std::rt::Files;
@@ -39,6 +40,7 @@ pub(crate) trait Serve {
 pub(crate) struct WorkerPlace<'a, R> {
     rt: &'a R,
     alloc: Global,
+    keys: RandomState,
     office: &'a Office<Desk>,
     seat: Seat<Desk>,
     bells: Receiver<Bell>,
@@ -52,13 +54,23 @@ impl<R: Wait + Clock> Serve for WorkerPlace<'_, R> {
         let WorkerPlace {
             rt,
             alloc,
+            keys,
             office,
             seat,
             bells,
             mut published,
             ..
         } = self;
-        worker(rt, alloc, office, seat, &OpenGate, &mut published, bells);
+        worker(
+            rt,
+            alloc,
+            keys,
+            office,
+            seat,
+            &OpenGate,
+            &mut published,
+            bells,
+        );
     }
 }
 
@@ -85,8 +97,10 @@ pub(crate) struct SessionPlace<'a, R, F: RecordsFile> {
 }
 
 /// A session thread serves connections until none can come any more.
-impl<R: Wait + Clock + Files<File = File> + AllocGlobal + Clone + Drop, F: RecordsFile + Drop> Serve
-    for SessionPlace<'_, R, F> {
+impl<
+    R: Wait + Clock + Eprint + Files<File = File> + AllocGlobal + Clone + Drop,
+    F: RecordsFile + Drop,
+> Serve for SessionPlace<'_, R, F> {
     fn serve(self) {
         let SessionPlace {
             rt,
@@ -118,6 +132,7 @@ pub(crate) fn take_seat(office: &Office<Desk>, seats: &mut SeatList<Desk>) -> Se
 pub(crate) fn worker_places<'a, R>(
     rt: &'a R,
     alloc: Global,
+    keys: RandomState,
     office: &'a Office<Desk>,
     seats: &mut SeatList<Desk>,
     count: usize,
@@ -136,6 +151,7 @@ pub(crate) fn worker_places<'a, R>(
         places.push(WorkerPlace {
             rt,
             alloc,
+            keys,
             office,
             seat: take_seat(office, seats),
             bells: bells.clone()?,
@@ -157,6 +173,7 @@ fn session_desk<'a, R, F: RecordsFile>(
     journal: Option<&'a Journal<F>>,
 ) -> SessionDesk<'a, R, F>
     requires own { seat.office ≡ office.now.id }
+    requires place { IfSome journal (λ journal. number < journal.now) }
     ensures office { result.0.0.0.0.seat.office ≡ office.now.id }
     ensures keeper { result.0.0.1.session ≡ number }
     ensures company { result.1 ≡ number }
@@ -205,6 +222,7 @@ pub(crate) fn session_places<'a, R, F: RecordsFile>(
     requires own { AreOf office.now.id seats.old.items }
     requires enough { settings.now.sessions + settings.now.readers ≤ length seats.old.items }
     requires few { settings.now.sessions + settings.now.readers ≤ 32 }
+    requires kept { IfSome journal (λ journal. settings.now.sessions + settings.now.readers ≤ journal.now) }
     ensures all { IfOk result (λ places. length places.items ≡ settings.now.sessions + settings.now.readers) }
     ensures number { IfOk result (λ places. map (λ place. place.shelf.number) places.items ≡ range_with_len 0 (settings.now.sessions + settings.now.readers)) }
     ensures session { IfOk result (λ places. map (λ place. place.serving.session) places.items ≡ range_with_len 0 (settings.now.sessions + settings.now.readers)) }

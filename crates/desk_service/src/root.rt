@@ -7,7 +7,8 @@ use crate::faults::ServeFault;
 use crate::settings::{Journaling, Settings};
 use std::alloc::{AllocError, Global};
 use std::fs;
-use std::fs::{File, OpenOptions, TryLockError};
+use std::fs::{File, Metadata, OpenFile, OpenOptions, TryLockError};
+use std::os::unix::fs::MetadataExt;
 use std::rt::Files;
 
 /// How many files the process has to be able to open for each connection that is served: two for the
@@ -58,42 +59,92 @@ fn taken_fault(journal: Journaling<'_>) -> ServeFault
     }
 }
 
-/// Takes the file at a path, which is the journal, for as long as the file that is given is there. None
-/// where it is not there or no plain file. Where the file system has no locks, the folder's lock does.
-fn take_file<R: Files<File = File>>(
-    rt: &R,
-    path: &str,
+/// Whether two files are one.
+fn is_same_file(one: &Metadata, other: &Metadata) -> bool {
+    one.dev() == other.dev() && one.ino() == other.ino()
+}
+
+/// The journal of a service, which no other service has for as long as this is there: the file at its path,
+/// and those that stood there before.
+#[derive(Drop)]
+pub(crate) struct JournalLock {
+    /// Why a service does not start that finds the journal taken.
     taken: ServeFault,
-) -> Result<Option<File>, ServeFault> {
-    match fs::metadata(rt, path) {
-        Ok(about) if about.is_file() => {}
-        _ => return Ok(None),
+    files: Vec<File>,
+}
+
+impl JournalLock {
+    /// That of a journal of which nothing is taken yet.
+    pub(crate) fn new(alloc: Global, journal: Journaling<'_>) -> JournalLock {
+        JournalLock {
+            taken: taken_fault(journal),
+            files: Vec::new(alloc),
+        }
     }
-    let Ok(file) = fs::open(rt, path) else {
-        return Ok(None);
-    };
-    match file.try_lock() {
-        Err(TryLockError::WouldBlock) => Err(taken),
-        Ok(()) | Err(TryLockError::Error(_)) => Ok(Some(file)),
+
+    /// Whether a file is taken already.
+    fn has(&self, file: &Metadata) -> bool {
+        self.files.iter().any(|taken| match taken.metadata() {
+            Ok(taken) => is_same_file(&taken, file),
+            Err(_) => false,
+        })
+    }
+
+    /// Takes an open file, which stands at the path then.
+    fn take_file<R: Files>(&mut self, rt: &R, path: &str, file: File) -> Result<(), ServeFault> {
+        if let Err(TryLockError::WouldBlock) = file.try_lock() {
+            return Err(self.taken);
+        }
+        match (file.metadata(), fs::metadata(rt, path)) {
+            (Ok(open), Ok(standing)) if is_same_file(&open, &standing) => Ok(
+                self.files.push(file)?,
+            ),
+            _ => Err(self.taken),
+        }
+    }
+
+    /// Takes the file that stands at the path of the journal, where it is a plain file and not taken yet.
+    /// `FolderTaken` or `JournalTaken` where another service has it, or puts another in its place, though the
+    /// folder's lock is free. Where the file system has no locks, the folder's lock does.
+    pub(crate) fn take<R: Files<File = File>>(
+        &mut self,
+        rt: &R,
+        path: &str,
+    ) -> Result<(), ServeFault> {
+        match fs::metadata(rt, path) {
+            Ok(about) if about.is_file() && !self.has(&about) => {}
+            _ => return Ok(()),
+        }
+        match fs::open(rt, path) {
+            Ok(file) => self.take_file(rt, path, file),
+            Err(_) => Ok(()),
+        }
     }
 }
 
-/// Takes the journal of a service, if it has one, for as long as the file that is given is there.
-/// `FolderTaken` or `JournalTaken` where another service has it, though the folder's lock is free.
+/// The path of the journal of a service, if it has one.
+pub(crate) fn journal_path(
+    alloc: Global,
+    settings: &Settings<'_>,
+) -> Result<Option<String>, AllocError> {
+    match settings.journal {
+        Journaling::Off => Ok(None),
+        Journaling::InRoot => Ok(Some(path_in(alloc, settings.root, settings.journal.name())?)),
+        Journaling::At(path) => Ok(Some(format!(in alloc; "{path}")?)),
+    }
+}
+
+/// Takes the journal of a service, if it has one, and it is there.
 pub(crate) fn take_journal<R: Files<File = File>>(
     rt: &R,
     alloc: Global,
     settings: &Settings<'_>,
-) -> Result<Option<File>, ServeFault> {
-    let taken = taken_fault(settings.journal);
-    match settings.journal {
-        Journaling::Off => Ok(None),
-        Journaling::InRoot => {
-            let path = path_in(alloc, settings.root, settings.journal.name())?;
-            take_file(rt, path.as_str(), taken)
-        }
-        Journaling::At(path) => take_file(rt, path, taken),
+) -> Result<JournalLock, ServeFault> {
+    let mut lock = JournalLock::new(alloc, settings.journal);
+    if let Some(path) = journal_path(alloc, settings)? {
+        lock.take(rt, path.as_str())?;
     }
+    Ok(lock)
 }
 
 /// How many files have to be opened to serve so many connections at once.

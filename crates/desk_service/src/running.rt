@@ -1,4 +1,6 @@
 //! The service: its threads start, and end.
+ghost use Rattle.std.specs.Prelude.{◌≡◌, ◌+◌, ◌≤◌, IfOk, IfSome};
+ghost use Rattle.desk_service.specs.PageThreads.{page_threads};
 ghost use Rattle.desk_service.specs.Services.{AreInRange, IsLocal};
 
 use crate::arrivals::{Arrivals, receive_clients};
@@ -8,9 +10,10 @@ use crate::lobby::Lobby;
 use crate::opening::{Opened, open};
 use crate::pages::{Door, PAGE_THREADS, PagePlace, page_threads};
 use crate::places::{Serve, SessionPlace, WorkerPlace};
-use crate::root::{take_folder, take_journal, try_files};
+use crate::root::{JournalLock, take_folder, take_journal, try_files};
 use crate::seating::{Places, open_channels, seat_all};
 use crate::service_end::ServiceEnd;
+use crate::service_over::ServiceOver;
 use crate::settings::{JOURNAL, Settings};
 use crate::system_file::SystemFile;
 use crate::versions::{Seen, VERSIONS};
@@ -134,6 +137,7 @@ struct Hearing<'a, R> {
     port: u16,
     page: Option<u16>,
     end: &'a ServiceEnd,
+    over: Option<&'a ServiceOver>,
 }
 
 impl<R> Clone for Hearing<'_, R> {
@@ -163,6 +167,9 @@ impl<R: Wait + Clock + Files + Net> Hear for Hearing<'_, R> {
     fn hear(self) -> Option<UnixStream> {
         let asked = hear(self.rt, self.control, local_address(self.port), self.end);
         wake_pages(self.rt, self.page);
+        if let (Some(over), Some(_)) = (self.over, &asked) {
+            over.stop(self.rt);
+        }
         asked
     }
 
@@ -396,17 +403,29 @@ fn page_port(door: Option<Door<'_>>) -> Option<u16> {
     }
 }
 
+/// How many threads of a service change decks: those of its sessions and readers, and of the page, if there is a
+/// door for browsers.
+fn changing_threads(settings: &Settings<'_>, door: Option<Door<'_>>) -> usize
+    requires { AreInRange settings.now }
+    ensures count { result ≡ settings.now.sessions + settings.now.readers + page_threads door.entry }
+    ensures few { result ≤ 36 }
+{
+    settings.sessions + settings.readers + page_threads(door)
+}
+
 /// Serves what was opened at a listener: each worker and each session has a seat of its own at its desk, and
 /// so has each thread of the page, if there is a door for browsers.
 fn serve_opened<'a, R>(
     rt: &'a R,
     alloc: Global,
+    keys: RandomState,
     listener: &'a TcpListener,
     door: Option<Door<'a>>,
     control: Option<&'a Control>,
     settings: &'a Settings<'a>,
     opened: Opened<SystemFile<R::File>>,
     known: KnownFiles,
+    over: Option<&'a ServiceOver>,
 ) -> Result<(), ServeFault>
 where
     R: Threads
@@ -423,11 +442,12 @@ where
     R::Dir: Send,
     R::Listener: Send,
     R::Stream: Send,
-    requires { AreInRange settings.now }
+    requires range { AreInRange settings.now }
+    requires places { IfSome opened.journal (λ journal. journal ≡ settings.now.sessions + settings.now.readers + page_threads door) }
 {
     let Opened { desk, journal } = opened;
     let sessions = settings.sessions + settings.readers;
-    let threads = sessions + page_threads(door);
+    let threads = changing_threads(settings, door);
     let (office, seats) = Office::open(alloc, desk, settings.workers + threads)?;
     let end = &ServiceEnd::new(alloc, threads, sessions, settings.sessions)?;
     let channels = open_channels(alloc)?;
@@ -437,7 +457,7 @@ where
         sessions,
         pages,
     } = seat_all(
-        rt, alloc, &office, seats, settings, door, &channels, &known, end, journal,
+        rt, alloc, keys, &office, seats, settings, door, &channels, &known, end, journal,
     )?;
     let arrivals = channels.into_arrivals();
     let (port, page) = (port_of(listener, settings.port), page_port(door));
@@ -447,6 +467,7 @@ where
         port,
         page,
         end,
+        over,
     };
     let receiving = Receiving {
         rt,
@@ -490,33 +511,35 @@ where
     R::Stream: Send,
     requires { AreInRange settings.now }
 {
-    let opened = open(
-        rt,
-        alloc,
-        settings,
-        settings.sessions + settings.readers,
-        &Seen::unasked(alloc),
-    )?;
     let Ok(keys) = RandomState::new(rt) else {
         return Err(ServeFault::SocketFault);
     };
+    let seen = Seen::unasked(alloc);
+    let threads = changing_threads(settings, None);
+    let mut lock = JournalLock::new(alloc, settings.journal);
+    let opened = open(rt, alloc, keys, settings, threads, &seen, &mut lock)?;
     let known = KnownFiles::new(alloc, keys);
-    serve_opened(rt, alloc, listener, None, None, settings, opened, known)
+    serve_opened(
+        rt, alloc, keys, listener, None, None, settings, opened, known, None,
+    )
 }
 
 /// What a service begins with in its folder, which has kept the versions that it may tell, where so many
 /// threads change decks.
-fn open_in_folder<R: Files + Eprint + Clock>(
+fn open_in_folder<R: Files<File = File> + Eprint + Clock>(
     rt: &R,
     alloc: Global,
+    keys: RandomState,
     settings: &Settings<'_>,
     threads: usize,
+    lock: &mut JournalLock,
 ) -> Result<Opened<SystemFile<R::File>>, ServeFault>
 where
     R::File: AsFd,
+    ensures places { IfOk result (λ opened. IfSome opened.journal (λ journal. journal ≡ threads)) }
 {
     let seen = Seen::read(rt, alloc, settings.root)?;
-    open(rt, alloc, settings, threads, &seen)
+    open(rt, alloc, keys, settings, threads, &seen, lock)
 }
 
 /// The files that are known in a folder, for a desk that goes on behind a version.
@@ -541,10 +564,12 @@ where
 fn serve_folder<'a, R>(
     rt: &'a R,
     alloc: Global,
+    keys: RandomState,
     listener: &'a TcpListener,
     door: Option<Door<'a>>,
     settings: &'a Settings<'a>,
-    keys: RandomState,
+    lock: &mut JournalLock,
+    over: Option<&'a ServiceOver>,
 ) -> Result<(), ServeFault>
 where
     R: Threads
@@ -563,20 +588,21 @@ where
     R::Stream: Send,
     requires { AreInRange settings.now }
 {
-    let threads = settings.sessions + settings.readers + page_threads(door);
-    let opened = open_in_folder(rt, alloc, settings, threads)?;
-    let _journal = take_journal(rt, alloc, settings)?;
+    let threads = changing_threads(settings, door);
+    let opened = open_in_folder(rt, alloc, keys, settings, threads, lock)?;
     let control = Control::open(rt, alloc, settings.root);
     let known = known_in(rt, alloc, keys, settings.root, opened.desk.version())?;
     serve_opened(
         rt,
         alloc,
+        keys,
         listener,
         door,
         control.as_ref(),
         settings,
         opened,
         known,
+        over,
     )
 }
 
@@ -587,12 +613,14 @@ where
 /// `PageFault`, then those of versions and journal, and want of memory. A port that can't be listened on is
 /// the one fault that is told of sockets: later ones end a session at most. It returns without a fault where
 /// `STOP` is said at the control connection of the folder, and with `once` as `serve_on`, where there is no
-/// page.
+/// page. Who waits for its end beside it hears of `STOP` once what was being answered is out: a thread that hangs
+/// in the system holds the return up.
 pub fn serve<'a, R>(
     rt: &'a R,
     alloc: Global,
     settings: &'a Settings<'a>,
     page: Option<u16>,
+    over: Option<&'a ServiceOver>,
 ) -> Result<(), ServeFault>
 where
     R: Threads
@@ -617,7 +645,7 @@ where
         &taken,
         settings.sessions + settings.readers + PAGE_THREADS,
     )?;
-    drop(take_journal(rt, alloc, settings)?);
+    let mut lock = take_journal(rt, alloc, settings)?;
     clear_folder(rt, settings.root, &[VERSIONS, JOURNAL, FILES]);
     let Ok(listener) = TcpListener::bind(rt, local_address(settings.port)) else {
         return Err(ServeFault::SocketFault);
@@ -626,7 +654,7 @@ where
         return Err(ServeFault::SocketFault);
     };
     let Some(port) = page else {
-        return serve_folder(rt, alloc, &listener, None, settings, keys);
+        return serve_folder(rt, alloc, keys, &listener, None, settings, &mut lock, over);
     };
     let Ok(browsers) = TcpListener::bind(rt, local_address(port)) else {
         return Err(ServeFault::PageFault);
@@ -638,5 +666,5 @@ where
         port: port_of(&browsers, port),
         keys,
     };
-    serve_folder(rt, alloc, &listener, Some(door), settings, keys)
+    serve_folder(rt, alloc, keys, &listener, Some(door), settings, &mut lock, over)
 }

@@ -1,5 +1,5 @@
 //! The places of all threads of a service, and the channels that they talk by.
-ghost use Rattle.std.specs.Prelude.{◌≡◌, ◌≤◌, ◌+◌, length, IfOk};
+ghost use Rattle.std.specs.Prelude.{◌≡◌, ◌≤◌, ◌+◌, length, IfOk, IfSome};
 ghost use Rattle.desk_service.specs.PageThreads.{page_threads};
 ghost use Rattle.turn_office.specs.Seats.{AreOf};
 
@@ -15,6 +15,7 @@ use deck_workers::Bell;
 use desk_core::Desk;
 use journal::RecordsFile;
 use std::alloc::{AllocError, Global};
+use std::hash::RandomState;
 use std::net::TcpStream;
 use turn_office::{Office, SeatList};
 
@@ -64,6 +65,7 @@ pub(crate) struct Places<'a, R, F: RecordsFile> {
 pub(crate) fn seat_all<'a, R, F: RecordsFile>(
     rt: &'a R,
     alloc: Global,
+    keys: RandomState,
     office: &'a Office<Desk>,
     seats: SeatList<Desk>,
     settings: &Settings<'a>,
@@ -76,6 +78,7 @@ pub(crate) fn seat_all<'a, R, F: RecordsFile>(
     requires own { AreOf office.now.id seats.items }
     requires enough { settings.now.workers + (settings.now.sessions + settings.now.readers + page_threads door) ≤ length seats.items }
     requires few { settings.now.sessions + settings.now.readers ≤ 32 }
+    requires kept { IfSome journal (λ journal. settings.now.sessions + settings.now.readers + page_threads door ≤ journal.now) }
     ensures workers { IfOk result (λ places. length places.workers.items ≡ settings.now.workers) }
     ensures sessions { IfOk result (λ places. length places.sessions.items ≡ settings.now.sessions + settings.now.readers) }
     ensures pages { IfOk result (λ places. length places.pages.items ≡ page_threads door.entry) }
@@ -84,6 +87,7 @@ pub(crate) fn seat_all<'a, R, F: RecordsFile>(
     let workers = worker_places(
         rt,
         alloc,
+        keys,
         office,
         &mut left,
         settings.workers,

@@ -10,6 +10,7 @@ use crate::records::{Entry, Record};
 use cards::DeckName;
 use desk_core::{Call, Desk, Refusal, Reply};
 use std::alloc::Global;
+use std::hash::RandomState;
 use std::io::Read;
 use text_ports::Counted;
 
@@ -99,6 +100,7 @@ fn make_again(
 /// Takes the record at a place: the first may tell where the journal begins, and each other has a change.
 fn take_record(
     alloc: Global,
+    keys: RandomState,
     desk: &mut Desk,
     is_first: bool,
     found: Record,
@@ -118,7 +120,7 @@ fn take_record(
     } = found;
     match entry {
         Entry::Begun if is_first => {
-            *desk = Desk::behind(alloc, version);
+            *desk = Desk::behind(alloc, keys, version);
             Ok(())
         }
         Entry::Begun => Err(unmade),
@@ -130,13 +132,14 @@ fn take_record(
 /// their order: to its end, or until the desk has this version.
 pub fn replay<R: Read>(
     alloc: Global,
+    keys: RandomState,
     input: &mut Counted<R>,
     last: u64,
 ) -> Result<Replayed, ReplayFault>
     ensures { IfOk result (λ replayed. Replays (R.remaining input.old.0) (R.remaining input.new.0) last replayed.desk replayed.ending) }
 {
     let mut place = Place::at_start();
-    let mut desk = Desk::new(alloc);
+    let mut desk = Desk::new(alloc, keys);
     let mut is_first = true;
     for _ in 0..u64::MAX {
         if desk.version() == last {
@@ -144,7 +147,7 @@ pub fn replay<R: Read>(
         }
         let begin = place;
         match next_record(alloc, input, &mut place)? {
-            Next::Found(record) => take_record(alloc, &mut desk, is_first, record, &begin)?,
+            Next::Found(record) => take_record(alloc, keys, &mut desk, is_first, record, &begin)?,
             Next::Ended(ending) => {
                 return Ok(Replayed {
                     desk,

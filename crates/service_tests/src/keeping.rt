@@ -22,7 +22,7 @@ use std::time::Clock;
 use text_ports::{Counted, FaultyReader};
 
 /// Makes a step of this word, if it is one of what is kept, and answers whether it is.
-pub fn make<R: AllocGlobal + Wait + Clock>(
+pub fn make<R: AllocGlobal + Wait + Clock + Eprint>(
     rt: &R,
     word: &str,
     rest: &str,
@@ -188,7 +188,7 @@ fn ask<C: Calls>(desk: &mut C, call: Call) -> Reply {
 }
 
 /// Makes ten changes that are kept on a disk, and mends it behind the sixth.
-fn make_on_disk<R: Wait + Clock>(
+fn make_on_disk<R: Wait + Clock + Eprint>(
     rt: &R,
     alloc: Global,
     disk: &Mutex<Disk>,
@@ -227,7 +227,7 @@ fn has_kept(alloc: Global, bytes: &[u8], versions: Versions) -> bool {
 
 /// Makes ten changes on a disk whose calls fail from one on, so many of them: whether what was told as made is
 /// kept, and how often the disk was called.
-fn ten_changes<R: Wait + Clock>(
+fn ten_changes<R: Wait + Clock + Eprint>(
     rt: &R,
     alloc: Global,
     fails_from: u64,
@@ -239,7 +239,7 @@ fn ten_changes<R: Wait + Clock>(
     Ok((has_kept(alloc, &disk.bytes, versions), disk.calls))
 }
 
-fn keep<R: AllocGlobal + Wait + Clock>(
+fn keep<R: AllocGlobal + Wait + Clock + Eprint>(
     rt: &R,
     count: u64,
     answer: &mut Answer,
