@@ -11,6 +11,7 @@
 //! of `desk_tests` tell theirs, and a step that begins with none of them is a command of a session.
 #![tactic(auto)]
 
+mod hosting;
 mod journals;
 mod keeping;
 mod replies;
@@ -22,6 +23,7 @@ use std::alloc::AllocGlobal;
 use std::fs::File;
 use std::net::{Net, TcpListener, TcpStream};
 use std::process::ExitCode;
+use std::random::RandomSource;
 use std::rt::{Env, Files};
 use std::sync::Wait;
 use std::thread::Threads;
@@ -52,6 +54,7 @@ where
         + Clone
         + Clock
         + Eprint
+        + RandomSource
         + Net<Stream = TcpStream, Listener = TcpListener>,
     R::File: Send,
     R::Dir: Send,
@@ -61,7 +64,8 @@ where
         || journals::make(&mut place.file, word, rest, answer)
         || replies::make(word, rest, answer)
         || keeping::make(rt, word, rest, answer)
-        || sockets::make(rt, rt.alloc(), word, rest, answer);
+        || sockets::make(rt, rt.alloc(), word, rest, answer)
+        || hosting::make(rt, rt.alloc(), word, rest, answer);
     if !is_made {
         place.say(step, answer);
     }
@@ -79,6 +83,7 @@ where
         + Clone
         + Clock
         + Eprint
+        + RandomSource
         + Net<Stream = TcpStream, Listener = TcpListener>,
     R::File: Send,
     R::Dir: Send,
@@ -150,6 +155,7 @@ where
         + Clock
         + Print
         + Eprint
+        + RandomSource
         + Net<Stream = TcpStream, Listener = TcpListener>,
     R::File: Send,
     R::Dir: Send,
@@ -173,6 +179,7 @@ where
         + Clock
         + Print
         + Eprint
+        + RandomSource
         + Net<Stream = TcpStream, Listener = TcpListener>,
     R::File: Send,
     R::Dir: Send,
@@ -197,6 +204,7 @@ where
         + Clock
         + Print
         + Eprint
+        + RandomSource
         + Net<Stream = TcpStream, Listener = TcpListener>,
     R::File: Send,
     R::Dir: Send,
@@ -237,6 +245,7 @@ where
         + CpuClock
         + Print
         + Eprint
+        + RandomSource
         + Net<Stream = TcpStream, Listener = TcpListener>,
     R::File: Send,
     R::Dir: Send,

@@ -9,6 +9,7 @@
 ghost use Rattle.std.specs.Prelude.{◌≡◌, ◌≤◌, true};
 ghost use Rattle.desk_service.specs.Services.{AreInRange};
 
+use crate::hosting::post;
 use desk_service::{Journaling, Settings, serve_on};
 use desk_tests::{Answer, cut, cut_line, cut_number, number};
 use std::alloc::{AllocGlobal, Global};
@@ -22,7 +23,7 @@ use std::thread::Threads;
 use std::time::{Clock, Duration};
 
 /// Where a service listens: at a port that is free.
-const ADDRESS: &str = "127.0.0.1:0";
+pub(crate) const ADDRESS: &str = "127.0.0.1:0";
 
 /// How many clients edit one deck.
 const CLIENTS: usize = 16;
@@ -35,13 +36,13 @@ const TRIES: usize = 10_000;
 
 /// A client's connection, and the reply that it read last.
 #[derive(Drop)]
-struct Client {
+pub(crate) struct Client {
     reader: BufReader<TcpStream>,
     reply: String,
 }
 
 impl Client {
-    fn connect<R: Net<Stream = TcpStream>>(
+    pub(crate) fn connect<R: Net<Stream = TcpStream>>(
         rt: &R,
         alloc: Global,
         address: SocketAddr,
@@ -53,7 +54,7 @@ impl Client {
     }
 
     /// Sends text as it stands.
-    fn send(&mut self, text: &str) -> io::Result<()> {
+    pub(crate) fn send(&mut self, text: &str) -> io::Result<()> {
         self.reader.get_mut().write_all(text.as_bytes())
     }
 
@@ -61,6 +62,16 @@ impl Client {
     fn read(&mut self) -> io::Result<()> {
         self.reader.read_line(&mut self.reply)?;
         Ok(())
+    }
+
+    /// Reads all that comes, up to the end of the connection.
+    pub(crate) fn read_all(&mut self) -> io::Result<&str> {
+        for _ in 0..TRIES {
+            if self.reader.read_line(&mut self.reply)? == 0 {
+                break;
+            }
+        }
+        Ok(self.reply.as_str())
     }
 
     /// Says a command, and reads the whole reply.
@@ -139,7 +150,7 @@ fn lines_behind(first: &str) -> u64 {
 }
 
 /// Whether a service may have these settings.
-fn are_in_range(settings: &Settings<'_>) -> bool
+pub(crate) fn are_in_range(settings: &Settings<'_>) -> bool
     ensures { result ≡ true → AreInRange settings.now }
 {
     1 <= settings.workers
@@ -171,7 +182,7 @@ where
 
 /// The folder and the journal of a service, in which `.` stands for the one and for none, and its threads; and what
 /// clients say.
-fn settings_of(text: &str) -> (Settings<'_>, &str) {
+pub(crate) fn settings_of(text: &str) -> (Settings<'_>, &str) {
     let (head, script) = cut_line(text);
     let (folder, rest) = cut(head);
     let (journal, rest) = cut(rest);
@@ -240,7 +251,13 @@ fn talk<R: Threads + Sync + Net<Stream = TcpStream> + Clock>(
     let mut answer = Answer::new(alloc);
     let done = match listener.local_addr() {
         Ok(address) if script == "gather" => gather(rt, alloc, address, &mut answer),
-        Ok(address) => say_all(rt, alloc, address, script, &mut answer),
+        Ok(service) => {
+            let addresses = Addresses {
+                service,
+                page: None,
+            };
+            say_all(rt, alloc, &addresses, script, &mut answer)
+        }
         Err(error) => Err(error),
     };
     if done.is_err() {
@@ -249,20 +266,32 @@ fn talk<R: Threads + Sync + Net<Stream = TcpStream> + Clock>(
     answer
 }
 
+/// Where a service listens, and its page, if it has one.
+#[derive(Clone, Copy)]
+pub(crate) struct Addresses {
+    pub(crate) service: SocketAddr,
+    pub(crate) page: Option<SocketAddr>,
+}
+
 /// Clients say what a script has.
-fn say_all<R: Net<Stream = TcpStream> + Clock>(
+pub(crate) fn say_all<R: Net<Stream = TcpStream> + Clock>(
     rt: &R,
     alloc: Global,
-    address: SocketAddr,
+    addresses: &Addresses,
     script: &str,
     answer: &mut Answer,
 ) -> io::Result<()> {
+    let address = addresses.service;
     let mut clients = Vec::new(alloc);
     for entry in script.split("\n\n") {
         let (word, rest) = cut(entry);
         match word {
             "send" => go_away(rt, alloc, address, rest, "")?,
             "send_line" => go_away(rt, alloc, address, rest, "\n")?,
+            "page" => match addresses.page {
+                Some(page) => post(rt, alloc, page, rest, answer)?,
+                None => return Err(io::Error::other("no page")),
+            },
             _ => {
                 let client = client_at(rt, alloc, address, &mut clients, number(word) as usize)?;
                 say(rt, client, rest)?;
@@ -346,7 +375,7 @@ fn are_taken(clients: &[Client]) -> bool {
 
 /// Sixteen clients, each in a thread of its own, insert their cards; and the first looks at the deck until all stand
 /// there.
-fn gather<R: Threads + Sync + Net<Stream = TcpStream> + Clock>(
+pub(crate) fn gather<R: Threads + Sync + Net<Stream = TcpStream> + Clock>(
     rt: &R,
     alloc: Global,
     address: SocketAddr,
