@@ -5,6 +5,7 @@ use crate::input_files::{input_of, standard_input};
 use crate::journal_files::{DecksFault, decks_at};
 use crate::outputs::{Clash, file_named, first_clash};
 use crate::run_faults::{RunFault, placed, tell_clash, tell_run};
+use crate::standard_output::standard_output;
 use crate::symbols::symbol_tables;
 use crate::words::{plain_word, valued_word};
 use asm_main::{
@@ -229,7 +230,7 @@ where
     I: BufRead,
 {
     if !named.has_outputs() && !named.symbols {
-        let mut output = Counted::new(io::writer(rt));
+        let mut output = Counted::new(standard_output(rt));
         return Ok(asm_run(rt.alloc(), input, &mut output)?);
     }
     let mut built = asm_build(rt.alloc(), input)?;
@@ -380,9 +381,9 @@ fn write_others<'a, R>(
     tables: &[u8],
 ) -> Result<Tally, RunFault<'a>>
 where
-    R: Print,
+    R: AllocGlobal + Print + Files,
 {
-    let mut output = Counted::new(Remembering::new(io::writer(rt)));
+    let mut output = Counted::new(Remembering::new(standard_output(rt)));
     match write_texts(&mut output, built, named.others(), tables) {
         Ok(()) => Ok(built.tally()),
         Err(broken) => {

@@ -1,5 +1,6 @@
 //! Journals on the command line: the decks of a version, and the changes as lines.
 
+use crate::standard_output::standard_output;
 use crate::words::valued_word;
 use asm_main::{AsmFault, Deck, asm_status};
 use clap::{Arg, ArgAction, ArgMatches, Command};
@@ -261,7 +262,7 @@ fn log_file<R: AllocGlobal + Print + Files>(
     let Ok(reader) = BufReader::new(rt.alloc(), file) else {
         return Err(LogFault::Asm(AsmFault::OutOfMemory));
     };
-    let Ok(writer) = io::BufWriter::new(rt.alloc(), io::writer(rt)) else {
+    let Ok(writer) = io::BufWriter::new(rt.alloc(), standard_output(rt)) else {
         return Err(LogFault::Asm(AsmFault::OutOfMemory));
     };
     let mut output = Counted::new(writer);

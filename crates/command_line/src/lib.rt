@@ -18,6 +18,7 @@ mod assembling;
 mod flagged;
 mod outputs;
 mod run_faults;
+mod standard_output;
 mod symbols;
 
 pub use assembling::{asm_words, assemble};
