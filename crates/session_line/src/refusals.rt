@@ -58,7 +58,7 @@ pub enum Refusal {
     BadEdit { number: u64, fault: EditFault },
     /// A batch has no edit, or more than 100.
     BatchSize,
-    /// The deck's file stands there, and this service neither loaded nor saved it.
+    /// A file stands there that is not known: it was not saved here, nor loaded into a deck.
     FileExists,
     /// All sessions are taken.
     Busy,
