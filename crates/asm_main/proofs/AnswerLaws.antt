@@ -1,14 +1,14 @@
 -- The answers of the definitions, and those of a run.
-use Rattle.std.proofs.Common.{ℕ, ◌≡◌, ◌+◌, ◌/◌, ◌%◌, ◌<◌, ◌≤◌, ◌^◌, nat_lt, List, [], ◌∷◌, ◌++◌, length, refl, sym, ap, ◌∙◌, arith, lt-ltb, le-ltb, true, false, subst, Option, None, Some, IfSome}
+use Rattle.std.proofs.Common.{ℕ, ◌≡◌, ◌<◌, ◌^◌, List, [], ◌∷◌, ◌++◌, refl, sym, ap, ◌∙◌, arith, subst, Option, None, Some, IfSome}
 use Rattle.std.specs.Prelude.{codes, decimal}
-use Rattle.std.proofs.lemmas.Fmt.{AppendsLastDigit, decimal_from_appends_wide, length-decimal-le}
 use Rattle.definitions.specs.Answer.{Answer, answer_to, answer_of, built}
 use Rattle.definitions.specs.Answer as answers
-use Rattle.definitions.specs.Build.{Build, build_of}
+use Rattle.definitions.specs.Build.{build_of}
 use Rattle.definitions.specs.DeckInput.{Deck, Input, Decks, Faulty, InputFault, in_input_order}
 use Rattle.definitions.specs.DeckInput as input
 use Rattle.definitions.specs.Listing.{line}
-use Rattle.definitions.specs.Numerals.{decimal_of, decimal_in}
+use Rattle.definitions.specs.Numerals.{decimal_of}
+use Rattle.text_ports.proofs.Decimals.{decimal-same}
 use Rattle.cards.specs.declared.card.CardFault.{CardFault}
 use Rattle.cards.specs.declared.card.CardFault.TheVariants as card
 use Rattle.asm_main.specs.declared.asm_fault.AsmFault.{AsmFault}
@@ -21,16 +21,6 @@ use Rattle.asm_main.specs.Inputs.{input_in, AreDecksOf, bad_line, AreSmall, IsSm
 pub answered : (found : Input) (decks : List Deck) → AreDecksOf found decks → answer_to found ≡ built (build_of decks)
 answered (Decks found) decks are = ap (λ (d : List Deck). built (build_of d)) (sym are)
 answered (Faulty fault) decks are = absurd are
-
--- a number in decimal
-decimal_in-appends : AppendsLastDigit decimal_in
-decimal_in-appends = record {
-  one = λ k n few. ap (λ t. elim t [ true ↦ (48 + n) ∷ [] | false ↦ decimal_in k (n / 10) ++ (48 + n % 10) ∷ [] ]) (lt-ltb n 10 few);
-  more = λ k n many. ap (λ t. elim t [ true ↦ (48 + n) ∷ [] | false ↦ decimal_in k (n / 10) ++ (48 + n % 10) ∷ [] ]) (le-ltb n 10 many);
-}
-
-pub decimal-same : (n : ℕ) → n < 2 ^ 64 → decimal_of n ≡ decimal n
-decimal-same n small = decimal_from_appends_wide decimal_in decimal_in-appends 20 n (omega (arith, small)) (length-decimal-le 20 n (omega (arith, small)) (omega (arith, small)) (omega arith))
 
 -- a number, and the texts around it
 numbered : (front : List ℕ) (n : ℕ) (rest : List ℕ) → n < 2 ^ 64 → front ++ (decimal_of n ++ rest) ≡ front ++ (decimal n ++ rest)

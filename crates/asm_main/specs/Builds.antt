@@ -1,5 +1,5 @@
 -- What a run writes, counts and says: the build of the decks of its input (ours).
-use Rattle.std.specs.Prelude.{ℕ, ◌≡◌, ◌<◌, ⊤, List, [], ◌++◌, Option, Some, None, Result, Ok, length, take, codes, IfSome}
+use Rattle.std.specs.Prelude.{ℕ, ◌≡◌, ◌<◌, ⊤, List, [], ◌++◌, Option, Ok, length, take, codes, IfSome}
 use Rattle.std.specs.Io.KnownBytes.{Appends, Keeps}
 use Rattle.definitions.specs.Answer.{Answer}
 use Rattle.definitions.specs.Build.{Build, build_of}

@@ -3,11 +3,12 @@
 use cards::CardFault;
 use std::alloc::{AllocError, AllocFailed};
 use std::fmt;
+use thiserror::Error;
 
 /// Why a run wrote no whole output. Lines and columns count from 1.
 ///
 /// The text is the name, then the numbers in decimal, each after one blank.
-#[derive(Clone, Copy, Debug)]
+#[derive(Clone, Copy, Debug, Error)]
 pub enum AsmFault {
     /// No memory was left.
     OutOfMemory,
@@ -49,8 +50,6 @@ impl fmt::Display for AsmFault {
         }
     }
 }
-
-impl std::error::Error for AsmFault {}
 
 impl From<AllocError> for AsmFault {
     ghost use Rattle.std.specs.Prelude.{◌≡◌};

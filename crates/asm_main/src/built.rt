@@ -14,6 +14,7 @@ use crate::writing::{put_text, write_texts};
 use deck_linker::{LinkedDecks, Publication, link};
 use deck_objects::{Object, SharedObject};
 use std::alloc::{AllocError, Global};
+use std::hash::RandomState;
 use std::io::Write;
 use text_ports::{Broken, Counted, put_all};
 
@@ -32,15 +33,15 @@ pub enum Built {
 impl Built {
     /// Decks, assembled and linked; all memory is asked for here that their texts need. `asm` has one
     /// version, 0.
-    pub fn new(alloc: Global, decks: Vec<Deck>) -> Result<Built, AllocError>
+    pub fn new(alloc: Global, keys: RandomState, decks: Vec<Deck>) -> Result<Built, AllocError>
         requires few { length decks.items ≤ 64 }
         ensures { IfOk result (λ built. decks_of built ≡ decks.items) }
     {
-        let objects = objects_of(alloc, decks)?;
+        let objects = objects_of(alloc, keys, decks)?;
         if size_of(objects.as_slice()) <= FEW {
-            return Ok(Built::Whole(link(alloc, objects, 0)?));
+            return Ok(Built::Whole(link(alloc, keys, objects, 0)?));
         }
-        Ok(Built::InPieces(LinkedDecks::new(alloc, objects)?))
+        Ok(Built::InPieces(LinkedDecks::new(alloc, keys, objects)?))
     }
 
     /// What a build counts.

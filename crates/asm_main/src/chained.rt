@@ -2,7 +2,8 @@
 ghost use Rattle.std.specs.Prelude.{◌≡◌, ◌<◌, ◌-◌, take, [], vec_len, IfOk, false, None, Some};
 ghost use Rattle.std.specs.Io.{ReadsAtMost};
 ghost use Rattle.std.specs.Io.KnownBytes.{Consumes, IsAtEnd, ReadConsumes};
-ghost use Rattle.asm_main.specs.Joins.Chains.{TurnReads, ends_behind, given_in, is_open_behind, left_of, lines_given, next_after, place_in};
+ghost use Rattle.asm_main.specs.Joins.Chains.{IsBehindRead, IsBehindTurn, TurnReads, ends_behind, given_in, is_open_behind, left_of, lines_given, next_after, place_in};
+ghost use Rattle.asm_main.specs.Joins.LatestFaults.{latest_fault};
 
 use std::io;
 use std::io::Read;
@@ -192,6 +193,9 @@ impl<R: Read> Chained<R> {
         ensures bytes { TurnReads (left_of R.remaining self.old) (left_of R.remaining self.new) result buf.new }
         ensures count { vec_len self.new.parts ≡ vec_len self.old.parts }
         ensures next { IfOk result (λ turn. turn ≡ Turn.Ended → self.old.next < self.new.next) }
+        ensures asked { self.new.asked ≡ self.old.next }
+        ensures behind { IsBehindTurn self.new result }
+        ensures fault { self.new.fault ≡ latest_fault self.old.fault result }
     {
         let part = &mut self.parts[self.next];
         self.asked = self.next;
@@ -215,7 +219,14 @@ impl<R: Read> Read for Chained<R> {
 
     ghost remaining = { left_of R.remaining };
 
-    fn read(&mut self, buf: &mut [u8]) -> io::Result<usize> {
+    fn read(&mut self, buf: &mut [u8]) -> io::Result<usize>
+        ensures bound { ReadsAtMost result buf.new }
+        ensures bytes { ReadConsumes (left_of R.remaining self.old) (left_of R.remaining self.new) result buf.new }
+
+        // The part that failed or gave bytes was asked last, and is next still; at the end one that ended was.
+        ensures asked { IsBehindRead self.old self.new result buf.new }
+        ensures fault { self.new.fault ≡ latest_fault self.old.fault result }
+    {
         while self.next < self.parts.len() {
             if let Turn::Read(count) = self.read_part(buf)? {
                 return Ok(count);

@@ -23,6 +23,7 @@ mod writing;
 
 // Several readers as one, and a writer that remembers its faults.
 mod chained;
+mod latest_fault;
 mod remembering;
 
 // A filter in front of them.

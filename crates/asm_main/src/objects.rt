@@ -7,23 +7,33 @@ use deck_objects::SharedObject;
 use edit_core::assemble;
 use statement_coder::Meter;
 use std::alloc::{AllocError, Global};
+use std::hash::RandomState;
 
 /// A deck, assembled.
-fn object_of(alloc: Global, deck: Deck, meter: &mut Meter) -> Result<SharedObject, AllocError>
+fn object_of(
+    alloc: Global,
+    keys: RandomState,
+    deck: Deck,
+    meter: &mut Meter,
+) -> Result<SharedObject, AllocError>
     ensures { IfOk result (λ object. object ≡ deck) }
 {
     let (name, cards) = deck.into_parts();
-    assemble(alloc, name, cards, meter)
+    assemble(alloc, keys, name, cards, meter)
 }
 
 /// All decks, assembled in order.
-pub(crate) fn objects_of(alloc: Global, decks: Vec<Deck>) -> Result<Vec<SharedObject>, AllocError>
+pub(crate) fn objects_of(
+    alloc: Global,
+    keys: RandomState,
+    decks: Vec<Deck>,
+) -> Result<Vec<SharedObject>, AllocError>
     ensures { IfOk result (λ objects. objects.items ≡ decks.items) }
 {
     let mut meter = Meter { sized: 0, coded: 0 };
     let mut objects = Vec::with_capacity(alloc, decks.len())?;
     for deck in decks {
-        objects.push(object_of(alloc, deck, &mut meter)?)?;
+        objects.push(object_of(alloc, keys, deck, &mut meter)?)?;
     }
     Ok(objects)
 }

@@ -13,6 +13,7 @@ use crate::built::Built;
 use crate::deck_input::read_decks;
 use deck_linker::Publication;
 use std::alloc::Global;
+use std::hash::RandomState;
 use std::io::{BufRead, Write};
 use text_ports::{Counted, LineBuf};
 
@@ -27,6 +28,7 @@ pub struct Tally {
 /// that was read last is left in `line`.
 pub fn asm_build_with<R: BufRead>(
     alloc: Global,
+    keys: RandomState,
     input: &mut Counted<R>,
     line: &mut LineBuf,
 ) -> Result<Built, AsmFault>
@@ -51,11 +53,15 @@ pub fn asm_build_with<R: BufRead>(
     ensures count { IfErr result (λ fault. input.new.1 ≡ input_count_after fault input.old.1) }
 {
     let decks = read_decks(alloc, input, line)?;
-    Ok(Built::new(alloc, decks)?)
+    Ok(Built::new(alloc, keys, decks)?)
 }
 
 /// Reads decks of cards, and builds what is written of them: all of a run but its output.
-pub fn asm_build<R: BufRead>(alloc: Global, input: &mut Counted<R>) -> Result<Built, AsmFault>
+pub fn asm_build<R: BufRead>(
+    alloc: Global,
+    keys: RandomState,
+    input: &mut Counted<R>,
+) -> Result<Built, AsmFault>
     // Where the bytes of the input are known, the decks are those of the definitions, or the fault of
     // the input is told, its text and its status.
     ensures decks { IfOk result (λ built.
@@ -76,7 +82,7 @@ pub fn asm_build<R: BufRead>(alloc: Global, input: &mut Counted<R>) -> Result<Bu
     ensures count_ok { OnOk result (input.new.1 ≡ input.old.1) }
     ensures count { IfErr result (λ fault. input.new.1 ≡ input_count_after fault input.old.1) }
 {
-    asm_build_with(alloc, input, &mut LineBuf::new())
+    asm_build_with(alloc, keys, input, &mut LineBuf::new())
 }
 
 /// What a publication counts.
@@ -94,6 +100,7 @@ pub(crate) fn tally_of(publication: &Publication) -> Tally
 /// looked at.
 pub fn asm_run<R: BufRead, W: Write>(
     alloc: Global,
+    keys: RandomState,
     input: &mut Counted<R>,
     output: &mut Counted<W>,
 ) -> Result<Tally, AsmFault>
@@ -131,7 +138,7 @@ pub fn asm_run<R: BufRead, W: Write>(
     ensures input_count { IfErr result (λ fault. input.new.1 ≡ input_count_after fault input.old.1) }
     ensures output_count { IfErr result (λ fault. output.new.1 ≡ output_count_after fault output.old.1) }
 {
-    let built = asm_build(alloc, input)?;
+    let built = asm_build(alloc, keys, input)?;
     let tally = built.tally();
     match built.write(output) {
         Ok(()) => Ok(tally),

@@ -1,6 +1,6 @@
 -- Readers one after the other, and where a line of them stands (ours).
-use Rattle.std.specs.Prelude.{ℕ, ◌≡◌, ◌<◌, ◌≤◌, ◌+◌, ◌-◌, ◌^◌, ◌==◌, length, List, [], ◌∷◌, Bool, true, false, not, nat_le, Option, None, Some, Result, Ok, Err, min, take, drop, if◌then◌else◌}
-use Rattle.std.specs.Io.KnownBytes.{prepend_known, Consumes, IsAtEnd, Keeps}
+use Rattle.std.specs.Prelude.{ℕ, ◌≡◌, ◌<◌, ◌≤◌, ◌+◌, ◌-◌, ◌^◌, ◌==◌, length, List, [], ◌∷◌, Bool, not, nat_le, Option, None, Some, Result, Ok, Err, min, take, drop, if◌then◌else◌}
+use Rattle.std.specs.Io.KnownBytes.{prepend_known, Consumes, Keeps}
 use Rattle.text_ports.specs.Lines.{line_feed}
 use Rattle.asm_main.specs.declared.chained.Part.{Part}
 use Rattle.asm_main.specs.declared.chained.Chained.{Chained}
@@ -50,6 +50,26 @@ abbrev pub TurnReads : {E : Type 0} → Option (List ℕ) → Option (List ℕ) 
 TurnReads old new (Ok (Read count)) buf = Consumes old new (take count buf) × (0 < length buf → 0 < count) × (count ≤ length buf)
 TurnReads old new (Ok Ended) buf = Consumes old new []
 TurnReads old new (Err e) buf = Keeps old new
+
+-- the part that was asked last ended: next is the one behind it, or none
+abbrev pub HasEnded : {R : Type 0} → Chained R → Type 0
+HasEnded chain = (is_open : Bool) × (chain.next ≡ next_after is_open chain.asked (length chain.parts.items))
+
+-- all parts are read: the one that was asked last ended, if one was asked
+abbrev pub IsAskedToEnd : {R : Type 0} → Chained R → Chained R → Type 0
+IsAskedToEnd old new = (old.next < length old.parts.items → HasEnded new) × (length old.parts.items ≤ old.next → new.asked ≡ old.asked)
+
+-- behind a turn the part that was asked is next still, unless it ended
+abbrev pub IsBehindTurn : {R E : Type 0} → Chained R → Result Turn E → Type 0
+IsBehindTurn chain (Ok (Read count)) = chain.next ≡ chain.asked
+IsBehindTurn chain (Ok Ended) = HasEnded chain
+IsBehindTurn chain (Err e) = chain.next ≡ chain.asked
+
+-- behind a read the part that failed or gave bytes was asked last, and is next still; where there were no more, the one
+-- that was asked last ended, if one was asked
+abbrev pub IsBehindRead : {R E : Type 0} → Chained R → Chained R → Result ℕ E → List ℕ → Type 0
+IsBehindRead old new (Ok count) buf = (0 < count → new.next ≡ new.asked) × (count ≡ 0 → 0 < length buf → IsAskedToEnd old new)
+IsBehindRead old new (Err e) buf = new.next ≡ new.asked
 
 -- how many lines these parts gave, counted on from a number that stays at its greatest value
 abbrev pub lines_given : {R : Type 0} → ℕ → List (Part R) → ℕ

@@ -1,4 +1,4 @@
-use Rattle.std.proofs.Common.{◌+◌, ℕ, List, subst}
+use Rattle.std.proofs.Common.{◌+◌, List, subst}
 use Rattle.text_ports.proofs.SendSteps.{IsPart}
 use Rattle.definitions.specs.Build.{image_of}
 use Rattle.definitions.specs.DeckInput.{Deck}

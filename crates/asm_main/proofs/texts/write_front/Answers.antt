@@ -1,4 +1,4 @@
-use Rattle.std.proofs.Common.{◌≡◌, ◌∙◌, ℕ, List, ap, subst}
+use Rattle.std.proofs.Common.{◌∙◌, ℕ, List, ap, subst}
 use Rattle.text_ports.proofs.SendSteps.{IsPart}
 use Rattle.deck_linker.specs.Publishing.{listings, map_of}
 use Rattle.deck_linker.proofs.ListedLaws.{part-behind-all}

@@ -1,4 +1,4 @@
-use Rattle.std.proofs.Common.{ℕ, ◌≡◌, ◌<◌, ◌≤◌, rules, arith, take, length}
+use Rattle.std.proofs.Common.{◌<◌, ◌≤◌, rules, take, length}
 use Rattle.asm_main.proofs.ChainLaws.{joined-gave}
 use Rattle.asm_main.proofs.chained.Chained.read_part.Goals as goal
 
