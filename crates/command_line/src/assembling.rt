@@ -15,9 +15,11 @@ use asm_main::{
 use clap::{Arg, ArgAction, ArgMatches, Command};
 use deck_files::{begin_whole, end_whole};
 use std::alloc::{AllocError, Global};
+use std::hash::RandomState;
 use std::io::{self, BufRead, BufReader, ErrorKind, Read, Write};
 use std::os::fd::AsFd;
 use std::process::ExitCode;
+use std::random::RandomSource;
 use std::rt::Files;
 use text_ports::{Broken, Counted, LineBuf, Text, put_all};
 
@@ -52,9 +54,11 @@ Example:
   compass asm --listing job.lst -o job.img job.deck
   compass asm --journal decks/beskloun.journal --version 4711";
 
-/// The files that the words name: those that are read, and those that parts of the output go to.
+/// The files that the words name: those that are read, and those that parts of the output go to; and the keys of
+/// the tables of this run.
 #[derive(Drop)]
 struct Named<'w, 'a> {
+    keys: RandomState,
     inputs: &'w [&'a str],
     filter: Option<Filter>,
     journal: Option<&'a str>,
@@ -178,10 +182,14 @@ impl<'w, 'a> Named<'w, 'a> {
 /// `compass asm`: what the words name, or standard input to standard output.
 pub fn assemble<R>(rt: &R, words: &ArgMatches<'_>) -> ExitCode
 where
-    R: AllocGlobal + Input + Print + Eprint + Files,
+    R: AllocGlobal + Input + Print + Eprint + Files + RandomSource,
     R::File: AsFd,
 {
+    let Ok(keys) = RandomState::new(rt) else {
+        return tell_run(rt, &Err(RunFault::Asm(AsmFault::ReadFault)));
+    };
     let named = Named {
+        keys,
         inputs: words.get_strs("FILE").unwrap_or(&[]),
         filter: filter_of(words),
         journal: words.get_str("journal"),
@@ -231,9 +239,9 @@ where
 {
     if !named.has_outputs() && !named.symbols {
         let mut output = Counted::new(standard_output(rt));
-        return Ok(asm_run(rt.alloc(), input, &mut output)?);
+        return Ok(asm_run(rt.alloc(), named.keys, input, &mut output)?);
     }
-    let mut built = asm_build(rt.alloc(), input)?;
+    let mut built = asm_build(rt.alloc(), named.keys, input)?;
     write_parts(rt, named, &mut built)
 }
 
@@ -243,7 +251,7 @@ where
     R: AllocGlobal + Print + Files,
     R::File: AsFd,
 {
-    match decks_at(rt, rt.alloc(), name, named.version) {
+    match decks_at(rt, rt.alloc(), named.keys, name, named.version) {
         Ok(decks) => from_decks(rt, named, decks),
         Err(DecksFault::Asm(fault)) => Err(RunFault::Asm(fault)),
         Err(DecksFault::Journal(error)) => Err(RunFault::Journal { name, error }),
@@ -259,7 +267,7 @@ where
     if decks.len() > MOST_DECKS {
         return Err(RunFault::Asm(AsmFault::TooManyDecks));
     }
-    match Built::new(rt.alloc(), decks) {
+    match Built::new(rt.alloc(), named.keys, decks) {
         Ok(built) => {
             let mut built = built;
             write_parts(rt, named, &mut built)
@@ -296,7 +304,7 @@ where
     };
     let mut input = Counted::new(reader);
     let mut line = LineBuf::new();
-    let outcome = asm_build_with(rt.alloc(), &mut input, &mut line);
+    let outcome = asm_build_with(rt.alloc(), named.keys, &mut input, &mut line);
     let reader = input.into_inner();
     match outcome {
         Ok(built) => {
@@ -334,7 +342,7 @@ where
 /// The tables of symbols, where they are asked for, and else no text.
 fn tables_of(alloc: Global, named: &Named<'_, '_>, built: &Built) -> Result<Text, AllocError> {
     if named.symbols {
-        symbol_tables(alloc, built.objects())
+        symbol_tables(alloc, named.keys, built.objects())
     } else {
         Ok(Text::new(alloc))
     }

@@ -11,6 +11,7 @@ use journal::{
 };
 use std::alloc::{AllocError, Global};
 use std::fs;
+use std::hash::RandomState;
 use std::io::{self, BufReader, Read, Write};
 use std::process::ExitCode;
 use std::rt::Files;
@@ -96,6 +97,7 @@ fn decks_in(
 pub(crate) fn decks_at<R: Files>(
     rt: &R,
     alloc: Global,
+    keys: RandomState,
     path: &str,
     version: Option<u64>,
 ) -> Result<Vec<Deck>, DecksFault> {
@@ -107,7 +109,7 @@ pub(crate) fn decks_at<R: Files>(
         return Err(DecksFault::Asm(AsmFault::OutOfMemory));
     };
     let last = version.unwrap_or(u64::MAX);
-    let Replayed { desk, ending } = replay(alloc, &mut Counted::new(reader), last)?;
+    let Replayed { desk, ending } = replay(alloc, keys, &mut Counted::new(reader), last)?;
     decks_in(alloc, &desk, ending, version)
 }
 

@@ -9,6 +9,7 @@ use expr_forms::{BitFields, ConWords, Datum, Expr, Field, Form, LinkedNames, Par
 use operations::Operation;
 use statement_coder::{Defines, Meter, ReadOperand, Reading, Statement};
 use std::alloc::{AllocError, Global};
+use std::hash::RandomState;
 use text_ports::Text;
 
 /// How many characters a symbol has at most.
@@ -282,18 +283,27 @@ fn push_symbols(
 }
 
 /// Writes the table of a deck.
-fn push_table(alloc: Global, text: &mut Text, object: &Object) -> Result<(), AllocError> {
+fn push_table(
+    alloc: Global,
+    keys: RandomState,
+    text: &mut Text,
+    object: &Object,
+) -> Result<(), AllocError> {
     push_title(text, object)?;
     let mut meter = Meter { sized: 0, coded: 0 };
-    let sized = SizedDeck::new(alloc, object.cards(), &mut meter)?;
+    let sized = SizedDeck::new(alloc, keys, object.cards(), &mut meter)?;
     push_symbols(alloc, text, object.cards(), &sized)
 }
 
 /// The tables of decks, in their order.
-pub(crate) fn symbol_tables(alloc: Global, objects: &[SharedObject]) -> Result<Text, AllocError> {
+pub(crate) fn symbol_tables(
+    alloc: Global,
+    keys: RandomState,
+    objects: &[SharedObject],
+) -> Result<Text, AllocError> {
     let mut text = Text::new(alloc);
     for object in objects {
-        push_table(alloc, &mut text, object.object())?;
+        push_table(alloc, keys, &mut text, object.object())?;
     }
     Ok(text)
 }

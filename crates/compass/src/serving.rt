@@ -23,6 +23,9 @@ const MOST_THREADS: usize = 16;
 /// How many seconds a client may be idle where nothing else is said.
 const IDLE_SECONDS: u64 = 900;
 
+/// The status of a read that failed.
+const READ_STATUS: u8 = 3;
+
 /// The status of want of memory.
 pub(crate) const MEMORY_STATUS: u8 = 4;
 
@@ -208,6 +211,9 @@ fn tell<R: Eprint>(rt: &R, fault: ServeFault, settings: &Settings<'_>, page: u16
         ServeFault::PageFault => eprintln!(rt;
             "compass: {fault}: the page can't be at 127.0.0.1:{page}; another program may have the port, choose another with --page"
         ),
+        ServeFault::ReadFault => eprintln!(rt;
+            "compass: {fault}: the system gives no random numbers"
+        ),
         ServeFault::OutOfMemory => eprintln!(rt;
             "compass: {fault}: free some, or take fewer --workers, --sessions and --readers"
         ),
@@ -245,6 +251,7 @@ fn tell<R: Eprint>(rt: &R, fault: ServeFault, settings: &Settings<'_>, page: u16
 fn status_of(fault: ServeFault) -> u8
     ensures socket { fault ≡ ServeFault.SocketFault → result ≡ 6 }
     ensures page { fault ≡ ServeFault.PageFault → result ≡ 6 }
+    ensures read { fault ≡ ServeFault.ReadFault → result ≡ 3 }
     ensures memory { fault ≡ ServeFault.OutOfMemory → result ≡ 4 }
     ensures none { fault ≡ ServeFault.NoFolder → result ≡ 7 }
     ensures taken { fault ≡ ServeFault.FolderTaken → result ≡ 7 }
@@ -259,6 +266,7 @@ fn status_of(fault: ServeFault) -> u8
     match fault {
         ServeFault::SocketFault | ServeFault::PageFault => SOCKET_STATUS,
         ServeFault::FewFiles => SOCKET_STATUS,
+        ServeFault::ReadFault => READ_STATUS,
         ServeFault::OutOfMemory => MEMORY_STATUS,
         ServeFault::NoFolder | ServeFault::FolderTaken | ServeFault::BadVersions => FOLDER_STATUS,
         ServeFault::NoLocks | ServeFault::LongRoot => FOLDER_STATUS,

@@ -1,12 +1,13 @@
 -- The texts of the faults of a service (ours).
 use Rattle.std.specs.Prelude.{ℕ, List, codes}
 use Rattle.desk_service.specs.declared.faults.ServeFault.{ServeFault}
-use Rattle.desk_service.specs.declared.faults.ServeFault.TheVariants.{SocketFault, PageFault, OutOfMemory, NoFolder, FolderTaken, NoLocks, LongRoot, FewFiles, JournalTaken, NoJournal, BadJournal, BadVersions}
+use Rattle.desk_service.specs.declared.faults.ServeFault.TheVariants.{SocketFault, PageFault, ReadFault, OutOfMemory, NoFolder, FolderTaken, NoLocks, LongRoot, FewFiles, JournalTaken, NoJournal, BadJournal, BadVersions}
 
 -- the name
 abbrev pub serve_fault_text : ServeFault → List ℕ
 serve_fault_text SocketFault = codes "SocketFault"
 serve_fault_text PageFault = codes "PageFault"
+serve_fault_text ReadFault = codes "ReadFault"
 serve_fault_text OutOfMemory = codes "OutOfMemory"
 serve_fault_text NoFolder = codes "NoFolder"
 serve_fault_text FolderTaken = codes "FolderTaken"

@@ -9,8 +9,10 @@ use thiserror::Error;
 pub enum ServeFault {
     /// The port can't be listened on.
     SocketFault,
-    /// The port of the page can't be listened on, or the system gives no random numbers for it.
+    /// The port of the page can't be listened on.
     PageFault,
+    /// The system gives no random numbers, by which names are spread in tables.
+    ReadFault,
     /// No memory was left, for a thread among others.
     OutOfMemory,
     /// The folder is not there, or can't be written in.
@@ -44,6 +46,7 @@ impl fmt::Display for ServeFault {
         match self {
             ServeFault::SocketFault => write!(f, "SocketFault"),
             ServeFault::PageFault => write!(f, "PageFault"),
+            ServeFault::ReadFault => write!(f, "ReadFault"),
             ServeFault::OutOfMemory => write!(f, "OutOfMemory"),
             ServeFault::NoFolder => write!(f, "NoFolder"),
             ServeFault::FolderTaken => write!(f, "FolderTaken"),

@@ -7,17 +7,17 @@ use crate::root::{JournalLock, journal_path};
 use crate::settings::{Journaling, Settings};
 use crate::system_file::SystemFile;
 use crate::versions::Seen;
-use deck_files::{folder_of, size_limit, sync_folder, write_whole};
+use deck_files::{begin_whole, end_whole, folder_of, size_limit, sync_folder};
 use desk_core::Desk;
 use journal::{
     Ending, JournalFile, Mark, Next, Place, RecordsFile, ReplayFault, compacted_text, kept_length,
     mark_of_front, next_record, replay,
 };
 use std::alloc::Global;
-use std::hash::RandomState;
 use std::fs;
 use std::fs::{File, OpenOptions};
-use std::io::{BufReader, ErrorKind};
+use std::hash::RandomState;
+use std::io::{BufReader, ErrorKind, Write};
 use std::os::fd::AsFd;
 use std::rt::Files;
 use std::time::Clock;
@@ -183,22 +183,41 @@ fn find<R: Files>(
     })
 }
 
+/// Makes the file of a journal anew with this text. It is taken before it stands at its path.
+fn write_anew<R: Files<File = File>>(
+    rt: &R,
+    alloc: Global,
+    path: &str,
+    text: &[u8],
+    lock: &mut JournalLock,
+) -> Result<(), ServeFault>
+where
+    R::File: AsFd,
+{
+    let Ok(begun) = begin_whole(rt, alloc, path) else {
+        return Err(ServeFault::NoJournal);
+    };
+    let mut begun = begun;
+    lock.hold(begun.file().file())?;
+    let filled = begun.file().write_all(text);
+    end_whole(rt, begun, filled).map_err(|_| ServeFault::NoJournal)
+}
+
 /// Begins a journal anew behind a version, with the decks of a desk, and makes its changes again.
-fn begin_anew<R: Files + Clock>(
+fn begin_anew<R: Files<File = File> + Clock>(
     rt: &R,
     alloc: Global,
     keys: RandomState,
     path: &str,
     begun: u64,
     desk: &Desk,
+    lock: &mut JournalLock,
 ) -> Result<Found, ServeFault>
 where
     R::File: AsFd,
 {
     let text = compacted_text(alloc, &moment_now(rt), begun, desk)?;
-    if write_whole(rt, alloc, path, text.as_slice()).is_err() {
-        return Err(ServeFault::NoJournal);
-    }
+    write_anew(rt, alloc, path, text.as_slice(), lock)?;
     let Records { desk, length, .. } = read_records(rt, alloc, keys, path)?;
     Ok(Found {
         desk,
@@ -298,8 +317,7 @@ where
             behind,
         });
     }
-    let found = begin_anew(rt, alloc, keys, path, begun, &found.desk)?;
-    lock.take(rt, path)?;
+    let found = begin_anew(rt, alloc, keys, path, begun, &found.desk, lock)?;
     Ok(Begun {
         found,
         length,
@@ -384,6 +402,15 @@ where
             desk: desk_without(rt, alloc, keys, settings, seen)?,
             journal: None,
         }),
-        Some(path) => open_at(rt, alloc, keys, settings, threads, path.as_str(), seen, lock),
+        Some(path) => open_at(
+            rt,
+            alloc,
+            keys,
+            settings,
+            threads,
+            path.as_str(),
+            seen,
+            lock,
+        ),
     }
 }

@@ -103,6 +103,15 @@ impl JournalLock {
         }
     }
 
+    /// Takes a file that stands nowhere yet, so that nobody else can have it.
+    pub(crate) fn hold(&mut self, file: &File) -> Result<(), ServeFault> {
+        let Ok(same) = file.try_clone() else {
+            return Err(ServeFault::NoJournal);
+        };
+        let _ = same.try_lock();
+        Ok(self.files.push(same)?)
+    }
+
     /// Takes the file that stands at the path of the journal, where it is a plain file and not taken yet.
     /// `FolderTaken` or `JournalTaken` where another service has it, or puts another in its place, though the
     /// folder's lock is free. Where the file system has no locks, the folder's lock does.

@@ -512,7 +512,7 @@ where
     requires { AreInRange settings.now }
 {
     let Ok(keys) = RandomState::new(rt) else {
-        return Err(ServeFault::SocketFault);
+        return Err(ServeFault::ReadFault);
     };
     let seen = Seen::unasked(alloc);
     let threads = changing_threads(settings, None);
@@ -609,7 +609,7 @@ where
 /// Serves on a port of 127.0.0.1, where no other service has the folder; what saves of a killed service
 /// left there is taken away. With a port for the page, browsers are served there, at 127.0.0.1 too. The faults
 /// come in this order: want of memory for the name of a file, `NoFolder`, `FolderTaken`, `NoLocks`, `LongRoot`,
-/// `FewFiles`, the journal's `FolderTaken` and `JournalTaken`, `SocketFault`,
+/// `FewFiles`, the journal's `FolderTaken` and `JournalTaken`, `SocketFault`, `ReadFault`,
 /// `PageFault`, then those of versions and journal, and want of memory. A port that can't be listened on is
 /// the one fault that is told of sockets: later ones end a session at most. It returns without a fault where
 /// `STOP` is said at the control connection of the folder, and with `once` as `serve_on`, where there is no
@@ -651,7 +651,7 @@ where
         return Err(ServeFault::SocketFault);
     };
     let Ok(keys) = RandomState::new(rt) else {
-        return Err(ServeFault::SocketFault);
+        return Err(ServeFault::ReadFault);
     };
     let Some(port) = page else {
         return serve_folder(rt, alloc, keys, &listener, None, settings, &mut lock, over);
@@ -666,5 +666,14 @@ where
         port: port_of(&browsers, port),
         keys,
     };
-    serve_folder(rt, alloc, keys, &listener, Some(door), settings, &mut lock, over)
+    serve_folder(
+        rt,
+        alloc,
+        keys,
+        &listener,
+        Some(door),
+        settings,
+        &mut lock,
+        over,
+    )
 }

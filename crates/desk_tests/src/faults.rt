@@ -5,6 +5,7 @@
 use crate::inputs::name_of;
 use crate::outputs::Answer;
 use crate::place::{push_outcome, serve};
+use crate::table_keys::fixed_keys;
 use deck_files::MemoryShelf;
 use desk_core::Desk;
 use session_line::Outcome;
@@ -74,7 +75,7 @@ struct Left {
 /// Serves the session on a new desk; the read and the write of these numbers fail.
 fn serve_failing(alloc: Global, lines: &str, read: u64, write: u64) -> Result<Left, AllocError> {
     let mut shelf = shelf_with_n(alloc)?;
-    let mut desk = Desk::new(alloc);
+    let mut desk = Desk::new(alloc, fixed_keys()?);
     let mut input = Counted::new(FaultyReader::new(lines.as_bytes(), 1, read));
     let mut output = Counted::new(FaultyWriter::new(alloc, 1, write));
     let mut outcome = Outcome::Served;

@@ -7,6 +7,7 @@
 
 use crate::inputs::{cards_of, cut_number, number};
 use crate::outputs::Answer;
+use crate::table_keys::fixed_keys;
 use asm_main::{AsmFault, Tally, asm_run, asm_status};
 use cards::Card;
 use deck_files::{LoadFault, load, save};
@@ -95,7 +96,7 @@ pub fn assembled<R: BufRead, W: Write>(
     input: &mut Counted<R>,
     output: &mut Counted<W>,
 ) -> Result<Tally, AsmFault> {
-    asm_run(alloc, input, output)
+    asm_run(alloc, fixed_keys()?, input, output)
 }
 
 /// What a run answered, and its status.

@@ -10,6 +10,7 @@
 
 use crate::inputs::{card_of, cards_of, cut, cut_number, name_of, number};
 use crate::outputs::Answer;
+use crate::table_keys::fixed_keys;
 use cards::{Card, DeckName, Edit};
 use deck_linker::{ListedPublication, publish};
 use deck_listing::ListedObject;
@@ -21,20 +22,23 @@ use desk_core::{
 use edit_core::{Kept, assemble};
 use statement_coder::Meter;
 use std::alloc::{AllocError, Global};
+use std::hash::RandomState;
 use text_ports::Counted;
 
 /// The job that is out, and what was done for all.
 #[derive(Drop)]
 pub struct Jobs {
     alloc: Global,
+    keys: RandomState,
     out: Option<Job>,
     meter: Meter,
 }
 
 impl Jobs {
-    pub fn new(alloc: Global) -> Jobs {
+    pub fn new(alloc: Global, keys: RandomState) -> Jobs {
         Jobs {
             alloc,
+            keys,
             out: None,
             meter: Meter { sized: 0, coded: 0 },
         }
@@ -48,7 +52,7 @@ impl Jobs {
             "settle" => self.settle(desk, number(rest), answer),
             "image" => show_image(desk, answer),
             "meter" => push_pair(answer, self.meter.sized, self.meter.coded),
-            "lost" => push_lost(self.alloc, answer),
+            "lost" => push_lost(self.alloc, self.keys, answer),
             _ => return self.call(desk, word, rest, answer),
         }
         answer.line("");
@@ -86,7 +90,7 @@ impl Jobs {
     /// Runs the job that is out, and hands in what it makes.
     fn deliver(&mut self, desk: &mut Desk, answer: &mut Answer) {
         if let Some(job) = self.out.take() {
-            let made = run(self.alloc, job, &mut self.meter);
+            let made = run(self.alloc, self.keys, job, &mut self.meter);
             if !made.is_result() {
                 answer.push("lost, ");
             }
@@ -96,7 +100,7 @@ impl Jobs {
 
     fn settle(&mut self, desk: &mut Desk, turns: u64, answer: &mut Answer) {
         let turns = u32::try_from(turns).unwrap_or(0);
-        answer.debug(&settle(self.alloc, desk, &mut self.meter, turns));
+        answer.debug(&settle(self.alloc, self.keys, desk, &mut self.meter, turns));
     }
 }
 
@@ -106,8 +110,8 @@ pub fn ask(desk: &mut Desk, call: Call) -> Reply {
 }
 
 /// Runs a job, in the same way.
-fn run(alloc: Global, job: Job, meter: &mut Meter) -> Made {
-    job.run(alloc, meter)
+fn run(alloc: Global, keys: RandomState, job: Job, meter: &mut Meter) -> Made {
+    job.run(alloc, keys, meter)
 }
 
 /// Two numbers.
@@ -229,7 +233,8 @@ fn push_edit(answer: &mut Answer, edit: &Edit) {
 /// The record of a deck with these cards.
 fn kept(alloc: Global, name: DeckName, lines: &str) -> Result<Kept, AllocError> {
     let mut meter = Meter { sized: 0, coded: 0 };
-    Kept::new(alloc, name, cards_of(alloc, lines)?, &mut meter)
+    let cards = cards_of(alloc, lines)?;
+    Kept::new(alloc, fixed_keys()?, name, cards, &mut meter)
 }
 
 /// The record of a deck, whose name and a colon stand in front of its one card; none for `-`.
@@ -243,7 +248,13 @@ fn record_of(alloc: Global, text: &str) -> Result<Option<Held>, AllocError> {
 /// The object of M with this one card.
 fn object_of(alloc: Global, line: &str) -> Result<ListedObject, AllocError> {
     let mut meter = Meter { sized: 0, coded: 0 };
-    let object = assemble(alloc, name_of("M")?, cards_of(alloc, line)?, &mut meter)?;
+    let object = assemble(
+        alloc,
+        fixed_keys()?,
+        name_of("M")?,
+        cards_of(alloc, line)?,
+        &mut meter,
+    )?;
     ListedObject::new(alloc, object)
 }
 
@@ -271,7 +282,7 @@ fn publication_of(
     for line in lines.split_whitespace() {
         objects.push(object_of(alloc, line)?)?;
     }
-    SharedPublication::new(alloc, publish(alloc, objects, version)?)
+    SharedPublication::new(alloc, publish(alloc, fixed_keys()?, objects, version)?)
 }
 
 fn link_of(alloc: Global, text: &str) -> Result<Call, AllocError> {
@@ -329,9 +340,12 @@ fn job_that_does_not_apply(alloc: Global) -> Result<Job, AllocError> {
     }))
 }
 
-fn push_lost(alloc: Global, answer: &mut Answer) {
+fn push_lost(alloc: Global, keys: RandomState, answer: &mut Answer) {
     match job_that_does_not_apply(alloc) {
-        Ok(job) => push_made(answer, &run(alloc, job, &mut Meter { sized: 0, coded: 0 })),
+        Ok(job) => {
+            let mut meter = Meter { sized: 0, coded: 0 };
+            push_made(answer, &run(alloc, keys, job, &mut meter));
+        }
         Err(error) => answer.keep(Err(error)),
     }
 }

@@ -4,9 +4,9 @@
 #![tactic(auto)]
 
 // What steps are read from, and what they write.
-mod fixed_keys;
 mod inputs;
 mod outputs;
+mod table_keys;
 
 // Steps, lowest first.
 mod breaking;
@@ -27,7 +27,6 @@ mod turns;
 mod sweeps;
 
 use deck_files::KnownFiles;
-pub use fixed_keys::fixed_keys;
 pub use inputs::{card_of, cards_of, cut, cut_line, cut_number, name_of, number, plain_text};
 pub use jobs::{ask, push_told};
 pub use outputs::Answer;
@@ -39,6 +38,7 @@ use std::sync::Wait;
 use std::thread::Threads;
 use std::time::Clock;
 pub use sweeps::{Ended, run_chosen};
+pub use table_keys::fixed_keys;
 pub use turns::measure_turns;
 
 /// Makes a step that stands in no place, and answers whether there is one of this word.

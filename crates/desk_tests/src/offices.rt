@@ -9,6 +9,7 @@ ghost use Rattle.turn_office.specs.Seats.{AreOf};
 use crate::inputs::cut_number;
 use crate::outputs::Answer;
 use crate::place::serve_ports;
+use crate::table_keys::fixed_keys;
 use deck_files::MemoryShelf;
 use desk_core::Desk;
 use session_line::SeatCalls;
@@ -233,7 +234,8 @@ fn say_all<R: AllocGlobal + Wait>(
     answer: &mut Answer,
 ) -> Result<(), AllocError> {
     let alloc = rt.alloc();
-    let Ok((office, mut seats)) = Office::open(alloc, Desk::new(alloc), 2) else {
+    let desk = Desk::new(alloc, fixed_keys()?);
+    let Ok((office, mut seats)) = Office::open(alloc, desk, 2) else {
         return Err(AllocError);
     };
     match seats.pop() {

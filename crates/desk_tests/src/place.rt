@@ -17,6 +17,7 @@ use deck_files::{MemoryShelf, Shelf};
 use desk_core::Desk;
 use session_line::{Calls, Outcome, Rights, serve_one};
 use std::alloc::{AllocError, Global};
+use std::hash::RandomState;
 use std::io::{Read, Write};
 use text_ports::{Counted, FaultyReader, FaultyWriter};
 
@@ -34,12 +35,13 @@ pub struct Place {
 }
 
 impl Place {
-    pub fn new(alloc: Global) -> Place {
+    /// An empty place, whose tables are kept by these keys.
+    pub fn new(alloc: Global, keys: RandomState) -> Place {
         Place {
             alloc,
-            desk: Desk::new(alloc),
+            desk: Desk::new(alloc, keys),
             shelf: MemoryShelf::new(alloc),
-            jobs: Jobs::new(alloc),
+            jobs: Jobs::new(alloc, keys),
             file: Vec::new(alloc),
         }
     }

@@ -4,11 +4,13 @@
 
 use crate::inputs::{card_of, name_of};
 use crate::jobs::ask;
+use crate::table_keys::fixed_keys;
 use cards::{Card, DeckName, Edit};
 use deck_workers::{Job, Made, Runs, job_in};
 use desk_core::{Call, Desk, Listed, NewDeck, Reply, SharedPublication};
 use statement_coder::Meter;
 use std::alloc::{AllocError, AllocGlobal, Global};
+use std::hash::RandomState;
 use std::io;
 use std::time::{CpuClock, Duration};
 
@@ -79,6 +81,7 @@ fn time_of<R: CpuClock>(rt: &R) -> Duration {
 #[derive(Drop)]
 struct Timed {
     alloc: Global,
+    keys: RandomState,
     desk: Desk,
     meter: Meter,
     rows: Vec<Row>,
@@ -86,9 +89,11 @@ struct Timed {
 
 impl Timed {
     fn new(alloc: Global) -> Result<Timed, AllocError> {
+        let keys = fixed_keys()?;
         Ok(Timed {
             alloc,
-            desk: Desk::new(alloc),
+            keys,
+            desk: Desk::new(alloc, keys),
             meter: Meter { sized: 0, coded: 0 },
             rows: all_rows(alloc)?,
         })
@@ -132,7 +137,7 @@ impl Timed {
     /// worker does.
     fn end<R: CpuClock>(&mut self, rt: &R, job: Job) -> Result<(), AllocError> {
         let _before = job.cards_before(self.alloc);
-        match job.run(self.alloc, &mut self.meter) {
+        match job.run(self.alloc, self.keys, &mut self.meter) {
             Made::Link { lease, publication } => self.publish(rt, lease, &publication),
             made => {
                 let_go(self.ask(rt, "delivery", made.into_call()));

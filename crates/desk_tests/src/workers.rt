@@ -9,10 +9,12 @@ ghost use Rattle.std.specs.Thread.{IsSync};
 use crate::inputs::{cards_of, name_of};
 use crate::jobs::push_reply;
 use crate::outputs::Answer;
+use crate::table_keys::fixed_keys;
 use crossbeam_channel::Receiver;
 use deck_workers::{Bell, Gate, NoSubscriber, OpenGate, worker};
 use desk_core::{Call, Desk, NewDeck, Reply};
 use std::alloc::{AllocError, AllocGlobal, Global};
+use std::hash::RandomState;
 use std::sync::Wait;
 use std::sync::atomic::{AtomicU64, Ordering};
 use std::thread;
@@ -74,6 +76,7 @@ impl Gate for MeetingGate {
 fn work_at_seats<R: Threads + Wait + Clock + Sync>(
     rt: &R,
     alloc: Global,
+    keys: RandomState,
     office: &Office<Desk>,
     seats: (Seat<Desk>, Seat<Desk>),
     gate: &MeetingGate,
@@ -87,13 +90,25 @@ fn work_at_seats<R: Threads + Wait + Clock + Sync>(
         rt,
         move || -> Seat<Desk>
             requires { IsSync R.row × (first.office ≡ office.now.id) }
-        { worker(rt, alloc, office, first, gate, &mut NoSubscriber, to_first) },
+        {
+            worker(
+                rt,
+                alloc,
+                keys,
+                office,
+                first,
+                gate,
+                &mut NoSubscriber,
+                to_first,
+            )
+        },
         move || -> Seat<Desk>
             requires { IsSync R.row × (second.office ≡ office.now.id) }
         {
             worker(
                 rt,
                 alloc,
+                keys,
                 office,
                 second,
                 gate,
@@ -110,7 +125,8 @@ type Opened = (Office<Desk>, Seat<Desk>, Seat<Desk>, Seat<Desk>);
 fn open_three(alloc: Global) -> Result<Opened, AllocError>
     ensures { IfOk result (λ r. (r.1.office ≡ r.0.id) × (r.2.office ≡ r.0.id) × (r.3.office ≡ r.0.id)) }
 {
-    let Ok((office, mut seats)) = Office::open(alloc, Desk::new(alloc), 3) else {
+    let desk = Desk::new(alloc, fixed_keys()?);
+    let Ok((office, mut seats)) = Office::open(alloc, desk, 3) else {
         return Err(AllocError);
     };
     match (seats.pop(), seats.pop(), seats.pop()) {
@@ -231,7 +247,8 @@ fn work_both<R: Threads + Wait + Clock + Sync>(
         met: AtomicU64::new(0),
         left: AtomicU64::new(0),
     };
-    work_at_seats(rt, alloc, &office, (first, second), &gate, bells);
+    let keys = fixed_keys()?;
+    work_at_seats(rt, alloc, keys, &office, (first, second), &gate, bells);
     answer.number("entered ", gate.entered.into_inner());
     answer.number(", met ", gate.met.into_inner());
     answer.number(", left ", gate.left.into_inner());
@@ -257,7 +274,8 @@ fn work_alone<R: Wait + Clock>(
     let (office, first, _, mut third) = open_three(alloc)?;
     answer.keep(add_two(rt, alloc, &office, &mut third, lines));
     let none = &mut NoSubscriber;
-    let first = worker(rt, alloc, &office, first, &OpenGate, none, bells);
+    let keys = fixed_keys()?;
+    let first = worker(rt, alloc, keys, &office, first, &OpenGate, none, bells);
     answer.number("seat ", first.number() as u64);
     answer.push(", ");
     push_published(rt, &office, &mut third, answer);

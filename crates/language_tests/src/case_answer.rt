@@ -1,7 +1,9 @@
 //! What a run answers to a deck.
 
+use crate::fixed_keys::fixed_keys;
 use asm_main::{AsmFault, Tally, asm_run, asm_status};
 use std::alloc::Global;
+use std::hash::RandomState;
 use std::io;
 use std::io::{BufRead, Write};
 use text_ports::Counted;
@@ -17,16 +19,17 @@ pub struct CaseAnswer {
 /// Assembles decks. What comes of it is looked at and no contract of it, and so who calls has no facts of it.
 fn assembled<R: BufRead, W: Write>(
     alloc: Global,
+    keys: RandomState,
     input: &mut Counted<R>,
     output: &mut Counted<W>,
 ) -> Result<Tally, AsmFault> {
-    asm_run(alloc, input, output)
+    asm_run(alloc, keys, input, output)
 }
 
 /// What a run answers to a deck, with the text that `compass` writes at a fault.
 pub fn answer_to(alloc: Global, deck: &[u8]) -> io::Result<CaseAnswer> {
     let mut output = Counted::new(Vec::new(alloc));
-    let outcome = assembled(alloc, &mut Counted::new(deck), &mut output);
+    let outcome = assembled(alloc, fixed_keys()?, &mut Counted::new(deck), &mut output);
     let message = match outcome {
         Ok(_) => Vec::new(alloc),
         Err(fault) => format!(in alloc; "compass: {fault}\n")?.into_bytes(),

@@ -2,6 +2,7 @@
 
 use crate::edit_topics::edits_of;
 use crate::expression_topics::form;
+use crate::fixed_keys::fixed_keys;
 use crate::inputs::{cut, size};
 use crate::item_topics::item;
 use crate::outputs::Answer;
@@ -199,7 +200,13 @@ pub fn record_of(
     done: &mut Meter,
 ) -> Result<Option<Kept>, AllocError> {
     match DeckName::read(b"M") {
-        Ok(name) if cards.len() <= 20_000 => Ok(Some(Kept::new(alloc, name, cards, done)?)),
+        Ok(name) if cards.len() <= 20_000 => Ok(Some(Kept::new(
+            alloc,
+            fixed_keys()?,
+            name,
+            cards,
+            done,
+        )?)),
         _ => Ok(None),
     }
 }
@@ -242,7 +249,7 @@ fn edited(
     edit: &Edit,
     done: &mut Meter,
 ) -> Result<(), AllocError> {
-    match kept.edit(answer.alloc, edit, done) {
+    match kept.edit(answer.alloc, answer.keys, edit, done) {
         Ok(()) => answer.word("made"),
         Err(RecordFault::OutOfMemory) => return Err(AllocError),
         Err(fault) => answer.debug(&fault),

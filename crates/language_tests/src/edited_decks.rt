@@ -2,6 +2,7 @@
 //! same cards.
 
 use crate::deck_topics::{record_of, repeated_cards};
+use crate::fixed_keys::fixed_keys;
 use crate::inputs::{cut, decimal};
 use crate::outputs::Answer;
 use crate::statement_topics::meter;
@@ -111,7 +112,7 @@ fn is_edited(
     edit: &Edit,
     done: &mut Meter,
 ) -> Result<bool, AllocError> {
-    match kept.edit(alloc, edit, done) {
+    match kept.edit(alloc, fixed_keys()?, edit, done) {
         Ok(()) => is_as_new(alloc, kept),
         Err(RecordFault::OutOfMemory) => Err(AllocError),
         Err(_) => Ok(true),
@@ -124,7 +125,7 @@ fn published_anew(alloc: Global, kept: &Kept) -> Result<Publication, AllocError>
     let cards = edited_copy(alloc, kept.cards(), &[])?;
     published(
         alloc,
-        assemble(alloc, kept.name().copied(), cards, &mut done)?,
+        assemble(alloc, fixed_keys()?, kept.name().copied(), cards, &mut done)?,
     )
 }
 
@@ -142,5 +143,5 @@ fn is_as_new(alloc: Global, kept: &Kept) -> Result<bool, AllocError> {
 fn published(alloc: Global, object: SharedObject) -> Result<Publication, AllocError> {
     let mut objects = Vec::new(alloc);
     objects.push(object)?;
-    link(alloc, objects, 1)
+    link(alloc, fixed_keys()?, objects, 1)
 }

@@ -1,6 +1,7 @@
 //! Decks that are linked: the listing, the map and the image.
 
 use crate::deck_topics::repeated_cards;
+use crate::fixed_keys::fixed_keys;
 use crate::outputs::Answer;
 use cards::DeckName;
 use deck_linker::{Layout, Publication, link};
@@ -28,7 +29,13 @@ fn object_of(alloc: Global, name: &str, text: &str) -> Result<Option<SharedObjec
     let cards = repeated_cards(alloc, text)?;
     let mut done = Meter { sized: 0, coded: 0 };
     match DeckName::read(name.as_bytes()) {
-        Ok(name) if cards.len() <= 20_000 => Ok(Some(assemble(alloc, name, cards, &mut done)?)),
+        Ok(name) if cards.len() <= 20_000 => Ok(Some(assemble(
+            alloc,
+            fixed_keys()?,
+            name,
+            cards,
+            &mut done,
+        )?)),
         _ => Ok(None),
     }
 }
@@ -43,7 +50,7 @@ fn published(alloc: Global, text: &str) -> Result<Publication, AllocError> {
             }
         }
     }
-    link(alloc, objects, 7)
+    link(alloc, fixed_keys()?, objects, 7)
 }
 
 /// The version, and how many decks, lines with errors and LINK lines there are.
@@ -76,7 +83,7 @@ fn shown(answer: &mut Answer, topic: &str, publication: &Publication) {
 
 /// The layout of no decks: its decks and common blocks, an entry, and the base of a common block.
 fn layout(answer: &mut Answer) -> Result<(), AllocError> {
-    let layout = Layout::new(answer.alloc, Vec::new(answer.alloc))?;
+    let layout = Layout::new(answer.alloc, answer.keys, Vec::new(answer.alloc))?;
     answer.decimal(layout.decks().len() as u64);
     answer.decimal(layout.commons().len() as u64);
     answer.either(

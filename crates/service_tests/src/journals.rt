@@ -5,7 +5,7 @@
 //! `compact`: it becomes the one that begins with its decks.
 
 use desk_core::Call;
-use desk_tests::{Answer, ask, name_of, number, push_told};
+use desk_tests::{Answer, ask, fixed_keys, name_of, number, push_told};
 use journal::{
     Ending, JournalFault, Moment, Next, Place, ReplayFault, Replayed, compacted_text, next_record,
     record_text, replay,
@@ -64,8 +64,12 @@ fn push_journal(answer: &mut Answer, file: &[u8], fails_at: u64) {
 
 /// Makes the changes of a journal again, up to a version.
 fn replayed(alloc: Global, file: &[u8], last: u64) -> Result<Replayed, ReplayFault> {
+    let Ok(keys) = fixed_keys() else {
+        return Err(ReplayFault::OutOfMemory);
+    };
     replay(
         alloc,
+        keys,
         &mut Counted::new(FaultyReader::new(file, 7, 0)),
         last,
     )

@@ -7,7 +7,7 @@
 use cards::Edit;
 use desk_core::{Call, Desk, NewDeck, Refusal, Reply};
 use desk_service::{Journal, SessionKeeper, SystemFile};
-use desk_tests::{Answer, card_of, name_of, number};
+use desk_tests::{Answer, card_of, fixed_keys, name_of, number};
 use journal::{
     Batch, Change, Ending, JournalFile, Keeping, Mark, Moment, Queue, RecordsFile, draft_change,
     replay,
@@ -196,7 +196,7 @@ fn make_on_disk<R: Wait + Clock + Eprint>(
     let file = JournalFile::new(DiskFile { rt, disk }, Mark::first(), 1);
     let journal = Journal::new(alloc, file, 1)?;
     let keeper = SessionKeeper::new(rt, alloc, Some(&journal), 0);
-    let mut desk = Keeping::new(Desk::new(alloc), keeper);
+    let mut desk = Keeping::new(Desk::new(alloc, fixed_keys()?), keeper);
     let mut versions = Versions {
         seen: 0,
         made: 0,
@@ -216,7 +216,10 @@ fn make_on_disk<R: Wait + Clock + Eprint>(
 fn has_kept(alloc: Global, bytes: &[u8], versions: Versions) -> bool {
     let mut input = Counted::new(FaultyReader::new(bytes, 7, 0));
     let made = versions.made;
-    match replay(alloc, &mut input, u64::MAX) {
+    let Ok(keys) = fixed_keys() else {
+        return false;
+    };
+    match replay(alloc, keys, &mut input, u64::MAX) {
         Ok(again) => {
             let is_whole = again.ending == Some(Ending::Whole) && !versions.is_strange;
             is_whole && 1 <= made && made <= again.desk.version()

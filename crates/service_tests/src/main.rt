@@ -92,7 +92,7 @@ where
         return 0;
     };
     let known = KnownFiles::new(rt.alloc(), keys);
-    let mut place = Place::new(rt.alloc());
+    let mut place = Place::new(rt.alloc(), keys);
     let mut steps = 0u64;
     for line in transcript.lines() {
         if let Some(step) = line.strip_prefix("> ") {
@@ -104,7 +104,7 @@ where
             }
         } else if line.starts_with("# ") {
             answer.line(line);
-            place = Place::new(rt.alloc());
+            place = Place::new(rt.alloc(), keys);
         }
     }
     steps

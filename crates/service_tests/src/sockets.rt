@@ -16,6 +16,7 @@ use std::alloc::{AllocGlobal, Global};
 use std::fs::File;
 use std::io::{self, BufRead, BufReader, Write};
 use std::net::{Net, SocketAddr, TcpListener, TcpStream};
+use std::random::RandomSource;
 use std::rt::Files;
 use std::sync::Wait;
 use std::thread;
@@ -173,6 +174,7 @@ where
         + Drop
         + Clock
         + Eprint
+        + RandomSource
         + Net<Stream = TcpStream, Listener = TcpListener>,
     R::File: Send,
     R::Dir: Send,
@@ -219,6 +221,7 @@ where
         + Drop
         + Clock
         + Eprint
+        + RandomSource
         + Net<Stream = TcpStream, Listener = TcpListener>,
     R::File: Send,
     R::Dir: Send,

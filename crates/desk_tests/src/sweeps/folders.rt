@@ -1,10 +1,10 @@
 //! A scenario of a folder: decks that are saved there and loaded, by reads and writes of the system.
 
-use crate::fixed_keys::fixed_keys;
 use crate::inputs::{cards_of, name_of};
 use crate::sweeps::decks::{DECKS, DeckText, are_same};
 use crate::sweeps::notes::Called;
 use crate::sweeps::scene::Scene;
+use crate::table_keys::fixed_keys;
 use cards::{Card, DeckName, MOST_CARDS};
 use deck_files::{
     FileRow, FolderShelf, KnownFiles, SaveOver, Shelf, ShelfLoadFault, ShelfSaveFault,

@@ -163,8 +163,8 @@ pub enum End {
 fn made_of(scene: &Scene, job: Job, end: End) -> (Made, bool) {
     let mut meter = Meter { sized: 0, coded: 0 };
     match end {
-        End::Delivered => (job.run(scene.alloc, &mut meter), false),
-        End::Foreign => (foreign(job).run(scene.alloc, &mut meter), true),
+        End::Delivered => (job.run(scene.alloc, scene.keys, &mut meter), false),
+        End::Foreign => (foreign(job).run(scene.alloc, scene.keys, &mut meter), true),
         End::GivenUp => {
             let lease = job.lease();
             let fault = RecordFault::Spent;

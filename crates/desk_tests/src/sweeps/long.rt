@@ -7,6 +7,7 @@ use crate::sweeps::notes::Called;
 use crate::sweeps::pieces::{Came, Failing, Piece, Tries, fail_each, held};
 use crate::sweeps::ports::{AsmRun, try_whole, went_out};
 use crate::sweeps::scene::Scene;
+use crate::table_keys::fixed_keys;
 use asm_main::{AsmFault, Built, Chosen, asm_build, write_chosen};
 use deck_linker::{Publication, link};
 use deck_objects::SharedObject;
@@ -80,7 +81,7 @@ fn object_of(alloc: Global, deck: &DeckText) -> Result<SharedObject, AllocError>
     push_deck(&mut lines, deck)?;
     let cards = cards_of(alloc, str::from_utf8(&lines).unwrap_or(""))?;
     let mut meter = Meter { sized: 0, coded: 0 };
-    assemble(alloc, name_of(deck.name)?, cards, &mut meter)
+    assemble(alloc, fixed_keys()?, name_of(deck.name)?, cards, &mut meter)
 }
 
 /// The publication of both decks, whose texts are made whole.
@@ -89,7 +90,7 @@ fn published(alloc: Global) -> Result<Publication, AllocError> {
     for deck in &HEADS {
         objects.push(object_of(alloc, deck)?)?;
     }
-    link(alloc, objects, 0)
+    link(alloc, fixed_keys()?, objects, 0)
 }
 
 /// What is held against what goes out.
@@ -148,7 +149,7 @@ struct Outputs<'p> {
 
 /// Builds decks. What comes of it is looked at and no contract of it.
 fn build_of<R: BufRead>(alloc: Global, input: &mut Counted<R>) -> Result<Built, AsmFault> {
-    asm_build(alloc, input)
+    asm_build(alloc, fixed_keys()?, input)
 }
 
 /// Writes one of the texts to an output of its own.

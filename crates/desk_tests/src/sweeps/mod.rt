@@ -27,6 +27,7 @@ mod sessions;
 
 use crate::sweeps::notes::Journal;
 use crate::sweeps::scene::Scene;
+use crate::table_keys::fixed_keys;
 use std::alloc::{AllocError, AllocGlobal};
 use std::fs::File;
 use std::io;
@@ -164,7 +165,12 @@ fn journal_of<R: AllocGlobal + Files<File = File> + Clone + Drop + Wait>(
     rt: &R,
     scenario: Scenario,
 ) -> Journal {
-    let mut scene = Scene::new(rt.alloc());
+    let Ok(keys) = fixed_keys() else {
+        let mut journal = Journal::new(rt.alloc());
+        journal.keep(Err(AllocError));
+        return journal;
+    };
+    let mut scene = Scene::new(rt.alloc(), keys);
     let done = go_through(rt, scenario, &mut scene);
     scene.journal.keep(done);
     scene.journal

@@ -20,7 +20,7 @@ const TURNS: u32 = 8;
 fn open_once(scene: &mut Scene) -> Result<(Office<Desk>, SeatList<Desk>), AllocError>
     ensures { IfOk result (λ opened. opened.1.items ≡ new_seats opened.0.id 2) }
 {
-    let desk = mem::replace(&mut scene.desk, Desk::new(scene.alloc));
+    let desk = mem::replace(&mut scene.desk, Desk::new(scene.alloc, scene.keys));
     match Office::open(scene.alloc, desk, 2) {
         Ok(opened) => Ok(opened),
         Err(failed) => {

@@ -5,6 +5,7 @@ use crate::inputs::{cards_of, name_of};
 use crate::sweeps::decks::{DECKS, DeckText, are_same, asm_answer, is_answer, push_lines};
 use crate::sweeps::notes::Called;
 use crate::sweeps::scene::Scene;
+use crate::table_keys::fixed_keys;
 use cards::{Card, DeckName, Edit, MOST_CARDS, copied_cards};
 use deck_linker::{Publication, link};
 use deck_listing::{image, listing};
@@ -13,6 +14,7 @@ use edit_core::{FinishFault, Kept, RecordFault};
 use session_line::read_batch_line;
 use statement_coder::Meter;
 use std::alloc::{AllocError, Global};
+use std::hash::RandomState;
 
 /// Edits of a deck, and the fault of each where there is memory.
 const EDITS: [(&str, Option<RecordFault>); 5] = [
@@ -37,13 +39,18 @@ fn record_of(alloc: Global, name: DeckName, cards: Vec<Card>) -> Result<Kept, Al
         return Err(AllocError);
     }
     let mut meter = Meter { sized: 0, coded: 0 };
-    Kept::new(alloc, name, cards, &mut meter)
+    Kept::new(alloc, fixed_keys()?, name, cards, &mut meter)
 }
 
 /// Edits a record, and answers its fault, if there is one.
-fn fault_of_edit(alloc: Global, kept: &mut Kept, edit: &Edit) -> Option<RecordFault> {
+fn fault_of_edit(
+    alloc: Global,
+    keys: RandomState,
+    kept: &mut Kept,
+    edit: &Edit,
+) -> Option<RecordFault> {
     let mut meter = Meter { sized: 0, coded: 0 };
-    match kept.edit(alloc, edit, &mut meter) {
+    match kept.edit(alloc, keys, edit, &mut meter) {
         Ok(()) => None,
         Err(fault) => Some(fault),
     }
@@ -58,9 +65,15 @@ fn gives_nothing(kept: &Kept) -> bool {
 }
 
 /// Whether a record has these cards, and is spent: nothing is edited and nothing comes of it.
-fn is_spent_with(alloc: Global, kept: &mut Kept, cards: &[Card], edit: &Edit) -> bool {
+fn is_spent_with(
+    alloc: Global,
+    keys: RandomState,
+    kept: &mut Kept,
+    cards: &[Card],
+    edit: &Edit,
+) -> bool {
     let is_spent = kept.is_spent() && gives_nothing(kept);
-    let is_fault = fault_of_edit(alloc, kept, edit) == Some(RecordFault::Spent);
+    let is_fault = fault_of_edit(alloc, keys, kept, edit) == Some(RecordFault::Spent);
     is_spent && is_fault && are_same(kept.cards(), cards)
 }
 
@@ -72,12 +85,12 @@ fn edit_once(
     edit: &Edit,
 ) -> Result<Option<RecordFault>, AllocError> {
     let before = copied_cards(scene.alloc, kept.cards())?;
-    let fault = fault_of_edit(scene.alloc, kept, edit);
+    let fault = fault_of_edit(scene.alloc, scene.keys, kept, edit);
     if fault.is_none() {
         return Ok(fault);
     }
     if fault == Some(RecordFault::OutOfMemory) {
-        let holds = is_spent_with(scene.alloc, kept, &before, edit);
+        let holds = is_spent_with(scene.alloc, scene.keys, kept, &before, edit);
         scene.journal.refused(Called::Edit, holds);
         let cards = copied_cards(scene.alloc, &before)?;
         *kept = record_of(scene.alloc, kept.name().copied(), cards)?;
@@ -163,7 +176,7 @@ pub fn records(scene: &mut Scene) -> Result<(), AllocError> {
     for deck in &DECKS {
         objects.push(edited(scene, deck, &mut input)?)?;
     }
-    let found = link(scene.alloc, objects, 7);
+    let found = link(scene.alloc, scene.keys, objects, 7);
     compare(scene, found, &input)
 }
 

@@ -11,6 +11,7 @@ use desk_core::Desk;
 use session_line::Calls;
 use statement_coder::Meter;
 use std::alloc::{AllocError, Global};
+use std::hash::RandomState;
 use text_ports::Counted;
 
 /// How many bytes most replies have at most.
@@ -58,9 +59,9 @@ fn name_in(row: &str) -> &str {
 }
 
 /// Settles a desk in so many turns: whether all of its version is published then.
-fn is_settled(alloc: Global, desk: &mut Desk, turns: u32) -> bool {
+fn is_settled(alloc: Global, keys: RandomState, desk: &mut Desk, turns: u32) -> bool {
     let mut meter = Meter { sized: 0, coded: 0 };
-    match settle(alloc, desk, &mut meter, turns) {
+    match settle(alloc, keys, desk, &mut meter, turns) {
         Settled::Idle { .. } => true,
         _ => false,
     }
@@ -81,17 +82,19 @@ fn put_file(
 #[derive(Drop)]
 pub struct Scene {
     pub alloc: Global,
+    pub keys: RandomState,
     pub journal: Journal,
     pub desk: Desk,
     pub shelf: MemoryShelf,
 }
 
 impl Scene {
-    pub fn new(alloc: Global) -> Scene {
+    pub fn new(alloc: Global, keys: RandomState) -> Scene {
         Scene {
             alloc,
+            keys,
             journal: Journal::new(alloc),
-            desk: Desk::new(alloc),
+            desk: Desk::new(alloc, keys),
             shelf: MemoryShelf::new(alloc),
         }
     }
@@ -218,7 +221,7 @@ impl Scene {
     /// Settles the desk in so many turns: whether all of it is published then. Cards and versions are as
     /// before, whether it is or not.
     fn settle_once(&mut self, turns: u32, before: &[u8]) -> bool {
-        let is_settled = is_settled(self.alloc, &mut self.desk, turns);
+        let is_settled = is_settled(self.alloc, self.keys, &mut self.desk, turns);
         let is_kept = self.state().as_slice() == before;
         self.journal.kept(Called::Settle, is_kept);
         if !is_settled {

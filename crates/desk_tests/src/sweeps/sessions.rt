@@ -5,6 +5,7 @@ use crate::place::serve;
 use crate::sweeps::notes::Called;
 use crate::sweeps::pieces::{Came, Failing, Tries, fail_all, held};
 use crate::sweeps::scene::{Command, Scene};
+use crate::table_keys::fixed_keys;
 use session_line::Outcome;
 use std::alloc::{AllocError, Global};
 use text_ports::{Counted, FaultyReader, FaultyWriter};
@@ -206,7 +207,7 @@ impl Dialogue {
 
 impl Tries for Dialogue {
     fn try_once(&self, alloc: Global, failing: Failing) -> Result<Came, AllocError> {
-        let mut place = Scene::new(alloc);
+        let mut place = Scene::new(alloc, fixed_keys()?);
         place.put("N", FILE);
         let mut input = Counted::new(failing.reader(&self.lines));
         let mut output = failing.writer(alloc);

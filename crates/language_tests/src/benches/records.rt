@@ -3,6 +3,7 @@
 
 use crate::card_topics::cards_of;
 use crate::deck_topics;
+use crate::fixed_keys::fixed_keys;
 use cards::{Card, Edit, edited_copy};
 use edit_core::Kept;
 use statement_coder::Meter;
@@ -69,8 +70,12 @@ fn new_cost<R: AllocGlobal + CpuClock>(rt: &R, cards: &[Card]) -> io::Result<Cos
 /// What these edits of a record cost, made as a job makes them.
 fn cost_of<R: AllocGlobal + CpuClock>(rt: &R, kept: &mut Kept, edits: &[Edit]) -> io::Result<Cost> {
     let mut meter = Meter { sized: 0, coded: 0 };
+    let keys = fixed_keys()?;
     let before = rt.process_cpu_time()?;
-    if kept.edit_in_order(rt.alloc(), edits, &mut meter).is_err() {
+    if kept
+        .edit_in_order(rt.alloc(), keys, edits, &mut meter)
+        .is_err()
+    {
         return Err(io::Error::other("no such edits"));
     }
     let time = rt.process_cpu_time()?.saturating_sub(before);
