@@ -11,19 +11,19 @@ ghost use Rattle.std.specs.Prelude.{◌≡◌, ◌≢◌, ℕ, ◌<◌, pos};
 use asm_main::AsmFault;
 use clap::{ArgMatches, Command, Error};
 use command_line::{asm_words, assemble, log, log_words, tell};
-use desk_service::{ServiceOver, VERSION};
+use desk_service::VERSION;
 use serving::{MEMORY_STATUS, run_service, serve_words, settings_of};
 use std::alloc::{AllocError, Global};
+use std::env;
 use std::fs::File;
 use std::io::ErrorKind;
 use std::net::{Net, TcpListener, TcpStream};
 use std::process::ExitCode;
 use std::random::RandomSource;
 use std::rt::{Env, Files};
-use std::sync::{Arc, Wait};
+use std::sync::Wait;
 use std::thread::Threads;
 use std::time::Clock;
-use std::{env, thread};
 use stopping::{stop_service, stop_words};
 use streams::hold_streams;
 
@@ -55,8 +55,8 @@ fn read_words<'a>(alloc: Global, words: &'a [String]) -> Result<ArgMatches<'a>, 
     line_of_commands(alloc)?.try_get_matches_from(words)
 }
 
-/// Does what the words ask for. Who waits beside a service hears of its end.
-fn run<R>(rt: &R, words: &[String], over: Option<&ServiceOver>) -> ExitCode
+/// Does what the words ask for.
+fn run<R>(rt: &R, words: &[String]) -> ExitCode
 where
     R: AllocGlobal
         + Input
@@ -89,7 +89,7 @@ where
     }
     match matches.subcommand_matches("serve") {
         Some(words) => match settings_of(rt, words) {
-            Some(settings) => run_service(rt, &settings, words, over),
+            Some(settings) => run_service(rt, &settings, words),
             None => refuse_numbers(rt),
         },
         None => refuse_numbers(rt),
@@ -166,66 +166,13 @@ fn refuse_streams<R: Eprint>(rt: &R) -> ExitCode {
     ExitCode::from(MEMORY_STATUS)
 }
 
-/// Whether the words ask for a service.
-fn is_service(words: &[String]) -> bool {
-    match words.get(1) {
-        Some(word) => word.as_str() == "serve",
-        None => false,
-    }
-}
-
-/// Tells that no memory was left, for a thread among others, with its status.
-fn refuse_memory<R: Eprint>(rt: &R) -> ExitCode {
-    tell(rt, &Err(AsmFault::OutOfMemory))
-}
-
-/// Runs a service in a thread of its own. Where it was stopped, and one of its threads hangs in the system, the
-/// process ends all the same.
-fn run_beside<R>(rt: R, words: Vec<String>) -> ExitCode
-where
-    R: AllocGlobal
-        + Input
-        + Print
-        + Eprint
-        + Threads
-        + Wait
-        + Sync
-        + Files<File = File>
-        + Copy
-        + Send
-        + Clock
-        + RandomSource
-        + Net<Listener = TcpListener, Stream = TcpStream>
-        + 'static,
-    R::File: Send,
-    R::Dir: Send,
-{
-    let Ok(over) = Arc::new(rt.alloc(), ServiceOver::new()) else {
-        return refuse_memory(&rt);
-    };
-    let Ok(told) = Arc::try_clone(&over) else {
-        return refuse_memory(&rt);
-    };
-    let serving = thread::spawn(&rt, move || {
-        let status = run(&rt, words.as_slice(), Some(&*told));
-        told.end(&rt);
-        status
-    });
-    match serving {
-        Ok(serving) if over.wait(&rt) => serving.join(&rt),
-        Ok(_) => ExitCode::SUCCESS,
-        Err(_) => refuse_memory(&rt),
-    }
-}
-
 fn main(rt: HostRuntime) -> ExitCode {
     let Ok(_held) = hold_streams(&rt, rt.alloc()) else {
         return refuse_streams(&rt);
     };
     match words_of(&rt) {
-        Ok(words) if is_service(words.as_slice()) => run_beside(rt, words),
-        Ok(words) => run(&rt, words.as_slice(), None),
-        Err(WordsFault::OutOfMemory) => refuse_memory(&rt),
+        Ok(words) => run(&rt, words.as_slice()),
+        Err(WordsFault::OutOfMemory) => tell(&rt, &Err(AsmFault::OutOfMemory)),
         Err(WordsFault::NotText) => refuse_words(&rt),
     }
 }

@@ -4,7 +4,7 @@ ghost use Rattle.desk_service.specs.Services.{AreInRange};
 
 use clap::{Arg, ArgMatches, Command};
 use command_line::{JOURNAL_STATUS, plain_word, valued_word};
-use desk_service::{Journaling, ServeFault, ServiceOver, Settings, serve};
+use desk_service::{Journaling, ServeFault, Settings, serve};
 use std::alloc::{AllocError, Global};
 use std::fs::File;
 use std::net::{Net, TcpListener, TcpStream};
@@ -169,12 +169,7 @@ fn page_of(words: &ArgMatches<'_>) -> Option<u16> {
 }
 
 /// Runs the service that the words ask for, and tells a fault in one line on standard error.
-pub(crate) fn run_service<R>(
-    rt: &R,
-    settings: &Settings<'_>,
-    words: &ArgMatches<'_>,
-    over: Option<&ServiceOver>,
-) -> ExitCode
+pub(crate) fn run_service<R>(rt: &R, settings: &Settings<'_>, words: &ArgMatches<'_>) -> ExitCode
 where
     R: AllocGlobal
         + Threads
@@ -192,7 +187,7 @@ where
     requires { AreInRange settings.now }
 {
     let page = page_of(words);
-    match serve(rt, rt.alloc(), settings, page, over) {
+    match serve(rt, rt.alloc(), settings, page, None) {
         Ok(()) => ExitCode::SUCCESS,
         Err(fault) => {
             tell(rt, fault, settings, page.unwrap_or(0));
