@@ -2,16 +2,19 @@
 //!
 //! `meet TOTAL AMOUNT`: one seat adds to a sum, another meets it and reads it; `close TOTAL AMOUNT`: one
 //! seat adds, and the office is closed with one seat and with both; `threads`: eight seats add 1 a thousand
-//! times each, in threads of their own; `seat LINES`: commands of a session on a desk.
+//! times each, in threads of their own; `seat LINES`: commands of a session on a desk; `seats`: one seat of an
+//! office over a desk adds a deck, and another meets it and reads the deck; then the office is closed, with one seat
+//! and with both.
 ghost use Rattle.std.specs.Prelude.{◌≡◌, ◌+◌, ◌-◌, ◌^◌, ◌≤◌, min, IfOk};
 ghost use Rattle.turn_office.specs.Seats.{AreOf};
 
-use crate::inputs::cut_number;
+use crate::inputs::{cards_of, cut_number, name_of};
+use crate::jobs::{push_reply, push_told};
 use crate::outputs::Answer;
 use crate::place::serve_ports;
 use crate::table_keys::fixed_keys;
 use deck_files::MemoryShelf;
-use desk_core::Desk;
+use desk_core::{Call, Desk, NewDeck};
 use session_line::SeatCalls;
 use std::alloc::{AllocError, AllocGlobal, Global};
 use std::mem::size_of;
@@ -38,6 +41,7 @@ pub fn make<R: AllocGlobal + Threads + Wait + Sync>(
         "close" => close_twice(rt, first, second, answer),
         "threads" => add_in_threads(rt, answer),
         "seat" => say_all(rt, rest, answer),
+        "seats" => meet_at_desk(rt, answer),
         _ => return false,
     };
     answer.keep(done);
@@ -61,6 +65,23 @@ impl Sequential for Sum {
     fn step(&mut self, call: u64) -> u64 {
         self.total = self.total.saturating_add(call);
         self.total
+    }
+}
+
+/// An object that an office is over, as a step tells it.
+trait Told: Sequential {
+    fn tell(&self, answer: &mut Answer);
+}
+
+impl Told for Sum {
+    fn tell(&self, answer: &mut Answer) {
+        answer.number(", sum ", self.total);
+    }
+}
+
+impl Told for Desk {
+    fn tell(&self, answer: &mut Answer) {
+        answer.number(", version ", self.version());
     }
 }
 
@@ -134,21 +155,21 @@ fn meet<R: AllocGlobal + Wait>(
     Ok(())
 }
 
-/// Closes an office with all its seats, and tells its sum.
-fn close(office: Office<Sum>, seats: SeatList<Sum>, answer: &mut Answer)
+/// Closes an office with all its seats, and tells what it was over.
+fn close<T: Told + Drop>(office: Office<T>, seats: SeatList<T>, answer: &mut Answer)
     requires { AreOf office.id seats.items }
 {
     match office.close(seats) {
-        Ok(sum) => answer.number(", sum ", sum.total),
+        Ok(object) => object.tell(answer),
         Err(_) => answer.push(", not closed"),
     }
 }
 
 /// Closes an office with these seats and one more.
-fn close_with(
-    office: Office<Sum>,
-    seats: SeatList<Sum>,
-    last: Seat<Sum>,
+fn close_with<T: Told + Drop>(
+    office: Office<T>,
+    seats: SeatList<T>,
+    last: Seat<T>,
     answer: &mut Answer,
 ) -> Result<(), AllocError>
     requires own { AreOf office.id seats.items }
@@ -161,10 +182,10 @@ fn close_with(
 }
 
 /// Closes an office with some seats, and then with the last one, too.
-fn close_without(
-    office: Office<Sum>,
-    seats: SeatList<Sum>,
-    last: Seat<Sum>,
+fn close_without<T: Told + Drop>(
+    office: Office<T>,
+    seats: SeatList<T>,
+    last: Seat<T>,
     answer: &mut Answer,
 ) -> Result<(), AllocError>
     requires own { AreOf office.id seats.items }
@@ -205,6 +226,41 @@ fn add_in_threads<R: AllocGlobal + Threads + Wait + Sync>(
     answer.debug(&(size_of::<Seat<Sum>>() == size_of::<usize>()));
     close(office, seats, answer);
     Ok(())
+}
+
+/// One seat adds a deck, and another meets it and reads the deck.
+fn add_and_show<R: Wait>(
+    rt: &R,
+    office: &Office<Desk>,
+    first: &mut Seat<Desk>,
+    second: &mut Seat<Desk>,
+    answer: &mut Answer,
+) -> Result<(), AllocError>
+    requires { (first.old.office ≡ office.now.id) × (second.old.office ≡ office.now.id) }
+    ensures same { (first.new.office ≡ first.old.office) × (second.new.office ≡ second.old.office) }
+{
+    let deck = NewDeck::new(name_of("M")?, cards_of(answer.alloc, "*A")?);
+    push_reply(answer, &first.call(rt, office, Call::AddDeck(deck)));
+    answer.push(", ");
+    second.meet(rt, office, first)?;
+    push_told(answer, second.call(rt, office, Call::Cards(name_of("M")?)));
+    Ok(())
+}
+
+/// An office over a desk, whose seats meet; closed with one of them, and with both.
+fn meet_at_desk<R: AllocGlobal + Wait>(rt: &R, answer: &mut Answer) -> Result<(), AllocError> {
+    let alloc = rt.alloc();
+    let keys = fixed_keys()?;
+    let Ok((office, mut seats)) = Office::open(alloc, Desk::new(alloc, keys), 2) else {
+        return Err(AllocError);
+    };
+    let (Some(mut second), Some(mut first)) = (seats.pop(), seats.pop()) else {
+        return Err(AllocError);
+    };
+    add_and_show(rt, &office, &mut first, &mut second, answer)?;
+    let mut one = Vec::new(alloc);
+    one.push(first)?;
+    close_without(office, one, second, answer)
 }
 
 /// Serves commands of a session on a desk, each from the second seat of its office: the number of the seat.
