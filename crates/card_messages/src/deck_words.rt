@@ -1,0 +1,37 @@
+//! What the messages of a deck need of it as a whole.
+
+use crate::first_cards::FirstCards;
+use cards::Card;
+use deck_assembler::{SizedDeck, SizedStatement};
+use statement_coder::Meter;
+use std::alloc::{AllocError, Global};
+use std::hash::RandomState;
+use use_blocks::Bases;
+
+/// How many statements a piece has, each but the last.
+const PIECE_STATEMENTS: usize = 128;
+
+/// A deck as its messages need it: made once, in one pass over its cards.
+#[derive(Drop)]
+pub struct DeckWords {
+    pub(crate) deck: SizedDeck,
+    pub(crate) bases: Bases,
+    pub(crate) first: FirstCards,
+}
+
+impl DeckWords {
+    /// That of the deck with these cards; its tables hash by these keys.
+    pub fn new(alloc: Global, keys: RandomState, cards: &[Card]) -> Result<DeckWords, AllocError> {
+        let mut meter = Meter { sized: 0, coded: 0 };
+        let deck = SizedDeck::new(alloc, keys, cards, &mut meter)?;
+        let bases = Bases::new(alloc, deck.lengths(), deck.literals())?;
+        let first = FirstCards::new(alloc, cards, &deck)?;
+        Ok(DeckWords { deck, bases, first })
+    }
+
+    /// The statement with this number, counted from 0; none behind END.
+    pub(crate) fn sized(&self, number: usize) -> Option<&SizedStatement> {
+        let piece = self.deck.pieces().get(number / PIECE_STATEMENTS)?;
+        piece.statements().get(number % PIECE_STATEMENTS)
+    }
+}
