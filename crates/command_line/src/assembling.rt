@@ -1,10 +1,11 @@
 //! `compass asm`: its words, its run and its faults.
 
-use crate::flagged::tell_flagged;
-use crate::input_files::{input_of, standard_input};
+use crate::flagged::{Telling, tell_flagged, tell_summary};
+use crate::input_files::{input_of, shown_names, standard_input};
+use crate::input_lines::tell_lines;
 use crate::journal_files::{DecksFault, decks_at};
 use crate::outputs::{Clash, file_named, first_clash};
-use crate::run_faults::{RunFault, placed, tell_clash, tell_run};
+use crate::run_faults::{RunFault, tell_clash, tell_run};
 use crate::standard_output::standard_output;
 use crate::symbols::symbol_tables;
 use crate::words::{plain_word, valued_word};
@@ -25,6 +26,9 @@ use text_ports::{Broken, Counted, LineBuf, Text, put_all};
 
 /// How many decks are linked at most.
 const MOST_DECKS: usize = 64;
+
+/// Standard input as a file that is named.
+const STANDARD_INPUT: &[&str] = &["-"];
 
 /// What goes to a file of the listings.
 const LISTING: Chosen = Chosen {
@@ -69,6 +73,12 @@ struct Named<'w, 'a> {
     image: Option<&'a str>,
     symbols: bool,
     quiet: bool,
+    /// Whether nothing is written, and only what is flagged is told.
+    check: bool,
+    /// Whether messages show the cards.
+    explain: bool,
+    /// What standard input is called in messages.
+    name: Option<&'a str>,
 }
 
 /// The command with the words of the files that are read, and of the filter in front of them.
@@ -108,16 +118,34 @@ fn with_journal<'a>(alloc: Global, command: Command<'a>) -> Result<Command<'a>, 
     command.arg(journal_word(alloc)?)?.arg(version_word(alloc)?)
 }
 
+/// The command with the words of what is told of flagged statements.
+fn with_messages<'a>(alloc: Global, command: Command<'a>) -> Result<Command<'a>, AllocError> {
+    let quiet = "Tells no flagged statements and no LINK lines of files on standard error";
+    let check = "Writes nothing, tells what is flagged, and how much in a last line";
+    let explain = "Shows the card below each message, and where on it the fault is";
+    let name = "What standard input is called in messages";
+    let check = plain_word(alloc, "check", check)
+        .conflicts_with("quiet")?
+        .conflicts_with("journal")?
+        .conflicts_with("symbols")?
+        .conflicts_with("listing")?
+        .conflicts_with("map")?
+        .conflicts_with("image")?;
+    command
+        .arg(plain_word(alloc, "quiet", quiet))?
+        .arg(check)?
+        .arg(plain_word(alloc, "explain", explain))?
+        .arg(valued_word(alloc, "name", "FILE", name).conflicts_with("journal")?)
+}
+
 /// The command with the words of where the output goes.
 fn with_outputs<'a>(alloc: Global, command: Command<'a>) -> Result<Command<'a>, AllocError> {
     let symbols = "Puts a table of the symbols of each deck behind the listings";
-    let quiet = "Tells no flagged statements and no LINK lines of files on standard error";
     command
         .arg(valued_word(alloc, "listing", "FILE", "Where the listings go"))?
         .arg(valued_word(alloc, "map", "FILE", "Where the link map goes"))?
         .arg(valued_word(alloc, "image", "FILE", "Where the octal image goes").short('o'))?
-        .arg(plain_word(alloc, "symbols", symbols))?
-        .arg(plain_word(alloc, "quiet", quiet))
+        .arg(plain_word(alloc, "symbols", symbols))
 }
 
 /// The words of `compass asm`.
@@ -127,7 +155,8 @@ pub fn asm_words<'a>(alloc: Global) -> Result<Command<'a>, AllocError> {
         .after_help(EXAMPLE);
     let command = with_files(alloc, command)?;
     let command = with_journal(alloc, command)?;
-    with_outputs(alloc, command)
+    let command = with_outputs(alloc, command)?;
+    with_messages(alloc, command)
 }
 
 /// The command with the word of a part of the filter in front of files; a journal has none.
@@ -179,6 +208,17 @@ impl<'w, 'a> Named<'w, 'a> {
     }
 }
 
+/// The files that the words name. Where messages are asked for and no files are named, standard input is
+/// named by them.
+fn inputs_of<'w, 'a>(words: &'w ArgMatches<'a>) -> &'w [&'a str] {
+    match words.get_strs("FILE") {
+        Some(names) => names,
+        None if words.get_flag("check") || words.get_flag("explain") => STANDARD_INPUT,
+        None if words.get_str("name").is_some() => STANDARD_INPUT,
+        None => &[],
+    }
+}
+
 /// `compass asm`: what the words name, or standard input to standard output.
 pub fn assemble<R>(rt: &R, words: &ArgMatches<'_>) -> ExitCode
 where
@@ -190,7 +230,7 @@ where
     };
     let named = Named {
         keys,
-        inputs: words.get_strs("FILE").unwrap_or(&[]),
+        inputs: inputs_of(words),
         filter: filter_of(words),
         journal: words.get_str("journal"),
         version: words.get_one("version"),
@@ -199,6 +239,9 @@ where
         image: file_named(words.get_str("image")),
         symbols: words.get_flag("symbols"),
         quiet: words.get_flag("quiet"),
+        check: words.get_flag("check"),
+        explain: words.get_flag("explain"),
+        name: words.get_str("name"),
     };
     if let Some(clash) = named.first_clash(rt, rt.alloc()) {
         return tell_clash(rt, clash);
@@ -282,8 +325,24 @@ where
     R: AllocGlobal + Input + Print + Eprint + Files,
     R::File: AsFd,
 {
+    let Ok(names) = shown_names(rt.alloc(), named.inputs, named.name) else {
+        return Err(RunFault::Asm(AsmFault::OutOfMemory));
+    };
+    from_named(rt, named, names.as_slice())
+}
+
+/// A run from files that messages call by these names.
+fn from_named<'a, R>(
+    rt: &R,
+    named: &Named<'_, 'a>,
+    names: &[&'a str],
+) -> Result<Tally, RunFault<'a>>
+where
+    R: AllocGlobal + Input + Print + Eprint + Files,
+    R::File: AsFd,
+{
     match input_of(rt, rt.alloc(), named.inputs, named.filter) {
-        Ok(chain) => from_chain(rt, chain, named),
+        Ok(chain) => from_chain(rt, chain, named, names),
         Err(fault) => Err(RunFault::Input(fault)),
     }
 }
@@ -293,6 +352,7 @@ fn from_chain<'a, R, I>(
     rt: &R,
     chain: Chained<I>,
     named: &Named<'_, 'a>,
+    names: &[&'a str],
 ) -> Result<Tally, RunFault<'a>>
 where
     R: AllocGlobal + Print + Eprint + Files,
@@ -309,32 +369,39 @@ where
     match outcome {
         Ok(built) => {
             let mut built = built;
-            write_and_tell(rt, named, &mut built, reader.get_ref())
+            write_and_tell(rt, named, &mut built, reader.get_ref(), names)
         }
-        Err(fault) => Err(placed(
-            fault,
-            reader.get_ref(),
-            reader.buffer(),
-            &line,
-            named.inputs,
-        )),
+        Err(fault) => Err(tell_lines(rt, fault, reader, &mut line, names)),
     }
 }
 
-/// Writes the parts of what was built of open files, and tells what is flagged in these.
+/// Writes the parts of what was built of open files, unless that is only checked, and tells what is flagged in
+/// these.
 fn write_and_tell<'a, R, I>(
     rt: &R,
     named: &Named<'_, 'a>,
     built: &mut Built,
     chain: &Chained<I>,
+    names: &[&str],
 ) -> Result<Tally, RunFault<'a>>
 where
     R: AllocGlobal + Print + Eprint + Files,
     R::File: AsFd,
 {
+    let telling = Telling {
+        chain,
+        names,
+        explain: named.explain,
+        keys: named.keys,
+    };
+    if named.check {
+        tell_flagged(rt, built, &telling);
+        tell_summary(rt, built.tally(), built.objects().len());
+        return Ok(built.tally());
+    }
     let tally = write_parts(rt, named, built)?;
     if !named.quiet {
-        tell_flagged(rt, built, chain, named.inputs);
+        tell_flagged(rt, built, &telling);
     }
     Ok(tally)
 }

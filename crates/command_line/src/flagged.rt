@@ -1,26 +1,51 @@
-//! What is flagged in files, as lines on standard error: `FILE:LINE:COLUMN: letter: what it means`.
+//! What is flagged in files, as lines on standard error: `FILE:LINE:COLUMN: letter: what is wrong`, a line for
+//! each letter.
 
-use asm_main::{Built, Chained, Flag, Flags, LinePlace, letter_words, link_words};
-use deck_objects::SharedObject;
+use asm_main::{Built, Chained, LinePlace, Tally, link_words};
+use card_messages::{DeckWords, FlaggedStatement, Message};
+use cards::StatementRoom;
+use deck_objects::{Object, SharedObject};
+use std::hash::RandomState;
+
+/// How messages are told: where the lines of the input stand, the names of its files, and whether the cards are
+/// shown below; and the keys of the tables of this run.
+#[derive(Drop)]
+pub(crate) struct Telling<'t, I> {
+    pub chain: &'t Chained<I>,
+    pub names: &'t [&'t str],
+    pub explain: bool,
+    pub keys: RandomState,
+}
 
 /// What the LINK lines of a map begin with.
 const LINK: &[u8] = b"LINK ";
 
 /// Tells the flagged statements and the LINK lines of what was built of these files.
-pub(crate) fn tell_flagged<R: Eprint, I>(
+pub(crate) fn tell_flagged<R: AllocGlobal + Eprint, I>(
     rt: &R,
     built: &Built,
-    chain: &Chained<I>,
-    names: &[&str],
+    telling: &Telling<'_, I>,
 ) {
     let objects = built.objects();
     for (number, object) in objects.iter().enumerate() {
         let first = first_line(objects.split_at(number).0);
-        tell_deck(rt, Flags::new(object.object(), first), chain, names);
+        tell_object(rt, object.object(), first, telling);
     }
     if built.tally().links > 0 {
-        tell_links(rt, built, chain, names);
+        tell_links(rt, built, telling);
     }
+}
+
+/// Tells how many statements are flagged in how many decks, and how many LINK lines the map has.
+pub(crate) fn tell_summary<R: Eprint>(rt: &R, tally: Tally, decks: usize) {
+    let Tally { errors, links } = tally;
+    let decks_word = if decks == 1 { "deck" } else { "decks" };
+    let _ = eprint!(rt; "{errors} flagged in {decks} {decks_word}");
+    if links > 0 {
+        let lines_word = if links == 1 { "line" } else { "lines" };
+        let _ = eprint!(rt; ", {links} LINK {lines_word}");
+    }
+    let _ = eprintln!(rt; "");
 }
 
 /// The line of the input behind these decks.
@@ -32,25 +57,132 @@ fn first_line(objects: &[SharedObject]) -> u64 {
     line
 }
 
-/// Tells the flagged statements of a deck.
-fn tell_deck<R: Eprint, I>(rt: &R, mut flags: Flags<'_>, chain: &Chained<I>, names: &[&str]) {
-    for _ in 0..u64::MAX {
-        match flags.next() {
-            Some(flag) => tell_flag(rt, &flag, chain.place_of(flag.line), names),
-            None => return,
+/// Whether a statement of a deck is flagged.
+fn is_flagged(object: &Object) -> bool {
+    for line in object.parts().lines.as_slice() {
+        if !line.letters.text().as_slice().is_empty() {
+            return true;
+        }
+    }
+    false
+}
+
+/// Tells the flagged statements of a deck whose IDENT card is this line of the input.
+fn tell_object<R: AllocGlobal + Eprint, I>(
+    rt: &R,
+    object: &Object,
+    first: u64,
+    telling: &Telling<'_, I>,
+) {
+    if !is_flagged(object) {
+        return;
+    }
+    match DeckWords::new(rt.alloc(), telling.keys, object.cards()) {
+        Ok(deck) => tell_deck(rt, &deck, object, first, telling),
+        Err(_) => {
+            let _ = eprintln!(rt; "compass: OutOfMemory: the listing has what is flagged");
         }
     }
 }
 
-/// Tells a flagged statement, with each of its letters.
-fn tell_flag<R: Eprint>(rt: &R, flag: &Flag, place: LinePlace, names: &[&str]) {
-    tell_place(rt, place, flag.column, names);
-    for letter in flag.letters.text().as_slice() {
-        let words = letter_words(*letter);
-        let letter = char::from(*letter);
-        let _ = eprint!(rt; " {letter}: {words}.");
+/// Tells the flagged statements of a deck.
+fn tell_deck<R: Eprint, I>(
+    rt: &R,
+    deck: &DeckWords,
+    object: &Object,
+    first: u64,
+    telling: &Telling<'_, I>,
+) {
+    let mut card = 0usize;
+    for (number, line) in object.parts().lines.as_slice().iter().enumerate() {
+        let letters = line.letters.text();
+        if !letters.as_slice().is_empty() {
+            let mut room = StatementRoom::new();
+            if let Some(statement) = FlaggedStatement::read(
+                deck,
+                object.cards(),
+                card,
+                number,
+                &mut room,
+            ) {
+                tell_letters(
+                    rt,
+                    &statement,
+                    letters.as_slice(),
+                    Cards {
+                        object,
+                        card,
+                        first,
+                    },
+                    telling,
+                );
+            }
+        }
+        card = card.saturating_add(line.cards as usize);
     }
-    let _ = eprintln!(rt; "");
+}
+
+/// The cards from one of a deck on: so many stand before it, and the IDENT card is this line of the input.
+#[derive(Clone, Copy)]
+struct Cards<'o> {
+    object: &'o Object,
+    card: usize,
+    first: u64,
+}
+
+/// Tells the letters of a statement that begins with the first of these cards, a line for each.
+fn tell_letters<R: Eprint, I>(
+    rt: &R,
+    statement: &FlaggedStatement<'_>,
+    letters: &[u8],
+    cards: Cards<'_>,
+    telling: &Telling<'_, I>,
+) {
+    for letter in letters {
+        tell_message(rt, *letter, &statement.message(*letter), cards, telling);
+    }
+}
+
+/// Tells a message, and shows its card where that is asked for.
+fn tell_message<R: Eprint, I>(
+    rt: &R,
+    letter: u8,
+    message: &Message<'_>,
+    cards: Cards<'_>,
+    telling: &Telling<'_, I>,
+) {
+    let card = cards.card.saturating_add(message.card);
+    let line = cards.first.saturating_add(card as u64);
+    tell_place(
+        rt,
+        telling.chain.place_of(line),
+        message.column,
+        telling.names,
+    );
+    tell_words(rt, letter, message);
+    if telling.explain {
+        show_card(rt, cards.object, card, message.column);
+    }
+}
+
+/// Tells a letter, and the words of its message.
+fn tell_words<R: Eprint>(rt: &R, letter: u8, message: &Message<'_>) {
+    let letter = char::from(letter);
+    let words = message.words;
+    let _ = eprintln!(rt; " {letter}: {words}");
+}
+
+/// Shows a card of a deck, and a caret below a column of it.
+fn show_card<R: Eprint>(rt: &R, object: &Object, card: usize, column: usize) {
+    let Some(card) = object.cards().get(card) else {
+        return;
+    };
+    let text = str::from_utf8(card.as_slice()).unwrap_or("");
+    let _ = eprintln!(rt; "    {text}");
+    for _ in 0..column.saturating_add(3) {
+        let _ = eprint!(rt; " ");
+    }
+    let _ = eprintln!(rt; "^");
 }
 
 /// Tells a place, and a colon behind it.
@@ -61,10 +193,10 @@ fn tell_place<R: Eprint>(rt: &R, place: LinePlace, column: usize, names: &[&str]
 }
 
 /// Tells the LINK lines of the map, each at the IDENT card of its deck.
-fn tell_links<R: Eprint, I>(rt: &R, built: &Built, chain: &Chained<I>, names: &[&str]) {
+fn tell_links<R: Eprint, I>(rt: &R, built: &Built, telling: &Telling<'_, I>) {
     for line in built.map().split(|byte| *byte == b'\n') {
         if let Some(link) = line.strip_prefix(LINK) {
-            tell_link(rt, link, built.objects(), chain, names);
+            tell_link(rt, link, built.objects(), telling);
         }
     }
 }
@@ -74,8 +206,7 @@ fn tell_link<R: Eprint, I>(
     rt: &R,
     link: &[u8],
     objects: &[SharedObject],
-    chain: &Chained<I>,
-    names: &[&str],
+    telling: &Telling<'_, I>,
 ) {
     let deck = link.split(|byte| *byte == b' ').nth(1).unwrap_or(b"");
     match objects
@@ -84,7 +215,7 @@ fn tell_link<R: Eprint, I>(
     {
         Some(number) => {
             let first = first_line(objects.split_at(number).0);
-            tell_place(rt, chain.place_of(first), 1, names);
+            tell_place(rt, telling.chain.place_of(first), 1, telling.names);
         }
         None => {
             let _ = eprint!(rt; "compass:");

@@ -2,7 +2,7 @@
 ghost use Rattle.std.specs.Io.{ReadsAtMost};
 
 use asm_main::{Chained, Filter, Filtered, Part};
-use std::alloc::Global;
+use std::alloc::{AllocError, Global};
 use std::io::{BufReader, Read};
 use std::os::unix::fs::FileTypeExt;
 use std::rt::Files;
@@ -131,4 +131,23 @@ pub(crate) fn input_of<'a, R: Files + Input + Eprint>(
         }
     }
     Ok(Chained::new(parts))
+}
+
+/// The names of files as messages show them: standard input has another name where one is said.
+pub(crate) fn shown_names<'a>(
+    alloc: Global,
+    names: &[&'a str],
+    standard: Option<&'a str>,
+) -> Result<Vec<&'a str>, AllocError> {
+    let mut shown = Vec::new(alloc);
+    for name in names {
+        let name = *name;
+        let other = if name == STANDARD_INPUT {
+            standard
+        } else {
+            None
+        };
+        shown.push(other.unwrap_or(name))?;
+    }
+    Ok(shown)
 }

@@ -16,6 +16,7 @@ mod journal_files;
 // A run of `compass asm`, and what it tells.
 mod assembling;
 mod flagged;
+mod input_lines;
 mod outputs;
 mod run_faults;
 mod standard_output;

@@ -4,6 +4,7 @@ ghost use Rattle.std.specs.Process.{exit_status};
 ghost use Rattle.asm_main.specs.Runs.{run_status};
 
 use crate::input_files::InputFault;
+use crate::input_lines::character_of;
 use crate::journal_files::{JOURNAL_STATUS, JournalError, tell_journal};
 use crate::outputs::Clash;
 use asm_main::{AsmFault, Chained, Tally, asm_status, column_of, line_of, words_of};
@@ -17,10 +18,12 @@ const COMMAND_LINE_STATUS: u8 = 2;
 /// A line of a file of the input that is refused, and why.
 #[derive(Clone, Copy)]
 pub(crate) struct LineFault<'a> {
-    name: &'a str,
-    line: u64,
-    words: &'static str,
-    fault: AsmFault,
+    pub name: &'a str,
+    pub line: u64,
+    pub words: &'static str,
+    /// The character that is in no set.
+    pub character: Option<u8>,
+    pub fault: AsmFault,
 }
 
 /// Why a run wrote no whole output.
@@ -32,6 +35,8 @@ pub(crate) enum RunFault<'a> {
     Input(InputFault<'a>),
     /// A line of a file of the input is refused.
     Line(LineFault<'a>),
+    /// The same, and it is told with those behind it.
+    Told(AsmFault),
     /// The journal has not what is asked for.
     Journal { name: &'a str, error: JournalError },
     /// A file of the output can't be written.
@@ -63,12 +68,21 @@ pub(crate) fn placed<'a, I>(
                     name: *name,
                     line: place.line,
                     words,
+                    character: character_at(fault, line.as_slice()),
                     fault,
                 }),
                 None => RunFault::Asm(fault),
             }
         }
         None => named(fault, chain, names),
+    }
+}
+
+/// The character that a fault of the input is about, if it is about one.
+fn character_at(fault: AsmFault, line: &[u8]) -> Option<u8> {
+    match fault {
+        AsmFault::BadLine { fault, .. } => character_of(fault, line),
+        _ => None,
     }
 }
 
@@ -91,6 +105,7 @@ pub(crate) fn tell_run<R: Eprint>(rt: &R, outcome: &Result<Tally, RunFault<'_>>)
             tell_system(rt, name, *error, AsmFault::ReadFault)
         }
         Err(RunFault::Line(fault)) => tell_line(rt, fault),
+        Err(RunFault::Told(fault)) => ExitCode::from(asm_status(&Err(*fault))),
         Err(RunFault::Journal { name, error }) => {
             tell_journal(rt, name, *error);
             ExitCode::from(JOURNAL_STATUS)
@@ -120,19 +135,38 @@ fn tell_system<R: Eprint>(rt: &R, name: &str, error: io::Error, fault: AsmFault)
     ExitCode::from(asm_status(&Err(fault)))
 }
 
-/// The line of a refused line: `FILE:LINE:COLUMN: words [fault]`, the column where one is known.
-fn tell_line<R: Eprint>(rt: &R, fault: &LineFault<'_>) -> ExitCode {
+/// The line of a refused line: `FILE:LINE:COLUMN: words [fault]`, the column where one is known, and before the
+/// words the character, if it is one.
+pub(crate) fn tell_line<R: Eprint>(rt: &R, fault: &LineFault<'_>) -> ExitCode {
     let LineFault {
         name,
         line,
         words,
+        character,
         fault,
     } = *fault;
     let _ = match column_of(fault) {
-        Some(column) => eprintln!(rt; "{name}:{line}:{column}: {words} [{fault}]"),
-        None => eprintln!(rt; "{name}:{line}: {words} [{fault}]"),
+        Some(column) => eprint!(rt; "{name}:{line}:{column}: "),
+        None => eprint!(rt; "{name}:{line}: "),
     };
+    if let Some(character) = character {
+        tell_character(rt, character);
+    }
+    let _ = eprintln!(rt; "{words} [{fault}]");
     ExitCode::from(asm_status(&Err(fault)))
+}
+
+/// Tells a character, and a comma behind it: what can't be shown by its number. Of a tab and a carriage return
+/// the words tell enough.
+fn tell_character<R: Eprint>(rt: &R, character: u8) {
+    let _ = match character {
+        b'\t' | b'\r' => Ok(()),
+        b' '..=b'~' => {
+            let character = char::from(character);
+            eprint!(rt; "{character}, ")
+        }
+        _ => eprint!(rt; "byte {character:02x} in base 16, "),
+    };
 }
 
 /// The line of a fault on standard error, if there is one, and the status of a run.
