@@ -4,6 +4,6 @@ pub mod LatestFaults
 pub mod Chains
 pub mod Outputs
 pub mod FaultWords
-pub mod Flags
+pub mod LinkWords
 pub mod Filters
 pub mod Ways

@@ -13,8 +13,8 @@ fn character_words(rest: &[u8]) -> &'static str
     ensures { result.now ≡ character_words rest.now }
 {
     match rest.first().copied() {
-        Some(b'a'..=b'z') => "a small letter; a card has the 64 characters of LANGUAGE.md",
-        Some(b'\t') => "a tab; a card has the 64 characters of LANGUAGE.md",
+        Some(b'a'..=b'z') => "a small letter; --fold-case takes small letters as capitals",
+        Some(b'\t') => "a tab; --tabs takes tabs as blanks up to column 11, 18, 30 and so on",
         Some(b'\r') => {
             "a carriage return within a line; a card has the 64 characters of LANGUAGE.md"
         }
@@ -28,7 +28,7 @@ fn card_words(fault: CardFault, line: &[u8]) -> &'static str
 {
     match fault {
         CardFault::TooWide => {
-            "the line is too long; a card has at most 80 columns, and its line 256 bytes"
+            "the line is longer than a card, which has 80 columns; cut -c1-80 keeps those"
         }
         CardFault::BadCharacter { column } => {
             let before = column.saturating_sub(1).min(line.len());
@@ -49,7 +49,9 @@ pub fn words_of(fault: AsmFault, line: &[u8]) -> Option<&'static str>
         AsmFault::TooManyDecks => Some("a deck too many; one run takes 64"),
         AsmFault::ReadFault => None,
         AsmFault::BadLine { fault, .. } => Some(card_words(fault, line)),
-        AsmFault::LastLineCut => Some("no line feed ends the last line, so it may be cut"),
+        AsmFault::LastLineCut => Some(
+            "no line feed ends the last line, so it may be cut; --last-line takes it as it is",
+        ),
         AsmFault::WriteFault { .. } => None,
         AsmFault::BadName { .. } => Some(
             "no name for a deck; the first card is an IDENT card, and a name has 1 to 7 letters and digits",

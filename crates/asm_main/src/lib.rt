@@ -33,7 +33,7 @@ mod filtered;
 // A run.
 mod asm_fault;
 mod fault_words;
-mod flags;
+mod link_words;
 mod running;
 
 pub use asm_fault::AsmFault;
@@ -43,7 +43,7 @@ pub use deck::Deck;
 pub use fault_words::{column_of, line_of, words_of};
 pub use filter_laws::plain_stays;
 pub use filtered::{Filter, Filtered};
-pub use flags::{Flag, Flags, letter_words, link_words};
+pub use link_words::words_of_link;
 pub use remembering::Remembering;
 pub use running::{Tally, asm_build, asm_build_with, asm_run, asm_status};
 pub use texts::{Chosen, write_chosen};

@@ -1,7 +1,7 @@
 //! What is flagged in files, as lines on standard error: `FILE:LINE:COLUMN: letter: what is wrong`, a line for
 //! each letter.
 
-use asm_main::{Built, Chained, LinePlace, Tally, link_words};
+use asm_main::{Built, Chained, LinePlace, Tally, words_of_link};
 use card_messages::{DeckWords, FlaggedStatement, Message};
 use cards::StatementRoom;
 use deck_objects::{Object, SharedObject};
@@ -222,6 +222,6 @@ fn tell_link<R: Eprint, I>(
         }
     }
     let text = str::from_utf8(link).unwrap_or("");
-    let words = link_words(link.first().copied().unwrap_or(0));
+    let words = words_of_link(link.first().copied().unwrap_or(0));
     let _ = eprintln!(rt; " LINK {text}: {words}.");
 }

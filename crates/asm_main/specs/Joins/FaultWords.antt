@@ -9,14 +9,14 @@ use Rattle.asm_main.specs.declared.asm_fault.AsmFault.TheVariants.{OutOfMemory, 
 abbrev pub character_words : List ℕ → List ℕ
 character_words [] = codes "a character that no card has; a card has the 64 characters of LANGUAGE.md"
 character_words (c ∷ rest) =
-    if nat_le 97 c && nat_le c 122 then codes "a small letter; a card has the 64 characters of LANGUAGE.md"
-    else if c == 9 then codes "a tab; a card has the 64 characters of LANGUAGE.md"
+    if nat_le 97 c && nat_le c 122 then codes "a small letter; --fold-case takes small letters as capitals"
+    else if c == 9 then codes "a tab; --tabs takes tabs as blanks up to column 11, 18, 30 and so on"
     else if c == 13 then codes "a carriage return within a line; a card has the 64 characters of LANGUAGE.md"
     else codes "a character that no card has; a card has the 64 characters of LANGUAGE.md"
 
 -- why a line is no card
 abbrev pub card_words : CardFault → List ℕ → List ℕ
-card_words card.TooWide line = codes "the line is too long; a card has at most 80 columns, and its line 256 bytes"
+card_words card.TooWide line = codes "the line is longer than a card, which has 80 columns; cut -c1-80 keeps those"
 card_words (card.BadCharacter column) line = character_words (drop (min (column - 1) (length line)) line)
 
 -- what a fault of the input means; of a line that is no card, this is the line
@@ -27,7 +27,7 @@ fault_words NameTaken line = Some (codes "an earlier deck has this name")
 fault_words TooManyDecks line = Some (codes "a deck too many; one run takes 64")
 fault_words ReadFault line = None
 fault_words (BadLine number fault) line = Some (card_words fault line)
-fault_words LastLineCut line = Some (codes "no line feed ends the last line, so it may be cut")
+fault_words LastLineCut line = Some (codes "no line feed ends the last line, so it may be cut; --last-line takes it as it is")
 fault_words (WriteFault sent) line = None
 fault_words (BadName number) line = Some (codes "no name for a deck; the first card is an IDENT card, and a name has 1 to 7 letters and digits")
 
