@@ -187,7 +187,7 @@ where
     requires { AreInRange settings.now }
 {
     let page = page_of(words);
-    match serve(rt, rt.alloc(), settings, page, None) {
+    match serve(rt, rt.alloc(), settings, page) {
         Ok(()) => ExitCode::SUCCESS,
         Err(fault) => {
             tell(rt, fault, settings, page.unwrap_or(0));

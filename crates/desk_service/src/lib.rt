@@ -36,8 +36,8 @@
 //! at a desk and a shelf of its thread's own.
 //!
 //! Who says `STOP` at the control connection ends the service: no connection is taken any more, nothing more
-//! is read, and what is being answered goes out. A thread that hangs in the system is waited for half a second;
-//! then who waits for the service ends the process.
+//! is read, and what is being answered goes out. A thread that hangs in the system is waited for: no thread can be
+//! ended from outside, so a signal ends the process then.
 //!
 //! Not promised: that a connection is accepted, that a bell is heard, in which order sessions get their
 //! turns, or in what time. What sockets and files of the system take and give is known to no contract.
@@ -77,7 +77,6 @@ mod publications;
 mod running;
 mod seating;
 mod service_end;
-mod service_over;
 mod timed_stream;
 
 pub use attending::{Attend, Attending};
@@ -88,7 +87,6 @@ pub use journals::{Journal, SessionKeeper};
 pub use laws::told_changes_are_kept;
 pub use page_lines::DeskLines;
 pub use running::{serve, serve_on};
-pub use service_over::ServiceOver;
 pub use session_line::VERSION;
 pub use sessions::{Ending, serve_session};
 pub use settings::{Journaling, Settings};

@@ -13,7 +13,6 @@ use crate::places::{Serve, SessionPlace, WorkerPlace};
 use crate::root::{JournalLock, take_folder, take_journal, try_files};
 use crate::seating::{Places, open_channels, seat_all};
 use crate::service_end::ServiceEnd;
-use crate::service_over::ServiceOver;
 use crate::settings::{JOURNAL, Settings};
 use crate::system_file::SystemFile;
 use crate::versions::{Seen, VERSIONS};
@@ -137,7 +136,6 @@ struct Hearing<'a, R> {
     port: u16,
     page: Option<u16>,
     end: &'a ServiceEnd,
-    over: Option<&'a ServiceOver>,
 }
 
 impl<R> Clone for Hearing<'_, R> {
@@ -167,9 +165,6 @@ impl<R: Wait + Clock + Files + Net> Hear for Hearing<'_, R> {
     fn hear(self) -> Option<UnixStream> {
         let asked = hear(self.rt, self.control, local_address(self.port), self.end);
         wake_pages(self.rt, self.page);
-        if let (Some(over), Some(_)) = (self.over, &asked) {
-            over.stop(self.rt);
-        }
         asked
     }
 
@@ -425,7 +420,6 @@ fn serve_opened<'a, R>(
     settings: &'a Settings<'a>,
     opened: Opened<SystemFile<R::File>>,
     known: KnownFiles,
-    over: Option<&'a ServiceOver>,
 ) -> Result<(), ServeFault>
 where
     R: Threads
@@ -467,7 +461,6 @@ where
         port,
         page,
         end,
-        over,
     };
     let receiving = Receiving {
         rt,
@@ -520,7 +513,7 @@ where
     let opened = open(rt, alloc, keys, settings, threads, &seen, &mut lock)?;
     let known = KnownFiles::new(alloc, keys);
     serve_opened(
-        rt, alloc, keys, listener, None, None, settings, opened, known, None,
+        rt, alloc, keys, listener, None, None, settings, opened, known,
     )
 }
 
@@ -569,7 +562,6 @@ fn serve_folder<'a, R>(
     door: Option<Door<'a>>,
     settings: &'a Settings<'a>,
     lock: &mut JournalLock,
-    over: Option<&'a ServiceOver>,
 ) -> Result<(), ServeFault>
 where
     R: Threads
@@ -602,7 +594,6 @@ where
         settings,
         opened,
         known,
-        over,
     )
 }
 
@@ -613,14 +604,12 @@ where
 /// `PageFault`, then those of versions and journal, and want of memory. A port that can't be listened on is
 /// the one fault that is told of sockets: later ones end a session at most. It returns without a fault where
 /// `STOP` is said at the control connection of the folder, and with `once` as `serve_on`, where there is no
-/// page. Who waits for its end beside it hears of `STOP` once what was being answered is out: a thread that hangs
-/// in the system holds the return up.
+/// page. A thread that hangs in the system holds the return up.
 pub fn serve<'a, R>(
     rt: &'a R,
     alloc: Global,
     settings: &'a Settings<'a>,
     page: Option<u16>,
-    over: Option<&'a ServiceOver>,
 ) -> Result<(), ServeFault>
 where
     R: Threads
@@ -654,7 +643,7 @@ where
         return Err(ServeFault::ReadFault);
     };
     let Some(port) = page else {
-        return serve_folder(rt, alloc, keys, &listener, None, settings, &mut lock, over);
+        return serve_folder(rt, alloc, keys, &listener, None, settings, &mut lock);
     };
     let Ok(browsers) = TcpListener::bind(rt, local_address(port)) else {
         return Err(ServeFault::PageFault);
@@ -666,14 +655,5 @@ where
         port: port_of(&browsers, port),
         keys,
     };
-    serve_folder(
-        rt,
-        alloc,
-        keys,
-        &listener,
-        Some(door),
-        settings,
-        &mut lock,
-        over,
-    )
+    serve_folder(rt, alloc, keys, &listener, Some(door), settings, &mut lock)
 }

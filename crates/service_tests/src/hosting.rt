@@ -69,7 +69,7 @@ where
     R::Dir: Send,
 {
     let page = page.map(|address| address.port());
-    are_in_range(settings) && serve(rt, alloc, settings, page, None).is_ok()
+    are_in_range(settings) && serve(rt, alloc, settings, page).is_ok()
 }
 
 /// Clients say what a script has, and one stops the service.
