@@ -341,10 +341,8 @@ where
     R: AllocGlobal + Input + Print + Eprint + Files,
     R::File: AsFd,
 {
-    match input_of(rt, rt.alloc(), named.inputs, named.filter) {
-        Ok(chain) => from_chain(rt, chain, named, names),
-        Err(fault) => Err(RunFault::Input(fault)),
-    }
+    let chain = input_of(rt, rt.alloc(), named.inputs, named.filter)?;
+    from_chain(rt, chain, named, names)
 }
 
 /// A run from open files. A fault of the input has the file and the line that it is about.

@@ -1,12 +1,13 @@
 //! The files that the command line names, as one reader.
 ghost use Rattle.std.specs.Io.{ReadsAtMost};
 
-use asm_main::{Chained, Filter, Filtered, Part};
+use asm_main::{AsmFault, Chained, Filter, Filtered, Part};
 use std::alloc::{AllocError, Global};
 use std::io::{BufReader, Read};
 use std::os::unix::fs::FileTypeExt;
 use std::rt::Files;
 use std::{fs, io};
+use thiserror::Error;
 
 /// The name that stands for standard input.
 const STANDARD_INPUT: &str = "-";
@@ -28,7 +29,8 @@ pub(crate) enum Given<F, S> {
 }
 
 /// Why a file of the command line can't be read.
-#[derive(Clone, Copy)]
+#[derive(Clone, Copy, Debug, Error)]
+#[error("{name}: {error} [{fault}]", fault = AsmFault::ReadFault)]
 pub(crate) struct InputFault<'a> {
     pub name: &'a str,
     pub error: io::Error,

@@ -1,7 +1,7 @@
 //! The lines of files that are no cards, told on standard error: the first, which ends the run, and behind it the
 //! others, up to twenty.
 
-use crate::run_faults::{LineFault, RunFault, placed, tell_line};
+use crate::run_faults::{BadCharacter, LineFault, RunFault, placed};
 use asm_main::{AsmFault, Chained, words_of};
 use cards::{Card, CardFault};
 use std::io::{BufReader, Read};
@@ -18,7 +18,7 @@ const MOST_LINES: u64 = 1_280_001;
 struct BadLine {
     number: u64,
     fault: CardFault,
-    character: Option<u8>,
+    character: BadCharacter,
 }
 
 /// The number of a line that is no card, if a fault is about one.
@@ -40,11 +40,11 @@ fn skip_line<R: Read>(input: &mut Counted<BufReader<R>>, line: &mut LineBuf) {
 }
 
 /// The character that is in no set, if a fault is about one.
-pub(crate) fn character_of(fault: CardFault, line: &[u8]) -> Option<u8> {
-    match fault {
+pub(crate) fn character_of(fault: CardFault, line: &[u8]) -> BadCharacter {
+    BadCharacter(match fault {
         CardFault::TooWide => None,
         CardFault::BadCharacter { column } => line.get(column.saturating_sub(1)).copied(),
-    }
+    })
 }
 
 /// The next line that is no card, behind so many lines; none where the input ends before.
@@ -73,7 +73,7 @@ fn next_bad_line<R: Read>(
                 return Some(BadLine {
                     number,
                     fault,
-                    character: None,
+                    character: BadCharacter(None),
                 });
             }
             LineIs::End | LineIs::Cut | LineIs::Fault => return None,
@@ -96,16 +96,14 @@ fn tell_bad_line<R: Eprint, I>(
         fault: bad.fault,
     };
     if let (Some(name), Some(words)) = (names.get(place.part), words_of(fault, text)) {
-        let _ = tell_line(
-            rt,
-            &LineFault {
-                name: *name,
-                line: place.line,
-                words,
-                character: bad.character,
-                fault,
-            },
-        );
+        let line = LineFault {
+            name: *name,
+            line: place.line,
+            words,
+            character: bad.character,
+            fault,
+        };
+        let _ = eprintln!(rt; "{line}");
     }
 }
 
@@ -156,7 +154,7 @@ pub(crate) fn tell_lines<'a, R: Eprint, I: Read + Drop>(
     let Some(number) = bad_line(fault) else {
         return found;
     };
-    let _ = tell_line(rt, &first);
+    let _ = eprintln!(rt; "{first}");
     tell_others(rt, number, behind_line(reader, line), line, names);
     RunFault::Told(fault)
 }

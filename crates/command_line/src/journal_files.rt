@@ -16,45 +16,53 @@ use std::io::{self, BufReader, Read, Write};
 use std::process::ExitCode;
 use std::rt::Files;
 use text_ports::{Broken, Counted, put_all};
+use thiserror::Error;
 
 /// The status of a journal that can't be gone through.
 pub const JOURNAL_STATUS: u8 = 8;
 
 /// What is wrong with a journal.
-#[derive(Clone, Copy)]
+#[derive(Clone, Copy, Debug, Error)]
 pub(crate) enum JournalError {
     /// The file can't be opened, by what the system says.
+    #[error(transparent)]
     NoFile(io::Error),
     /// The file can't be read.
+    #[error("the journal can't be read")]
     ReadFault,
     /// This record, counted from 1, is damaged, or tells a change that can't be made again. It begins at
     /// this byte.
+    #[error("record {number}, at byte {begin}, is damaged or can't be made again")]
     BadRecord { number: u64, begin: u64 },
     /// It has no such version.
+    #[error("there is no version {version}")]
     NoVersion { version: u64 },
 }
 
 /// Why the decks of a journal can't be had.
-#[derive(Clone, Copy)]
+#[derive(Clone, Copy, Debug, Error)]
 pub(crate) enum DecksFault {
     /// The memory failed.
-    Asm(AsmFault),
-    Journal(JournalError),
+    #[error(transparent)]
+    Asm(#[from] AsmFault),
+    /// The journal has not what is asked for.
+    #[error(transparent)]
+    Journal(#[from] JournalError),
 }
 
 impl From<AllocError> for DecksFault {
     fn from(_: AllocError) -> DecksFault {
-        DecksFault::Asm(AsmFault::OutOfMemory)
+        DecksFault::from(AsmFault::OutOfMemory)
     }
 }
 
 impl From<ReplayFault> for DecksFault {
     fn from(fault: ReplayFault) -> DecksFault {
         match fault {
-            ReplayFault::ReadFault => DecksFault::Journal(JournalError::ReadFault),
-            ReplayFault::OutOfMemory => DecksFault::Asm(AsmFault::OutOfMemory),
+            ReplayFault::ReadFault => DecksFault::from(JournalError::ReadFault),
+            ReplayFault::OutOfMemory => DecksFault::from(AsmFault::OutOfMemory),
             ReplayFault::Unmade { number, begin } => {
-                DecksFault::Journal(JournalError::BadRecord { number, begin })
+                DecksFault::from(JournalError::BadRecord { number, begin })
             }
         }
     }
@@ -83,11 +91,11 @@ fn decks_in(
     version: Option<u64>,
 ) -> Result<Vec<Deck>, DecksFault> {
     if let Some(Ending::Faulty { number, begin }) = ending {
-        return Err(DecksFault::Journal(JournalError::BadRecord { number, begin }));
+        return Err(DecksFault::from(JournalError::BadRecord { number, begin }));
     }
     match version {
         Some(version) if version != desk.version() => {
-            Err(DecksFault::Journal(JournalError::NoVersion { version }))
+            Err(DecksFault::from(JournalError::NoVersion { version }))
         }
         _ => Ok(decks_of(alloc, desk)?),
     }
@@ -101,30 +109,13 @@ pub(crate) fn decks_at<R: Files>(
     path: &str,
     version: Option<u64>,
 ) -> Result<Vec<Deck>, DecksFault> {
-    let file = match fs::open(rt, path) {
-        Ok(file) => file,
-        Err(error) => return Err(DecksFault::Journal(JournalError::NoFile(error))),
-    };
+    let file = fs::open(rt, path).map_err(JournalError::NoFile)?;
     let Ok(reader) = BufReader::new(alloc, file) else {
-        return Err(DecksFault::Asm(AsmFault::OutOfMemory));
+        return Err(DecksFault::from(AsmFault::OutOfMemory));
     };
     let last = version.unwrap_or(u64::MAX);
     let Replayed { desk, ending } = replay(alloc, keys, &mut Counted::new(reader), last)?;
     decks_in(alloc, &desk, ending, version)
-}
-
-/// The line of a journal that can't be gone through.
-pub(crate) fn tell_journal<R: Eprint>(rt: &R, path: &str, error: JournalError) {
-    let _ = match error {
-        JournalError::NoFile(error) => eprintln!(rt; "compass: {path}: {error}"),
-        JournalError::ReadFault => eprintln!(rt; "compass: {path}: the journal can't be read"),
-        JournalError::BadRecord { number, begin } => eprintln!(rt;
-            "compass: {path}: record {number}, at byte {begin}, is damaged or can't be made again"
-        ),
-        JournalError::NoVersion { version } => eprintln!(rt;
-            "compass: {path}: there is no version {version}"
-        ),
-    };
 }
 
 /// The words of `compass log`.
@@ -142,30 +133,34 @@ pub fn log_words<'a>(alloc: Global) -> Result<Command<'a>, AllocError> {
 }
 
 /// Why not all records of a journal were printed.
-#[derive(Clone, Copy)]
+#[derive(Clone, Copy, Debug, Error)]
 enum LogFault {
-    Asm(AsmFault),
-    Journal(JournalError),
+    /// The memory or standard output.
+    #[error(transparent)]
+    Asm(#[from] AsmFault),
+    /// The journal can't be gone through.
+    #[error(transparent)]
+    Journal(#[from] JournalError),
 }
 
 impl From<JournalFault> for LogFault {
     fn from(fault: JournalFault) -> LogFault {
         match fault {
-            JournalFault::ReadFault => LogFault::Journal(JournalError::ReadFault),
-            JournalFault::OutOfMemory => LogFault::Asm(AsmFault::OutOfMemory),
+            JournalFault::ReadFault => LogFault::from(JournalError::ReadFault),
+            JournalFault::OutOfMemory => LogFault::from(AsmFault::OutOfMemory),
         }
     }
 }
 
 impl From<AllocError> for LogFault {
     fn from(_: AllocError) -> LogFault {
-        LogFault::Asm(AsmFault::OutOfMemory)
+        LogFault::from(AsmFault::OutOfMemory)
     }
 }
 
 impl From<Broken> for LogFault {
     fn from(broken: Broken) -> LogFault {
-        LogFault::Asm(AsmFault::WriteFault { sent: broken.sent })
+        LogFault::from(AsmFault::WriteFault { sent: broken.sent })
     }
 }
 
@@ -247,7 +242,7 @@ fn write_log<F: Read, W: Write>(
         match next_record(alloc, input, &mut place)? {
             Next::Found(record) => write_record(alloc, &record, deck, output)?,
             Next::Ended(Ending::Faulty { number, begin }) => {
-                return Err(LogFault::Journal(JournalError::BadRecord { number, begin }));
+                return Err(LogFault::from(JournalError::BadRecord { number, begin }));
             }
             Next::Ended(_) => return Ok(()),
         }
@@ -262,17 +257,25 @@ fn log_file<R: AllocGlobal + Print + Files>(
     deck: Option<&str>,
 ) -> Result<(), LogFault> {
     let Ok(reader) = BufReader::new(rt.alloc(), file) else {
-        return Err(LogFault::Asm(AsmFault::OutOfMemory));
+        return Err(LogFault::from(AsmFault::OutOfMemory));
     };
     let Ok(writer) = io::BufWriter::new(rt.alloc(), standard_output(rt)) else {
-        return Err(LogFault::Asm(AsmFault::OutOfMemory));
+        return Err(LogFault::from(AsmFault::OutOfMemory));
     };
     let mut output = Counted::new(writer);
     write_log(rt.alloc(), &mut Counted::new(reader), deck, &mut output)?;
     if output.flush() {
         Ok(())
     } else {
-        Err(LogFault::Asm(AsmFault::WriteFault { sent: 0 }))
+        Err(LogFault::from(AsmFault::WriteFault { sent: 0 }))
+    }
+}
+
+/// The status of a run of `compass log` that did not print all.
+fn log_status(fault: LogFault) -> u8 {
+    match fault {
+        LogFault::Asm(fault) => asm_status(&Err(fault)),
+        LogFault::Journal(_) => JOURNAL_STATUS,
     }
 }
 
@@ -281,17 +284,13 @@ pub fn log<R: AllocGlobal + Print + Eprint + Files>(rt: &R, words: &ArgMatches<'
     let path = words.get_str("FILE").unwrap_or("");
     let told = match fs::open(rt, path) {
         Ok(file) => log_file(rt, file, words.get_str("deck")),
-        Err(error) => Err(LogFault::Journal(JournalError::NoFile(error))),
+        Err(error) => Err(LogFault::from(JournalError::NoFile(error))),
     };
     match told {
         Ok(()) => ExitCode::SUCCESS,
-        Err(LogFault::Asm(fault)) => {
+        Err(fault) => {
             let _ = eprintln!(rt; "compass: {path}: {fault}");
-            ExitCode::from(asm_status(&Err(fault)))
-        }
-        Err(LogFault::Journal(error)) => {
-            tell_journal(rt, path, error);
-            ExitCode::from(JOURNAL_STATUS)
+            ExitCode::from(log_status(fault))
         }
     }
 }

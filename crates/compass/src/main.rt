@@ -5,8 +5,9 @@
 mod serving;
 mod stopping;
 mod streams;
+mod words;
 
-ghost use Rattle.std.specs.Prelude.{◌≡◌, ◌≢◌, ℕ, ◌<◌, pos};
+ghost use Rattle.std.specs.Prelude.{◌≡◌, ℕ, ◌<◌, pos};
 
 use asm_main::AsmFault;
 use clap::{ArgMatches, Command, Error};
@@ -14,18 +15,17 @@ use command_line::{asm_words, assemble, log, log_words, tell};
 use desk_service::VERSION;
 use serving::{MEMORY_STATUS, run_service, serve_words, settings_of};
 use std::alloc::{AllocError, Global};
-use std::env;
 use std::fs::File;
-use std::io::ErrorKind;
 use std::net::{Net, TcpListener, TcpStream};
 use std::process::ExitCode;
 use std::random::RandomSource;
-use std::rt::{Env, Files};
+use std::rt::Files;
 use std::sync::Wait;
 use std::thread::Threads;
 use std::time::Clock;
 use stopping::{stop_service, stop_words};
 use streams::hold_streams;
+use words::{WordsFault, words_of};
 
 /// The status of a fault of the command line.
 const COMMAND_LINE_STATUS: u8 = 2;
@@ -122,41 +122,10 @@ fn status_of(exit_code: i32) -> u8
     u8::try_from(exit_code).unwrap_or(COMMAND_LINE_STATUS)
 }
 
-/// Why the words of the command line can't be read.
-#[derive(Clone, Copy)]
-enum WordsFault {
-    /// No memory was left for them.
-    OutOfMemory,
-    /// One of them is not UTF-8.
-    NotText,
-}
-
-/// What the words failed at: the memory alone where a growth was refused, and else the words.
-fn words_fault(kind: ErrorKind) -> WordsFault
-    ensures memory { kind ≡ ErrorKind.OutOfMemory → result ≡ WordsFault.OutOfMemory }
-    ensures words { kind ≢ ErrorKind.OutOfMemory → result ≡ WordsFault.NotText }
-{
-    if kind == ErrorKind::OutOfMemory {
-        WordsFault::OutOfMemory
-    } else {
-        WordsFault::NotText
-    }
-}
-
-/// The words of the command line.
-fn words_of<R: AllocGlobal + Env>(rt: &R) -> Result<Vec<String>, WordsFault> {
-    match env::args(rt) {
-        Ok(words) => words
-            .collect(rt.alloc())
-            .map_err(|_| WordsFault::OutOfMemory),
-        Err(error) => Err(words_fault(error.kind())),
-    }
-}
-
 /// Tells that the command line is no text: a fault of it as those that `clap` tells, with their
 /// status.
-fn refuse_words<R: Eprint>(rt: &R) -> ExitCode {
-    let _ = eprintln!(rt; "compass: an argument is not UTF-8");
+fn refuse_words<R: Eprint>(rt: &R, fault: WordsFault) -> ExitCode {
+    let _ = eprintln!(rt; "compass: {fault}");
     ExitCode::from(COMMAND_LINE_STATUS)
 }
 
@@ -173,6 +142,6 @@ fn main(rt: HostRuntime) -> ExitCode {
     match words_of(&rt) {
         Ok(words) => run(&rt, words.as_slice()),
         Err(WordsFault::OutOfMemory) => tell(&rt, &Err(AsmFault::OutOfMemory)),
-        Err(WordsFault::NotText) => refuse_words(&rt),
+        Err(fault) => refuse_words(&rt, fault),
     }
 }

@@ -11,6 +11,7 @@ use crate::steps::{Step, line_step};
 use std::alloc::{AllocError, Global};
 use std::io::Read;
 use text_ports::{Counted, LineBuf, LineIs, next_whole_line};
+use thiserror::Error;
 
 /// What one call reads.
 #[derive(Drop)]
@@ -22,11 +23,13 @@ pub enum Next {
 }
 
 /// Why a journal was not read on.
-#[derive(Clone, Copy, Debug)]
+#[derive(Clone, Copy, Debug, Error)]
 pub enum JournalFault {
     /// The reader failed, or gave more than 2^64 lines for one record.
+    #[error("the journal can't be read")]
     ReadFault,
     /// No memory was left.
+    #[error("no memory was left")]
     OutOfMemory,
 }
 

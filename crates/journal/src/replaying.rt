@@ -13,6 +13,7 @@ use std::alloc::Global;
 use std::hash::RandomState;
 use std::io::Read;
 use text_ports::Counted;
+use thiserror::Error;
 
 /// A desk on which the changes of a journal were made again.
 #[derive(Drop)]
@@ -23,14 +24,17 @@ pub struct Replayed {
 }
 
 /// Why the changes of a journal were not all made again.
-#[derive(Clone, Copy, Debug)]
+#[derive(Clone, Copy, Debug, Error)]
 pub enum ReplayFault {
     /// The reader failed.
+    #[error("the journal can't be read")]
     ReadFault,
     /// No memory was left.
+    #[error("no memory was left")]
     OutOfMemory,
     /// This record, counted from 1, is one that the desk refuses, or that makes another version; or it
     /// tells where the journal begins, and is not the first. It begins at this byte.
+    #[error("record {number}, at byte {begin}, can't be made again")]
     Unmade { number: u64, begin: u64 },
 }
 
