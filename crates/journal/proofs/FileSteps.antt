@@ -5,7 +5,7 @@ use Rattle.journal.specs.Records.{text_with_version}
 use Rattle.journal.specs.declared.marks.Mark.{Mark}
 use Rattle.journal.specs.Marks.{mark_behind}
 use Rattle.journal.proofs.MarkSteps.{mark-none, mark-more}
-use Rattle.journal.specs.JournalFiles.{Append, Sync, CutTo, Step, Note, HasKept, at_opening, cut_back, noted, not_noted, not_synced, not_written, IsRun, JournalFile, TakesStep, WritesAndNotes, told_to_note, sync_failed, append_failed, HasRecords, AreKept, IsKept}
+use Rattle.journal.specs.JournalFiles.{Append, Sync, CutTo, Step, Note, HasKept, at_opening, cut_back, noted, not_noted, not_synced, not_written, IsRun, JournalFile, TakesStep, TakesSome, CutsLast, IsCutBack, WritesAndNotes, told_to_note, sync_failed, append_failed, HasRecords, AreKept, IsKept}
 
 -- ---- runs of records
 
@@ -124,3 +124,48 @@ module _ {F : Type 0} (has_done : F → List Step → Type 0) where
 
   pub is-kept : (first next version : ℕ) → AreKept has_done first next → first ≤ version → version < next → IsKept has_done version
   is-kept first next version are from below = record { first = first; next = next; records = are; from = from; below = below }
+
+  -- ---- what a text leaves that is not kept
+
+  pub takes-none : (file : F) → TakesSome has_done file file
+  takes-none file = record { steps = []; taken = λ before had. had }
+
+  pub takes-step : (old new : F) (step : Step) → TakesStep has_done old step new → TakesSome has_done old new
+  takes-step old new step one = record { steps = step ∷ []; taken = one }
+
+  pub takes-writing : (bytes : List ℕ) (mark : Mark) (done : Bool) (old new : F) → WritesAndNotes has_done bytes mark done old new → TakesSome has_done old new
+  takes-writing bytes mark done old new (told_to_note steps) = record { steps = (Note mark, done) ∷ (Sync, true) ∷ (Append bytes, true) ∷ []; taken = steps }
+  takes-writing bytes mark done old new (sync_failed none steps) = record { steps = (Sync, false) ∷ (Append bytes, true) ∷ []; taken = steps }
+  takes-writing bytes mark done old new (append_failed none steps) = record { steps = (Append bytes, false) ∷ []; taken = steps }
+
+  takes-both : (old middle new : F) → TakesSome has_done old middle → TakesSome has_done middle new → TakesSome has_done old new
+  takes-both old middle new one two = record {
+    steps = two.steps ++ one.steps;
+    taken = λ before had. subst (λ (steps : List Step). has_done new steps) (sym (append_assoc two.steps one.steps before)) (two.taken (one.steps ++ before) (one.taken before had));
+  }
+
+  -- a cut is the last step
+  pub cuts-behind : (old middle new : F) (kept : ℕ) (done : Bool) → TakesSome has_done old middle → TakesStep has_done middle (CutTo kept, done) new → CutsLast has_done kept done old new
+  cuts-behind old middle new kept done some cut = record { steps = some.steps; taken = λ before had. cut (some.steps ++ before) (some.taken before had) }
+
+  pub cuts-first : (old new : F) (kept : ℕ) (done : Bool) → TakesStep has_done old (CutTo kept, done) new → CutsLast has_done kept done old new
+  cuts-first old new kept done cut = cuts-behind old old new kept done (takes-none old) cut
+
+  -- nothing but a cut
+  pub cut-back-first : (old new : JournalFile F) (done : Bool) → new ≡ record old { file = new.file; clean = done } → CutsLast has_done old.has.length done old.file new.file → IsCutBack has_done old new
+  cut-back-first old new done same cut =
+      let is : new.clean ≡ done = ap (λ (j : JournalFile F). j.clean) same in
+      record {
+        same = same ∙ ap (λ (c : Bool). record old { file = new.file; clean = c }) (sym is);
+        cut = subst (λ (c : Bool). CutsLast has_done old.has.length c old.file new.file) (sym is) cut;
+      }
+
+  -- a cut behind what was not kept
+  pub cut-back-behind : (old first second new : JournalFile F) (one done : Bool) → first ≡ record old { file = first.file; clean = one } → second ≡ record first { file = second.file; clean = second.clean } →
+      new ≡ record second { file = new.file; clean = done } → TakesSome has_done old.file first.file → TakesSome has_done first.file second.file → TakesStep has_done second.file (CutTo second.has.length, done) new.file → IsCutBack has_done old new
+  cut-back-behind old first second new one done is_first is_second is_new some more cut =
+      let has : second.has ≡ old.has = ap (λ (j : JournalFile F). j.has) is_second ∙ ap (λ (j : JournalFile F). j.has) is_first in
+      cut-back-first old new done
+      (is_new ∙ ap (λ (j : JournalFile F). record j { file = new.file; clean = done }) is_second ∙ ap (λ (j : JournalFile F). record j { file = new.file; clean = done }) is_first)
+      (subst (λ (m : Mark). CutsLast has_done m.length done old.file new.file) has
+      (cuts-behind old.file second.file new.file second.has.length done (takes-both old.file first.file second.file some more) cut))

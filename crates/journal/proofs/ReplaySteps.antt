@@ -1,5 +1,5 @@
 -- The steps of making the changes of a journal again: the records so far are made, and leave the journal of what is left.
-use Rattle.std.proofs.Common.{ℕ, ◌≡◌, ◌+◌, Bool, true, false, List, [], ◌∷◌, ◌++◌, Option, None, Some, length, refl, sym, ap, subst, ◌∙◌, append_assoc, append-nil}
+use Rattle.std.proofs.Common.{ℕ, ◌≡◌, ◌+◌, Bool, true, false, List, [], ◌∷◌, ◌++◌, Option, None, Some, Result, Ok, Err, IfErr, IsErrAnd, length, refl, sym, ap, subst, ◌∙◌, append_assoc, append-nil}
 use Rattle.std.specs.List.{cons_option}
 use Rattle.std.specs.Io.KnownBytes.{Consumes}
 use Rattle.std.proofs.KnownBytes.{Consumes-nil, Consumes-trans}
@@ -23,27 +23,39 @@ use Rattle.journal.specs.declared.places.Place.{Place}
 use Rattle.journal.specs.declared.places.Ending.{Ending}
 use Rattle.journal.specs.declared.places.Ending.TheVariants.{Whole, Cut, Faulty}
 use Rattle.journal.specs.declared.reading.Next.TheVariants.{Found, Ended}
+use Rattle.journal.specs.declared.replaying.ReplayFault.{ReplayFault}
+use Rattle.journal.specs.declared.replaying.ReplayFault.TheVariants as replay
 use Rattle.journal.specs.Places.{at_start}
 use Rattle.journal.specs.Journals.{Journal, in_front, journal_from, journal_of}
 use Rattle.journal.specs.Reading.{TellsEnd, ReadsNext}
-use Rattle.journal.specs.Replaying.{call_of, change_of, change_in_entry, change_told, changes_told, begun_at, begun_by, fronted, IsTakenAs, IsTaken, IsReplayed, TellsJournal, Replays}
+use Rattle.journal.specs.Replaying.{call_of, change_of, change_in_entry, change_told, changes_told, begun_at, begun_by, fronted, are_none, IsNotTaken, IsTakenAs, IsTaken, IsReplayed, IsUnmade, LeadsTo, StopsReplay, TellsJournal, Replays}
 
 -- the records so far are made, and leave the journal of what is left
 pub record AreMade (old new : Option (List ℕ)) (first : Bool) (desk : Desk) (place : Place) : Type 0 where
   pub records : List Record
-  pub none : first ≡ true → records ≡ []
+  pub first_is : first ≡ are_none records
   pub history : History
   pub runs : Runs (begun_by records) history desk
   pub accepted : changes_in history ≡ changes_told records
   pub taken : List ℕ
   pub consumed : Consumes old new taken
-  pub goes : (rest : List ℕ) → journal_of (taken ++ rest) ≡ fronted records (journal_from None place rest)
+  pub goes : LeadsTo records taken place
 
 -- no record yet
 pub AreMade-none : (old : Option (List ℕ)) (desk : Desk) (place : Place) → desk ≡ new_desk_at 0 → place ≡ at_start → AreMade old old true desk place
 AreMade-none old desk place new start =
     let P : Place → Type 0 = λ (p : Place). AreMade old old true desk p in
-    subst P (sym start) (record { records = []; none = λ e. refl; history = []; runs = sym new; accepted = refl; taken = []; consumed = Consumes-nil old; goes = λ rest. refl })
+    subst P (sym start) (record { records = []; first_is = refl; history = []; runs = sym new; accepted = refl; taken = []; consumed = Consumes-nil old; goes = λ rest. refl })
+
+-- there are none where they are told to be
+none-are : (records : List Record) → are_none records ≡ true → records ≡ []
+none-are [] is = refl
+none-are (r ∷ records) is = cc
+
+-- with one more there are some
+some-are : (records : List Record) (r : Record) → false ≡ are_none (records ++ r ∷ [])
+some-are [] r = refl
+some-are (first ∷ records) r = refl
 
 -- a record with a change behind others leaves where they begin
 begun-more : (records : List Record) (r : Record) (asked : Change) → r.entry ≡ Made asked → begun_by (records ++ r ∷ []) ≡ begun_by records
@@ -76,6 +88,15 @@ accepted-more history records r by asked told same =
 fronted-more : (records : List Record) (r : Record) (journal : Journal) → fronted records (in_front r journal) ≡ fronted (records ++ r ∷ []) journal
 fronted-more records r journal = ap (λ (rs : List Record). record { records = rs; ending = journal.ending }) (sym (append_assoc records (r ∷ []) journal.records))
 
+-- the bytes of one record more
+goes-more : (old mid new : Option (List ℕ)) (first : Bool) (desk : Desk) (place after : Place) (r : Record) → (so_far : AreMade old mid first desk place) → (read : ReadsNext mid new place after (Found r)) →
+    LeadsTo (so_far.records ++ r ∷ []) (so_far.taken ++ read.taken) after
+goes-more old mid new first desk place after r so_far read rest =
+    ap journal_of (append_assoc so_far.taken read.taken rest)
+    ∙ so_far.goes (read.taken ++ rest)
+    ∙ ap (fronted so_far.records) (read.told rest)
+    ∙ fronted-more so_far.records r (journal_from None after rest)
+
 -- one record more
 pub AreMade-more : (old mid new : Option (List ℕ)) (first : Bool) (desk next : Desk) (place after : Place) (r : Record) → AreMade old mid first desk place → ReadsNext mid new place after (Found r) →
     IsTaken first r desk next → AreMade old new false next after
@@ -87,19 +108,15 @@ AreMade-more old mid new first desk next place after r so_far read taken = told-
     consumed : Consumes old new bytes
     consumed = Consumes-trans old mid new so_far.taken read.taken so_far.consumed read.consumed
 
-    goes : (rest : List ℕ) → journal_of (bytes ++ rest) ≡ fronted (so_far.records ++ r ∷ []) (journal_from None after rest)
-    goes rest =
-        ap journal_of (append_assoc so_far.taken read.taken rest)
-        ∙ so_far.goes (read.taken ++ rest)
-        ∙ ap (fronted so_far.records) (read.told rest)
-        ∙ fronted-more so_far.records r (journal_from None after rest)
+    goes : LeadsTo (so_far.records ++ r ∷ []) bytes after
+    goes = goes-more old mid new first desk place after r so_far read
 
     told-by : (e : Entry) → r.entry ≡ e → IsTakenAs first r.version r.by e desk next → AreMade old new false next after
     told-by Begun told is =
-        let only : so_far.records ++ r ∷ [] ≡ r ∷ [] = ap (λ (rs : List Record). rs ++ r ∷ []) (so_far.none is.0) in
+        let only : so_far.records ++ r ∷ [] ≡ r ∷ [] = ap (λ (rs : List Record). rs ++ r ∷ []) (none-are so_far.records (sym so_far.first_is ∙ is.0)) in
         record {
           records = so_far.records ++ r ∷ [];
-          none = λ (e : false ≡ true). cc;
+          first_is = some-are so_far.records r;
           history = [];
           runs = ap new_desk_at (ap begun_by only ∙ ap (begun_at r.version) told) ∙ sym is.1;
           accepted = sym (ap changes_told only ∙ ap (λ (o : Option changes.Change). cons_option o []) (ap change_in_entry told));
@@ -112,7 +129,7 @@ AreMade-more old mid new first desk next place after r so_far read taken = told-
         let P : ℕ → Type 0 = λ (begun : ℕ). Runs begun (so_far.history ++ entry 0 (call_of by asked) (Changed r.version) ∷ []) next in
         record {
           records = so_far.records ++ r ∷ [];
-          none = λ (e : false ≡ true). cc;
+          first_is = some-are so_far.records r;
           history = so_far.history ++ entry 0 (call_of by asked) (Changed r.version) ∷ [];
           runs = subst P (sym (begun-more so_far.records r asked told)) (leads-more (new_desk_at (begun_by so_far.records)) desk next so_far.history (call_of by asked) (Changed r.version) so_far.runs is);
           accepted = accepted-more so_far.history so_far.records r by asked told so_far.accepted;
@@ -165,3 +182,28 @@ Replays-ended old mid new first last desk place after ending so_far read = recor
         ∙ so_far.goes (read.taken ++ rest)
         ∙ ap (fronted so_far.records) (told rest)
         ∙ only (Faulty number begin)
+
+-- a record is not taken
+pub StopsReplay-unmade : (old mid new : Option (List ℕ)) (first : Bool) (desk : Desk) (place after : Place) (r : Record) (fault : ReplayFault) → AreMade old mid first desk place →
+    ReadsNext mid new place after (Found r) → IsNotTaken first r place desk fault → StopsReplay old new fault
+StopsReplay-unmade old mid new first desk place after r replay.ReadFault so_far read not = tt
+StopsReplay-unmade old mid new first desk place after r replay.OutOfMemory so_far read not = tt
+StopsReplay-unmade old mid new first desk place after r (replay.Unmade number begin) so_far read not = record {
+  records = so_far.records;
+  desk = desk;
+  replayed = replayed-of old mid first desk place so_far;
+  front = so_far.taken;
+  place = place;
+  stands = so_far.goes;
+  unmade = r;
+  own = read.taken;
+  behind = after;
+  told = goes-more old mid new first desk place after r so_far read;
+  consumed = Consumes-trans old mid new so_far.taken read.taken so_far.consumed read.consumed;
+  refused = subst (λ (f : Bool). IsNotTaken f r place desk (replay.Unmade number begin)) so_far.first_is not;
+}
+
+-- the fault that a step passes on
+pub StopsReplay-passed : {T : Type 0} (old new : Option (List ℕ)) (fault : ReplayFault) (r : Result T ReplayFault) → IsErrAnd r (λ passed. passed ≡ fault) → StopsReplay old new fault → IfErr r (StopsReplay old new)
+StopsReplay-passed old new fault (Ok value) same stops = tt
+StopsReplay-passed old new fault (Err passed) same stops = subst (λ (f : ReplayFault). StopsReplay old new f) (sym same) stops

@@ -1,5 +1,5 @@
 -- The file of a journal (ours): what it was asked, step by step, and whether it did so; and what it has kept by these steps.
-use Rattle.std.specs.Prelude.{ℕ, ◌≡◌, ◌+◌, ◌≤◌, ◌<◌, ◌⊎◌, List, [], ◌∷◌, ◌++◌, length, Bool, true, false}
+use Rattle.std.specs.Prelude.{ℕ, ◌≡◌, ◌≢◌, ◌+◌, ◌≤◌, ◌<◌, ◌⊎◌, List, [], ◌∷◌, ◌++◌, length, Bool, true, false}
 use Rattle.journal.specs.declared.marks.Mark.{Mark}
 use Rattle.journal.specs.Marks.{mark_behind}
 use Rattle.journal.specs.Queues.{texts_from}
@@ -53,6 +53,16 @@ module _ {F : Type 0} (has_done : F → List Step → Type 0) where
   abbrev pub TakesStep : F → Step → F → Type 0
   TakesStep old step new = TakesSteps old (step ∷ []) new
 
+  -- the file takes some steps and no others
+  pub record TakesSome (old new : F) : Type 0 where
+    pub steps : List Step
+    pub taken : TakesSteps old steps new
+
+  -- the last that the file is asked is to cut off what stands behind so many bytes, and this is whether it does
+  pub record CutsLast (kept : ℕ) (done : Bool) (old new : F) : Type 0 where
+    pub steps : List Step
+    pub taken : TakesSteps old ((CutTo kept, done) ∷ steps) new
+
   -- bytes are written and kept, and a mark is noted or is not; or they are not kept; or they are not written
   pub data WritesAndNotes (bytes : List ℕ) (mark : Mark) (done : Bool) (old new : F) : Type 0 where
     told_to_note : TakesSteps old ((Note mark, done) ∷ (Sync, true) ∷ (Append bytes, true) ∷ []) new → WritesAndNotes bytes mark done old new
@@ -68,6 +78,16 @@ module _ {F : Type 0} (has_done : F → List Step → Type 0) where
     pub kept : HasKept journal.begun steps text journal.clean
     pub run : IsRun journal.first text journal.next
     pub has_is : journal.has ≡ mark_behind journal.begun text
+
+  -- what a text leaves that is not kept: the last that the file is asked cuts off what stands behind the whole records, which are as before, and it is known whether nothing does
+  pub record IsCutBack (old new : JournalFile F) : Type 0 where
+    pub same : new ≡ record old { file = new.file; clean = new.clean }
+    pub cut : CutsLast old.has.length new.clean old.file new.file
+
+  -- what records leave that are not kept: nothing is asked of the file, where it is not their turn; or what was written of them is cut off
+  pub data IsLeft (first : ℕ) (old new : JournalFile F) : Type 0 where
+    out_of_turn : first ≢ old.next → new ≡ old → IsLeft first old new
+    cut_off : IsCutBack old new → IsLeft first old new
 
   -- the file of a journal has kept the records from one version on, up to another
   pub record AreKept (first next : ℕ) : Type 0 where

@@ -1,10 +1,12 @@
 -- The changes of a journal made again, one after the other, on a desk (ours).
-use Rattle.std.specs.Prelude.{ℕ, ◌≡◌, ◌+◌, Bool, true, List, [], ◌∷◌, ◌++◌, Option, Some, None, length, filter_map}
+use Rattle.std.specs.Prelude.{ℕ, ◌≡◌, ◌≢◌, ◌+◌, ⊤, Bool, true, false, List, [], ◌∷◌, ◌++◌, Option, Some, None, length, filter_map}
 use Rattle.std.specs.Io.KnownBytes.{Consumes, IsAtEnd}
 use Rattle.desk_core.specs.Changes as changes
 use Rattle.desk_core.specs.declared.calls.Call.{Call}
 use Rattle.desk_core.specs.declared.calls.Call.TheVariants.{AddDeck, PutDeck, DropDeck, EditDeck, Batch}
-use Rattle.desk_core.specs.declared.replies.Reply.TheVariants.{Changed}
+use Rattle.desk_core.specs.declared.replies.Refusal.TheVariants.{OutOfMemory}
+use Rattle.desk_core.specs.declared.replies.Reply.{Reply}
+use Rattle.desk_core.specs.declared.replies.Reply.TheVariants.{Changed, Refused}
 use Rattle.desk_core.specs.Desks.{Desk, new_desk_at, decks_of}
 use Rattle.desk_core.specs.Runs.{History, Runs, changes_in}
 use Rattle.desk_core.specs.Steps.{Steps}
@@ -19,7 +21,9 @@ use Rattle.journal.specs.declared.reading.JournalFault.{JournalFault}
 use Rattle.journal.specs.declared.reading.JournalFault.TheVariants as fault
 use Rattle.journal.specs.declared.replaying.ReplayFault.{ReplayFault}
 use Rattle.journal.specs.declared.replaying.ReplayFault.TheVariants as replay
-use Rattle.journal.specs.Journals.{Journal, journal_of}
+use Rattle.journal.specs.declared.places.Place.{Place}
+use Rattle.journal.specs.Places.{capped}
+use Rattle.journal.specs.Journals.{Journal, journal_from, journal_of}
 
 -- the call by which who has a name asks for a change
 abbrev pub call_of : List ℕ → Change → Call
@@ -76,6 +80,29 @@ IsTakenAs first version by (Made asked) desk next = MakesAgain version by asked 
 abbrev pub IsTaken : Bool → Record → Desk → Desk → Type 0
 IsTaken first r desk next = IsTakenAs first r.version r.by r.entry desk next
 
+-- the desk answers the change of who has a name otherwise: it refuses it, and not for want of memory, or makes another version
+pub record AnswersOtherwise (version : ℕ) (by : List ℕ) (asked : Change) (desk : Desk) : Type 0 where
+  pub reply : Reply
+  pub next : Desk
+  pub steps : Steps desk (call_of by asked) reply next
+  pub other : reply ≢ Changed version
+  pub memory : reply ≢ Refused OutOfMemory
+
+-- what a record tells can't be taken: it begins a journal, and is not the first; or the desk answers its change otherwise
+abbrev pub IsUnmadeAs : Bool → ℕ → List ℕ → Entry → Desk → Type 0
+IsUnmadeAs first version by Begun desk = first ≡ false
+IsUnmadeAs first version by (Made asked) desk = AnswersOtherwise version by asked desk
+
+-- the fault that names the record at a place: by its number, and the byte at which it begins
+abbrev pub unmade_at : Place → ReplayFault
+unmade_at place = replay.Unmade (capped (place.records + 1)) place.begin
+
+-- why a record at a place is not taken: there is no memory; or it can't be, and the fault names it
+abbrev pub IsNotTaken : Bool → Record → Place → Desk → ReplayFault → Type 0
+IsNotTaken first r place desk replay.ReadFault = ⊥
+IsNotTaken first r place desk replay.OutOfMemory = ⊤
+IsNotTaken first r place desk (replay.Unmade number begin) = (replay.Unmade number begin ≡ unmade_at place) × IsUnmadeAs first r.version r.by r.entry desk
+
 -- a desk on which the changes of records were made again: one history from a new desk leads to it, which accepted exactly these changes; so its version is as many behind that with which they begin, and its decks are those that they leave
 pub record IsReplayed (records : List Record) (desk : Desk) : Type 0 where
   pub history : History
@@ -110,3 +137,33 @@ pub record Replays (old new : Option (List ℕ)) (last : ℕ) (desk : Desk) (end
   pub taken : List ℕ
   pub consumed : Consumes old new taken
   pub told : TellsSoFar records last desk ending taken new
+
+-- the bytes that were taken are these records, and what follows is read from this place on
+abbrev pub LeadsTo : List Record → List ℕ → Place → Type 0
+LeadsTo records taken place = (rest : List ℕ) → journal_of (taken ++ rest) ≡ fronted records (journal_from None place rest)
+
+-- whether there are no records
+abbrev pub are_none : List Record → Bool
+are_none [] = true
+are_none (r ∷ records) = false
+
+-- the changes of the first records of a journal are made again, and the next record can't be: it has this number, and begins at this byte
+pub record IsUnmade (old new : Option (List ℕ)) (number begin : ℕ) : Type 0 where
+  pub records : List Record
+  pub desk : Desk
+  pub replayed : IsReplayed records desk
+  pub front : List ℕ
+  pub place : Place
+  pub stands : LeadsTo records front place
+  pub unmade : Record
+  pub own : List ℕ
+  pub behind : Place
+  pub told : LeadsTo (records ++ unmade ∷ []) (front ++ own) behind
+  pub consumed : Consumes old new (front ++ own)
+  pub refused : IsNotTaken (are_none records) unmade place desk (replay.Unmade number begin)
+
+-- why a journal is not read to its end: the reader fails, or there is no memory; or a record can't be made again
+abbrev pub StopsReplay : Option (List ℕ) → Option (List ℕ) → ReplayFault → Type 0
+StopsReplay old new replay.ReadFault = ⊤
+StopsReplay old new replay.OutOfMemory = ⊤
+StopsReplay old new (replay.Unmade number begin) = IsUnmade old new number begin

@@ -1,6 +1,6 @@
 //! The file of a journal: records are appended in the order of their versions, all of a text or none.
 ghost use Rattle.std.specs.Prelude.{◌≡◌, true, false, IfNone, IfSome, if◌then◌else◌};
-ghost use Rattle.journal.specs.JournalFiles.{IsRun, WritesAndNotes};
+ghost use Rattle.journal.specs.JournalFiles.{CutTo, CutsLast, IsCutBack, IsLeft, IsRun, TakesSome, TakesStep, WritesAndNotes};
 
 use crate::kept_records::KeptRecords;
 use crate::marks::Mark;
@@ -70,7 +70,8 @@ impl<F: RecordsFile> JournalFile<F> {
 
     /// Cuts off what stands behind the whole records: whether nothing does.
     fn cut_back(&mut self) -> bool
-        ensures { self.new ≡ record self.old { file = self.new.file; clean = result } }
+        ensures same { self.new ≡ record self.old { file = self.new.file; clean = result } }
+        ensures step { TakesStep F.has_done self.old.file (CutTo self.old.has.length, result) self.new.file }
     {
         self.clean = self.file.cut_to(self.has.length);
         self.clean
@@ -78,7 +79,9 @@ impl<F: RecordsFile> JournalFile<F> {
 
     /// Cuts off what stands behind the whole records, where anything may: whether nothing does.
     fn make_clean(&mut self) -> bool
-        ensures { self.new ≡ record self.old { file = self.new.file; clean = result } }
+        ensures same { self.new ≡ record self.old { file = self.new.file; clean = result } }
+        ensures steps { TakesSome F.has_done self.old.file self.new.file }
+        ensures cut { result ≡ false → CutsLast F.has_done self.old.has.length result self.old.file self.new.file }
     {
         if self.clean {
             return true;
@@ -94,6 +97,8 @@ impl<F: RecordsFile> JournalFile<F> {
         ensures first { self.new.first ≡ self.old.first }
         ensures next { self.new.next ≡ (if result then next else self.old.next) }
         ensures clean { result ≡ true → self.new.clean ≡ true }
+        ensures same { result ≡ false → self.new ≡ record self.old { file = self.new.file; clean = self.new.clean } }
+        ensures steps { TakesSome F.has_done self.old.file self.new.file }
     {
         let Some(has) = self.has.behind(text) else {
             return false;
@@ -115,6 +120,7 @@ impl<F: RecordsFile> JournalFile<F> {
         ensures first { self.new.first ≡ self.old.first }
         ensures next { self.new.next ≡ (if result then next else self.old.next) }
         ensures clean { result ≡ true → self.new.clean ≡ true }
+        ensures left { result ≡ false → IsCutBack F.has_done self.old self.new }
     {
         if !self.make_clean() {
             return false;
@@ -144,6 +150,7 @@ impl<F: RecordsFile> JournalFile<F> {
         ensures begun { self.new.begun ≡ self.old.begun }
         ensures first { self.new.first ≡ self.old.first }
         ensures next { self.new.next ≡ (if result then batch.now.next else self.old.next) }
+        ensures left { result ≡ false → IsCutBack F.has_done self.old self.new }
     {
         if batch.next == batch.first {
             return true;
@@ -151,13 +158,14 @@ impl<F: RecordsFile> JournalFile<F> {
         self.put(batch.text.as_slice(), batch.next)
     }
 
-    /// Appends records, where they begin with the one that comes next: what is kept then, or nothing where
-    /// they are not kept.
+    /// Appends records, where they begin with the one that comes next: what is kept then. Where they are not
+    /// kept there is nothing, and what was written of them is cut off again, now or before the next text.
     pub fn append(&mut self, batch: &Batch) -> Option<KeptRecords<F>>
         ensures begun { self.new.begun ≡ self.old.begun }
         ensures first { self.new.first ≡ self.old.first }
         ensures kept { IfSome result (λ kept. (kept ≡ record { first = self.old.first; next = batch.now.next }) × (self.new.next ≡ batch.now.next)) }
         ensures none { IfNone result (self.new.next ≡ self.old.next) }
+        ensures left { IfNone result (IsLeft F.has_done batch.now.first self.old self.new) }
     {
         if batch.first != self.next {
             return None;

@@ -1,5 +1,5 @@
 //! Records that are not written yet: they go out in the order of their versions, and none is left out.
-ghost use Rattle.std.specs.Prelude.{◌≡◌, ◌+◌, ◌<◌, ◌≤◌, ◌^◌, ◌⊎◌, IfOk, Some, true, false, is_some, max, nat_lt, option_map, set};
+ghost use Rattle.std.specs.Prelude.{◌≡◌, ◌+◌, ◌<◌, ◌≤◌, ◌^◌, ◌⊎◌, All, IfOk, None, Some, true, false, is_some, length, max, nat_lt, option_map, set};
 ghost use Rattle.journal.specs.JournalFiles.{IsKept, IsRun};
 ghost use Rattle.journal.specs.Queues.{GoOut, InOrder, draft_of, draft_queued, unwritten};
 
@@ -105,11 +105,13 @@ fn batch_from(alloc: Global, places: &[Option<Unwritten>], first: u64) -> Result
 }
 
 impl<F: RecordsFile> Queue<F> {
-    /// A queue for so many sessions, of the records behind those that are kept.
+    /// A queue for so many sessions, each with a place, of the records behind those that are kept.
     pub fn new(alloc: Global, sessions: usize, kept: KeptRecords<F>) -> Result<Queue<F>, AllocError>
         ensures first { IfOk result (λ queue. queue.first ≡ kept.first) }
         ensures next { IfOk result (λ queue. queue.next ≡ kept.next) }
         ensures none { IfOk result (λ queue. nat_lt queue.next queue.told ≡ false) }
+        ensures places { IfOk result (λ queue. length queue.places ≡ sessions) }
+        ensures empty { IfOk result (λ queue. All (λ place. place ≡ None) queue.places) }
     {
         let mut places = Vec::new(alloc);
         for _ in 0..sessions {

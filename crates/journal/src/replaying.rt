@@ -1,7 +1,6 @@
 //! Makes the changes of a journal again.
-ghost use Rattle.std.specs.Prelude.{◌≡◌, IfErr, IfOk, OnErr, OnOk};
-ghost use Rattle.desk_core.specs.Steps.{Steps};
-ghost use Rattle.journal.specs.Replaying.{IsTaken, MakesAgain, Replays, call_of};
+ghost use Rattle.std.specs.Prelude.{◌≡◌, ◌⊎◌, IfErr, IfOk, OnOk};
+ghost use Rattle.journal.specs.Replaying.{AnswersOtherwise, IsNotTaken, IsTaken, MakesAgain, Replays, StopsReplay, call_of};
 
 use crate::changes::Change;
 use crate::places::{Ending, Place};
@@ -86,7 +85,8 @@ fn make_again(
     version: u64,
     unmade: ReplayFault,
 ) -> Result<(), ReplayFault>
-    ensures { OnOk result (MakesAgain version by change desk.old desk.new) }
+    ensures made { OnOk result (MakesAgain version by change desk.old desk.new) }
+    ensures unmade { IfErr result (λ fault. (fault ≡ ReplayFault.OutOfMemory) ⊎ ((fault ≡ unmade) × AnswersOtherwise version by change desk.old)) }
 {
     match desk.step(change.into_call(by)) {
         Reply::Changed(made) => {
@@ -110,7 +110,8 @@ fn take_record(
     found: Record,
     place: &Place,
 ) -> Result<(), ReplayFault>
-    ensures { OnOk result (IsTaken is_first found desk.old desk.new) }
+    ensures taken { OnOk result (IsTaken is_first found desk.old desk.new) }
+    ensures not_taken { IfErr result (IsNotTaken is_first found place.now desk.old) }
 {
     let unmade = ReplayFault::Unmade {
         number: place.records.saturating_add(1),
@@ -133,14 +134,18 @@ fn take_record(
 }
 
 /// Reads a journal, a line at a time, and makes the changes of its whole records again on a new desk, in
-/// their order: to its end, or until the desk has this version.
+/// their order: to its end, or until the desk has this version. A record that can't be made again is told
+/// by its number and its first byte.
 pub fn replay<R: Read>(
     alloc: Global,
     keys: RandomState,
     input: &mut Counted<R>,
     last: u64,
 ) -> Result<Replayed, ReplayFault>
-    ensures { IfOk result (λ replayed. Replays (R.remaining input.old.0) (R.remaining input.new.0) last replayed.desk replayed.ending) }
+    ensures replays { IfOk result (λ replayed. Replays (R.remaining input.old.0) (R.remaining input.new.0) last replayed.desk replayed.ending) }
+    ensures stops { IfErr result (StopsReplay (R.remaining input.old.0) (R.remaining input.new.0)) }
+    ensures sound { OnOk result (input.new.1 ≡ input.old.1) }
+    ensures memory { IfErr result (λ fault. fault ≡ ReplayFault.OutOfMemory → input.new.1 ≡ input.old.1) }
 {
     let mut place = Place::at_start();
     let mut desk = Desk::new(alloc, keys);
