@@ -53,7 +53,7 @@ impl Sizer {
             symbols: SymbolTable::new(alloc, keys),
             externals: Vec::new(alloc),
             literals: Literals::new(alloc, keys),
-            lengths: Lengths::new(alloc)?,
+            lengths: Lengths::new(alloc, keys)?,
         })
     }
 

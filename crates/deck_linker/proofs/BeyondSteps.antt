@@ -18,7 +18,7 @@ use Rattle.deck_objects.specs.declared.object.ObjectParts.{ObjectParts}
 use Rattle.deck_listing.specs.Joins.Walking.{DoNamesDiffer}
 use Rattle.deck_listing.proofs.BlockSteps.{behind_other}
 use Rattle.deck_linker.specs.Joins.Beyond.{is_plain, keeps_fields, line_beyond, listed_beyond, literals_beyond, literals_row_beyond, parts_beyond, stores_beyond}
-use Rattle.deck_linker.specs.Joins.NameKeys.{same_text_equivalence}
+use Rattle.use_blocks.specs.Joins.NameKeys.{same_text_equivalence}
 use Rattle.deck_linker.proofs.BeyondLaws.{line_of_row, listed_of_row, row_beyond, rows-beyond}
 use Rattle.deck_linker.proofs.WordLaws.{list_any-same}
 

@@ -12,7 +12,7 @@ use Rattle.definitions.specs.Lengths.{BlockLength, BlockRow}
 use Rattle.definitions.specs.Link.{Common, common_base, commons_from, end_after_common, placed_common, with_common}
 use Rattle.deck_linker.specs.Joins.CommonLengths.{lengths_shown, widened}
 use Rattle.deck_linker.specs.Joins.CommonSets.{are_named_alike}
-use Rattle.deck_linker.specs.Joins.NameKeys.{same_text_equivalence}
+use Rattle.use_blocks.specs.Joins.NameKeys.{same_text_equivalence}
 use Rattle.deck_linker.specs.Joins.Placing.{names_of_commons, names_of_lengths}
 use Rattle.deck_linker.proofs.PlaceLaws.{names-commons}
 

@@ -1,6 +1,4 @@
 -- What inner functions promise, so that the proofs of the outer ones join: no promise of the documents leads here.
--- Names as keys of a map.
-pub mod NameKeys
 -- Decks and common blocks in their places, and what names are worth there.
 pub mod Placing
 pub mod CommonLengths

@@ -5,12 +5,11 @@ ghost use Rattle.deck_linker.specs.Joins.CommonLengths.{widened};
 
 use crate::based::Based;
 use crate::commons::{Common, place_common};
-use crate::name_key::NameKey;
 use indexmap::{IndexMap, IndexSet};
 use std::alloc::{AllocError, Global};
 use std::hash::RandomState;
 use std::marker::Model;
-use use_blocks::{BlockRow, is_common};
+use use_blocks::{BlockRow, NameKey, is_common};
 
 /// Common blocks with their lengths. Contracts see them in order of first use, each name once.
 #[derive(Drop)]

@@ -4,7 +4,7 @@ ghost use Rattle.std.specs.Cmp.{partial_equiv_from_equiv};
 ghost use Rattle.definitions.specs.Link.{commons_from, common_base, common_lengths, end_after_common, placed_common};
 ghost use Rattle.deck_linker.specs.Joins.CommonWords.{common_place};
 ghost use Rattle.deck_linker.specs.Joins.CommonSets.{alone_of_alike, are_named_alike, are_named_alike_equivalence};
-ghost use Rattle.deck_linker.specs.Joins.NameKeys.{alone};
+ghost use Rattle.use_blocks.specs.Joins.NameKeys.{alone};
 
 use crate::based::{Based, MEMORY_END};
 use crate::common_table::CommonTable;

@@ -7,7 +7,6 @@ ghost use Rattle.deck_linker.specs.Joins.Placing.{entry_alone};
 
 use crate::based::Based;
 use crate::commons::Commons;
-use crate::name_key::NameKey;
 use crate::values::entry_value;
 use deck_objects::Entry;
 use expr_forms::Name;
@@ -15,6 +14,7 @@ use indexmap::IndexMap;
 use std::alloc::{AllocError, Global};
 use std::hash::RandomState;
 use std::marker::Model;
+use use_blocks::NameKey;
 
 /// The value of an entry. Contracts see the number.
 #[derive(Drop)]

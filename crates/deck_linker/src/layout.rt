@@ -8,13 +8,13 @@ ghost use Rattle.deck_linker.specs.Joins.Placing.{external_in};
 use crate::based::{Based, place};
 use crate::commons::{Common, Commons};
 use crate::entry_table::{EntryTable, enter_decks};
-use crate::name_key::NameKey;
 use crate::values::{block_base, entry_value, external_name, value_with};
 use deck_objects::{Entry, SharedObject};
 use expr_forms::{Form, Name};
 use std::alloc::{AllocError, Global};
 use std::hash::RandomState;
 use std::marker::Model;
+use use_blocks::NameKey;
 
 /// Where the first REL deck stands.
 const FIRST_BASE: u32 = 0o100;

@@ -18,7 +18,6 @@ mod beyond;
 mod common_table;
 mod commons;
 mod layout;
-mod name_key;
 
 // What names and forms are worth there.
 mod entry_table;
@@ -56,5 +55,4 @@ pub use layout::Layout;
 pub use linked_decks::LinkedDecks;
 pub use linking::DeckLinking;
 pub use listed_publication::{ListedPublication, publish};
-pub use name_key::NameKey;
 pub use publication::{Publication, link};

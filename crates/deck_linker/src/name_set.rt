@@ -3,13 +3,13 @@ ghost use Rattle.std.specs.Prelude.{◌≡◌, [], OnOk};
 ghost use Rattle.definitions.specs.Blocks.{is_named};
 ghost use Rattle.deck_linker.specs.Joins.Names.{with_entries, with_name};
 
-use crate::NameKey;
 use deck_objects::Entry;
 use expr_forms::Name;
 use indexmap::IndexSet;
 use std::alloc::{AllocError, Global};
 use std::hash::RandomState;
 use std::marker::Model;
+use use_blocks::NameKey;
 
 /// A set of names. Contracts see the list of the names in order of first use, each once.
 #[derive(Drop)]

@@ -111,9 +111,9 @@ fn sized(answer: &mut Answer, deck: &SizedDeck) {
         answer.octal(*word);
     }
     answer.word("; blocks");
-    for block in deck.lengths().blocks() {
-        answer.bare(block.name().as_slice());
-        answer.decimal(u64::from(block.words()));
+    for (name, words) in deck.lengths().blocks().iter() {
+        answer.bare(name.name().as_slice());
+        answer.decimal(u64::from(*words));
     }
     answer.word(";");
 }

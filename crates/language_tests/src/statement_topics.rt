@@ -16,6 +16,7 @@ use statement_coder::{
     Coded, CodedItems, Defines, KeptSizing, Meter, Sizing, Statement, code, size,
 };
 use std::alloc::{AllocError, Global};
+use std::hash::RandomState;
 use use_blocks::{
     Bases, BlockState, Counting, Effect, Lengths, Literals, LocationSetting, location, origin,
 };
@@ -148,9 +149,9 @@ struct Blocks {
 }
 
 impl Blocks {
-    fn new(alloc: Global) -> Result<Blocks, AllocError> {
+    fn new(alloc: Global, keys: RandomState) -> Result<Blocks, AllocError> {
         let state = BlockState::new(alloc)?;
-        let lengths = Lengths::new(alloc)?;
+        let lengths = Lengths::new(alloc, keys)?;
         Ok(Blocks { state, lengths })
     }
 
@@ -172,8 +173,8 @@ impl Blocks {
 }
 
 /// The blocks behind all cards of a text.
-fn blocks_behind(alloc: Global, text: &str) -> Result<Blocks, AllocError> {
-    let mut blocks = Blocks::new(alloc)?;
+fn blocks_behind(alloc: Global, keys: RandomState, text: &str) -> Result<Blocks, AllocError> {
+    let mut blocks = Blocks::new(alloc, keys)?;
     for line in text.lines() {
         if let Ok(card) = Card::read(line.as_bytes()) {
             let (after, _) = blocks.behind(&[card])?;
@@ -186,7 +187,7 @@ fn blocks_behind(alloc: Global, text: &str) -> Result<Blocks, AllocError> {
 /// The state behind cards: each block with its place and whether it asks for upper, the base, and
 /// the counters of an ABS deck at place 6.
 fn state(answer: &mut Answer, text: &str) -> Result<(), AllocError> {
-    let state = blocks_behind(answer.alloc, text)?.state;
+    let state = blocks_behind(answer.alloc, answer.keys, text)?.state;
     for block in state.blocks() {
         answer.bare(block.name().as_slice());
         answer.decimal(u64::from(block.position().end()));
@@ -208,7 +209,7 @@ fn bases(answer: &mut Answer, text: &str) -> Result<(), AllocError> {
     for word in words.split_whitespace() {
         literals.add(octal(word))?;
     }
-    let lengths = blocks_behind(answer.alloc, cards)?.lengths;
+    let lengths = blocks_behind(answer.alloc, answer.keys, cards)?.lengths;
     bases_shown(answer, &Bases::new(answer.alloc, &lengths, &literals)?);
     Ok(())
 }
@@ -232,7 +233,7 @@ pub fn bases_shown(answer: &mut Answer, bases: &Bases) {
 
 /// The effect of each card behind the others, the block in use then, and the lengths behind all.
 fn effects(answer: &mut Answer, text: &str) -> Result<(), AllocError> {
-    let mut blocks = Blocks::new(answer.alloc)?;
+    let mut blocks = Blocks::new(answer.alloc, answer.keys)?;
     for line in text.lines() {
         if let Ok(card) = Card::read(line.as_bytes()) {
             let (after, effect) = blocks.behind(&[card])?;
@@ -243,9 +244,9 @@ fn effects(answer: &mut Answer, text: &str) -> Result<(), AllocError> {
         }
     }
     answer.decimal(blocks.state.blocks().len() as u64);
-    for block in blocks.lengths.blocks() {
-        answer.bare(block.name().as_slice());
-        answer.decimal(u64::from(block.words()));
+    for (name, words) in blocks.lengths.blocks().iter() {
+        answer.bare(name.name().as_slice());
+        answer.decimal(u64::from(*words));
     }
     Ok(())
 }

@@ -1,7 +1,7 @@
-pub mod OffsetLaws
 pub mod LiteralLaws
 pub mod ReachLaws
 pub mod BaseLaws
+pub mod RowLaws
 pub mod SizeLaws
 pub mod SameLaws
 pub mod BlockLaws

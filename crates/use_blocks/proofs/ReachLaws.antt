@@ -1,15 +1,19 @@
 -- The lengths of blocks of different names: one block is changed, or one more comes behind them.
-use Rattle.std.proofs.Common.{ℕ, ◌≡◌, ◌<◌, ◌≤◌, Bool, true, false, ◌||◌, List, [], ◌∷◌, ◌++◌, length, zero, suc, max, Some, None, refl, sym, ◌∙◌, ap, ap₂, subst, inl, inr, arith, get_or}
+use Rattle.std.proofs.Common.{ℕ, ◌≡◌, ◌<◌, ◌≤◌, Bool, true, false, cond, ◌||◌, List, [], ◌∷◌, ◌++◌, length, zero, suc, max, Some, None, refl, sym, ◌∙◌, ap, ap₂, subst, inl, inr, arith}
 use Rattle.std.proofs.lemmas.List.{length-map}
-use Rattle.std.specs.Prelude.{slice_get, slice_set, map, nat_lt, if◌then◌else◌}
+use Rattle.std.specs.Prelude.{slice_get, map, nat_lt, is_some, if◌then◌else◌}
+use Rattle.std.specs.List.{AllByRecursion, IsDistinct}
+use Rattle.std.specs.Map.{keys_of, lookup}
 use Rattle.std.proofs.lemmas.Bool.{leb-true}
+use Rattle.std.proofs.lemmas.Map.Keys.{IsDistinct-head, IsDistinct-tail}
+use Rattle.indexmap.specs.IndexMap.{insert_entry, set_value_at}
 use Rattle.definitions.specs.Characters.{same_text}
 use Rattle.definitions.specs.Blocks.{is_named, is_accepted}
 use Rattle.definitions.specs.Settled.{BlockChange, NoChange, Opens, Closes}
 use Rattle.definitions.specs.Lengths.{BlockLength}
 use Rattle.definitions.specs.States.{Effect, lengths_behind, lengths_advanced}
 use Rattle.definitions.proofs.TextLaws.{same_text_tells}
-use Rattle.use_blocks.specs.Joins.BlockLengths.{AreDistinct, block_names, has_name, opened_by, reaching}
+use Rattle.use_blocks.specs.Joins.BlockLengths.{block_names, has_name, lengths_shown, opened_by, reaching}
 
 -- a block of this name, and so many words
 abbrev block_of : List ℕ → ℕ → BlockLength
@@ -20,12 +24,6 @@ same_text-turned a b = elim (same_text_tells a b) [
   | inl h ↦ elim (same_text_tells b a) [ inl k ↦ h.0 ∙ sym k.0 | inr k ↦ absurd (k.1 (sym h.1)) ]
   | inr h ↦ elim (same_text_tells b a) [ inl k ↦ absurd (h.1 (sym k.1)) | inr k ↦ h.0 ∙ sym k.0 ]
 ]
-
--- names stay where a block is put in the place of one of its name
-pub names-set : (blocks : List BlockLength) (i : ℕ) (b new : BlockLength) → slice_get blocks i ≡ Some b → new.name ≡ b.name → block_names (slice_set blocks i new) ≡ block_names blocks
-names-set [] i b new e n = refl
-names-set (c ∷ cs) zero b new e n = cc
-names-set (c ∷ cs) (suc i) b new e n = ap (λ names. c.name ∷ names) (names-set cs i b new e n)
 
 -- a block among blocks that have not this name has another
 other_name : (name : List ℕ) (blocks : List BlockLength) (i : ℕ) (b : BlockLength) → is_named name (block_names blocks) ≡ false → slice_get blocks i ≡ Some b → same_text name b.name ≡ false
@@ -42,63 +40,68 @@ other_name name (c ∷ cs) i b h e = step (λ j k f. other_name name cs j b k f)
 reaching-other : (name : List ℕ) (words : ℕ) (c : BlockLength) → same_text name c.name ≡ false → c ≡ reaching name words c
 reaching-other name words c e = rw e (ap (block_of c.name) (let h : c.words ≡ max 0 c.words = omega arith in h))
 
-reaching-none : (name : List ℕ) (words : ℕ) (cs : List BlockLength) → is_named name (block_names cs) ≡ false → cs ≡ map (reaching name words) cs
+reaching-none : (name : List ℕ) (words : ℕ) (es : List (List ℕ × ℕ)) → AllByRecursion (λ (other : List ℕ). same_text name other ≡ false) (keys_of es) →
+    lengths_shown es ≡ map (reaching name words) (lengths_shown es)
 reaching-none name words [] h = refl
-reaching-none name words (c ∷ cs) h = step (reaching-none name words cs) (same_text name c.name) refl h
-  where
-    step : (is_named name (block_names cs) ≡ false → cs ≡ map (reaching name words) cs) →
-        (t : Bool) → same_text name c.name ≡ t → (t || is_named name (block_names cs)) ≡ false → c ∷ cs ≡ map (reaching name words) (c ∷ cs)
-    step behind true is h = cc
-    step behind false is h = ap₂ (λ (x : BlockLength) (xs : List BlockLength). x ∷ xs) (reaching-other name words c is) (behind h)
+reaching-none name words (e ∷ es) h = ap₂ (λ (x : BlockLength) (xs : List BlockLength). x ∷ xs) (reaching-other name words (block_of e.0 e.1) h.0) (reaching-none name words es h.1)
 
 same-refl : (a : List ℕ) → same_text a a ≡ true
 same-refl a = elim (same_text_tells a a) [ inl k ↦ k.0 | inr k ↦ absurd (k.1 refl) ]
 
+-- a block among others whose keys are not this name has another
+other_key : (name : List ℕ) (es : List (List ℕ × ℕ)) (i : ℕ) (b : BlockLength) → AllByRecursion (λ (other : List ℕ). same_text name other ≡ false) (keys_of es) → slice_get (lengths_shown es) i ≡ Some b →
+    same_text name b.name ≡ false
+other_key name [] i b h e = cc
+other_key name (c ∷ es) zero b h e = let is : block_of c.0 c.1 ≡ b = cc in subst (λ (d : BlockLength). same_text name d.name ≡ false) is h.0
+other_key name (c ∷ es) (suc i) b h e = other_key name es i b h.1 e
+
+-- the words of a block are those of its entry
+pub words-at : (es : List (List ℕ × ℕ)) (i : ℕ) (entry : List ℕ × ℕ) (b : BlockLength) → slice_get es i ≡ Some entry → slice_get (lengths_shown es) i ≡ Some b → entry.1 ≡ b.words
+words-at [] i entry b h k = cc
+words-at (c ∷ es) zero entry b h k =
+    let here : c ≡ entry = cc in
+    let there : block_of c.0 c.1 ≡ b = cc in
+    ap (λ (p : List ℕ × ℕ). p.1) (sym here) ∙ ap (λ (d : BlockLength). d.words) there
+words-at (c ∷ es) (suc i) entry b h k = words-at es i entry b h k
+
 -- one block that reaches words is the one of its name
-pub reached-at : (blocks : List BlockLength) (i : ℕ) (b : BlockLength) (words : ℕ) → AreDistinct (block_names blocks) → slice_get blocks i ≡ Some b →
-    slice_set blocks i (block_of b.name (max words b.words)) ≡ map (reaching b.name words) blocks
+pub reached-at : (es : List (List ℕ × ℕ)) (i : ℕ) (b : BlockLength) (words : ℕ) → IsDistinct same_text (keys_of es) → slice_get (lengths_shown es) i ≡ Some b →
+    lengths_shown (set_value_at es i (max words b.words)) ≡ map (reaching b.name words) (lengths_shown es)
 reached-at [] i b words h e = refl
-reached-at (c ∷ cs) zero b words h e =
-    let is : c ≡ b = cc in
-    subst (λ (d : BlockLength). block_of d.name (max words d.words) ∷ cs ≡ map (reaching d.name words) (c ∷ cs)) is
-    (ap₂ (λ (x : BlockLength) (xs : List BlockLength). x ∷ xs) (here c) (reaching-none c.name words cs h.0))
+reached-at (c ∷ es) zero b words h e =
+    let is : block_of c.0 c.1 ≡ b = cc in
+    subst (λ (d : BlockLength). block_of c.0 (max words d.words) ∷ lengths_shown es ≡ map (reaching d.name words) (lengths_shown (c ∷ es))) is
+    (ap₂ (λ (x : BlockLength) (xs : List BlockLength). x ∷ xs) (here (block_of c.0 c.1)) (reaching-none c.0 words es (IsDistinct-head same_text c.0 (keys_of es) h)))
   where
-    here : (c : BlockLength) → block_of c.name (max words c.words) ≡ reaching c.name words c
-    here c = rw (same-refl c.name) refl
-reached-at (c ∷ cs) (suc i) b words h e =
-    let other : same_text b.name c.name ≡ false = same_text-turned b.name c.name ∙ other_name c.name cs i b h.0 e in
-    ap₂ (λ (x : BlockLength) (xs : List BlockLength). x ∷ xs) (reaching-other b.name words c other) (reached-at cs i b words h.1 e)
+    here : (d : BlockLength) → block_of d.name (max words d.words) ≡ reaching d.name words d
+    here d = rw (same-refl d.name) refl
+reached-at (c ∷ es) (suc i) b words h e =
+    let other : same_text b.name c.0 ≡ false = same_text-turned b.name c.0 ∙ other_key c.0 es i b (IsDistinct-head same_text c.0 (keys_of es) h) e in
+    ap₂ (λ (x : BlockLength) (xs : List BlockLength). x ∷ xs) (reaching-other b.name words (block_of c.0 c.1) other) (reached-at es i b words (IsDistinct-tail same_text c.0 (keys_of es) h) e)
+
+-- a map has a name where a block has it
+pub has_name-shown : (name : List ℕ) (es : List (List ℕ × ℕ)) → is_some (lookup (same_text name) es) ≡ has_name name (lengths_shown es)
+has_name-shown name [] = refl
+has_name-shown name (e ∷ es) = step (same_text name e.0) (has_name-shown name es)
+  where
+    step : (t : Bool) → is_some (lookup (same_text name) es) ≡ has_name name (lengths_shown es) → is_some (cond t (Some e.1) (lookup (same_text name) es)) ≡ (t || has_name name (lengths_shown es))
+    step true h = refl
+    step false h = h
+
+-- a block of a new name comes behind the others
+pub shown-new : (name : List ℕ) (es : List (List ℕ × ℕ)) → has_name name (lengths_shown es) ≡ false → lengths_shown (insert_entry same_text es name 0) ≡ lengths_shown es ++ block_of name 0 ∷ []
+shown-new name [] h = refl
+shown-new name (e ∷ es) h = step (same_text name e.0) h (shown-new name es)
+  where
+    step : (t : Bool) → (t || has_name name (lengths_shown es)) ≡ false → (has_name name (lengths_shown es) ≡ false → lengths_shown (insert_entry same_text es name 0) ≡ lengths_shown es ++ block_of name 0 ∷ []) →
+        lengths_shown (if t then (e.0, 0) ∷ es else e ∷ insert_entry same_text es name 0) ≡ block_of e.0 e.1 ∷ (lengths_shown es ++ block_of name 0 ∷ [])
+    step true h rest = cc
+    step false h rest = ap (λ (bs : List BlockLength). block_of e.0 e.1 ∷ bs) (rest h)
 
 -- the names that blocks have, asked block by block
 pub is_named_blocks : (name : List ℕ) (blocks : List BlockLength) → has_name name blocks ≡ is_named name (block_names blocks)
 is_named_blocks name [] = refl
 is_named_blocks name (c ∷ cs) = ap (λ t. same_text name c.name || t) (is_named_blocks name cs)
-
-unnamed-push : (name last : List ℕ) (names : List (List ℕ)) → is_named name names ≡ false → same_text name last ≡ false → is_named name (names ++ last ∷ []) ≡ false
-unnamed-push name last [] h e = rw e refl
-unnamed-push name last (n ∷ ns) h e = step (λ k. unnamed-push name last ns k e) (same_text name n) h
-  where
-    step : (is_named name ns ≡ false → is_named name (ns ++ last ∷ []) ≡ false) →
-        (t : Bool) → (t || is_named name ns) ≡ false → (t || is_named name (ns ++ last ∷ [])) ≡ false
-    step behind true h = h
-    step behind false h = behind h
-
-distinct-push : (name : List ℕ) (names : List (List ℕ)) → AreDistinct names → is_named name names ≡ false → AreDistinct (names ++ name ∷ [])
-distinct-push name [] h u = (refl, tt)
-distinct-push name (n ∷ ns) h u = step (distinct-push name ns h.1) (same_text name n) refl u
-  where
-    step : (is_named name ns ≡ false → AreDistinct (ns ++ name ∷ [])) →
-        (t : Bool) → same_text name n ≡ t → (t || is_named name ns) ≡ false → AreDistinct (n ∷ (ns ++ name ∷ []))
-    step behind true is u = cc
-    step behind false is u = (unnamed-push n name ns h.0 (same_text-turned n name ∙ is), behind u)
-
-names-push : (blocks : List BlockLength) (b : BlockLength) → block_names (blocks ++ b ∷ []) ≡ block_names blocks ++ b.name ∷ []
-names-push [] b = refl
-names-push (c ∷ cs) b = ap (λ names. c.name ∷ names) (names-push cs b)
-
--- a block of a new name keeps the names different
-pub distinct-opened : (blocks : List BlockLength) (b : BlockLength) → AreDistinct (block_names blocks) → is_named b.name (block_names blocks) ≡ false → AreDistinct (block_names (blocks ++ b ∷ []))
-distinct-opened blocks b h u = subst AreDistinct (sym (names-push blocks b)) (distinct-push b.name (block_names blocks) h u)
 
 -- an accepted block of a new name is at most the 64th
 pub accepted-few : (name : List ℕ) (blocks : List BlockLength) → is_accepted name (block_names blocks) ≡ true → is_named name (block_names blocks) ≡ false → length blocks < 64
@@ -108,18 +111,6 @@ accepted-few name blocks a u =
     let below : suc few ≤ 64 = leb-true (suc few) 64 h in
     let same : few ≡ length blocks = length-map blocks (λ (block : BlockLength). block.name) in
     omega arith
-
--- what stands at a place
-pub at_place : (blocks : List BlockLength) (i : ℕ) (d : BlockLength) → i < length blocks → slice_get blocks i ≡ Some (get_or blocks i d)
-at_place [] i d h = absurd (omega arith)
-at_place (c ∷ cs) zero d h = refl
-at_place (c ∷ cs) (suc i) d h = at_place cs i d (omega arith)
-
--- and what is found there
-pub found_at : (blocks : List BlockLength) (i : ℕ) (b d : BlockLength) → slice_get blocks i ≡ Some b → get_or blocks i d ≡ b
-found_at [] i b d e = cc
-found_at (c ∷ cs) zero b d e = cc
-found_at (c ∷ cs) (suc i) b d e = found_at cs i b d e
 
 -- where a block is opened before another reaches words
 pub opened-reached : (blocks : List BlockLength) (i : ℕ) (b : BlockLength) (name : List ℕ) (words : ℕ) → slice_get blocks i ≡ Some b →
@@ -206,3 +197,7 @@ accepted-new name blocks count is h =
     let unused : is_named name (block_names blocks) ≡ false = sym (is_named_blocks name blocks) ∙ h in
     let same : count ≡ length (block_names blocks) = is ∙ sym (length-map blocks (λ (block : BlockLength). block.name)) in
     rw unused (ap (λ n. nat_lt n 64) same)
+
+-- a map shows as many blocks as it has entries
+pub shown-length : (es : List (List ℕ × ℕ)) → length (lengths_shown es) ≡ length es
+shown-length es = length-map es (λ (e : List ℕ × ℕ). block_of e.0 e.1)

@@ -1,13 +1,19 @@
 //! Where the blocks of a deck stand (COMPASS 60492600, blocks, labelled common; that the literals come
 //! last is ours).
-ghost use Rattle.std.specs.Prelude.{◌≡◌, ◌≤◌, ◌^◌, [], length, IfOk, OnOk};
+ghost use Rattle.std.specs.Prelude.{◌≡◌, ◌≤◌, ◌^◌, [], length, IfOk, IfSome, OnOk};
+ghost use Rattle.std.specs.Map.{values_of};
 ghost use Rattle.definitions.specs.Blocks.{is_common};
 ghost use Rattle.definitions.specs.Lengths.{base_in, local_words, placed_row, rows_from, rows_of, total_length};
+ghost use Rattle.use_blocks.specs.Joins.BlockLengths.{lengths_shown};
+ghost use Rattle.use_blocks.specs.Joins.KeyedRows.{AreKeyed, keyed_rows, literals_base};
 
-use crate::lengths::{BlockLength, Lengths};
+use crate::lengths::{Lengths, Words};
 use crate::literals::Literals;
+use crate::name_key::NameKey;
 use expr_forms::Name;
+use indexmap::IndexMap;
 use std::alloc::{AllocError, Global};
+use std::hash::RandomState;
 use std::marker::Model;
 
 /// A block with its base and its length, in words. Contracts see the definitions' record.
@@ -28,13 +34,13 @@ impl Model for BlockRow {
 
 impl BlockRow {
     /// A block that stands at a base, if it is a local one; a common block stands at 0.
-    fn placed(base: u64, block: &BlockLength) -> BlockRow
-        ensures { result ≡ placed_row base block.now }
+    fn placed(base: u64, name: &Name, words: u32) -> BlockRow
+        ensures { result ≡ placed_row base (record { name = name.now; words = words }) }
     {
         BlockRow {
-            name: *block.name(),
-            base: if is_common(block.name()) { 0 } else { base },
-            words: block.words(),
+            name: *name,
+            base: if is_common(name) { 0 } else { base },
+            words,
         }
     }
 
@@ -78,41 +84,50 @@ pub fn is_common(name: &Name) -> bool
 }
 
 /// The blocks of a deck with their bases. Contracts see the rows, in order of first use, the literals
-/// last, where there are any.
+/// last, where there are any. The row of a block is found by its name, that of the literals by none, since
+/// a block may have any.
 #[derive(Drop)]
 pub struct Bases {
-    rows: Vec<BlockRow>,
+    rows: Rows,
     end: u64,
 }
 
+/// The row of each name, and that of the literals.
+type Rows = IndexMap<Option<NameKey>, BlockRow, RandomState>;
+
 impl Model for Bases {
-    ghost use Rattle.std.specs.Prelude.{◌≡◌, List, ◌≤◌, length};
+    ghost use Rattle.std.specs.Prelude.{◌≡◌, List};
+    ghost use Rattle.std.specs.Map.{values_of};
     ghost use Rattle.definitions.specs.Lengths.{BlockRow, total_length};
+    ghost use Rattle.use_blocks.specs.Joins.KeyedRows.{AreKeyed};
 
     ghost Value = { List BlockRow };
 
-    ghost view = { λ b. b.rows.items };
+    ghost view = { λ b. values_of b.rows.entries };
 
-    ghost invariant = { λ b. b.end ≡ total_length b.rows.items };
+    ghost invariant = { λ b. (b.end ≡ total_length (values_of b.rows.entries)) × AreKeyed b.rows.entries };
 }
 
 impl Bases {
-    /// The bases of blocks of these lengths, and of the literals behind them.
+    /// The bases of blocks of these lengths, and of the literals behind them, in a table that is kept by the
+    /// keys of the lengths.
     pub fn new(alloc: Global, lengths: &Lengths, literals: &Literals) -> Result<Bases, AllocError>
         ensures rows { IfOk result (λ bases. bases ≡ rows_of lengths.now literals.now) }
     {
         let blocks = lengths.blocks();
-        let mut rows = Vec::with_capacity(alloc, blocks.len() + 1)?;
+        let keys = *blocks.hasher();
+        let mut rows = IndexMap::with_capacity_and_hasher(alloc, blocks.len() + 1, keys)?;
         let end = place_blocks(&mut rows, blocks)?;
         let words = literals.len();
         if words == 0 {
             return Ok(Bases { rows, end });
         }
-        rows.push(BlockRow {
+        let row = BlockRow {
             name: Name::new(b"="),
             base: end,
             words: words as u32,
-        })?;
+        };
+        rows.insert(None, row)?;
         Ok(Bases {
             rows,
             end: end + words as u64,
@@ -123,7 +138,7 @@ impl Bases {
     pub fn rows(&self) -> &[BlockRow]
         ensures { result.now ≡ self.now }
     {
-        self.rows.as_slice()
+        self.rows.values().as_slice()
     }
 
     /// The words of all local blocks together, the literals among them.
@@ -133,33 +148,67 @@ impl Bases {
         self.end
     }
 
-    /// The base of a block; 0 of one that is not there.
+    /// The base of a block; 0 of one that is not there. The first is the nominal block, in which most
+    /// words stand, and is found without its key.
     pub fn base(&self, name: &Name) -> u64
         ensures { result ≡ base_in name.now self.now }
     {
-        for row in self.rows.as_slice() {
-            if name.is_same(&row.name) {
-                return row.base;
-            }
+        match first_base(self.rows(), name) {
+            Some(base) => base,
+            None => base_found(&self.rows, name),
         }
-        0
+    }
+}
+
+/// The base of the first row, where it has this name.
+fn first_base(rows: &[BlockRow], name: &Name) -> Option<u64>
+    ensures { IfSome result (λ base. base ≡ base_in name.now rows.now) }
+{
+    let (first, _) = rows.split_first()?;
+    if name.is_same(&first.name) {
+        Some(first.base())
+    } else {
+        None
+    }
+}
+
+/// The base of the row of this name; 0 of one that is not there.
+fn base_found(rows: &Rows, name: &Name) -> u64
+    ensures { AreKeyed rows.now.entries → result ≡ base_in name.now (values_of rows.now.entries) }
+{
+    match rows.get(&Some(NameKey::new(name))) {
+        Some(row) => row.base(),
+        None => literals_base(rows, name),
+    }
+}
+
+/// The base of the literals, where this is their name; else 0.
+fn literals_base(rows: &Rows, name: &Name) -> u64
+    ensures { result ≡ literals_base name.now rows.now.entries }
+{
+    if !name.is_same(&Name::new(b"=")) {
+        return 0;
+    }
+    match rows.get(&None) {
+        Some(row) => row.base,
+        None => 0,
     }
 }
 
 /// Adds the rows of some blocks, each local one at the end of those before it, and tells where the last
 /// one ends.
-fn place_blocks(rows: &mut Vec<BlockRow>, blocks: &[BlockLength]) -> Result<u64, AllocError>
-    requires empty { rows.old.items ≡ [] }
-    requires few { length blocks.now ≤ 64 }
-    ensures rows { OnOk result (rows.new.items ≡ rows_from 0 blocks.now) }
-    ensures end { IfOk result (λ end. end ≡ total_length (rows_from 0 blocks.now)) }
+fn place_blocks(rows: &mut Rows, blocks: &Words) -> Result<u64, AllocError>
+    requires empty { rows.old.entries ≡ [] }
+    requires few { length blocks.now.entries ≤ 64 }
+    ensures rows { OnOk result (rows.new.entries ≡ keyed_rows (rows_from 0 (lengths_shown blocks.now.entries))) }
+    ensures end { IfOk result (λ end. end ≡ total_length (rows_from 0 (lengths_shown blocks.now.entries))) }
     ensures within { IfOk result (λ end. end ≤ 2 ^ 38) }
 {
     let mut end = 0;
-    for block in blocks {
-        let row = BlockRow::placed(end, block);
+    for (name, words) in blocks.iter() {
+        let row = BlockRow::placed(end, name.name(), *words);
         end += row.local_words() as u64;
-        rows.push(row)?;
+        rows.insert(Some(NameKey::new(name.name())), row)?;
     }
     Ok(end)
 }

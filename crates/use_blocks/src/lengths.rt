@@ -7,91 +7,59 @@ ghost use Rattle.definitions.specs.Lengths.{lengths_of};
 ghost use Rattle.definitions.specs.Settled.{Opens};
 ghost use Rattle.definitions.specs.States.{Effect, state_after, names_of_blocks, lengths_advanced, lengths_behind};
 ghost use Rattle.definitions.specs.declared.deck_kind.DeckKind.{DeckKind};
-ghost use Rattle.use_blocks.specs.Joins.BlockLengths.{block_names, has_name, opened_by, reaching};
+ghost use Rattle.use_blocks.specs.Joins.BlockLengths.{block_names, has_name, lengths_shown, opened_by, reaching};
 
+use crate::name_key::NameKey;
 use expr_forms::Name;
+use indexmap::IndexMap;
 use std::alloc::{AllocError, Global};
+use std::hash::RandomState;
 use std::marker::Model;
 
 /// How many blocks a deck may use, the nominal block among them and the literals block not (ours).
 const MOST_BLOCKS: usize = 64;
 
-/// How many words a block has. Contracts see the definitions' record.
-#[derive(Drop)]
-pub struct BlockLength {
-    name: Name,
-    words: u32,
-}
-
-impl Model for BlockLength {
-    ghost use Rattle.definitions.specs.Lengths as definitions;
-
-    ghost Value = { definitions.BlockLength };
-
-    ghost view = { λ b. record { name = b.name; words = b.words } };
-}
-
-impl BlockLength {
-    /// The name of the block.
-    pub fn name(&self) -> &Name
-        ensures { result.now ≡ self.now.name }
-    {
-        &self.name
-    }
-
-    /// How many words it has.
-    pub fn words(&self) -> u32
-        ensures { result ≡ self.now.words }
-    {
-        self.words
-    }
-
-    /// The block reaches so many words.
-    fn reach(&mut self, words: u32)
-        ensures { self.new ≡ record { name = self.old.name; words = max words self.old.words } }
-    {
-        self.words = words.max(self.words);
-    }
-}
-
-/// The words that each block reached. Contracts see the blocks in order of first use.
+/// The words that each block reached, by its name and in order of first use. Contracts see the
+/// definitions' records. A block is found by its name in about the same time whatever the names are, since
+/// their places among the others go by keys that nobody knows.
 #[derive(Drop)]
 pub struct Lengths {
-    blocks: Vec<BlockLength>,
+    words: Words,
 }
+
+/// How many words the block of each name has.
+pub(crate) type Words = IndexMap<NameKey, u32, RandomState>;
 
 impl Model for Lengths {
     ghost use Rattle.std.specs.Prelude.{List, ◌≤◌, length};
     ghost use Rattle.definitions.specs.Lengths.{BlockLength};
-    ghost use Rattle.use_blocks.specs.Joins.BlockLengths.{AreDistinct, block_names};
+    ghost use Rattle.use_blocks.specs.Joins.BlockLengths.{lengths_shown};
 
     ghost Value = { List BlockLength };
 
-    ghost view = { λ l. l.blocks.items };
+    ghost view = { λ l. lengths_shown l.words.entries };
 
-    ghost invariant = { λ l. (length l.blocks.items ≤ 64) × AreDistinct (block_names l.blocks.items) };
+    ghost invariant = { λ l. length l.words.entries ≤ 64 };
 }
 
 impl Lengths {
-    /// The nominal block, in which nothing stands yet: the lengths before the first statement.
-    pub fn new(alloc: Global) -> Result<Lengths, AllocError>
+    /// The nominal block, in which nothing stands yet: the lengths before the first statement, in a table
+    /// that is kept by these keys.
+    pub fn new(alloc: Global, keys: RandomState) -> Result<Lengths, AllocError>
         ensures lengths { IfOk result (λ lengths. (kind : DeckKind) → lengths ≡ lengths_of kind []) }
         ensures same_blocks { IfOk result (λ lengths. block_names lengths ≡ names_of_blocks (state_after []).blocks) }
     {
-        let mut blocks = Vec::with_capacity(alloc, 1)?;
-        blocks.push(BlockLength {
-            name: Name::new(b"0"),
-            words: 0,
-        })?;
-        Ok(Lengths { blocks })
+        let mut words = IndexMap::with_hasher(alloc, keys);
+        words.insert(NameKey::new(&Name::new(b"0")), 0)?;
+        Ok(Lengths { words })
     }
 
-    /// The blocks in order of first use, no name twice.
-    pub fn blocks(&self) -> &[BlockLength]
-        ensures blocks { result.now ≡ self.now }
+    /// The words of the blocks by name, in order of first use.
+    pub fn blocks(&self) -> &Words
+        ensures blocks { lengths_shown result.now.entries ≡ self.now }
         ensures few { length self.now ≤ 64 }
     {
-        self.blocks.as_slice()
+        &self.words
     }
 
     /// A block reaches so many words.
@@ -99,14 +67,15 @@ impl Lengths {
         requires { block < length self.old }
         ensures { (b : definitions.BlockLength) → slice_get self.old block ≡ Some b → self.new ≡ map (reaching b.name words) self.old }
     {
-        self.blocks[block].reach(words);
+        let (_, reached) = self.words.pair_mut(block);
+        *reached = words.max(*reached);
     }
 
     /// Whether a USE of this name is accepted: that of a 65th block is not.
     pub fn accepts(&self, name: &Name) -> bool
         ensures { result ≡ is_accepted name.now (block_names self.now) }
     {
-        has_block(self.blocks.as_slice(), name) || self.blocks.len() < MOST_BLOCKS
+        has_block(&self.words, name) || self.words.len() < MOST_BLOCKS
     }
 
     /// A USE opens a block, which is accepted; a new one alone takes memory. Without memory all is
@@ -117,13 +86,10 @@ impl Lengths {
         ensures without_memory { OnErr result (self.new ≡ self.old) }
         ensures unused { OnErr result (has_name name.now self.old ≡ false) }
     {
-        if has_block(self.blocks.as_slice(), name) {
+        if has_block(&self.words, name) {
             return Ok(());
         }
-        self.blocks.push(BlockLength {
-            name: *name,
-            words: 0,
-        })?;
+        self.words.insert(NameKey::new(name), 0)?;
         Ok(())
     }
 
@@ -153,8 +119,8 @@ impl Lengths {
 }
 
 /// Whether one of the blocks has this name.
-fn has_block(blocks: &[BlockLength], name: &Name) -> bool
-    ensures { result ≡ has_name name.now blocks.now }
+fn has_block(words: &Words, name: &Name) -> bool
+    ensures { result ≡ has_name name.now (lengths_shown words.now.entries) }
 {
-    blocks.iter().any(|block| name.is_same(&block.name))
+    words.contains_key(&NameKey::new(name))
 }

@@ -23,13 +23,15 @@ mod laws;
 mod length_steps;
 mod lengths;
 mod literals;
+mod name_key;
 
 pub use bases::{Bases, BlockRow, is_common};
 pub use block_state::BlockState;
 pub use counters::{location, origin};
 pub use effects::{BlockChange, Effect, LocationSetting};
 pub use laws::{blocks_are_bounded, blocks_are_few};
-pub use lengths::{BlockLength, Lengths};
+pub use lengths::Lengths;
 pub use literals::Literals;
+pub use name_key::NameKey;
 pub use positions::{Counting, Position, is_same_form};
 pub use used_block::UsedBlock;

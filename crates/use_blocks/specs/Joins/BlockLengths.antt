@@ -1,10 +1,13 @@
 -- The words that each block reached, as the code changes them (ours).
-use Rattle.std.specs.Prelude.{ℕ, ◌≡◌, ⊤, List, [], ◌∷◌, Option, Some, None, Bool, false, max, map, if◌then◌else◌}
+use Rattle.std.specs.Prelude.{ℕ, List, Option, Some, None, Bool, max, map, if◌then◌else◌}
 use Rattle.std.specs.List.{list_any}
 use Rattle.definitions.specs.Characters.{same_text}
 use Rattle.definitions.specs.Settled.{BlockChange, NoChange, Opens, Closes}
-use Rattle.definitions.specs.Blocks.{is_named}
 use Rattle.definitions.specs.Lengths.{BlockLength}
+
+-- the lengths that stand under names in a map
+abbrev pub lengths_shown : List (List ℕ × ℕ) → List BlockLength
+lengths_shown entries = map (λ entry. record { name = entry.0; words = entry.1 }) entries
 
 -- the names of the blocks
 abbrev pub block_names : List BlockLength → List (List ℕ)
@@ -23,8 +26,3 @@ opened_by Closes = None
 -- a block, which reaches so many words where it has this name
 abbrev pub reaching : List ℕ → ℕ → BlockLength → BlockLength
 reaching name words block = record { name = block.name; words = max (if same_text name block.name then words else 0) block.words }
-
--- no name stands twice
-abbrev pub AreDistinct : List (List ℕ) → Type 0
-AreDistinct [] = ⊤
-AreDistinct (name ∷ names) = (is_named name names ≡ false) × AreDistinct names

@@ -1,24 +1,23 @@
-use Rattle.std.proofs.Common.{◌≡◌, ◌<◌, ◌≤◌, Some, List, max, ap, sym, ◌∙◌, subst, length, length-set}
-use Rattle.std.specs.Prelude.{slice_get, slice_set, map}
+use Rattle.std.proofs.Common.{◌≡◌, ◌≤◌, ◌∙◌, ℕ, Some, List, max, ap, sym, subst}
+use Rattle.std.specs.Prelude.{slice_get, map}
+use Rattle.indexmap.specs.IndexMap.{set_value_at}
+use Rattle.indexmap.specs.Layout.{length-set_value_at}
 use Rattle.definitions.specs.Lengths.{BlockLength}
-use Rattle.use_blocks.specs.Joins.BlockLengths.{AreDistinct, reaching}
-use Rattle.use_blocks.proofs.ReachLaws.{names-set, reached-at, at_place, found_at}
+use Rattle.use_blocks.specs.Joins.BlockLengths.{lengths_shown, reaching}
+use Rattle.use_blocks.proofs.ReachLaws.{reached-at, words-at}
 use Rattle.use_blocks.proofs.lengths.Lengths.reach.Goals as goal
 
 pub invariant_of-self : goal.invariant_of-self
 invariant_of-self c =
-    let blocks = c.self.inside.blocks.items in
-    let few : length (slice_set blocks c.args.block c.reach.new.self) ≤ 64 = rw (length-set blocks c.args.block c.reach.new.self) c.self.invariant.0 in
-    let within : c.args.block < length blocks = subst (λ (bs : List BlockLength). c.args.block < length bs) (sym c.self.view_is) c.requires in
-    let here = at_place blocks c.args.block c.index_mut.result.now within ∙ ap Some (sym c.index_mut.ensures.value) in
-    let named = ap (λ (b : BlockLength). b.name) c.reach.ensures in
-    (few, subst AreDistinct (sym (names-set blocks c.args.block c.index_mut.result.now c.reach.new.self here named)) c.self.invariant.1)
+    let entries = c.self.inside.words.entries in
+    subst (λ (n : ℕ). n ≤ 64) (sym (length-set_value_at entries c.args.block c.max.result)) c.self.invariant
 
 pub returns : goal.returns
 returns c b e =
-    let blocks = c.self.inside.blocks.items in
-    let here : slice_get blocks c.args.block ≡ Some b = ap (λ (bs : List BlockLength). slice_get bs c.args.block) c.self.view_is ∙ e in
-    let is : c.index_mut.result.now ≡ b = c.index_mut.ensures.value ∙ found_at blocks c.args.block b c.index_mut.result.now here in
-    ap (slice_set blocks c.args.block) (c.reach.ensures ∙ ap (λ (d : BlockLength). let new : BlockLength = record { name = d.name; words = max c.args.words d.words } in new) is)
-    ∙ reached-at blocks c.args.block b c.args.words c.self.invariant.1 here
+    let entries = c.self.inside.words.entries in
+    let pair = c.pair_mut-reached.ensures in
+    let here : slice_get (lengths_shown entries) c.args.block ≡ Some b = ap (λ (bs : List BlockLength). slice_get bs c.args.block) c.self.view_is ∙ e in
+    let most : c.max.result ≡ max c.args.words b.words = c.max.ensures ∙ ap (max c.args.words) (words-at entries c.args.block _ b pair.value here) in
+    ap (λ (n : ℕ). lengths_shown (set_value_at entries c.args.block n)) most
+    ∙ reached-at entries c.args.block b c.args.words pair.unique here
     ∙ ap (map (reaching b.name c.args.words)) c.self.view_is

@@ -2,7 +2,7 @@
 ghost use Rattle.std.specs.Prelude.{[], ◌≡◌, ◌∷◌};
 ghost use Rattle.std.specs.Cmp.{partial_equiv_from_equiv};
 ghost use Rattle.definitions.specs.Characters.{same_text};
-ghost use Rattle.deck_linker.specs.Joins.NameKeys.{alone, alone_same, same_text_equivalence};
+ghost use Rattle.use_blocks.specs.Joins.NameKeys.{alone, alone_same, same_text_equivalence};
 
 use expr_forms::Name;
 use std::hash::{Hash, Hasher};
