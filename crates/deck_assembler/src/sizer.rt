@@ -80,7 +80,9 @@ impl Sizer {
             statement.name,
             statement.variable,
         );
-        let sizing = size_reading(statement, &reading, &self.state, &self.symbols, meter);
+        let (state, symbols) = (&self.state, &self.symbols);
+        let keys = symbols.keys();
+        let sizing = size_reading(alloc, keys, statement, &reading, state, symbols, meter)?;
         let effect = sizing.effect(statement);
         let is_bare = self.note(&reading, statement.location, sizing.defines, &effect)?;
         let is_counted = self.state.block().counting().is_some();

@@ -45,6 +45,11 @@ impl SymbolTable {
         }
     }
 
+    /// The keys by which the table is kept.
+    pub(crate) fn keys(&self) -> RandomState {
+        *self.forms.hasher()
+    }
+
     /// A copy.
     pub(crate) fn copy(&self) -> Result<SymbolTable, AllocError>
         ensures { IfOk result (λ table. table ≡ self.now) }

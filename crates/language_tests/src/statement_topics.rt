@@ -89,7 +89,14 @@ fn one_statement(
     let statement = Statement::read(DeckKind::Rel, cards, &mut room);
     let state = BlockState::new(answer.alloc)?;
     let mut done = Meter { sized: 0, coded: 0 };
-    let sizing = size(&statement, &state, symbols, &mut done);
+    let sizing = size(
+        answer.alloc,
+        answer.keys,
+        &statement,
+        &state,
+        symbols,
+        &mut done,
+    )?;
     if is_coded {
         let kept = KeptSizing::new(answer.alloc, statement.kind, true, sizing)?;
         coded(answer, &statement, &kept, symbols, &mut done)?;
@@ -156,7 +163,12 @@ impl Blocks {
     }
 
     /// Behind a card of a REL deck in which no symbol is defined before, and the effect of the card.
-    fn behind(self, cards: &[Card; 1]) -> Result<(Blocks, Effect), AllocError> {
+    fn behind(
+        self,
+        alloc: Global,
+        keys: RandomState,
+        cards: &[Card; 1],
+    ) -> Result<(Blocks, Effect), AllocError> {
         let Blocks {
             mut state,
             mut lengths,
@@ -164,7 +176,7 @@ impl Blocks {
         let mut room = StatementRoom::new();
         let statement = Statement::read(DeckKind::Rel, cards, &mut room);
         let mut done = Meter { sized: 0, coded: 0 };
-        let sizing = size(&statement, &state, &names("none"), &mut done);
+        let sizing = size(alloc, keys, &statement, &state, &names("none"), &mut done)?;
         let effect = sizing.effect(&statement);
         lengths.follow(&state, &effect)?;
         state.advance(&effect)?;
@@ -177,7 +189,7 @@ fn blocks_behind(alloc: Global, keys: RandomState, text: &str) -> Result<Blocks,
     let mut blocks = Blocks::new(alloc, keys)?;
     for line in text.lines() {
         if let Ok(card) = Card::read(line.as_bytes()) {
-            let (after, _) = blocks.behind(&[card])?;
+            let (after, _) = blocks.behind(alloc, keys, &[card])?;
             blocks = after;
         }
     }
@@ -236,7 +248,7 @@ fn effects(answer: &mut Answer, text: &str) -> Result<(), AllocError> {
     let mut blocks = Blocks::new(answer.alloc, answer.keys)?;
     for line in text.lines() {
         if let Ok(card) = Card::read(line.as_bytes()) {
-            let (after, effect) = blocks.behind(&[card])?;
+            let (after, effect) = blocks.behind(answer.alloc, answer.keys, &[card])?;
             blocks = after;
             effect_shown(answer, &effect);
             answer.bare(blocks.state.block().name().as_slice());

@@ -1,5 +1,5 @@
 -- A statement that was read is that of the definitions.
-use Rattle.std.proofs.Common.{◌≡◌, ◌∙◌, refl, ap, ap₂, sym, subst}
+use Rattle.std.proofs.Common.{◌≡◌, ◌∙◌, ap, ap₂, sym, subst}
 use Rattle.definitions.specs.Statements.{Statement}
 use Rattle.definitions.specs.Fields.{Fields, fields_of}
 use Rattle.definitions.specs.Operations.{Operation, operation_of}

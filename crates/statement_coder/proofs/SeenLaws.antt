@@ -1,9 +1,17 @@
 -- Names of an EXT that were seen before.
-use Rattle.std.proofs.Common.{◌≡◌, ℕ, List, [], ◌∷◌, ◌++◌, Bool, true, false, ◌||◌, Option, Some, None, refl, sym, ap, ap₂, ◌∙◌}
+use Rattle.std.proofs.Common.{◌≡◌, ℕ, List, [], ◌∷◌, ◌++◌, Bool, true, false, ◌||◌, Option, Some, None, refl, ap, ap₂, ◌∙◌}
+use Rattle.std.specs.Prelude.{is_some}
 use Rattle.std.proofs.lemmas.List.Folds.{list_any-append}
 use Rattle.definitions.specs.Blocks.{is_named}
 use Rattle.definitions.specs.Characters.{same_text}
-use Rattle.statement_coder.specs.Joins.Externals.{any_seen, is_listed}
+use Rattle.definitions.specs.Settling.{View}
+use Rattle.statement_coder.specs.Joins.Externals.{has_known, is_listed}
+
+-- whether one of these names was seen before
+abbrev pub any_seen : List (List ℕ) → List (Option (List ℕ)) → Bool
+any_seen seen [] = false
+any_seen seen (None ∷ names) = any_seen seen names
+any_seen seen (Some name ∷ names) = is_named name seen || any_seen seen names
 
 pub or_nothing : (b : Bool) → (b || false) ≡ b
 or_nothing true = refl
@@ -32,3 +40,20 @@ pub none-seen : (names : List (Option (List ℕ))) → any_seen [] names ≡ fal
 none-seen [] = refl
 none-seen (None ∷ names) = none-seen names
 none-seen (Some name ∷ names) = none-seen names
+
+-- a name that is new, and kept in mind from then on
+pub seen-more : (symbol : View) (name : List ℕ) (seen : List (List ℕ)) (names : List (Option (List ℕ))) → is_some (symbol name) ≡ false → is_named name seen ≡ false →
+    (has_known symbol names || any_seen (seen ++ name ∷ []) names) ≡ (has_known symbol (Some name ∷ names) || any_seen seen (Some name ∷ names))
+seen-more symbol name seen names undefined unseen =
+    ap (λ (t : Bool). has_known symbol names || t) (seen-pushed name seen names)
+    ∙ by_tests (is_some (symbol name)) (is_named name seen) (has_known symbol names) (any_seen seen names) (is_listed name names) undefined unseen
+  where
+    by_tests : (d a h s l : Bool) → d ≡ false → a ≡ false → (h || (s || l)) ≡ (((d || l) || h) || (a || s))
+    by_tests true a h s l e k = cc
+    by_tests false true h s l e k = cc
+    by_tests false false true s true e k = refl
+    by_tests false false true s false e k = refl
+    by_tests false false false true true e k = refl
+    by_tests false false false true false e k = refl
+    by_tests false false false false true e k = refl
+    by_tests false false false false false e k = refl

@@ -1,15 +1,18 @@
 //! What an EXT of a relocatable deck says of its names (COMPASS 60492600, EXT).
-ghost use Rattle.std.specs.Prelude.{◌≡◌, ◌||◌, [], true, false};
+ghost use Rattle.std.specs.Prelude.{◌≡◌, ◌++◌, ◌∷◌, [], IfOk, if◌then◌else◌};
 ghost use Rattle.definitions.specs.Blocks.{is_named};
 ghost use Rattle.definitions.specs.Letters.{in_order};
 ghost use Rattle.definitions.specs.Settling.{letter_where, external_letters};
-ghost use Rattle.statement_coder.specs.Joins.Externals.{any_seen, has_unlawful, is_listed, has_known};
+ghost use Rattle.statement_coder.specs.Joins.Externals.{has_unlawful, has_known};
 
 use crate::early_values::EarlySymbols;
-use crate::seen_names::SeenNames;
-use definitions::{Letter, is_same_text};
+use definitions::Letter;
 use expr_forms::{LinkedNames, Name};
+use indexmap::IndexSet;
 use operations::Letters;
+use std::alloc::{AllocError, Global};
+use std::hash::RandomState;
+use use_blocks::NameKey;
 
 /// Whether one of these is no lawful name.
 fn has_unlawful(names: LinkedNames<'_>) -> bool
@@ -25,50 +28,33 @@ fn has_unlawful(names: LinkedNames<'_>) -> bool
     }
 }
 
-/// Whether this name is one of these.
-fn is_listed(name: &[u8], names: LinkedNames<'_>) -> bool
-    ensures { result ≡ is_listed name.now names.entry }
+/// Whether a name was seen before. One that is new is kept in mind.
+fn is_again(seen: &mut IndexSet<NameKey, RandomState>, name: &Name) -> Result<bool, AllocError>
+    ensures again { IfOk result (λ again. again ≡ is_named name.now seen.old.keys) }
+    ensures seen { IfOk result (λ again. seen.new.keys ≡ (if again then seen.old.keys else seen.old.keys ++ name.now ∷ [])) }
 {
+    let is_new = seen.insert(NameKey::new(name))?;
+    Ok(!is_new)
+}
+
+/// Whether one of these names is defined before, or stands here again. Only names take memory.
+fn has_known<S: EarlySymbols>(
+    alloc: Global,
+    keys: RandomState,
+    symbols: &S,
+    names: LinkedNames<'_>,
+) -> Result<bool, AllocError>
+    ensures { IfOk result (λ known. known ≡ has_known (S.view symbols.now) names.entry) }
+{
+    let mut seen = IndexSet::with_hasher(alloc, keys);
     let mut rest = names;
     'names: loop {
         match rest.next() {
-            None => return false,
-            Some(None) => {}
-            Some(Some(other)) => {
-                if is_same_text(other, name) {
-                    return true;
-                }
-            }
-        }
-    }
-}
-
-/// Whether a name was seen before. One that is new is kept in mind; where there is no room for it, it is
-/// looked for among the names that are left.
-fn is_again(seen: &mut SeenNames, name: Name, names: &LinkedNames<'_>) -> bool
-    ensures again { result ≡ true → (is_named name seen.old || is_listed name names.now) ≡ true }
-    ensures seen { result ≡ false → is_named name seen.old ≡ false }
-    ensures left { result ≡ false → any_seen seen.new names.now ≡ (any_seen seen.old names.now || is_listed name names.now) }
-{
-    if seen.contains(&name) {
-        return true;
-    }
-    !seen.add(name) && is_listed(name.as_slice(), names.copied())
-}
-
-/// Whether one of these names is defined before, or stands here again.
-fn has_known<S: EarlySymbols>(symbols: &S, names: LinkedNames<'_>) -> bool
-    ensures { result ≡ has_known (S.view symbols.now) names.entry }
-{
-    let mut seen = SeenNames::new();
-    let mut rest = names;
-    'names: loop {
-        match rest.next() {
-            None => return false,
+            None => return Ok(false),
             Some(None) => {}
             Some(Some(name)) => {
-                if symbols.symbol(name).is_some() || is_again(&mut seen, Name::new(name), &rest) {
-                    return true;
+                if symbols.symbol(name).is_some() || is_again(&mut seen, &Name::new(name))? {
+                    return Ok(true);
                 }
             }
         }
@@ -88,10 +74,16 @@ fn letters_where(applies: bool, letter: Letter) -> Letters
 
 /// The letters of the names of an EXT: V where one is no lawful name, D where one is not new: it is
 /// defined before, or stands earlier in this EXT.
-pub(crate) fn external_letters<S: EarlySymbols>(symbols: &S, names: &LinkedNames<'_>) -> Letters
-    ensures { result ≡ in_order (external_letters (S.view symbols.now) names.now []) }
+pub(crate) fn external_letters<S: EarlySymbols>(
+    alloc: Global,
+    keys: RandomState,
+    symbols: &S,
+    names: &LinkedNames<'_>,
+) -> Result<Letters, AllocError>
+    ensures { IfOk result (λ letters. letters ≡ in_order (external_letters (S.view symbols.now) names.now [])) }
 {
+    let is_known = has_known(alloc, keys, symbols, names.copied())?;
+    let known = letters_where(is_known, Letter::D);
     let unlawful = letters_where(has_unlawful(names.copied()), Letter::V);
-    let known = letters_where(has_known(symbols, names.copied()), Letter::D);
-    unlawful.union(&known)
+    Ok(unlawful.union(&known))
 }

@@ -8,8 +8,8 @@
 //! `code_read` takes what was read with that, the values of all symbols and literals
 //! (`FinalSymbols`) and the bases, and gives fields and letters; `code` has the statement alone. `kept_operand` has the operand of the
 //! `KeptReading` that was made while the statement was sized, and what was not kept is read again.
-//! No other calls size or code, and each of the four adds one to the `Meter`. Only coding takes
-//! memory, and only for data, and what is kept of an unusual sizing.
+//! No other calls size or code, and each of the four adds one to the `Meter`. Sizing takes memory only
+//! for the names of an EXT, coding only for data, and there is what is kept of an unusual sizing.
 //!
 //! An `Item` has a width, at most one letter, and bits that are known or a form for the link: in
 //! ABS and PERIPH decks a form becomes a number here, in a REL deck one with a block or external
@@ -26,7 +26,6 @@ mod outcomes;
 mod placing;
 mod read_operands;
 mod readings;
-mod seen_names;
 mod statement;
 mod statement_cards;
 

@@ -1,5 +1,5 @@
 //! The letters of a statement that are known without later statements (COMPASS 60492600, error flags).
-ghost use Rattle.std.specs.Prelude.{◌≡◌, ◌++◌, ◌∷◌, [], List, if◌then◌else◌};
+ghost use Rattle.std.specs.Prelude.{◌≡◌, ◌++◌, ◌∷◌, [], true, List, IfOk, OnErr, if◌then◌else◌};
 ghost use Rattle.definitions.specs.Letters.{in_order};
 ghost use Rattle.definitions.specs.Operands as operands;
 ghost use Rattle.definitions.specs.Settling.{letter_where, location_letters, is_refused, operand_letters};
@@ -11,7 +11,7 @@ ghost use Rattle.definitions.specs.declared.letter.Letter as marks;
 ghost use Rattle.definitions.specs.declared.letter.Letter.TheVariants as letter;
 ghost use Rattle.operations.specs.Joins.OperationsAs.{operation_as};
 ghost use Rattle.statement_coder.specs.Joins.LettersAs.{letters_as};
-ghost use Rattle.statement_coder.specs.Joins.Readings.{IsReading};
+ghost use Rattle.statement_coder.specs.Joins.Readings.{IsReading, has_names};
 
 use crate::block_changes::is_refused;
 use crate::early_values::EarlySymbols;
@@ -22,6 +22,8 @@ use crate::sizes::is_bad;
 use crate::statement::Statement;
 use definitions::{DeckKind, Letter};
 use operations::{Letters, Operation};
+use std::alloc::{AllocError, Global};
+use std::hash::RandomState;
 use use_blocks::BlockState;
 
 /// The letters of a set and one more, if there is one.
@@ -45,84 +47,102 @@ fn bad_letters(reading: &Reading<'_>) -> Letters
     }
 }
 
-/// The letters of the names of an EXT in a REL deck; V of any other operand that is bad.
-fn names_letters<S: EarlySymbols>(symbols: &S, reading: &Reading<'_>) -> Letters
-    ensures { (operand : operands.Operand) → IsReading reading.now operand → result ≡ in_order (operand_letters kinds.Rel op.Ext operand (S.view symbols.now)) }
-{
-    match reading {
-        Reading::Names(names) => external_letters(symbols, names),
-        Reading::Unread => bad_letters(reading),
-        Reading::Bad => bad_letters(reading),
-        Reading::Instruction(_) => bad_letters(reading),
-        Reading::Data(_) => bad_letters(reading),
-        Reading::Con(_) => bad_letters(reading),
-        Reading::Vfd(_) => bad_letters(reading),
-        Reading::Text(_) => bad_letters(reading),
-        Reading::Value(_) => bad_letters(reading),
-        Reading::Use(_) => bad_letters(reading),
-    }
-}
-
-/// The letters of an EXT.
-fn ext_letters<S: EarlySymbols>(kind: DeckKind, symbols: &S, reading: &Reading<'_>) -> Letters
-    ensures { (operand : operands.Operand) → IsReading reading.now operand → result ≡ in_order (operand_letters kind op.Ext operand (S.view symbols.now)) }
-{
-    match kind {
-        DeckKind::Rel => names_letters(symbols, reading),
-        DeckKind::Abs => bad_letters(reading),
-        DeckKind::Periph => bad_letters(reading),
-    }
-}
-
-/// The letters of an operand.
-fn operand_letters<S: EarlySymbols>(
-    kind: DeckKind,
-    operation: Operation,
+/// The letters of the names of an EXT in a REL deck, which alone take memory; V of any other operand
+/// that is bad.
+fn names_letters<S: EarlySymbols>(
+    alloc: Global,
+    keys: RandomState,
     symbols: &S,
     reading: &Reading<'_>,
-) -> Letters
-    ensures { (operand : operands.Operand) → IsReading reading.now operand → result ≡ in_order (operand_letters kind (operation_as operation) operand (S.view symbols.now)) }
+) -> Result<Letters, AllocError>
+    ensures letters { IfOk result (λ letters. (operand : operands.Operand) → IsReading reading.now operand → letters ≡ in_order (operand_letters kinds.Rel op.Ext operand (S.view symbols.now))) }
+    ensures names { OnErr result (has_names reading.now ≡ true) }
 {
-    match operation {
-        Operation::Ext => ext_letters(kind, symbols, reading),
-        _ => bad_letters(reading),
+    match reading {
+        Reading::Names(names) => external_letters(alloc, keys, symbols, names),
+        Reading::Unread => Ok(bad_letters(reading)),
+        Reading::Bad => Ok(bad_letters(reading)),
+        Reading::Instruction(_) => Ok(bad_letters(reading)),
+        Reading::Data(_) => Ok(bad_letters(reading)),
+        Reading::Con(_) => Ok(bad_letters(reading)),
+        Reading::Vfd(_) => Ok(bad_letters(reading)),
+        Reading::Text(_) => Ok(bad_letters(reading)),
+        Reading::Value(_) => Ok(bad_letters(reading)),
+        Reading::Use(_) => Ok(bad_letters(reading)),
+    }
+}
+
+/// The letters of an EXT; its names alone take memory.
+fn ext_letters<S: EarlySymbols>(
+    alloc: Global,
+    keys: RandomState,
+    kind: DeckKind,
+    symbols: &S,
+    reading: &Reading<'_>,
+) -> Result<Letters, AllocError>
+    ensures letters { IfOk result (λ letters. (operand : operands.Operand) → IsReading reading.now operand → letters ≡ in_order (operand_letters kind op.Ext operand (S.view symbols.now))) }
+    ensures names { OnErr result (has_names reading.now ≡ true) }
+{
+    match kind {
+        DeckKind::Rel => names_letters(alloc, keys, symbols, reading),
+        DeckKind::Abs => Ok(bad_letters(reading)),
+        DeckKind::Periph => Ok(bad_letters(reading)),
+    }
+}
+
+/// The letters of an operand; the names of an EXT alone take memory.
+pub(crate) fn operand_letters<S: EarlySymbols>(
+    alloc: Global,
+    keys: RandomState,
+    statement: &Statement<'_>,
+    symbols: &S,
+    reading: &Reading<'_>,
+) -> Result<Letters, AllocError>
+    ensures letters { IfOk result (λ letters. (operand : operands.Operand) → IsReading reading.now operand →
+        letters ≡ in_order (operand_letters statement.now.kind (operation_as statement.now.operation) operand (S.view symbols.now))) }
+    ensures names { OnErr result ((operation_as statement.now.operation ≡ op.Ext) × (has_names reading.now ≡ true)) }
+{
+    match statement.operation {
+        Operation::Ext => ext_letters(alloc, keys, statement.kind, symbols, reading),
+        _ => Ok(bad_letters(reading)),
     }
 }
 
 /// O alone of a refused statement, and else the letters of its operand and of its outcome.
-fn variable_letters<S: EarlySymbols>(
+fn variable_letters(
     statement: &Statement<'_>,
-    symbols: &S,
     reading: &Reading<'_>,
     state: &BlockState,
+    of_operand: &Letters,
     outcome: Option<Letter>,
 ) -> Letters
-    ensures { (operand : operands.Operand) → IsReading reading.now operand →
+    ensures { (operand : operands.Operand) (letters : List marks.Letter) → IsReading reading.now operand → of_operand.now ≡ in_order letters →
         result ≡ in_order (if is_refused statement.now.kind (operation_as statement.now.operation) operand statement.now.location.now state.now.neutral (names_of_blocks state.now.blocks) then letter.O ∷ []
-        else operand_letters statement.now.kind (operation_as statement.now.operation) operand (S.view symbols.now) ++ letters_as outcome) }
+        else letters ++ letters_as outcome) }
 {
     let kind = statement.kind;
     let operation = statement.operation;
     if is_refused(kind, operation, reading, statement.location, state) {
         Letters::of(Letter::O)
     } else {
-        with_letter(&operand_letters(kind, operation, symbols, reading), outcome)
+        with_letter(of_operand, outcome)
     }
 }
 
-/// The letters of a statement that are known without later statements.
+/// The letters of a statement that are known without later statements, where those of its operand are.
 pub(crate) fn size_letters<S: EarlySymbols>(
     statement: &Statement<'_>,
     symbols: &S,
     reading: &Reading<'_>,
     state: &BlockState,
+    of_operand: &Letters,
     outcome: Option<Letter>,
 ) -> Letters
-    ensures { (operand : operands.Operand) → IsReading reading.now operand →
+    ensures { (operand : operands.Operand) (letters : List marks.Letter) → IsReading reading.now operand → of_operand.now ≡ in_order letters →
         result ≡ in_order (letter_where statement.now.is_stray letter.C
         ++ (location_letters statement.now.kind (operation_as statement.now.operation) statement.now.location.now (S.view symbols.now statement.now.location.now)
         ++ (if is_refused statement.now.kind (operation_as statement.now.operation) operand statement.now.location.now state.now.neutral (names_of_blocks state.now.blocks) then letter.O ∷ []
-        else operand_letters statement.now.kind (operation_as statement.now.operation) operand (S.view symbols.now) ++ letters_as outcome))) }
+        else letters ++ letters_as outcome))) }
 {
     let is_defined = symbols.symbol(statement.location).is_some();
     let stray = with_letter(
@@ -136,6 +156,6 @@ pub(crate) fn size_letters<S: EarlySymbols>(
         is_defined,
     );
     let location = with_letter(&Letters::none(), place);
-    let variable = variable_letters(statement, symbols, reading, state, outcome);
+    let variable = variable_letters(statement, reading, state, of_operand, outcome);
     stray.union(&location.union(&variable))
 }

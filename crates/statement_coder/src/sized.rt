@@ -1,18 +1,20 @@
 //! What a statement is once the state before it is known.
-ghost use Rattle.std.specs.Prelude.{◌≡◌, ◌≤◌, ◌==◌, ◌+◌, ◌-◌, ◌^◌, None, length, min};
+ghost use Rattle.std.specs.Prelude.{◌≡◌, ◌≤◌, ◌==◌, ◌+◌, ◌-◌, ◌^◌, true, None, length, min, IfOk, OnErr};
 ghost use Rattle.definitions.specs.Statements as statements;
 ghost use Rattle.definitions.specs.Statements.{is_stray};
 ghost use Rattle.definitions.specs.Counters.{counters_at};
 ghost use Rattle.definitions.specs.Operands as operands;
 ghost use Rattle.definitions.specs.Pieces.{pieces_of, subfields_of};
 ghost use Rattle.definitions.specs.Places.{asks_upper, asks_after};
-ghost use Rattle.definitions.specs.Settling.{is_run, settled_from};
+ghost use Rattle.definitions.specs.Letters.{in_order};
+ghost use Rattle.definitions.specs.Operations as op;
+ghost use Rattle.definitions.specs.Settling.{is_run, operand_letters, settled_from};
 ghost use Rattle.definitions.specs.States.{seen_from};
 ghost use Rattle.definitions.specs.declared.deck_kind.DeckKind as kinds;
 ghost use Rattle.operations.specs.Joins.OperationsAs.{operation_as};
 ghost use Rattle.use_blocks.specs.Joins.Changes.{IsAccepted, block_now};
 ghost use Rattle.use_blocks.specs.Joins.EffectsAs.{change_as, setting_as};
-ghost use Rattle.statement_coder.specs.Joins.Readings.{IsReading};
+ghost use Rattle.statement_coder.specs.Joins.Readings.{IsReading, has_names};
 ghost use Rattle.statement_coder.specs.Joins.StatementsRead.{IsRead};
 ghost use Rattle.statement_coder.specs.Joins.Sizings.{read_as, settled_read, IsSizing};
 
@@ -23,13 +25,15 @@ use crate::meter::Meter;
 use crate::outcomes::outcome_of;
 use crate::placing::{OperandClass, place_of};
 use crate::readings::{Reading, read_operand};
-use crate::size_letters::size_letters;
+use crate::size_letters::{operand_letters, size_letters};
 use crate::sizes::{is_bad, is_long, size_of};
 use crate::sizing::Sizing;
 use crate::statement::Statement;
 use definitions::DeckKind;
 use expr_forms::Subfields;
-use operations::Operation;
+use operations::{Letters, Operation};
+use std::alloc::{AllocError, Global};
+use std::hash::RandomState;
 use use_blocks::{BlockState, LocationSetting};
 
 /// Whether a variable field has one subfield.
@@ -87,14 +91,17 @@ fn is_run(setting: LocationSetting) -> bool
     }
 }
 
-/// A statement whose operand was read, settled from the state before it and the early values.
+/// A statement whose operand was read, settled from the state before it and the early values, where the
+/// letters of its operand are known.
 fn settle<S: EarlySymbols>(
     statement: &Statement<'_>,
     reading: &Reading<'_>,
     state: &BlockState,
     symbols: &S,
+    of_operand: &Letters,
 ) -> Sizing
     ensures sizing { (given : statements.Statement) (operand : operands.Operand) → is_stray given.cards ≡ statement.now.is_stray → IsReading reading.now operand →
+        of_operand.now ≡ in_order (operand_letters statement.now.kind (operation_as statement.now.operation) operand (S.view symbols.now)) →
         IsSizing (S.view symbols.now) (settled_read statement.now.kind (seen_from state.now (S.view symbols.now)) (read_as statement.now given operand)) result }
     ensures accepted { IsAccepted (change_as result.change) state.now }
     ensures number_base { result.number_base ≡ state.now.number_base }
@@ -140,7 +147,14 @@ fn settle<S: EarlySymbols>(
         equated,
         location,
     );
-    let letters = size_letters(statement, symbols, reading, state, outcome.letter);
+    let letters = size_letters(
+        statement,
+        symbols,
+        reading,
+        state,
+        of_operand,
+        outcome.letter,
+    );
     let change = change_of(reading, state);
     let asks = asks_after(statement, reading);
     let begins_run = is_run(outcome.setting);
@@ -163,42 +177,51 @@ fn settle<S: EarlySymbols>(
 }
 
 /// What a statement is whose operand was read, once the state before it and the early values of
-/// symbols are known, counted in the meter. The state accepts its change.
+/// symbols are known, counted in the meter. The state accepts its change. The names of an EXT alone take
+/// memory, for a table that is kept by these keys; without memory it is counted, too.
 pub fn size_reading<S: EarlySymbols>(
+    alloc: Global,
+    keys: RandomState,
     statement: &Statement<'_>,
     reading: &Reading<'_>,
     state: &BlockState,
     symbols: &S,
     meter: &mut Meter,
-) -> Sizing
-    ensures sizing { (given : statements.Statement) (operand : operands.Operand) → is_stray given.cards ≡ statement.now.is_stray → IsReading reading.now operand →
-        IsSizing (S.view symbols.now) (settled_read statement.now.kind (seen_from state.now (S.view symbols.now)) (read_as statement.now given operand)) result }
-    ensures accepted { IsAccepted (change_as result.change) state.now }
-    ensures number_base { result.number_base ≡ state.now.number_base }
-    ensures origin { result.origin ≡ (counters_at statement.now.kind result.block result.place None).origin }
-    ensures uncounted { (block_now state.now).counting ≡ None → result.location ≡ result.origin }
+) -> Result<Sizing, AllocError>
+    ensures sizing { IfOk result (λ sizing. (given : statements.Statement) (operand : operands.Operand) → is_stray given.cards ≡ statement.now.is_stray → IsReading reading.now operand →
+        IsSizing (S.view symbols.now) (settled_read statement.now.kind (seen_from state.now (S.view symbols.now)) (read_as statement.now given operand)) sizing) }
+    ensures accepted { IfOk result (λ sizing. IsAccepted (change_as sizing.change) state.now) }
+    ensures number_base { IfOk result (λ sizing. sizing.number_base ≡ state.now.number_base) }
+    ensures origin { IfOk result (λ sizing. sizing.origin ≡ (counters_at statement.now.kind sizing.block sizing.place None).origin) }
+    ensures uncounted { IfOk result (λ sizing. (block_now state.now).counting ≡ None → sizing.location ≡ sizing.origin) }
+    ensures names { OnErr result ((operation_as statement.now.operation ≡ op.Ext) × (has_names reading.now ≡ true)) }
     ensures sized { meter.new.sized ≡ min (meter.old.sized + 1) (2 ^ 64 - 1) }
     ensures rises { meter.old.sized ≤ meter.new.sized }
     ensures coded { meter.new.coded ≡ meter.old.coded }
 {
     meter.sized = meter.sized.saturating_add(1);
-    settle(statement, reading, state, symbols)
+    let letters = operand_letters(alloc, keys, statement, symbols, reading)?;
+    Ok(settle(statement, reading, state, symbols, &letters))
 }
 
 /// What a statement is once the state before it and the early values of symbols are known, counted in
-/// the meter: exactly what the definitions settle from these. The state accepts its change.
+/// the meter: exactly what the definitions settle from these. The state accepts its change. The names of
+/// an EXT alone take memory.
 pub fn size<S: EarlySymbols>(
+    alloc: Global,
+    keys: RandomState,
     statement: &Statement<'_>,
     state: &BlockState,
     symbols: &S,
     meter: &mut Meter,
-) -> Sizing
-    ensures sizing { (kind : kinds.DeckKind) (given : statements.Statement) → IsRead kind given.cards statement.now →
-        IsSizing (S.view symbols.now) (settled_from kind (seen_from state.now (S.view symbols.now)) given) result }
-    ensures accepted { IsAccepted (change_as result.change) state.now }
-    ensures number_base { result.number_base ≡ state.now.number_base }
-    ensures origin { result.origin ≡ (counters_at statement.now.kind result.block result.place None).origin }
-    ensures uncounted { (block_now state.now).counting ≡ None → result.location ≡ result.origin }
+) -> Result<Sizing, AllocError>
+    ensures sizing { IfOk result (λ sizing. (kind : kinds.DeckKind) (given : statements.Statement) → IsRead kind given.cards statement.now →
+        IsSizing (S.view symbols.now) (settled_from kind (seen_from state.now (S.view symbols.now)) given) sizing) }
+    ensures accepted { IfOk result (λ sizing. IsAccepted (change_as sizing.change) state.now) }
+    ensures number_base { IfOk result (λ sizing. sizing.number_base ≡ state.now.number_base) }
+    ensures origin { IfOk result (λ sizing. sizing.origin ≡ (counters_at statement.now.kind sizing.block sizing.place None).origin) }
+    ensures uncounted { IfOk result (λ sizing. (block_now state.now).counting ≡ None → sizing.location ≡ sizing.origin) }
+    ensures names { OnErr result (operation_as statement.now.operation ≡ op.Ext) }
     ensures sized { meter.new.sized ≡ min (meter.old.sized + 1) (2 ^ 64 - 1) }
     ensures rises { meter.old.sized ≤ meter.new.sized }
     ensures coded { meter.new.coded ≡ meter.old.coded }
@@ -210,5 +233,5 @@ pub fn size<S: EarlySymbols>(
         statement.name,
         statement.variable,
     );
-    size_reading(statement, &reading, state, symbols, meter)
+    size_reading(alloc, keys, statement, &reading, state, symbols, meter)
 }

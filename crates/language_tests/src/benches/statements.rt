@@ -1,5 +1,6 @@
 //! Cards as decks often have them, read as statements, sized one behind the other, and coded.
 
+use crate::fixed_keys::fixed_keys;
 use crate::known_bases::NoBases;
 use crate::known_names::KnownNames;
 use cards::{Card, StatementRoom};
@@ -7,6 +8,7 @@ use definitions::{DeckKind, is_same_text};
 use expr_forms::Form;
 use statement_coder::{CodedItems, EarlySymbols, Item, KeptSizing, Meter, Statement, code, size};
 use std::alloc::Global;
+use std::hash::RandomState;
 use std::io;
 use use_blocks::BlockState;
 
@@ -57,6 +59,8 @@ fn characters(text: &[u8], room: &mut StatementRoom) -> u64 {
 
 /// The end of a card's statement behind the others.
 fn end_of(
+    alloc: Global,
+    keys: RandomState,
     text: &[u8],
     room: &mut StatementRoom,
     state: &mut BlockState,
@@ -67,7 +71,7 @@ fn end_of(
     };
     let cards = [card];
     let statement = Statement::read(DeckKind::Rel, &cards, room);
-    let sizing = size(&statement, state, &Known, meter);
+    let sizing = size(alloc, keys, &statement, state, &Known, meter)?;
     state.advance(&sizing.effect(&statement))?;
     Ok(u64::from(sizing.end))
 }
@@ -92,6 +96,7 @@ fn fields_of(
 /// How many fields are told of a card's statement behind the others.
 fn fields_behind(
     alloc: Global,
+    keys: RandomState,
     text: &[u8],
     room: &mut StatementRoom,
     state: &mut BlockState,
@@ -104,7 +109,7 @@ fn fields_behind(
     };
     let cards = [card];
     let statement = Statement::read(DeckKind::Rel, &cards, room);
-    let sizing = size(&statement, state, &Known, meter);
+    let sizing = size(alloc, keys, &statement, state, &Known, meter)?;
     state.advance(&sizing.effect(&statement))?;
     let kept = KeptSizing::new(alloc, statement.kind, true, sizing)?;
     fields_of(&statement, &kept, symbols, list, meter)
@@ -112,6 +117,7 @@ fn fields_behind(
 
 fn code_each(
     alloc: Global,
+    keys: RandomState,
     room: &mut StatementRoom,
     state: &mut BlockState,
     symbols: &KnownNames,
@@ -120,7 +126,9 @@ fn code_each(
 ) -> io::Result<u64> {
     let mut sum: u64 = 0;
     for text in &CARDS {
-        sum = sum.wrapping_add(fields_behind(alloc, text, room, state, symbols, list, meter)?);
+        sum = sum.wrapping_add(fields_behind(
+            alloc, keys, text, room, state, symbols, list, meter,
+        )?);
     }
     Ok(sum)
 }
@@ -134,13 +142,15 @@ fn read_each(room: &mut StatementRoom) -> u64 {
 }
 
 fn size_each(
+    alloc: Global,
+    keys: RandomState,
     room: &mut StatementRoom,
     state: &mut BlockState,
     meter: &mut Meter,
 ) -> io::Result<u64> {
     let mut sum: u64 = 0;
     for text in &CARDS {
-        sum = sum.wrapping_add(end_of(text, room, state, meter)?);
+        sum = sum.wrapping_add(end_of(alloc, keys, text, room, state, meter)?);
     }
     Ok(sum)
 }
@@ -157,12 +167,13 @@ pub fn read_all() -> u64 {
 
 /// Reads the same cards and sizes each behind the others, and adds up where they end.
 pub fn size_all(alloc: Global) -> io::Result<u64> {
+    let keys = fixed_keys()?;
     let mut room = StatementRoom::new();
     let mut state = BlockState::new(alloc)?;
     let mut meter = Meter { sized: 0, coded: 0 };
     let mut sum: u64 = 0;
     for _ in 0..TIMES {
-        sum = sum.wrapping_add(size_each(&mut room, &mut state, &mut meter)?);
+        sum = sum.wrapping_add(size_each(alloc, keys, &mut room, &mut state, &mut meter)?);
     }
     Ok(sum.wrapping_add(meter.sized))
 }
@@ -176,6 +187,7 @@ pub fn code_all(alloc: Global) -> io::Result<u64> {
         location: Form::absolute(0),
         origin: Form::absolute(0),
     };
+    let keys = fixed_keys()?;
     let mut room = StatementRoom::new();
     let mut state = BlockState::new(alloc)?;
     let mut list = Vec::new(alloc);
@@ -183,7 +195,7 @@ pub fn code_all(alloc: Global) -> io::Result<u64> {
     let mut sum: u64 = 0;
     for _ in 0..TIMES {
         sum = sum.wrapping_add(code_each(
-            alloc, &mut room, &mut state, &symbols, &mut list, &mut meter,
+            alloc, keys, &mut room, &mut state, &symbols, &mut list, &mut meter,
         )?);
     }
     Ok(sum.wrapping_add(meter.coded))

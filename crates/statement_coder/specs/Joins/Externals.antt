@@ -1,6 +1,5 @@
 -- What makes the names of an EXT faulty, whatever their order.
 use Rattle.std.specs.Prelude.{ℕ, List, [], ◌∷◌, Option, Some, None, Bool, true, false, ◌||◌, is_some}
-use Rattle.definitions.specs.Blocks.{is_named}
 use Rattle.definitions.specs.Characters.{same_text}
 use Rattle.definitions.specs.Settling.{View}
 
@@ -21,9 +20,3 @@ abbrev pub has_known : View → List (Option (List ℕ)) → Bool
 has_known symbol [] = false
 has_known symbol (None ∷ names) = has_known symbol names
 has_known symbol (Some name ∷ names) = is_some (symbol name) || is_listed name names || has_known symbol names
-
--- whether one of these names was seen before
-abbrev pub any_seen : List (List ℕ) → List (Option (List ℕ)) → Bool
-any_seen seen [] = false
-any_seen seen (None ∷ names) = any_seen seen names
-any_seen seen (Some name ∷ names) = is_named name seen || any_seen seen names

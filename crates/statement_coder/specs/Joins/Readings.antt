@@ -32,6 +32,11 @@ IsReading (reading.Value e) operand = operand ≡ definitions.ValueOperand e
 IsReading (reading.Names names) operand = operand ≡ definitions.NamesOperand names
 IsReading (reading.Use field) operand = operand ≡ use_as field
 
+-- whether it is that of an ENTRY or EXT
+abbrev pub has_names : code.Reading → Bool
+has_names (reading.Names names) = true
+has_names _ = false
+
 -- the text of a DIS
 abbrev pub text_in : code.Reading → Option DisText
 text_in (reading.Text text) = Some text
