@@ -41,6 +41,7 @@ mod system_folder;
 // Any file.
 mod size_limits;
 mod target_paths;
+mod unwaiting;
 mod whole_files;
 
 pub use deck_shelf::{SaveOver, Shelf, ShelfLoadFault, ShelfSaveFault};
@@ -61,4 +62,5 @@ pub use saving::save;
 pub use size_limits::{Limited, NO_LIMIT, has_room, size_limit};
 pub use system_folder::SystemFolder;
 pub use target_paths::target_of;
+pub use unwaiting::{open_led_to, open_standing};
 pub use whole_files::{Begun, begin_whole, end_whole, folder_of, sync_folder, write_whole};

@@ -4,6 +4,7 @@ use crate::file_rows::{DeckEntry, MOST_FILES, deck_in};
 use crate::folders::{Folder, Standing};
 use crate::moments::Moment;
 use crate::size_limits::{Limited, size_limit};
+use crate::unwaiting::{check_stands, open_plain, plain_at};
 use crate::whole_files::take_owner_and_mode;
 use std::alloc::{AllocGlobal, Global};
 use std::fs::{DirEntry, File, Metadata, OpenOptions};
@@ -23,30 +24,6 @@ impl<'a, R> SystemFolder<'a, R> {
     pub fn new(rt: &'a R) -> SystemFolder<'a, R> {
         SystemFolder { rt }
     }
-}
-
-/// What the system tells of the plain file at a path, if anything stands there; a link is none.
-fn plain_at<R: Files>(rt: &R, path: &str) -> io::Result<Option<Metadata>> {
-    match fs::symlink_metadata(rt, path) {
-        Ok(about) if about.is_file() => Ok(Some(about)),
-        Ok(_) => Err(io::Error::from(ErrorKind::Unsupported)),
-        Err(error) if error.kind() == ErrorKind::NotFound => Ok(None),
-        Err(error) => Err(error),
-    }
-}
-
-/// Refused where an open file is another than the one that was seen.
-fn check_same(open: &Metadata, seen: &Metadata) -> io::Result<()> {
-    if open.dev() == seen.dev() && open.ino() == seen.ino() {
-        Ok(())
-    } else {
-        Err(io::Error::from(ErrorKind::StaleNetworkFileHandle))
-    }
-}
-
-/// Refused where another file than the open one stands at a path; a link is another.
-fn check_stands<R: Files>(rt: &R, file: &File, path: &str) -> io::Result<()> {
-    check_same(&file.metadata()?, &fs::symlink_metadata(rt, path)?)
 }
 
 /// When a file was last written; the first moment of 1970 stands for any before it.
@@ -96,12 +73,7 @@ impl<R: Files<File = File> + AllocGlobal + Clone + Drop> Folder for SystemFolder
     }
 
     fn open(&mut self, path: &str) -> io::Result<File> {
-        let Some(seen) = plain_at(self.rt, path)? else {
-            return Err(io::Error::from(ErrorKind::NotFound));
-        };
-        let file = fs::open(self.rt, path)?;
-        check_same(&file.metadata()?, &seen)?;
-        Ok(file)
+        open_plain(self.rt, path)
     }
 
     fn make(&mut self, path: &str) -> io::Result<Limited<File>> {
