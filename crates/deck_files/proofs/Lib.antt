@@ -8,5 +8,8 @@ pub mod FolderSteps
 pub mod SaveFaults
 pub mod PathSteps
 pub mod ListSteps
+pub mod ShelfSteps
+pub mod PlacingSteps
+pub mod RowSteps
 pub mod WorkedRows
 pub mod WorkedLimits

@@ -1,16 +1,11 @@
 -- The steps of listing the files of decks: the first of them were read.
-use Rattle.std.proofs.Common.{ℕ, ◌≡◌, ◌+◌, ◌<◌, List, [], ◌∷◌, ◌++◌, Option, Err, length, take, get_or, refl, sym, ap, subst, ◌∙◌}
+use Rattle.std.proofs.Common.{ℕ, ◌≡◌, ◌+◌, ◌<◌, List, [], ◌∷◌, ◌++◌, Option, length, take, get_or, sym, ap, subst, ◌∙◌}
 use Rattle.std.proofs.lemmas.List.{take_more}
 use Rattle.deck_files.specs.declared.file_rows.DeckEntry.{DeckEntry}
 use Rattle.deck_files.specs.declared.file_rows.FileRow.{FileRow}
 use Rattle.deck_files.specs.FileRows.{row_of, with_row}
-use Rattle.definitions.specs.Cards.{Card}
-use Rattle.deck_files.specs.declared.file_sums.FileSum.{FileSum}
-use Rattle.deck_files.specs.FolderLoads.{LoadsFile}
-use Rattle.deck_files.specs.Folders.{Place, deck_path, place}
-use Rattle.deck_files.specs.declared.deck_shelf.ShelfLoadFault.{ShelfLoadFault}
-use Rattle.deck_files.specs.FolderShelves.{FolderShelf, ListsDecks, LoadsDeck, place_on}
-use Rattle.deck_files.specs.FolderLists.{Counts, ListFails, ReadsRows, StopsAt, StopsWithin, no_file, next_file}
+use Rattle.deck_files.specs.Folders.{place}
+use Rattle.deck_files.specs.FolderLists.{Counts, ReadsRows, StopsAt, StopsWithin, no_file, next_file}
 use Rattle.deck_files.specs.Steps.{Step}
 
 module _ {F : Type 0} (has_done : F → List Step → Type 0) (folder : List ℕ) (number : ℕ) where
@@ -32,17 +27,3 @@ module _ {F : Type 0} (has_done : F → List Step → Type 0) (folder : List ℕ
   pub rows-stop : (first middle last : F) (front : List DeckEntry) (rows : List FileRow) (name : List ℕ) → ReadsRows has_done folder number first front rows middle →
       StopsAt has_done (place folder name number) middle last → StopsWithin has_done folder number first last
   rows-stop first middle last front rows name read stopped = record { front = front; rows = rows; name = name; last = middle; read = read; stopped = stopped }
-
-module _ {F : Type 0} (has_done : F → List Step → Type 0) where
-  -- the shelf loads a deck so
-  pub shelf-loads : (at : Place) (shelf old : FolderShelf F) (name : List ℕ) (cards : List Card) (sum : FileSum) (next : F) → shelf ≡ old → at ≡ place_on shelf name →
-      LoadsFile has_done (deck_path at) cards sum shelf.files next → LoadsDeck has_done old name cards (record { files = next; folder = shelf.folder; number = shelf.number })
-  shelf-loads at shelf old name cards sum next same is_place loads =
-      subst (λ (o : FolderShelf F). LoadsDeck has_done o name cards (record { files = next; folder = shelf.folder; number = shelf.number })) same
-      ((refl, refl), (sum, subst (λ (a : Place). LoadsFile has_done (deck_path a) cards sum shelf.files next) is_place loads))
-
-  -- the shelf's list fails so
-  pub shelf-untold : (shelf old : FolderShelf F) (fault : ShelfLoadFault) (next : F) → shelf ≡ old → ListFails has_done shelf.folder shelf.number fault shelf.files next →
-      ListsDecks has_done old (Err fault) (record { files = next; folder = shelf.folder; number = shelf.number })
-  shelf-untold shelf old fault next same fails =
-      subst (λ (o : FolderShelf F). ListsDecks has_done o (Err fault) (record { files = next; folder = shelf.folder; number = shelf.number })) same ((refl, refl), fails)

@@ -1,5 +1,5 @@
 -- What is written of a known file is read back.
-use Rattle.std.proofs.Common.{ℕ, zero, suc, ◌≡◌, ◌+◌, ◌-◌, ◌*◌, ◌%◌, ◌<◌, ◌^◌, ◌==◌, List, [], ◌∷◌, ◌++◌, Bool, true, Option, Some, None, Result, Ok, IfSome, if◌then◌else◌, length, take, drop, min, refl, sym, ap, ◌∙◌, arith, length-append}
+use Rattle.std.proofs.Common.{ℕ, zero, suc, ◌≡◌, ◌-◌, ◌*◌, ◌%◌, ◌<◌, ◌^◌, ◌==◌, List, ◌∷◌, ◌++◌, Bool, true, Option, Some, None, Result, Ok, IfSome, if◌then◌else◌, length, take, drop, min, refl, ap, ◌∙◌, arith, length-append}
 use Rattle.std.specs.Prelude.{codes, slice_index, ◌/◌}
 use Rattle.std.specs.Option.{option_map}
 use Rattle.std.specs.Int.{w64, from_be_bytes, to_be_bytes}
@@ -11,7 +11,6 @@ use Rattle.hex.proofs.HexLemmas.{decode_of-encode_lower, decode_sized-twice, len
 use Rattle.definitions.specs.Characters.{same_text}
 use Rattle.definitions.specs.DeckInput.{is_deck_name}
 use Rattle.deck_files.specs.declared.known_rows.Known.{Known}
-use Rattle.deck_files.specs.declared.known_texts.KnownRow.{KnownRow}
 use Rattle.deck_files.specs.FileRows.{deck_named}
 use Rattle.deck_files.specs.KnownTexts.{IsWritable, bytes_if, digest_in, known_in, known_of, known_text, number_in, row_behind, row_in, row_line, row_of, version_text}
 

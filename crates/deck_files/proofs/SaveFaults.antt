@@ -1,20 +1,17 @@
 -- What a save that failed left of the deck's file.
-use Rattle.std.proofs.Common.{ℕ, ◌≡◌, ◌⊎◌, inl, inr, List, [], ◌∷◌, ◌++◌, Bool, true, false, Option, Some, None, refl, sym, subst, is_some}
+use Rattle.std.proofs.Common.{ℕ, ◌≡◌, ◌⊎◌, inl, inr, List, [], ◌∷◌, ◌++◌, Bool, true, false, Option, Some, refl, subst, is_some}
 use Rattle.deck_files.specs.declared.deck_shelf.SaveOver.{SaveOver}
 use Rattle.deck_files.specs.declared.deck_shelf.SaveOver.TheVariants.{Known}
-use Rattle.deck_files.specs.declared.deck_shelf.ShelfSaveFault.TheVariants.{FileExists, OutOfMemory}
+use Rattle.deck_files.specs.declared.deck_shelf.ShelfSaveFault.TheVariants.{FileExists}
 use Rattle.deck_files.specs.declared.deck_shelf.ShelfSaveFault.{ShelfSaveFault}
 use Rattle.deck_files.specs.declared.folders.Standing.{Standing}
 use Rattle.deck_files.specs.declared.folders.Standing.TheVariants.{Nothing, PlainFile}
 use Rattle.std.specs.Io.KnownBytes.{Appends}
 use Rattle.deck_files.specs.declared.file_sums.FileSum.{FileSum}
 use Rattle.deck_files.specs.Folders.{Place, deck_path, new_path, old_path}
-use Rattle.deck_files.specs.Steps.{Step, Answered, Look, Open, Make, Put, Remove, Done, Found, Gave, Refused, ChangeAmong, TakesStep, TakesSteps, ChangesOnly}
-use Rattle.deck_files.specs.FolderSaves.{BarsWay, Compares, GivesWay, IsFaultOfFolder, IsFaultOfNew, IsNew, IsUnkept, LeavesInPlace, MakesAnew, MakesWay, SaveFails, SavesSo, barred, filled, is_any, is_changed, is_free, is_given, is_known, linked, looked, put_in_place, refused_tries, untouched}
-use Rattle.deck_files.specs.DeckFiles.{file_of}
-use Rattle.deck_files.specs.Savings.{Saving}
-use Rattle.deck_files.specs.FolderShelves.{FolderShelf, SavesDeck, SavesNoDeck, place_on}
-use Rattle.deck_files.proofs.FolderSteps.{ChangeAmong-links, ChangeAmong-tries, ChangesAmong-asked, fault-of-new, only-join, only-more, only-none, takes-join}
+use Rattle.deck_files.specs.Steps.{Step, Answered, Look, Open, Make, Put, Remove, Found, Gave, Refused, TakesStep, TakesSteps, ChangesOnly}
+use Rattle.deck_files.specs.FolderSaves.{BarsWay, Compares, GivesWay, IsFaultOfFolder, IsFaultOfNew, IsNew, LeavesInPlace, MakesAnew, MakesWay, barred, filled, is_any, is_changed, is_free, is_given, is_known, linked, looked, put_in_place, refused_tries, untouched}
+use Rattle.deck_files.proofs.FolderSteps.{ChangeAmong-links, ChangeAmong-tries, ChangesAmong-asked, fault-of-new, only-join, only-more, takes-join}
 
 module _ {F : Type 0} (has_done : F → List Step → Type 0) where
   -- what was found stands at the deck's path
@@ -107,34 +104,3 @@ module _ {F : Type 0} (has_done : F → List Step → Type 0) where
   stays-unmade at over known keeps text fault old middle new way told only =
       untouched told
       (only-join has_done (IsNew at) old middle new (way-only (IsNew at) at over known keeps old middle way) only)
-
-  -- a save in its turn fails as one or the other
-  fails-either : {B C D K : Type 0} {E : K → Type 0} (at : Place) (saved : Saving) (fault : ShelfSaveFault) (old new : F) →
-      ((fault ≡ OutOfMemory) × D × (new ≡ old))
-      ⊎ ((known : Option FileSum) × (middle : K) × B
-      × ((E middle × LeavesInPlace has_done at saved.over known (file_of saved.cards) fault old new) ⊎ (C × IsUnkept has_done at saved.over known (file_of saved.cards) fault old new))) →
-      (known : Option FileSum) × SaveFails has_done at saved.over known (file_of saved.cards) fault old new
-  fails-either at saved fault old new (inl lacking) = (None, inl (untouched (fault-of-new (file_of saved.cards) fault (inr lacking.0)) (only-none has_done (IsNew at) old new lacking.2)))
-  fails-either at saved fault old new (inr (known, middle, turn, inl left)) = (known, inl left.1)
-  fails-either at saved fault old new (inr (known, middle, turn, inr unkept)) = (known, inr unkept.1)
-
-  -- the shelf's save of a deck fails so
-  pub shelf-fails : {B C D K : Type 0} {E : K → Type 0} (at : Place) (shelf old : FolderShelf F) (saved : Saving) (fault : ShelfSaveFault) (next : F) → shelf ≡ old → at ≡ place_on shelf saved.name →
-      ((fault ≡ OutOfMemory) × D × (next ≡ shelf.files))
-      ⊎ ((known : Option FileSum) × (middle : K) × B
-      × ((E middle × LeavesInPlace has_done at saved.over known (file_of saved.cards) fault shelf.files next) ⊎ (C × IsUnkept has_done at saved.over known (file_of saved.cards) fault shelf.files next))) →
-      SavesNoDeck has_done old saved fault (record { files = next; folder = shelf.folder; number = shelf.number })
-  shelf-fails at shelf old saved fault next same is_place fails =
-      let failed = fails-either at saved fault shelf.files next fails in
-      subst (λ (o : FolderShelf F). SavesNoDeck has_done o saved fault (record { files = next; folder = shelf.folder; number = shelf.number })) same
-      ((refl, refl), (failed.0, subst (λ (a : Place). SaveFails has_done a saved.over failed.0 (file_of saved.cards) fault shelf.files next) is_place failed.1))
-
-  -- the shelf saves a deck so
-  pub shelf-saves : {A B C K : Type 0} (at : Place) (shelf old : FolderShelf F) (saved : Saving) (next : F) → shelf ≡ old → at ≡ place_on shelf saved.name →
-      (A × (next ≡ shelf.files)) ⊎ ((known : Option FileSum) × (middle : K) × B × C × SavesSo has_done Done at saved.over known (file_of saved.cards) shelf.files next) →
-      SavesDeck has_done old saved (record { files = next; folder = shelf.folder; number = shelf.number })
-  shelf-saves at shelf old saved next same is_place (inl newer) =
-      subst (λ (o : FolderShelf F). SavesDeck has_done o saved (record { files = next; folder = shelf.folder; number = shelf.number })) same ((refl, refl), inl newer.1)
-  shelf-saves at shelf old saved next same is_place (inr (known, middle, turn, noted, saves)) =
-      subst (λ (o : FolderShelf F). SavesDeck has_done o saved (record { files = next; folder = shelf.folder; number = shelf.number })) same
-      ((refl, refl), inr (known, subst (λ (a : Place). SavesSo has_done Done a saved.over known (file_of saved.cards) shelf.files next) is_place saves))

@@ -1,6 +1,5 @@
 -- The files of a folder that a service knows, since it saved them, or its desk took what it loaded (ours).
-use Rattle.std.specs.Prelude.{ℕ, ◌==◌, Bool, List, Option, Some, None, false, true, nat_le, nat_lt, is_some, if◌then◌else◌}
-use Rattle.std.specs.Option.{option_map}
+use Rattle.std.specs.Prelude.{ℕ, ◌≡◌, ◌==◌, Bool, List, Option, Some, None, false, true, nat_le, nat_lt, is_some, if◌then◌else◌}
 use Rattle.deck_files.specs.declared.file_sums.FileSum.{FileSum}
 use Rattle.deck_files.specs.declared.known_rows.Known.{Known}
 use Rattle.deck_files.specs.declared.save_turns.Turn.{Turn}
@@ -21,6 +20,10 @@ has_place name files = is_some (named name files)
 abbrev pub version_up_to : ℕ → Option ℕ → Option ℕ
 version_up_to last None = None
 version_up_to last (Some version) = if nat_le version last then Some version else None
+
+-- what is known of a file, for such a desk
+abbrev pub known_up_to : ℕ → Known → Known
+known_up_to last known = record { sum = known.sum; version = version_up_to last known.version }
 
 -- what is known at a place
 abbrev pub known_at : Option (Option Known) → Option Known
@@ -97,3 +100,14 @@ is_still seen (Some known) = is_same seen (version_at known)
 -- the files once the desk gave a version to what was loaded: where another version is known than was seen before the file was read, somebody saved meanwhile, and that stays
 abbrev pub after_note : List ℕ → Option ℕ → Known → Named (Option Known) → Named (Option Known)
 after_note name seen known files = if is_still seen (named name files) then with_named name (Some known) files else files
+
+-- ---- behind a lock: it was held, and some files were known then
+
+abbrev pub IsTurnOfSome : List ℕ → ℕ → Turn → Type 0
+IsTurnOfSome name version turn = (files : Named (Option Known)) × (turn ≡ turn_of name version files)
+
+abbrev pub IsNewestOfSome : List ℕ → Option ℕ → Type 0
+IsNewestOfSome name seen = (files : Named (Option Known)) × (seen ≡ version_known name files)
+
+abbrev pub IsSavedAmongSome : List ℕ → ℕ → Bool → Type 0
+IsSavedAmongSome name version saved = (files : Named (Option Known)) × (saved ≡ is_saved name version files)

@@ -1,13 +1,15 @@
 -- What is known of the files of a folder, as text (ours): a line for each file, with the deck's name, a blank, and 96 hexadecimal digits: the digest, the length, and the version, or hyphens where none is known.
-use Rattle.std.specs.Prelude.{ℕ, ◌≡◌, ◌<◌, ◌-◌, ◌^◌, ◌==◌, IfSome, List, [], ◌∷◌, ◌++◌, Option, Some, None, Result, Ok, Err, codes, drop, length, min, take, if◌then◌else◌}
+use Rattle.std.specs.Prelude.{ℕ, ◌≡◌, ◌<◌, ◌-◌, ◌^◌, ◌==◌, IfSome, List, [], ◌∷◌, ◌++◌, Option, Some, None, Result, Ok, Err, codes, drop, flat_map, length, min, take, if◌then◌else◌}
 use Rattle.std.specs.Option.{option_map}
 use Rattle.std.specs.Int.{w64, from_be_bytes, to_be_bytes}
 use Rattle.hex.specs.Hex.{IsBytes, decode_sized, encode_lower}
 use Rattle.definitions.specs.Characters.{same_text}
-use Rattle.deck_files.specs.declared.file_sums.FileSum.{FileSum}
+use Rattle.definitions.specs.InputLines.{InputLine, Line, TooLong, Cut, lines_of}
 use Rattle.deck_files.specs.declared.known_rows.Known.{Known}
 use Rattle.deck_files.specs.declared.known_texts.KnownRow.{KnownRow}
 use Rattle.deck_files.specs.FileRows.{deck_named}
+use Rattle.deck_files.specs.Files.{Named, with_named}
+use Rattle.deck_files.specs.KnownFiles.{known_up_to}
 
 -- ---- writing
 
@@ -33,6 +35,10 @@ IsWritable known = (length known.sum.digest ≡ 32) × IsBytes known.sum.digest 
 abbrev pub row_if : List ℕ → Option Known → List ℕ
 row_if name None = []
 row_if name (Some known) = row_text name known
+
+-- the lines of all files, one behind the other
+abbrev pub rows_text : Named (Option Known) → List ℕ
+rows_text files = flat_map (λ (row : List ℕ × Option Known). row_if row.0 row.1) files
 
 -- ---- reading
 
@@ -69,3 +75,20 @@ row_behind name tail = if same_text (take (min (length tail) 1) tail) (codes " "
 -- the row of a line, if it is one
 abbrev pub row_in : List ℕ → Option KnownRow
 row_in line = row_behind (take (length line - 97) line) (drop (length line - 97) line)
+
+-- the files with that of a row, for a desk that goes on behind a version
+abbrev pub with_row : ℕ → Option KnownRow → Named (Option Known) → Option (Named (Option Known))
+with_row last None files = None
+with_row last (Some row) files = Some (with_named row.name (Some (known_up_to last row.known)) files)
+
+-- the files with those of these lines, in their order; none where one of them is no row
+abbrev pub rows_behind : ℕ → Option (Named (Option Known)) → List InputLine → Option (Named (Option Known))
+rows_behind last files [] = files
+rows_behind last None (line ∷ lines) = None
+rows_behind last (Some files) (Line bytes ∷ lines) = rows_behind last (with_row last (row_in bytes) files) lines
+rows_behind last (Some files) (TooLong ∷ lines) = None
+rows_behind last (Some files) (Cut ∷ lines) = None
+
+-- the files that are known by a text
+abbrev pub rows_in : ℕ → List ℕ → Option (Named (Option Known))
+rows_in last text = rows_behind last (Some []) (lines_of text)

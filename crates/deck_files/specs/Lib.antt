@@ -12,6 +12,7 @@ pub mod FileRows
 pub mod NewNames
 pub mod SizeLimits
 pub mod Steps
+pub mod WholeFiles
 pub mod FolderLoads
 pub mod FolderSaves
 pub mod TurnSaves

@@ -9,7 +9,7 @@ use std::io::{self, Read};
 
 /// How many bytes a file has, and their SHA-256 digest. Files of one sum are taken for the same.
 #[derive(Clone, Copy)]
-pub(crate) struct FileSum {
+pub struct FileSum {
     pub(crate) length: u64,
     pub(crate) digest: [u8; 32],
 }

@@ -1,5 +1,5 @@
 //! A shelf over a folder.
-ghost use Rattle.std.specs.Prelude.{◌≡◌, ◌⊎◌, ◌≤◌, length, IfOk, IfErr, OnOk};
+ghost use Rattle.std.specs.Prelude.{◌≡◌, ◌⊎◌, ◌≤◌, length, IfOk, IfErr, OnErr, OnOk};
 ghost use Rattle.deck_files.specs.DeckFiles.{file_of};
 ghost use Rattle.deck_files.specs.FileSums.{sum_of};
 ghost use Rattle.deck_files.specs.Folders.{deck_path};
@@ -28,10 +28,8 @@ use crate::saving::save_file;
 use crate::second_names::{Aside, settle};
 use crate::system_folder::SystemFolder;
 use cards::{Card, DeckName};
-use std::alloc::{AllocGlobal, Global};
-use std::fs::File;
+use std::alloc::Global;
 use std::marker::Model;
-use std::rt::Files;
 use std::sync::Wait;
 
 /// A shelf over a folder: deck NAME is the file `NAME.DECK` in it. No name leads out of the folder,
@@ -47,29 +45,32 @@ use std::sync::Wait;
 /// loaded for a desk that took it: it is read before it is written over. Any other is not written over but where
 /// any may be; what stood there is `NAME.OLD` then, once the new one has its place.
 ///
-/// Contracts see the folder, its text, and the shelf's number: what is loaded are the cards of the deck's
-/// file as the folder gave it, and a save is the steps that it asked the folder for. What a file of the
-/// system has or takes no contract sees.
+/// Contracts see the folder, its text, the shelf's number, who knows the files, and what was loaded last: what is
+/// loaded are the cards of the deck's file as the folder gave it, a save is the steps that it asked the folder for,
+/// or none where a newer version is known, and what is known of a file is what was asked and noted. What a file of
+/// the system has or takes no contract sees.
 #[derive(Drop)]
-pub struct FolderShelf<'a, R, F = SystemFolder<'a, R>> {
+pub struct FolderShelf<'a, R, F = SystemFolder<'a, R>, K = Turns<'a, R>> {
     rt: &'a R,
     alloc: Global,
     files: F,
     folder: &'a str,
     number: usize,
     known: &'a KnownFiles,
+    /// Who tells what is known, and notes it.
+    turns: K,
     /// The newest version that was known of the deck loaded last, before its file was read.
     seen: Option<u64>,
     /// What that file had.
     loaded: Option<FileSum>,
 }
 
-impl<'a, R, F> Model for FolderShelf<'a, R, F> {
+impl<'a, R, F, K> Model for FolderShelf<'a, R, F, K> {
     ghost use Rattle.deck_files.specs.FolderShelves.{FolderShelf};
 
-    ghost Value = { FolderShelf F };
+    ghost Value = { FolderShelf F K };
 
-    ghost view = { λ s. record { files = s.files; folder = s.folder.now; number = s.number } };
+    ghost view = { λ s. record { files = s.files; folder = s.folder.now; number = s.number; turns = s.turns; seen = s.seen; loaded = s.loaded } };
 }
 
 impl<'a, R> FolderShelf<'a, R> {
@@ -111,6 +112,7 @@ impl<'a, R, F> FolderShelf<'a, R, F> {
             folder,
             number,
             known,
+            turns: Turns::new(rt, known),
             seen: None,
             loaded: None,
         }
@@ -119,21 +121,22 @@ impl<'a, R, F> FolderShelf<'a, R, F> {
 
 /// Loads the cards of a deck's file, and gives the deck a place among the known ones: so its version can be
 /// noted once the desk has taken the cards, and nothing is known before.
-fn load_placed<R: Wait, F: Folder>(
+fn load_placed<F: Folder, K: SaveTurns>(
     files: &mut F,
-    rt: &R,
-    known: &KnownFiles,
+    turns: &mut K,
     place: &DeckPlace<'_>,
     name: &DeckName,
 ) -> Result<Loaded, ShelfLoadFault>
     ensures cards { IfOk result (λ loaded. LoadsFile F.has_done (deck_path place.now) loaded.cards.items loaded.sum files.old files.new) }
+    ensures placed { OnOk result (K.places turns.old name.now turns.new) }
     ensures fault { IfErr result (λ fault. LoadFails F.has_done place.now fault files.old files.new) }
+    ensures unplaced { OnErr result ((turns.new ≡ turns.old) ⊎ K.lacks turns.old turns.new) }
 {
     let loaded = match load_deck(files, place) {
         Ok(loaded) => loaded,
         Err(fault) => return Err(fault),
     };
-    match known.make_place(rt, name) {
+    match turns.reserve(name) {
         Ok(()) => Ok(loaded),
         Err(_) => Err(ShelfLoadFault::BadFile(LoadFault::OutOfMemory)),
     }
@@ -231,34 +234,30 @@ fn save_in_turn<F: Folder, K: SaveTurns>(
     }
 }
 
-impl<'a, R, F: Folder> Shelf for FolderShelf<'a, R, F>
-where
-    R: Files<File = File> + AllocGlobal + Clone + Drop + Wait,
-{
-    ghost use Rattle.deck_files.specs.FolderShelves.{ListsDecks, LoadsDeck, LoadsNoDeck, SavesDeck, SavesNoDeck};
-    ghost use Rattle.std.specs.Prelude.{◌≡◌};
+impl<'a, R: Wait, F: Folder, K: SaveTurns> Shelf for FolderShelf<'a, R, F, K> {
+    ghost use Rattle.deck_files.specs.FolderShelves.{ListsDecks, LoadsDeck, LoadsNoDeck, NotesDeck, SavesDeck, SavesNoDeck, TellsSaved};
 
-    ghost loads = { LoadsDeck F.has_done };
+    ghost loads = { LoadsDeck F.has_done K.tells_newest K.places };
 
-    ghost refuses_to_load = { LoadsNoDeck F.has_done };
+    ghost refuses_to_load = { LoadsNoDeck F.has_done K.tells_newest K.lacks };
 
-    ghost saves = { SavesDeck F.has_done };
+    ghost saves = { SavesDeck F.has_done K.turns K.lacks K.notes };
 
-    ghost refuses_to_save = { SavesNoDeck F.has_done };
+    ghost refuses_to_save = { SavesNoDeck F.has_done K.turns K.lacks K.notes };
 
     ghost lists = { ListsDecks F.has_done };
 
-    ghost notes = { λ old name version new. new ≡ old };
+    ghost notes = { NotesDeck K.notes_loaded };
 
-    ghost tells_saved = { λ old name version saved new. new ≡ old };
+    ghost tells_saved = { TellsSaved K.tells_saved };
 
     fn load(&mut self, name: &DeckName) -> Result<Vec<Card>, ShelfLoadFault> {
+        self.loaded = None;
         let Some(place) = DeckPlace::new(self.alloc, self.folder, self.number, name) else {
             return Err(ShelfLoadFault::CannotOpen);
         };
-        self.seen = self.known.newest(self.rt, name);
-        self.loaded = None;
-        match load_placed(&mut self.files, self.rt, self.known, &place, name) {
+        self.seen = self.turns.newest(name);
+        match load_placed(&mut self.files, &mut self.turns, &place, name) {
             Ok(loaded) => {
                 self.loaded = Some(loaded.sum);
                 Ok(loaded.cards)
@@ -283,10 +282,8 @@ where
             version,
             cards,
         };
-        let (rt, known) = (self.rt, self.known);
-        let _turn = known.saving().lock(rt);
-        let mut turns = Turns { rt, known };
-        save_in_turn(&mut self.files, &mut turns, &place, &saved)
+        let _turn = self.known.saving().lock(self.rt);
+        save_in_turn(&mut self.files, &mut self.turns, &place, &saved)
     }
 
     fn list(&mut self) -> Result<Vec<FileRow>, ShelfLoadFault> {
@@ -301,12 +298,12 @@ where
     fn note(&mut self, name: &DeckName, version: u64) {
         if let Some(sum) = self.loaded {
             let version = Some(version);
-            let known = Known { sum, version };
-            self.known.note_loaded(self.rt, name, self.seen, known);
+            self.turns
+                .note_loaded(name, self.seen, Known { sum, version });
         }
     }
 
     fn is_saved(&mut self, name: &DeckName, version: u64) -> bool {
-        self.known.is_saved(self.rt, name, version)
+        self.turns.is_saved(name, version)
     }
 }

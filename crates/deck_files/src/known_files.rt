@@ -7,13 +7,19 @@
 //! nobody is told: a later service does not know that file, and asks before it is written over. So does one
 //! that finds a line that is damaged, which knows none.
 
+ghost use Rattle.std.specs.Prelude.{◌≡◌, ◌⊎◌, string_bytes, IfOk, OnErr, OnOk};
+ghost use Rattle.std.specs.Option.{option_map};
+ghost use Rattle.deck_files.specs.KnownTexts.{rows_in, rows_text};
+ghost use Rattle.deck_files.specs.Steps.{ChangesOnly};
+ghost use Rattle.deck_files.specs.WholeFiles.{Replaces};
+
 use crate::deck_places::path_of;
-use crate::folders::Folder;
 use crate::known_rows::{Known, KnownRows};
 use crate::known_texts::row_in;
-use crate::new_files::write;
+use crate::placing::{WholeFiles, replace};
 use crate::save_turns::{SaveTurns, Turn};
-use crate::system_folder::SystemFolder;
+use crate::unwaiting::open_plain;
+use crate::whole_files::SystemFiles;
 use cards::DeckName;
 use std::alloc::{AllocError, AllocGlobal, Global};
 use std::fs::File;
@@ -21,7 +27,7 @@ use std::hash::RandomState;
 use std::io::{self, ErrorKind, Read};
 use std::rt::Files;
 use std::sync::{Mutex, Wait};
-use text_ports::{Counted, LineBuf, LineIs, next_whole_line};
+use text_ports::{Counted, LineBuf, LineIs, next_line};
 
 /// The file of a folder in which it is kept what is known.
 pub const FILES: &str = ".beskloun.files";
@@ -50,18 +56,20 @@ pub struct KnownFiles {
 }
 
 /// What a file of rows tells a desk that goes on behind a version, line by line; none where one of them is no
-/// row.
+/// row. A fault is that of memory; bytes that are there are read without one.
 fn rows_of(
     alloc: Global,
     keys: RandomState,
     text: &[u8],
     last: u64,
-) -> Result<Option<KnownRows>, AllocError> {
+) -> Result<Option<KnownRows>, AllocError>
+    ensures rows { IfOk result (λ rows. option_map (λ known. known.files) rows ≡ rows_in last text.now) }
+{
     let mut rows = KnownRows::new(alloc, keys);
     let mut input = Counted::new(text);
     let mut line = LineBuf::new();
-    for _ in 0..=text.len() {
-        match next_whole_line(&mut input, &mut line) {
+    loop {
+        match next_line(&mut input, &mut line) {
             LineIs::Line => {
                 let Some(row) = row_in(line.as_slice()) else {
                     return Ok(None);
@@ -69,10 +77,11 @@ fn rows_of(
                 rows.add(&row.name, row.known.up_to(last))?;
             }
             LineIs::End => return Ok(Some(rows)),
-            LineIs::Cut | LineIs::TooLong | LineIs::Fault => return Ok(None),
+            LineIs::Cut => return Ok(None),
+            LineIs::TooLong => return Ok(None),
+            LineIs::Fault => return Err(AllocError),
         }
     }
-    Ok(None)
 }
 
 /// The bytes of a plain file, as many as are read.
@@ -81,21 +90,28 @@ where
     R: Files<File = File> + AllocGlobal + Clone + Drop,
 {
     let mut bytes = Vec::new(alloc);
-    let mut file = SystemFolder::new(rt).open(path)?.take(MOST_BYTES);
+    let mut file = open_plain(rt, path)?.take(MOST_BYTES);
     file.read_to_end(&mut bytes)?;
     Ok(bytes)
 }
 
-/// Makes the file of what is known anew.
-fn write_rows<F: Folder>(files: &mut F, kept: &KeptAt, bytes: &[u8]) -> io::Result<()> {
-    let (new, path) = (kept.new.as_str(), kept.path.as_str());
-    files.remove(new)?;
-    let file = files.make(new)?;
-    let Ok(full) = write(file, bytes) else {
-        return Err(io::Error::from(ErrorKind::WriteZero));
-    };
-    files.keep(&full)?;
-    files.put(full, new, path)
+/// Makes the file of what is known anew, with this text.
+fn write_text<W: WholeFiles>(files: &mut W, kept: &KeptAt, text: &[u8]) -> io::Result<()>
+    ensures written { OnOk result (Replaces W.has_done (string_bytes kept.now.new) (string_bytes kept.now.path) text.now files.old files.new) }
+    ensures fault { OnErr result (ChangesOnly W.has_done (λ at. at ≡ string_bytes kept.now.new) files.old files.new) }
+{
+    replace(files, kept.new.as_str(), kept.path.as_str(), text)
+}
+
+/// Makes the file of what is known anew: a row for each file that is known, and no others.
+fn write_rows<W: WholeFiles>(files: &mut W, kept: &KeptAt, rows: &KnownRows) -> io::Result<()>
+    ensures written { OnOk result (Replaces W.has_done (string_bytes kept.now.new) (string_bytes kept.now.path) (rows_text rows.now.files) files.old files.new) }
+    ensures fault { OnErr result ((files.new ≡ files.old) ⊎ ChangesOnly W.has_done (λ at. at ≡ string_bytes kept.now.new) files.old files.new) }
+{
+    match rows.text() {
+        Ok(text) => write_text(files, kept, text.as_slice()),
+        Err(_) => Err(io::Error::from(ErrorKind::OutOfMemory)),
+    }
 }
 
 impl KeptAt {
@@ -153,7 +169,7 @@ impl KnownFiles {
         let Some(rows) = rows else {
             return Ok(KnownFiles::over(alloc, KnownRows::new(alloc, keys), Some(kept)));
         };
-        write_rows(&mut SystemFolder::new(rt), &kept, rows.text()?.as_slice())?;
+        write_rows(&mut SystemFiles::new(rt), &kept, &rows)?;
         Ok(KnownFiles::over(alloc, rows, Some(kept)))
     }
 
@@ -168,7 +184,7 @@ impl KnownFiles {
         let _keeping = self.keeping.lock(rt);
         let text = self.rows.lock(rt).text();
         if let Ok(text) = text {
-            let _ = write_rows(&mut SystemFolder::new(rt), kept, text.as_slice());
+            let _ = write_text(&mut SystemFiles::new(rt), kept, text.as_slice());
         }
     }
 
@@ -176,37 +192,20 @@ impl KnownFiles {
     pub(crate) fn saving(&self) -> &Mutex<()> {
         &self.saving
     }
-
-    /// The newest version of the deck whose cards its file has, none where it is not known.
-    pub(crate) fn newest<R: Wait>(&self, rt: &R, name: &DeckName) -> Option<u64> {
-        self.rows.lock(rt).newest(name)
-    }
-
-    /// Gives the deck a place.
-    pub(crate) fn make_place<R: Wait>(&self, rt: &R, name: &DeckName) -> Result<(), AllocError> {
-        self.rows.lock(rt).make_place(name)
-    }
-
-    /// Whether the deck's file has the cards of this version.
-    pub(crate) fn is_saved<R: Wait>(&self, rt: &R, name: &DeckName, version: u64) -> bool {
-        self.rows.lock(rt).is_saved(name, version)
-    }
-
-    /// Notes the version that the desk gave to what was loaded, where nobody saved meanwhile, and keeps it.
-    pub(crate) fn note_loaded<R>(&self, rt: &R, name: &DeckName, seen: Option<u64>, known: Known)
-    where
-        R: Files<File = File> + AllocGlobal + Clone + Drop + Wait,
-    {
-        self.rows.lock(rt).note_at(name, seen, known);
-        self.keep(rt);
-    }
 }
 
-/// The turn of a save among those of all shelves.
+/// The known files of a folder, as one shelf asks for them. What is known stands behind a lock, so contracts see
+/// only that each answer is that of what was known at some moment.
 #[derive(Drop)]
-pub(crate) struct Turns<'a, R> {
-    pub(crate) rt: &'a R,
-    pub(crate) known: &'a KnownFiles,
+pub struct Turns<'a, R> {
+    rt: &'a R,
+    known: &'a KnownFiles,
+}
+
+impl<'a, R> Turns<'a, R> {
+    pub(crate) fn new(rt: &'a R, known: &'a KnownFiles) -> Turns<'a, R> {
+        Turns { rt, known }
+    }
 }
 
 impl<R> SaveTurns for Turns<'_, R>
@@ -214,12 +213,21 @@ where
     R: Files<File = File> + AllocGlobal + Clone + Drop + Wait,
 {
     ghost use Rattle.std.specs.Prelude.{⊤};
+    ghost use Rattle.deck_files.specs.KnownFiles.{IsNewestOfSome, IsSavedAmongSome, IsTurnOfSome};
 
-    ghost turns = { λ _ _ _ _ _. ⊤ };
+    ghost turns = { λ _ name version turn _. IsTurnOfSome name version turn };
 
     ghost lacks = { λ _ _. ⊤ };
 
     ghost notes = { λ _ _ _ _. ⊤ };
+
+    ghost tells_newest = { λ _ name seen _. IsNewestOfSome name seen };
+
+    ghost places = { λ _ _ _. ⊤ };
+
+    ghost notes_loaded = { λ _ _ _ _ _. ⊤ };
+
+    ghost tells_saved = { λ _ name version saved _. IsSavedAmongSome name version saved };
 
     fn begin(&mut self, name: &DeckName, version: u64) -> Result<Turn, AllocError> {
         self.known.rows.lock(self.rt).begin(name, version)
@@ -229,5 +237,23 @@ where
     fn note(&mut self, name: &DeckName, known: Known) {
         self.known.rows.lock(self.rt).note(name, known);
         self.known.keep(self.rt);
+    }
+
+    fn newest(&mut self, name: &DeckName) -> Option<u64> {
+        self.known.rows.lock(self.rt).newest(name)
+    }
+
+    fn reserve(&mut self, name: &DeckName) -> Result<(), AllocError> {
+        self.known.rows.lock(self.rt).reserve(name)
+    }
+
+    /// Notes what the desk took, and keeps it.
+    fn note_loaded(&mut self, name: &DeckName, seen: Option<u64>, known: Known) {
+        self.known.rows.lock(self.rt).note_loaded(name, seen, known);
+        self.known.keep(self.rt);
+    }
+
+    fn is_saved(&mut self, name: &DeckName, version: u64) -> bool {
+        self.known.rows.lock(self.rt).is_saved(name, version)
     }
 }

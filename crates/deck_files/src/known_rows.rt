@@ -1,7 +1,8 @@
 //! What a service knows of the files of a folder: what each has, and the newest version of its deck.
 ghost use Rattle.std.specs.Prelude.{◌≡◌, ◌≤◌, ℕ, List, Option, Some, [], true, IfOk, OnErr, OnOk};
 ghost use Rattle.deck_files.specs.Files.{named, with_named};
-ghost use Rattle.deck_files.specs.KnownFiles.{after_note, after_place, file_known, has_newer, has_place, is_at, is_newer, is_same, is_saved, is_still, sum_at, version_at, version_known, version_up_to};
+ghost use Rattle.deck_files.specs.KnownFiles.{after_place, file_known, has_newer, has_place, is_at, is_newer, is_same, is_still, known_up_to, sum_at, version_at, version_known};
+ghost use Rattle.deck_files.specs.KnownTexts.{rows_text};
 
 use crate::file_sums::FileSum;
 use crate::known_texts::push_known;
@@ -16,7 +17,7 @@ use text_ports::Text;
 /// What is known of a deck's file: what it has, and the version of the deck whose cards these are, where that
 /// is known.
 #[derive(Clone, Copy)]
-pub(crate) struct Known {
+pub struct Known {
     pub(crate) sum: FileSum,
     pub(crate) version: Option<u64>,
 }
@@ -24,8 +25,7 @@ pub(crate) struct Known {
 impl Known {
     /// The same for a desk that goes on behind a version: a greater one is not known.
     pub(crate) fn up_to(self, last: u64) -> Known
-        ensures sum { result.sum ≡ self.sum }
-        ensures version { result.version ≡ version_up_to last self.version }
+        ensures { result ≡ known_up_to last self }
     {
         let version = match self.version {
             Some(version) if version <= last => Some(version),
@@ -151,7 +151,7 @@ impl KnownRows {
     }
 
     /// The newest version of the deck whose cards its file has, none where it is not known.
-    pub(crate) fn newest(&self, name: &DeckName) -> Option<u64>
+    fn known_version(&self, name: &DeckName) -> Option<u64>
         ensures { result ≡ version_known name.now self.now.files }
     {
         version_at(self.known(name))
@@ -161,14 +161,7 @@ impl KnownRows {
     fn has_newer(&self, name: &DeckName, version: u64) -> bool
         ensures { result ≡ has_newer name.now version self.now.files }
     {
-        is_newer(self.newest(name), version)
-    }
-
-    /// Whether the deck's file has the cards of this version.
-    pub(crate) fn is_saved(&self, name: &DeckName, version: u64) -> bool
-        ensures { result ≡ is_saved name.now version self.now.files }
-    {
-        is_at(version, self.newest(name))
+        is_newer(self.known_version(name), version)
     }
 
     /// A key for the deck, with memory for one file more.
@@ -204,7 +197,7 @@ impl KnownRows {
     }
 
     /// Gives the deck a place, so that what is known can be noted without memory. Nothing is known by it.
-    pub(crate) fn make_place(&mut self, name: &DeckName) -> Result<(), AllocError>
+    fn make_place(&mut self, name: &DeckName) -> Result<(), AllocError>
         ensures placed { OnOk result (self.new.files ≡ after_place name.now self.old.files) }
         ensures unchanged { OnErr result (self.new.files ≡ self.old.files) }
     {
@@ -227,18 +220,10 @@ impl KnownRows {
         *place = Some(known);
     }
 
-    /// Notes the version that the desk gave to what was loaded, where the version that is known is the one that
-    /// was seen before the file was read.
-    pub(crate) fn note_at(&mut self, name: &DeckName, seen: Option<u64>, known: Known)
-        ensures { self.new.files ≡ after_note name.now seen known self.old.files }
+    /// All that is known, as text: a row for each file, in the order in which they came to be known.
+    pub(crate) fn text(&self) -> Result<Text, AllocError>
+        ensures { IfOk result (λ text. text ≡ rows_text self.now.files) }
     {
-        if is_still(seen, self.place(name)) {
-            self.put(name, known);
-        }
-    }
-
-    /// All that is known, as text.
-    pub(crate) fn text(&self) -> Result<Text, AllocError> {
         let mut text = Text::new(self.alloc);
         for (name, known) in self.files.iter() {
             push_known(self.alloc, &mut text, name, *known)?;
@@ -249,13 +234,21 @@ impl KnownRows {
 
 impl SaveTurns for KnownRows {
     ghost use Rattle.std.specs.Prelude.{◌≡◌};
-    ghost use Rattle.deck_files.specs.KnownFiles.{after_place, after_save, turn_of};
+    ghost use Rattle.deck_files.specs.KnownFiles.{after_note, after_place, after_save, is_saved, turn_of, version_known};
 
     ghost turns = { λ old name version turn new. (turn ≡ turn_of name version old.files) × (new.files ≡ after_place name old.files) };
 
     ghost lacks = { λ old new. new.files ≡ old.files };
 
     ghost notes = { λ old name known new. new.files ≡ after_save name known old.files };
+
+    ghost tells_newest = { λ old name seen new. (new ≡ old) × (seen ≡ version_known name old.files) };
+
+    ghost places = { λ old name new. new.files ≡ after_place name old.files };
+
+    ghost notes_loaded = { λ old name seen known new. new.files ≡ after_note name seen known old.files };
+
+    ghost tells_saved = { λ old name version saved new. (new ≡ old) × (saved ≡ is_saved name version old.files) };
 
     fn begin(&mut self, name: &DeckName, version: u64) -> Result<Turn, AllocError> {
         let turn = if self.has_newer(name, version) {
@@ -271,5 +264,23 @@ impl SaveTurns for KnownRows {
         if self.place(name).is_some() {
             self.put(name, known);
         }
+    }
+
+    fn newest(&mut self, name: &DeckName) -> Option<u64> {
+        self.known_version(name)
+    }
+
+    fn reserve(&mut self, name: &DeckName) -> Result<(), AllocError> {
+        self.make_place(name)
+    }
+
+    fn note_loaded(&mut self, name: &DeckName, seen: Option<u64>, known: Known) {
+        if is_still(seen, self.place(name)) {
+            self.put(name, known);
+        }
+    }
+
+    fn is_saved(&mut self, name: &DeckName, version: u64) -> bool {
+        is_at(version, self.known_version(name))
     }
 }

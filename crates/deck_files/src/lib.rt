@@ -39,6 +39,7 @@ mod second_names;
 mod system_folder;
 
 // Any file.
+mod placing;
 mod size_limits;
 mod target_paths;
 mod unwaiting;
@@ -63,4 +64,6 @@ pub use size_limits::{Limited, NO_LIMIT, has_room, size_limit};
 pub use system_folder::SystemFolder;
 pub use target_paths::target_of;
 pub use unwaiting::{open_led_to, open_standing};
-pub use whole_files::{Begun, begin_whole, end_whole, folder_of, sync_folder, write_whole};
+pub use whole_files::{
+    Begun, begin_whole, end_whole, fill_whole, folder_of, replace_whole, sync_folder, write_whole,
+};

@@ -1,8 +1,10 @@
 //! Files that are written whole: whoever reads one finds the file that was there, or the new one.
 ghost use Rattle.std.specs.Prelude.{◌≡◌, ◌++◌, codes, decimal, string_bytes, IfOk};
 
+use crate::placing::{WholeFiles, fill_in_folder, place_in_folder, replace};
 use crate::size_limits::{Limited, NO_LIMIT, size_limit};
 use crate::target_paths::target_of;
+use crate::unwaiting::check_stands;
 use std::alloc::{AllocError, Global};
 use std::fs;
 use std::fs::{Metadata, OpenFile, OpenOptions};
@@ -150,27 +152,53 @@ where
     begin_beside(rt, alloc, target_of(rt, alloc, path)?, Some(&old))
 }
 
-/// Waits until the system has kept a file, where it was filled, and gives it its path. Where that fails
-/// it is taken away, as far as that can be done.
-fn finish<R: Files>(
-    rt: &R,
-    beside: &Beside,
-    file: R::File,
-    filled: io::Result<()>,
-) -> io::Result<()> {
-    let (new, target) = (beside.new.as_str(), beside.target.as_str());
-    let kept = match filled {
-        Ok(()) => file.sync_all(),
-        Err(error) => Err(error),
-    };
-    let made = match kept {
-        Ok(()) => fs::rename(rt, new, target),
-        Err(error) => Err(error),
-    };
-    if made.is_err() {
-        let _ = fs::remove_file(rt, new);
+/// The files of the process that are written whole. Each call passes on what is asked and what is answered; no
+/// contract sees that.
+#[derive(Drop)]
+pub(crate) struct SystemFiles<'a, R> {
+    rt: &'a R,
+}
+
+impl<'a, R> SystemFiles<'a, R> {
+    pub(crate) fn new(rt: &'a R) -> SystemFiles<'a, R> {
+        SystemFiles { rt }
     }
-    made
+}
+
+impl<R: Files> WholeFiles for SystemFiles<'_, R> {
+    ghost use Rattle.std.specs.Prelude.{⊤};
+
+    type NewFile = Limited<R::File>;
+
+    ghost has_done = { λ _ _. ⊤ };
+
+    fn make(&mut self, path: &str) -> io::Result<Limited<R::File>> {
+        let mut how = OpenOptions::new();
+        how.write(true).create_new(true);
+        let file = how.open(self.rt, path)?;
+        Ok(Limited::new(file, size_limit(self.rt)))
+    }
+
+    fn keep(&mut self, file: &Limited<R::File>) -> io::Result<()> {
+        file.file().sync_all()
+    }
+
+    /// Refused where another file than the open one has come to stand at its path.
+    fn put(&mut self, file: Limited<R::File>, new: &str, path: &str) -> io::Result<()> {
+        check_stands(self.rt, file.file(), new)?;
+        fs::rename(self.rt, new, path)
+    }
+
+    fn remove(&mut self, path: &str) -> io::Result<()> {
+        match fs::remove_file(self.rt, path) {
+            Err(error) if error.kind() == ErrorKind::NotFound => Ok(()),
+            removed => removed,
+        }
+    }
+
+    fn keep_folder(&mut self, folder: &str) -> io::Result<()> {
+        sync_folder(self.rt, folder)
+    }
 }
 
 /// Ends a file that was begun, and was filled or not, and waits until the system has kept it, in its folder
@@ -181,22 +209,41 @@ pub fn end_whole<R: Files>(
     filled: io::Result<()>,
 ) -> io::Result<()> {
     let Begun { file, beside } = begun;
-    match beside {
-        Some(beside) => {
-            finish(rt, &beside, file.into_inner(), filled)?;
-            sync_folder(rt, folder_of(beside.target.as_str()))
-        }
-        None => filled,
-    }
+    let Some(Beside { new, target }) = beside else {
+        return filled;
+    };
+    let (new, target) = (new.as_str(), target.as_str());
+    let mut files = SystemFiles::new(rt);
+    place_in_folder(&mut files, file, new, target, folder_of(target), filled)
+}
+
+/// Writes these bytes into a file that was begun, and ends it as `end_whole` does.
+pub fn fill_whole<R: Files>(rt: &R, begun: Begun<R::File>, bytes: &[u8]) -> io::Result<()> {
+    let Begun { mut file, beside } = begun;
+    let Some(Beside { new, target }) = beside else {
+        return file.write_all(bytes);
+    };
+    let (new, target) = (new.as_str(), target.as_str());
+    let mut files = SystemFiles::new(rt);
+    fill_in_folder(&mut files, file, new, target, folder_of(target), bytes)
 }
 
 /// Makes the file at a path anew with these bytes, and waits until the system has kept it, in its folder
-/// too, as `begin_whole` and `end_whole` do. Where only the folder fails, the new file is there.
+/// too, as `begin_whole` and `fill_whole` do. Where only the folder fails, the new file is there.
 pub fn write_whole<R: Files>(rt: &R, alloc: Global, path: &str, bytes: &[u8]) -> io::Result<()>
 where
     R::File: AsFd,
 {
-    let mut begun = begin_whole(rt, alloc, path)?;
-    let filled = begun.file().write_all(bytes);
-    end_whole(rt, begun, filled)
+    let begun = begin_whole(rt, alloc, path)?;
+    fill_whole(rt, begun, bytes)
+}
+
+/// Makes the file at a path anew with these bytes, and waits until the system has kept it, in its folder too.
+/// It is written at a name beside the path, whatever stands there, and takes the place of what stands at the
+/// path: of a link itself, which is not followed. Where only the folder fails, the new file is there.
+pub fn replace_whole<R: Files>(rt: &R, alloc: Global, path: &str, bytes: &[u8]) -> io::Result<()> {
+    let new = new_path(alloc, path, 0)?;
+    let mut files = SystemFiles::new(rt);
+    replace(&mut files, new.as_str(), path, bytes)?;
+    sync_folder(rt, folder_of(path))
 }

@@ -1,4 +1,4 @@
-use Rattle.std.proofs.Common.{ℕ, Option, ◌∙◌, ap}
+use Rattle.std.proofs.Common.{Option, ◌∙◌, ap}
 use Rattle.std.specs.Prelude.{vec_items}
 use Rattle.deck_files.specs.Files.{with_named}
 use Rattle.deck_files.specs.declared.known_rows.Known.{Known}
