@@ -65,5 +65,5 @@ pub use system_folder::SystemFolder;
 pub use target_paths::target_of;
 pub use unwaiting::{open_led_to, open_standing};
 pub use whole_files::{
-    Begun, begin_whole, end_whole, fill_whole, folder_of, replace_whole, sync_folder, write_whole,
+    Begun, begin_whole, end_whole, fill_whole, folder_of, replace_whole, sync_folder,
 };

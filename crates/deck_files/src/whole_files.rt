@@ -228,16 +228,6 @@ pub fn fill_whole<R: Files>(rt: &R, begun: Begun<R::File>, bytes: &[u8]) -> io::
     fill_in_folder(&mut files, file, new, target, folder_of(target), bytes)
 }
 
-/// Makes the file at a path anew with these bytes, and waits until the system has kept it, in its folder
-/// too, as `begin_whole` and `fill_whole` do. Where only the folder fails, the new file is there.
-pub fn write_whole<R: Files>(rt: &R, alloc: Global, path: &str, bytes: &[u8]) -> io::Result<()>
-where
-    R::File: AsFd,
-{
-    let begun = begin_whole(rt, alloc, path)?;
-    fill_whole(rt, begun, bytes)
-}
-
 /// Makes the file at a path anew with these bytes, and waits until the system has kept it, in its folder too.
 /// It is written at a name beside the path, whatever stands there, and takes the place of what stands at the
 /// path: of a link itself, which is not followed. Where only the folder fails, the new file is there.

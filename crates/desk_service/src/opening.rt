@@ -7,7 +7,7 @@ use crate::root::{JournalLock, journal_path};
 use crate::settings::{Journaling, Settings};
 use crate::system_file::SystemFile;
 use crate::versions::Seen;
-use deck_files::{begin_whole, end_whole, folder_of, size_limit, sync_folder};
+use deck_files::{begin_whole, fill_whole, folder_of, open_led_to, size_limit, sync_folder};
 use desk_core::Desk;
 use journal::{
     Ending, JournalFile, Mark, Next, Place, RecordsFile, ReplayFault, compacted_text, kept_length,
@@ -17,7 +17,7 @@ use std::alloc::Global;
 use std::fs;
 use std::fs::{File, OpenOptions};
 use std::hash::RandomState;
-use std::io::{BufReader, ErrorKind, Write};
+use std::io::{BufReader, ErrorKind};
 use std::os::fd::AsFd;
 use std::rt::Files;
 use std::time::Clock;
@@ -83,7 +83,7 @@ fn reader_of<R: Files>(
     alloc: Global,
     path: &str,
 ) -> Result<BufReader<R::File>, ServeFault> {
-    let Ok(file) = fs::open(rt, path) else {
+    let Ok(file) = open_led_to(rt, path) else {
         return Err(ServeFault::NoJournal);
     };
     BufReader::new(alloc, file).map_err(|_| ServeFault::OutOfMemory)
@@ -117,7 +117,7 @@ fn front_of<R: Files>(rt: &R, path: &str, most: u64) -> Result<Mark, ServeFault>
     if most == 0 {
         return Ok(Mark::first());
     }
-    match fs::open(rt, path) {
+    match open_led_to(rt, path) {
         Ok(mut file) => mark_of_front(&mut file, most).map_err(|_| ServeFault::NoJournal),
         Err(error) if error.kind() == ErrorKind::NotFound => Ok(Mark::first()),
         Err(_) => Err(ServeFault::NoJournal),
@@ -199,8 +199,7 @@ where
     };
     let mut begun = begun;
     lock.hold(begun.file().file())?;
-    let filled = begun.file().write_all(text);
-    end_whole(rt, begun, filled).map_err(|_| ServeFault::NoJournal)
+    fill_whole(rt, begun, text).map_err(|_| ServeFault::NoJournal)
 }
 
 /// Begins a journal anew behind a version, with the decks of a desk, and makes its changes again.
@@ -236,7 +235,7 @@ fn make_and_take<R: Files<File = File>>(
 ) -> Result<(), ServeFault> {
     if length_of(rt, path)?.is_none() {
         let mut how = OpenOptions::new();
-        how.append(true).create(true);
+        how.read(true).append(true).create(true);
         if how.open(rt, path).is_err() {
             return Err(ServeFault::NoJournal);
         }
@@ -245,10 +244,10 @@ fn make_and_take<R: Files<File = File>>(
 }
 
 /// Opens the file of a journal, and cuts off what stands behind so many bytes: the system has kept it when
-/// this is done.
+/// this is done. It is opened for reading too, so that a pipe that came there keeps nobody waiting.
 fn open_cut<R: Files>(rt: &R, path: &str, length: u64) -> Result<SystemFile<R::File>, ServeFault> {
     let mut how = OpenOptions::new();
-    how.append(true).create(true);
+    how.read(true).append(true).create(true);
     let Ok(file) = how.open(rt, path) else {
         return Err(ServeFault::NoJournal);
     };

@@ -5,6 +5,7 @@ ghost use Rattle.desk_service.specs.Services.{taken_fault};
 
 use crate::faults::ServeFault;
 use crate::settings::{Journaling, Settings};
+use deck_files::open_led_to;
 use std::alloc::{AllocError, Global};
 use std::fs;
 use std::fs::{File, Metadata, OpenFile, OpenOptions, TryLockError};
@@ -124,7 +125,7 @@ impl JournalLock {
             Ok(about) if about.is_file() && !self.has(&about) => {}
             _ => return Ok(()),
         }
-        match fs::open(rt, path) {
+        match open_led_to(rt, path) {
             Ok(file) => self.take_file(rt, path, file),
             Err(_) => Ok(()),
         }

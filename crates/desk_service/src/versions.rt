@@ -14,11 +14,10 @@ use crate::faults::ServeFault;
 use crate::notes::{Notes, mark_in, mark_line};
 use crate::root::path_in;
 use crate::settings::{Journaling, Settings};
-use deck_files::write_whole;
+use deck_files::{open_led_to, open_standing, replace_whole};
 use journal::Mark;
 use std::alloc::{AllocError, Global};
 use std::fs;
-use std::fs::OpenOptions;
 use std::io::{self, ErrorKind};
 use std::os::fd::AsFd;
 use std::rt::Files;
@@ -101,7 +100,7 @@ fn versions_path(alloc: Global, folder: &str) -> Result<String, AllocError> {
 
 /// A text of the system, in memory.
 fn text_at<R: Files>(rt: &R, alloc: Global, path: &str) -> io::Result<String> {
-    io::read_to_string(alloc, fs::open(rt, path)?)
+    io::read_to_string(alloc, open_led_to(rt, path)?)
 }
 
 /// What a line tells of a number and a journal, with what is noted of it.
@@ -230,13 +229,21 @@ impl Seen {
             write_versions(rt, alloc, path.as_str(), line.as_str())?;
             return Ok(None);
         };
-        if self.has_room(settings.journal, begun) {
+        if self.has_room(settings.journal, begun) && !is_link(rt, path.as_str()) {
             return note_at(rt, alloc, path.as_str(), self.at, mark);
         }
         let note = mark_line(alloc, mark)?;
         let text = format!(in alloc; "{line}{note}")?;
         write_versions(rt, alloc, path.as_str(), text.as_str())?;
         note_at(rt, alloc, path.as_str(), line.len() as u64, mark)
+    }
+}
+
+/// Whether a link stands at a path.
+fn is_link<R: Files>(rt: &R, path: &str) -> bool {
+    match fs::symlink_metadata(rt, path) {
+        Ok(about) => about.is_symlink(),
+        Err(_) => false,
     }
 }
 
@@ -249,9 +256,7 @@ fn note_at<R: Files>(
     at: u64,
     mark: Mark,
 ) -> Result<Option<Notes<R::File>>, ServeFault> {
-    let mut how = OpenOptions::new();
-    how.write(true);
-    let Ok(file) = how.open(rt, path) else {
+    let Ok(file) = open_standing(rt, path) else {
         return Err(ServeFault::NoFolder);
     };
     let mut notes = Notes::new(alloc, file, at);
@@ -262,10 +267,12 @@ fn note_at<R: Files>(
     }
 }
 
-/// Makes the file of a folder's versions anew.
-fn write_versions<R: Files>(rt: &R, alloc: Global, path: &str, text: &str) -> Result<(), ServeFault>
-where
-    R::File: AsFd,
-{
-    write_whole(rt, alloc, path, text.as_bytes()).map_err(|_| ServeFault::NoFolder)
+/// Makes the file of a folder's versions anew. A link there is replaced, and not followed.
+fn write_versions<R: Files>(
+    rt: &R,
+    alloc: Global,
+    path: &str,
+    text: &str,
+) -> Result<(), ServeFault> {
+    replace_whole(rt, alloc, path, text.as_bytes()).map_err(|_| ServeFault::NoFolder)
 }
