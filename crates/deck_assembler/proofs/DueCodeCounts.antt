@@ -16,7 +16,7 @@ use Rattle.definitions.specs.Statements.{Statement}
 use Rattle.definitions.specs.Agreement.{settled_tail}
 use Rattle.definitions.specs.declared.deck_kind.DeckKind.{DeckKind}
 use Rattle.definitions.proofs.TailLaws.{settled_all-append}
-use Rattle.deck_assembler.specs.Joins.DueCodes.{one_where, has_line, one_due, code_due, code_due_in, code_due_of, CodePlan, IsPlanOf}
+use Rattle.deck_assembler.specs.Joins.DueCodes.{bound_otherwise, one_where, has_line, one_due, code_due, code_due_in, code_due_of, CodePlan, IsPlanOf, RisesRebound, RisesReboundOf}
 use Rattle.deck_assembler.specs.Joins.Formers.{known_in}
 use Rattle.deck_assembler.specs.Joins.Meetings.{StandApart}
 use Rattle.deck_assembler.specs.Joins.Tails.{HasTailIfAny, HasTailWithin, StandBeforeTail}
@@ -26,12 +26,7 @@ use Rattle.deck_assembler.proofs.AgreementLaws.{between, untouched-before}
 use Rattle.deck_assembler.proofs.DueCodeLaws.{settled-length}
 use Rattle.deck_assembler.proofs.PartLaws.{context-same}
 
--- how many are bound otherwise, one after the other
-abbrev bound_otherwise : Context → Context → List Settled → ℕ
-bound_otherwise old new [] = 0
-bound_otherwise old new (settled ∷ earlier) = bound_otherwise old new earlier + one_where (is_rebound old new settled)
-
-bound-counted : (old new : Context) (settled : List Settled) → bound_otherwise old new settled ≡ count_by (is_rebound old new) settled
+pub bound-counted : (old new : Context) (settled : List Settled) → bound_otherwise old new settled ≡ count_by (is_rebound old new) settled
 bound-counted old new settled = is_count_by (bound_otherwise old new) (is_rebound old new) refl (λ x xs. one (is_rebound old new x) (bound_otherwise old new xs)) settled
   where
     one : (b : Bool) (n : ℕ) → n + one_where b ≡ cond b (1 + n) n
@@ -112,6 +107,18 @@ due-of-deck whole plan is e =
     ap (λ (context : Context). code_due plan.old context front plan.from (settled_all whole.deck.kind whole.known)) (context-same whole is)
     ∙ ap (λ (kind : DeckKind). code_due plan.old (context_of kind (settled_all kind whole.known)) front plan.from (settled_all kind whole.known)) is.sized.kind
     ∙ ap (λ (known : List Statement). code_due plan.old (context_from known) front plan.from (settled_all (kind_of_statements known) known)) e
+
+-- what is counted of a walk is counted of its deck
+pub anew-of-deck : (whole : Whole) (old : List Card) (base coded : ℕ) → IsWhole whole → whole.known ≡ known_in whole.cards → RisesRebound whole (context_from (known_in old)) base whole.known coded → RisesReboundOf old whole.cards base coded
+anew-of-deck whole old base coded is e rises = λ room.
+    let past = context_from (known_in old) in
+    let same =
+    ap (λ (context : Context). bound_otherwise past context (settled_all whole.deck.kind whole.known)) (context-same whole is)
+    ∙ ap (λ (kind : DeckKind). bound_otherwise past (context_of kind (settled_all kind whole.known)) (settled_all kind whole.known)) is.sized.kind
+    ∙ ap (λ (known : List Statement). bound_otherwise past (context_from known) (settled_all (kind_of_statements known) known)) e in
+    let own = ap length e in
+    let there = rises (omega (arith, room, own)) in
+    omega (arith, there, same)
 
 -- where a tail begins
 record BeginsWithin (kind : DeckKind) (old cards : List Card) (count : ℕ) (earlier : List Statement) (limit : ℕ) : Type 0 where

@@ -214,6 +214,7 @@ pub head-beside : (kind first : DeckKind) (old cards : List Card) (before : ℕ)
     first ≡ kind_of_statements (known_in old) → (first ≡ kind → ⊥) → IsHeadDeck kind before old sized deck → take before old ≡ take before cards → BeginsBeside kind old cards before deck
 head-beside kind first old cards before sized deck behind others are first_is other is same = record {
   of = of;
+  of_old = (reverse has.rest, begun ∙ ap (λ (l : List Statement). reverse has.rest ++ l) (sym known));
   kept_on = record {
     standing = subst (IsAtStage kind of cards [] deck) (sym is.stage) front;
     kinds = is.kind_is;
@@ -253,11 +254,13 @@ head-beside kind first old cards before sized deck behind others are first_is ot
         let counted_all = has.count in
         omega (arith, same, counted_all)
 
+    begun : known_in old ≡ reverse has.rest ++ reverse has.given
+    begun = sym (reverse-reverse (known_in old)) ∙ ap reverse has.all ∙ reverse-append has.given has.rest
+
     -- the statements of the head are those of its cards
     known : known_in of ≡ reverse has.given
     known =
-        let whole : known_in old ≡ reverse has.rest ++ reverse has.given = sym (reverse-reverse (known_in old)) ∙ ap reverse has.all ∙ reverse-append has.given has.rest in
-        ap (λ m. known_in (take m old)) (sym count) ∙ cut-front old (reverse has.rest) (reverse has.given) whole (neutral-open (reverse has.given) (subst AreNeutral (append-nil (reverse has.given)) has.neutral))
+        ap (λ m. known_in (take m old)) (sym count) ∙ cut-front old (reverse has.rest) (reverse has.given) begun (neutral-open (reverse has.given) (subst AreNeutral (append-nil (reverse has.given)) has.neutral))
 
     front : IsInFront of cards [] (left deck) deck
     front =
@@ -313,6 +316,7 @@ stays-beside kind old cards parts deck is whole head unchanged same_end = elim (
       let all = whole same in
       record {
         of = old.cards.now;
+        of_old = ([], refl);
         kept_on = whole-kept kind old cards parts deck is same all unchanged same_end;
         stands = λ decks front of_old of_new few kind_is untouched.
             record { decks = decks; untouched = untouched; of_old = of_old; of_new = of_new; before = subst (λ n. decks.before ≤ n) (sym all.before_is) few; stage = all.stage };

@@ -21,6 +21,7 @@ pub mod KindLaws
 pub mod SizerSteps
 pub mod AgreeLaws
 pub mod OldLaws
+pub mod StayLaws
 pub mod HeadLaws
 pub mod FrontLaws
 pub mod TrialLaws
@@ -62,6 +63,7 @@ pub mod FormerLaws
 -- How many statements of an edited deck are coded.
 pub mod DueCodeLaws
 pub mod DueCodeCounts
+pub mod ReboundLaws
 -- Where two views agree on what is left.
 pub mod AlikeLaws
 -- Where an old deck and an edited one are found to agree.

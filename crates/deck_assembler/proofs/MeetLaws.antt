@@ -15,6 +15,7 @@ use Rattle.deck_assembler.specs.Joins.OldDecks.{AreKeptFrom, IsAtStage, IsInTail
 use Rattle.deck_assembler.specs.Joins.SizedDecks.{IsSizedStatement, AreSizedFrom}
 use Rattle.deck_assembler.specs.Joins.Sizers.{stood, ahead, IsNext, IsSizer}
 use Rattle.deck_assembler.specs.Joins.Tails.{AreKeptAlike, HasTailIfAny, HasTailWithin, HaveOneTail, IsSettledAlike}
+use Rattle.deck_assembler.specs.Stays.{IsAsBefore}
 use Rattle.deck_assembler.specs.declared.old_deck.OldDeck.{OldDeck}
 use Rattle.deck_assembler.specs.declared.old_deck.Stage.{Stage}
 use Rattle.deck_assembler.specs.declared.old_deck.Stage.TheVariants as stages
@@ -91,6 +92,21 @@ tail-next kind old cards earlier span deck new sized next is e same count = by i
             alike = subst (λ n. AreKeptAlike kind cards (given ∷ earlier) n (other ∷ is.passed) (left new) later) more moved.1;
           },
         )
+
+-- it is settled as one of the old deck
+pub tail-stays : (kind : DeckKind) (old cards : List Card) (earlier : List Statement) (span : Span) (deck new : OldDeck) (sized : SizedStatement) →
+    IsNext cards earlier span.count (statement_at cards span) → IsInTail kind old cards earlier deck → left deck ≡ sized ∷ left new → sized.cards ≡ span.count → IsAsBefore kind (known_in old) earlier (statement_at cards span)
+tail-stays kind old cards earlier span deck new sized next is e count = by is.later is.all (subst (λ l. AreKeptAlike kind cards earlier (stood earlier) is.passed l is.later) e is.alike)
+  where
+    by : (later : List Statement) → reverse later ++ is.passed ≡ known_in old → AreKeptAlike kind cards earlier (stood earlier) is.passed (sized ∷ left new) later → IsAsBefore kind (known_in old) earlier (statement_at cards span)
+    by [] all h = absurd h
+    by (other ∷ later) all h = record {
+      before = is.passed;
+      other = other;
+      behind = reverse later;
+      of_old = reverse-onto other later is.passed ∙ all;
+      alike = subst (λ (s : Span). IsSettledAlike kind is.passed other earlier (statement_at cards s)) (λ i. record { start = sym next.before i; count = count i }) h.0;
+    }
 
 -- the same deck goes on behind a statement
 pub goes-on : (kind : DeckKind) (old cards : List Card) (earlier now : List Statement) (span : Span) (sizer : Sizer) (deck new : OldDeck) → IsOnSpan kind old cards earlier span sizer deck →

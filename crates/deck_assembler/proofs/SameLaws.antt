@@ -41,7 +41,7 @@ none-of test [] h = refl
 none-of test (x ∷ xs) h = ap₂ (λ (a b : Bool). a || b) (h x) (none-of test xs h)
 
 -- two decks with the same symbols, literals and blocks
-never-bound : (old new : Context) (settled : Settled) → ◌≡◌ {A = View} (λ name. defined name old.settled) (λ name. defined name new.settled) → old.literals ≡ new.literals → old.rows ≡ new.rows → is_rebound old new settled ≡ false
+pub never-bound : (old new : Context) (settled : Settled) → ◌≡◌ {A = View} (λ name. defined name old.settled) (λ name. defined name new.settled) → old.literals ≡ new.literals → old.rows ≡ new.rows → is_rebound old new settled ≡ false
 never-bound old new settled symbols literals rows =
     none-of (λ element. not (same_value old new (element_form (final_names old settled) element) (element_form (final_names new settled) element))) (coded_elements settled.read.operation settled.read.operand)
     (λ element.

@@ -167,6 +167,11 @@ impl DeckLines {
             let settled = settle whole.deck.kind (settled_all whole.deck.kind earlier) given in
             IsWhole whole → IsReadOperand read.now settled → IsSizedStatement whole.deck.kind earlier self.old.stood (drop self.old.stood whole.cards) sized.now given → found.entry ≡ Some one → AreBindings one.bindings old →
             is_rebound old (context_in whole) settled ≡ false → meter.new.coded ≡ meter.old.coded }
+        ensures anew { OnOk result ((known others earlier : List statements.Statement) (given : statements.Statement) (old : Context) (one : FormerLine) →
+            let whole = whole_of view.now known others in
+            let settled = settle whole.deck.kind (settled_all whole.deck.kind earlier) given in
+            IsWhole whole → IsReadOperand read.now settled → IsSizedStatement whole.deck.kind earlier self.old.stood (drop self.old.stood whole.cards) sized.now given → found.entry ≡ Some one → AreBindings one.bindings old →
+            is_rebound old (context_in whole) settled ≡ true → meter.new.coded ≡ min (meter.old.coded + 1) (2 ^ 64 - 1)) }
         ensures sized { meter.new.sized ≡ meter.old.sized }
     {
         match found {

@@ -1,11 +1,13 @@
 //! All statements of a deck, one after the other: their lines, and the names that they enter.
 ghost use Rattle.std.specs.Prelude.{ℕ, ◌≡◌, ◌≤◌, ◌+◌, ◌-◌, ◌^◌, ◌++◌, [], List, IfOk, IfSome, None, Some, OnOk, true, length, min, reverse};
+ghost use Rattle.definitions.specs.StatementItems.{Context};
 ghost use Rattle.definitions.specs.Statements as statements;
 ghost use Rattle.statement_coder.specs.Joins.Meters.{RisesBy};
 ghost use Rattle.deck_assembler.specs.Joins.DeckParts.{sized_in};
 ghost use Rattle.deck_assembler.specs.declared.sized_statement.SizedStatement as code;
-ghost use Rattle.deck_assembler.specs.Joins.DueCodes.{CodePlan, IsDueBeside, IsPlanned, IsWalkedDue, code_due_in};
-ghost use Rattle.deck_assembler.specs.Joins.DeckSteps.{GoesPast, IsUncounted};
+ghost use Rattle.deck_assembler.specs.Joins.DueCodes.{CodePlan, IsDueBeside, IsPlanned, IsWalkedAnew, IsWalkedDue, RisesRebound, code_due_in};
+ghost use Rattle.deck_assembler.specs.Joins.Rebindings.{AreBindings};
+ghost use Rattle.deck_assembler.specs.Joins.DeckSteps.{GoesPast, IsCountedAnew, IsUncounted};
 ghost use Rattle.deck_assembler.specs.Joins.Walks.{IsWhole, Whole, whole_of};
 ghost use Rattle.deck_assembler.specs.Joins.DeckWalks.{IsDone, IsListing};
 ghost use Rattle.deck_assembler.specs.Joins.FormerLines.{IsBare, IsBeside, IsWalkedBeside, MeanAsViewed};
@@ -66,6 +68,7 @@ impl Making {
         ensures rises { meter.old.coded ≤ meter.new.coded }
         ensures all { found.entry ≡ None → OnOk result (RisesBy 1 meter.old.coded meter.new.coded) }
         ensures kept { IsUncounted view.now sized.now found.entry self.old.lines.stood meter.old.coded meter.new.coded }
+        ensures anew { OnOk result (IsCountedAnew view.now sized.now found.entry self.old.lines.stood meter.old.coded meter.new.coded) }
         ensures stood { OnOk result (self.new.lines.stood ≡ min (self.old.lines.stood + sized.now.cards) (2 ^ 64 - 1)) }
         ensures sized { meter.new.sized ≡ meter.old.sized }
     {
@@ -91,6 +94,7 @@ impl Making {
         ensures rises { meter.old.coded ≤ meter.new.coded }
         ensures all { found.entry ≡ None → OnOk result (RisesBy 1 meter.old.coded meter.new.coded) }
         ensures kept { IsUncounted view.now sized.now found.entry self.old.lines.stood meter.old.coded meter.new.coded }
+        ensures anew { OnOk result (IsCountedAnew view.now sized.now found.entry self.old.lines.stood meter.old.coded meter.new.coded) }
         ensures stood { OnOk result (self.new.lines.stood ≡ min (self.old.lines.stood + sized.now.cards) (2 ^ 64 - 1)) }
         ensures sized { meter.new.sized ≡ meter.old.sized }
     {
@@ -121,6 +125,7 @@ impl Making {
         ensures rises { meter.old.coded ≤ meter.new.coded }
         ensures all { found.entry ≡ None → OnOk result (RisesBy 1 meter.old.coded meter.new.coded) }
         ensures kept { IsUncounted view.now sized.now found.entry self.old.lines.stood meter.old.coded meter.new.coded }
+        ensures anew { OnOk result (IsCountedAnew view.now sized.now found.entry self.old.lines.stood meter.old.coded meter.new.coded) }
         ensures stood { OnOk result (self.new.lines.stood ≡ min (self.old.lines.stood + sized.now.cards) (2 ^ 64 - 1)) }
         ensures sized { meter.new.sized ≡ meter.old.sized }
     {
@@ -152,6 +157,7 @@ impl Making {
         ensures rises { meter.old.coded ≤ meter.new.coded }
         ensures all { found.entry ≡ None → OnOk result (RisesBy 1 meter.old.coded meter.new.coded) }
         ensures kept { IsUncounted view.now sized.now found.entry self.old.lines.stood meter.old.coded meter.new.coded }
+        ensures anew { OnOk result (IsCountedAnew view.now sized.now found.entry self.old.lines.stood meter.old.coded meter.new.coded) }
         ensures stood { OnOk result (self.new.lines.stood ≡ min (self.old.lines.stood + sized.now.cards) (2 ^ 64 - 1)) }
         ensures sized { meter.new.sized ≡ meter.old.sized }
     {
@@ -184,6 +190,8 @@ impl Making {
             IsWhole whole → IsPlanned known plan → IsWalkedDue whole plan base (piece.now ++ left) self.old.lines.stood former.old meter.old.coded → IsWalkedDue whole plan base left self.new.lines.stood former.new meter.new.coded) }
         ensures due { (known others : List statements.Statement) (left : List code.SizedStatement) (plan : CodePlan) (base : ℕ) → let whole = whole_of view.now known others in
             IsWhole whole → IsPlanned known plan → IsWalkedDue whole plan base (piece.now ++ left) self.old.lines.stood former.old meter.old.coded → meter.new.coded ≤ base + code_due_in whole plan known }
+        ensures anew { OnOk result ((known others : List statements.Statement) (left : List code.SizedStatement) (old : Context) (base : ℕ) → let whole = whole_of view.now known others in
+            IsWhole whole → AreBindings former.old.bindings old → IsWalkedAnew whole old base (piece.now ++ left) self.old.lines.stood meter.old.coded → IsWalkedAnew whole old base left self.new.lines.stood meter.new.coded) }
         ensures sized { meter.new.sized ≡ meter.old.sized }
     {
         for sized in piece {
@@ -211,6 +219,8 @@ impl Making {
         ensures all { OnOk result (IsBare former.old → RisesBy (length (sized_in pieces.now)) meter.old.coded meter.new.coded) }
         ensures due { (known others : List statements.Statement) (plan : CodePlan) (base : ℕ) → let whole = whole_of view.now known others in
             IsWhole whole → IsPlanned known plan → IsWalkedDue whole plan base (sized_in pieces.now) self.old.lines.stood former.old meter.old.coded → meter.new.coded ≤ base + code_due_in whole plan known }
+        ensures anew { OnOk result ((known others : List statements.Statement) (old : Context) (base : ℕ) → let whole = whole_of view.now known others in
+            IsWhole whole → AreBindings former.old.bindings old → IsWalkedAnew whole old base (sized_in pieces.now) self.old.lines.stood meter.old.coded → RisesRebound whole old base known meter.new.coded) }
         ensures sized { meter.new.sized ≡ meter.old.sized }
     {
         for piece in pieces {
@@ -231,8 +241,8 @@ fn list_all(lines: &mut DeckLines, counts: &[u32]) -> Result<(), AllocError>
 }
 
 /// The lines of a deck, and the names that it enters. The statements up to END are coded, each once, but for those
-/// whose lines are taken over from the object before, so that no more are coded than are due; where
-/// memory runs out, some of them.
+/// whose lines are taken over from the object before, so that no more are coded than are due, and each
+/// that is bound otherwise counts one; where memory runs out, some of them.
 pub(crate) fn walk(
     alloc: Global,
     keys: RandomState,
@@ -249,6 +259,8 @@ pub(crate) fn walk(
     ensures all { OnOk result (IsBare former.entry → RisesBy (length (sized_in view.now.deck.now.pieces)) meter.old.coded meter.new.coded) }
     ensures due { (known others : List statements.Statement) (plan : CodePlan) → let whole = whole_of view.now known others in
         IsWhole whole → IsPlanned known plan → IsDueBeside whole.deck.kind whole.cards plan [] (reverse known) 0 former.entry → meter.new.coded ≤ meter.old.coded + code_due_in whole plan known }
+    ensures anew { OnOk result ((known others : List statements.Statement) (old : Context) → let whole = whole_of view.now known others in
+        IsWhole whole → AreBindings former.entry.bindings old → RisesRebound whole old meter.old.coded known meter.new.coded) }
     ensures sized { meter.new.sized ≡ meter.old.sized }
 {
     let mut made = Making::new(alloc, keys, view, former.items.len())?;

@@ -1,14 +1,17 @@
 //! The parts of the object of a deck whose statements are sized.
 ghost use Rattle.std.specs.Prelude.{ℕ, ◌≡◌, ◌≤◌, ◌+◌, [], List, IfOk, IfSome, None, Some, OnOk, true, false, length, reverse};
+ghost use Rattle.definitions.specs.Cards as deck_cards;
 ghost use Rattle.definitions.specs.DeckInput.{Deck};
 ghost use Rattle.definitions.specs.DeckKinds.{kind_of_statements, up_to_end};
 ghost use Rattle.definitions.specs.Objects.{object_of};
+ghost use Rattle.definitions.specs.Rebound.{context_from};
 ghost use Rattle.definitions.specs.Statements.{statements_of};
 ghost use Rattle.statement_coder.specs.Joins.Meters.{RisesBy};
 ghost use Rattle.deck_objects.specs.Joins.PartsOf.{ArePartsOf};
-ghost use Rattle.deck_assembler.specs.Joins.DueCodes.{CodePlan, IsDueBeside, IsPlanned, IsPlanOf, code_due_of};
+ghost use Rattle.deck_assembler.specs.Joins.DueCodes.{CodePlan, IsDueBeside, IsPlanned, IsPlanOf, RisesReboundOf, code_due_of};
 ghost use Rattle.deck_assembler.specs.Joins.FormerLines.{IsBare, IsBeside, MeanAsViewed};
 ghost use Rattle.deck_assembler.specs.Joins.Formers.{IsFormerOf, known_in};
+ghost use Rattle.deck_assembler.specs.Joins.Rebindings.{AreBindings};
 ghost use Rattle.deck_assembler.specs.Joins.SizedDecks.{IsSizedDeck};
 ghost use Rattle.deck_assembler.specs.Joins.Tails.{IsEditedOf};
 
@@ -64,6 +67,7 @@ fn parts_beside<'a>(
     ensures rises { meter.old.coded ≤ meter.new.coded }
     ensures due { (lines : FormerLines) (plan : CodePlan) → former.entry ≡ Some lines → IsPlanned (known_in cards.now) plan → IsDueBeside deck.now.kind cards.now plan [] (reverse (known_in cards.now)) 0 lines →
         meter.new.coded ≤ meter.old.coded + code_due_of cards.now plan }
+    ensures anew { OnOk result ((lines : FormerLines) (old : List deck_cards.Card) → former.entry ≡ Some lines → AreBindings lines.bindings (context_from (known_in old)) → RisesReboundOf old cards.now meter.old.coded meter.new.coded) }
     ensures all { former.entry ≡ None → OnOk result (RisesBy (length (up_to_end (statements_of (reverse cards.now)))) meter.old.coded meter.new.coded) }
     ensures sized { meter.new.sized ≡ meter.old.sized }
 {
@@ -119,7 +123,8 @@ pub fn object_parts<'a>(
 
 /// The parts of the object of an edited deck, as `object_parts` makes them: a statement of the
 /// unchanged cards in front, or of the tail that stayed as it was sized, keeps its line in the object
-/// before, unless a name is bound otherwise; and no more are coded than are due (`code_due_of`).
+/// before, unless a name is bound otherwise; and no more are coded than are due (`code_due_of`). Each that
+/// is bound otherwise counts one.
 pub fn edited_parts<'a>(
     alloc: Global,
     keys: RandomState,
@@ -136,6 +141,7 @@ pub fn edited_parts<'a>(
     ensures coded { meter.new.coded ≤ meter.old.coded + length (up_to_end (statements_of (reverse cards.now))) }
     ensures rises { meter.old.coded ≤ meter.new.coded }
     ensures due { (plan : CodePlan) → IsPlanOf (kind_of_statements (known_in cards.now)) object.now.cards cards.now edited.now.former plan → meter.new.coded ≤ meter.old.coded + code_due_of cards.now plan }
+    ensures anew { OnOk result (RisesReboundOf object.now.cards cards.now meter.old.coded meter.new.coded) }
     ensures sized { meter.new.sized ≡ meter.old.sized }
 {
     let lines = edited.former.lines(

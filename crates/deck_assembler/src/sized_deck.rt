@@ -15,6 +15,7 @@ ghost use Rattle.deck_assembler.specs.Joins.Meetings.{StandApart, WillAgree};
 ghost use Rattle.deck_assembler.specs.Joins.OldDecks.{IsKeptOn, StandsInFront};
 ghost use Rattle.deck_assembler.specs.Joins.SizedDecks.{IsSizedDeck};
 ghost use Rattle.deck_assembler.specs.Joins.Tails.{HasTailIfAny, HasTailWithin};
+ghost use Rattle.deck_assembler.specs.Stays.{RisesAnew};
 ghost use Rattle.deck_assembler.specs.declared.old_deck.Stage.TheVariants as stages;
 
 use crate::former::{EditedDeck, Former};
@@ -83,9 +84,10 @@ impl SizedDeck {
 
     /// What these cards make, where so many of the first and of the last are those of the deck that this
     /// was made of. The statements of the first ones stay as they were sized, and so do all those behind
-    /// the edited card from a place on where both decks agree; the others are sized once. Where the kind
-    /// of the deck changes those in front have other counters, and none behind stays. And what coding
-    /// needs of this deck. An error where memory runs out: then some of them were counted.
+    /// the edited card from a place on where both decks agree; the others are sized once, and each that is
+    /// settled as none of the deck before counts one. Where the kind of the deck changes those in front
+    /// have other counters, and none behind stays. And what coding needs of this deck. An error where
+    /// memory runs out: then some of them were counted.
     pub fn edited(
         self,
         alloc: Global,
@@ -110,6 +112,7 @@ impl SizedDeck {
         ensures within { IfOk result (λ edited. (decks : Edited) (front : List deck_statements.Statement) (split : Split) → StandApart old.entry.cards.now cards.now old.entry.before old.entry.behind decks → decks.before ≤ old.entry.before →
             IsUntouched decks front → DoAgree decks split → length split.new_front + 128 < length (known_in cards.now) →
             HasTailWithin (kind_of_statements (known_in cards.now)) old.entry.cards.now cards.now edited.former.tail (known_in cards.now) (length split.new_front + 128)) }
+        ensures anew { OnOk result (RisesAnew (kind_of_statements (known_in cards.now)) (known_in old.entry.cards.now) (known_in cards.now) meter.old.sized meter.new.sized) }
         ensures rises { meter.old.sized ≤ meter.new.sized }
         ensures coded { meter.new.coded ≡ meter.old.coded }
     {
@@ -265,6 +268,7 @@ fn made(
     ensures within { IfOk result (λ made. (of : List deck_cards.Card) (front : List deck_statements.Statement) (limit : ℕ) → IsKeptOn kind of cards.now [] old_deck.entry → StandsInFront of (known_in cards.now) front old_deck.entry →
         length front ≤ limit → limit < length (known_in cards.now) → WillAgree kind of cards.now limit [] old_deck.entry → HasTailWithin kind of cards.now made.tail (known_in cards.now) limit) }
     ensures rises { meter.old.sized ≤ meter.new.sized }
+    ensures anew { OnOk result ((of : List deck_cards.Card) → IsKeptOn kind of cards.now [] old_deck.entry → RisesAnew kind (known_in of) (known_in cards.now) meter.old.sized meter.new.sized) }
     ensures all { OnOk result (old_deck.entry.stage ≡ stages.Over → RisesBy (length (up_to_end (statements_of (reverse cards.now)))) meter.old.sized meter.new.sized) }
     ensures coded { meter.new.coded ≡ meter.old.coded }
 {

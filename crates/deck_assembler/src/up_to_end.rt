@@ -16,11 +16,13 @@ ghost use Rattle.use_blocks.specs.Joins.BlockLengths.{block_names};
 ghost use Rattle.use_blocks.specs.Joins.Changes.{IsAccepted};
 ghost use Rattle.use_blocks.specs.Joins.EffectsAs.{change_as};
 ghost use Rattle.deck_assembler.specs.Joins.FirstStatements.{all_statements, first_statements, IsEnding};
+ghost use Rattle.deck_assembler.specs.Joins.Formers.{known_in};
 ghost use Rattle.deck_assembler.specs.Joins.Meetings.{IsBounded, IsNextKnown, WillAgree};
 ghost use Rattle.deck_assembler.specs.Joins.OldDecks.{GoesOn, IsKeptOn, IsOnSpan, StandsInFront};
 ghost use Rattle.deck_assembler.specs.Joins.SizedDecks.{IsSizedStatement};
 ghost use Rattle.deck_assembler.specs.Joins.Sizers.{stood, ahead, IsNext, IsSizer};
 ghost use Rattle.deck_assembler.specs.Joins.Tails.{HasTailIfAny, HasTailWithin};
+ghost use Rattle.deck_assembler.specs.Stays.{IsCountedOrStays, RisesAnew};
 ghost use Rattle.deck_assembler.specs.declared.old_deck.Stage.TheVariants as stages;
 
 use crate::old_deck::OldDeck;
@@ -146,6 +148,8 @@ impl Sizer {
             WillAgree kind of cards.now limit earlier old_deck.old → (meter.new.sized ≡ meter.old.sized) ⊎ (length earlier < limit) }
         ensures sized { meter.new.sized ≤ meter.old.sized + 1 }
         ensures rises { meter.old.sized ≤ meter.new.sized }
+        ensures anew { OnOk result ((of : List deck_cards.Card) (earlier : List statements.Statement) → IsOnSpan kind of cards.now earlier span self.old old_deck.old →
+            IsCountedOrStays kind (known_in of) earlier (statement_at cards.now span) meter.old.sized meter.new.sized) }
         ensures all { OnOk result (old_deck.old.stage ≡ stages.Over → meter.new.sized ≡ min (meter.old.sized + 1) (2 ^ 64 - 1)) }
         ensures coded { meter.new.coded ≡ meter.old.coded }
     {
@@ -157,8 +161,8 @@ impl Sizer {
     }
 
     /// Takes the statements of these spans up to END, and tells how many they are, and where the tail
-    /// begins: those that stay of the old deck are as they were, the others are sized. Where memory runs
-    /// out some of them are taken.
+    /// begins: those that stay of the old deck are as they were, the others are sized, and each of them
+    /// counts one. Where memory runs out some of them are taken.
     pub(crate) fn take_up_to_end(
         &mut self,
         alloc: Global,
@@ -183,6 +187,7 @@ impl Sizer {
         ensures within { IfOk result (λ taken. (of : List deck_cards.Card) (front : List statements.Statement) (limit : ℕ) → IsKeptOn kind of cards.now [] old_deck.entry → StandsInFront of (up_to_end (all_statements cards.now spans.now)) front old_deck.entry →
             IsBounded cards.now spans.now front limit → WillAgree kind of cards.now limit [] old_deck.entry → HasTailWithin kind of cards.now taken.tail (first_statements cards.now spans.now taken.count) limit) }
         ensures rises { meter.old.sized ≤ meter.new.sized }
+        ensures anew { IfOk result (λ taken. (of : List deck_cards.Card) → IsKeptOn kind of cards.now [] old_deck.entry → RisesAnew kind (known_in of) (first_statements cards.now spans.now taken.count) meter.old.sized meter.new.sized) }
         ensures all { OnOk result (old_deck.entry.stage ≡ stages.Over → RisesBy (length (up_to_end (all_statements cards.now spans.now))) meter.old.sized meter.new.sized) }
         ensures coded { meter.new.coded ≡ meter.old.coded }
     {

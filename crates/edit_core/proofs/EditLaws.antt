@@ -1,12 +1,18 @@
 -- What edits leave of the cards of a record.
-use Rattle.std.specs.Prelude.{IfSome, is_none}
+use Rattle.std.specs.Prelude.{◌^◌, IfSome, is_none}
+use Rattle.std.specs.List.{count_by}
 use Rattle.std.proofs.Common.{◌≡◌, ℕ, ◌+◌, ◌-◌, ◌≤◌, ◌<◌, ◌==◌, Bool, true, false, List, [], ◌∷◌, ◌++◌, length, take, get_or, All, Option, Some, None, option_map, suc, refl, sym, ap, subst, ◌∙◌, arith}
 use Rattle.std.proofs.Math.Seq.{take-suc}
 use Rattle.std.proofs.lemmas.Bool.{eqb-true}
 use Rattle.std.proofs.lemmas.List.{nil_from_length, take-take}
 use Rattle.std.proofs.lemmas.List.Elements.{All-head, All-tail, All-push, All-weaker}
 use Rattle.definitions.specs.Cards.{Card}
+use Rattle.definitions.specs.DeckKinds.{kind_of_statements}
 use Rattle.definitions.specs.Edits.{Edited, IsUntouched}
+use Rattle.definitions.specs.Rebound.{context_from, is_rebound}
+use Rattle.definitions.specs.Settled.{Settled}
+use Rattle.definitions.specs.Settling.{settled_all}
+use Rattle.definitions.specs.StatementItems.{Context}
 use Rattle.definitions.specs.Statements.{Statement}
 use Rattle.cards.specs.declared.edits.Edit.{Edit}
 use Rattle.cards.specs.declared.edits.Edit.TheVariants.{Insert, Replace, Remove}
@@ -14,10 +20,15 @@ use Rattle.cards.specs.declared.edits.EditFault.{EditFault}
 use Rattle.cards.specs.Edits.{fault_of, edited, edited_by, first_fault}
 use Rattle.cards.proofs.FaultLaws.{applies-in, edited-few, insert-front, replace-front, remove-front}
 use Rattle.deck_assembler.specs.Joins.DeckParts.{DeckParts}
+use Rattle.deck_assembler.specs.Joins.DueCodes.{bound_otherwise, one_where, RisesReboundOf}
 use Rattle.deck_assembler.specs.Joins.Formers.{known_in}
 use Rattle.deck_assembler.specs.Joins.SizedDecks.{IsSizedDeck}
+use Rattle.deck_assembler.specs.Stays.{RisesAnew}
 use Rattle.deck_assembler.proofs.FrontLaws.{front-still as still}
-use Rattle.edit_core.specs.Edited.{edits_bound, front_of, statement_count, AreDecksOf, IsRecordOf, RisesBehindFront}
+use Rattle.deck_assembler.proofs.DueCodeCounts.{bound-counted}
+use Rattle.deck_assembler.proofs.SameLaws.{never-bound}
+use Rattle.deck_assembler.proofs.StayLaws.{own-stay}
+use Rattle.edit_core.specs.Edited.{edits_bound, front_of, statement_count, AreDecksOf, IsRecordOf, RisesBehindFront, RisesToAnew, RisesToRebound}
 use Rattle.edit_core.specs.Faults.{against, against_all, record_fault}
 use Rattle.edit_core.specs.Records.{Record, ArePieces, piece_counts}
 use Rattle.edit_core.proofs.PieceLaws.{deck-pieces}
@@ -105,3 +116,37 @@ pub front-edited : (edits : List Edit) (own cards made : List Card) (before coun
     length front + now ≤ length decks.new + count) → RisesBehindFront edits cards count now
 front-edited edits own cards made before count now same after most few bound = λ decks front are is.
     bound decks front (are.old ∙ ap known_in (sym same)) (are.new ∙ ap (λ (l : List Card). known_in (edited_by edits l)) (sym same) ∙ ap known_in (sym after)) (decks-before edits cards before decks most are few) is
+
+-- each statement that is not settled as one of the deck before is counted where it is so beside these cards
+pub anew-edited : (edits : List Edit) (own cards made : List Card) (count now : ℕ) → own ≡ cards → made ≡ edited_by edits own → RisesAnew (kind_of_statements (known_in made)) (known_in own) (known_in made) count now → RisesToAnew edits cards count now
+anew-edited edits own cards made count now same after anew =
+    subst (λ (both : List Card × List Card). RisesAnew (kind_of_statements (known_in both.1)) (known_in both.0) (known_in both.1) count now) (λ i. (same i, (after ∙ ap (λ (l : List Card). edited_by edits l) same) i)) anew
+
+-- without edits all statements are those of the deck
+pub anew-none : (edits : List Edit) (cards : List Card) (count : ℕ) → (length edits == 0) ≡ true → RisesToAnew edits cards count count
+anew-none edits cards count none =
+    subst (λ (es : List Edit). RisesToAnew es cards count count) (sym (nil_from_length edits (eqb-true (length edits) 0 none))) (λ room. own-stay (kind_of_statements (known_in cards)) (known_in cards) [] (known_in cards) _ refl)
+
+-- the same of what is bound otherwise, told of the cards of an object
+pub rebound-edited : (edits : List Edit) (own cards made shown items : List Card) (count start now : ℕ) → own ≡ cards → made ≡ edited_by edits own → own ≡ shown → made ≡ items → start ≡ count → RisesReboundOf shown items start now → RisesToRebound edits cards count now
+rebound-edited edits own cards made shown items count start now same after object value begun rises =
+    subst (λ (both : List Card × List Card). let old = known_in both.0 in let new = known_in both.1 in count + length new < 2 ^ 64 → count + count_by (is_rebound (context_from old) (context_from new)) (settled_all (kind_of_statements new) new) ≤ now)
+    (λ i. ((sym object ∙ same) i, (sym value ∙ after ∙ ap (λ (l : List Card). edited_by edits l) same) i))
+    (λ room.
+    let known = known_in items in
+    let there = rises (omega (arith, room, begun)) in
+    let counted = bound-counted (context_from (known_in shown)) (context_from known) (settled_all (kind_of_statements known) known) in
+    omega (arith, there, counted, begun))
+
+none-bound : (context : Context) (settled : List Settled) → bound_otherwise context context settled ≡ 0
+none-bound context [] = refl
+none-bound context (latest ∷ earlier) = let rest = none-bound context earlier in let one = ap one_where (never-bound context context latest refl refl refl) in omega (arith, rest, one)
+
+-- without edits none is bound otherwise
+pub rebound-none : (edits : List Edit) (cards : List Card) (count : ℕ) → (length edits == 0) ≡ true → RisesToRebound edits cards count count
+rebound-none edits cards count none =
+    let known = known_in cards in
+    let settled = settled_all (kind_of_statements known) known in
+    let counted = bound-counted (context_from known) (context_from known) settled in
+    let still = none-bound (context_from known) settled in
+    subst (λ (es : List Edit). RisesToRebound es cards count count) (sym (nil_from_length edits (eqb-true (length edits) 0 none))) (λ room. omega (arith, counted, still))

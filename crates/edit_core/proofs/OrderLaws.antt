@@ -7,11 +7,11 @@ use Rattle.cards.specs.declared.edits.Edit.{Edit}
 use Rattle.cards.specs.declared.edits.EditFault.{EditFault}
 use Rattle.cards.proofs.FaultLaws.{applies-in}
 use Rattle.statement_coder.specs.declared.meter.Meter.{Meter}
-use Rattle.edit_core.specs.Edited.{edits_bound, IsRecordOf}
+use Rattle.edit_core.specs.Edited.{edits_bound, IsRecordOf, RisesToAnew, RisesToRebound}
 use Rattle.edit_core.specs.Faults.{against_all, record_fault}
 use Rattle.edit_core.specs.Joins.Groups.{IsFirstMade}
 use Rattle.edit_core.specs.Records.{Record}
-use Rattle.edit_core.specs.Sums.{DueForEach, fronts_sum, ends_sum, cards_between, statements_sum, CountsInOrder, RisesWithinSum, RisesWithinSumCode}
+use Rattle.edit_core.specs.Sums.{DueForEach, fronts_sum, ends_sum, cards_between, edits_in, statements_sum, CountsInOrder, RisesByGroups, RisesInGroups, RisesWithinSum, RisesWithinSumCode}
 use Rattle.edit_core.proofs.NearLaws.{sum-append, sum-append-code, apply-split}
 use Rattle.edit_core.proofs.SumLaws.{single, applies-all}
 use Rattle.std.specs.Prelude.{option_map}
@@ -127,13 +127,44 @@ whole-counts edits count is_spent cards old new none first =
     (in-order-append (take count edits) (drop count edits) cards old new new first (in-order-none (drop count edits) (edited_by (take count edits) cards) new (others-apply edits count is_spent cards none)))
 
 pub first-made : (edits others : List Edit) (count : ℕ) (old new : Record) (before behind : Meter) → others ≡ drop count edits → against_all edits old.is_spent old.cards ≡ None →
-    IsRecordOf old.name (edited_by (take count edits) old.cards) new → CountsInOrder (take count edits) old.cards before behind → IsFirstMade count edits others old new before behind
-first-made edits others count old new before behind are none made counts = record {
+    IsRecordOf old.name (edited_by (take count edits) old.cards) new → CountsInOrder (take count edits) old.cards before behind → RisesToAnew (take count edits) old.cards before.sized behind.sized →
+    RisesToRebound (take count edits) old.cards before.coded behind.coded → IsFirstMade count edits others old new before behind
+first-made edits others count old new before behind are none made counts anew rebound = record {
   others_are = are;
   made = made;
   apply = against-none others new.is_spent (edited_by (take count edits) old.cards) new.cards made.unspent made.cards_are
       (subst (λ (l : List Edit). first_fault l (edited_by (take count edits) old.cards) ≡ None) (sym are) (others-apply edits count old.is_spent old.cards none));
   counts = counts;
+  anew = anew;
+  rebound = rebound;
+}
+
+-- one group more
+groups-more : (Rises : List Edit → List Card → ℕ → ℕ → Type 0) (groups : List (List Edit)) (more : List Edit) (cards : List Card) (count between now : ℕ) → RisesByGroups Rises groups cards count between → between ≤ now →
+    Rises more (edited_by (edits_in groups) cards) between now → RisesByGroups Rises (groups ++ more ∷ []) cards count now
+groups-more Rises [] more cards count between now rises few last = (now, (omega (arith, rises, few), (subst (λ n. Rises more cards n now) (sym rises) last, refl)))
+groups-more Rises (group ∷ groups) more cards count between now rises few last = (
+  rises.0,
+  (
+    rises.1.0,
+    (
+      rises.1.1.0,
+      groups-more Rises groups more (edited_by group cards) rises.0 between now rises.1.1.1 few
+          (subst (λ (l : List Card). Rises more l between now) (edited-append group (edits_in groups) cards) last),
+    ),
+  ),
+)
+
+groups-all : (groups : List (List Edit)) (more : List Edit) → edits_in (groups ++ more ∷ []) ≡ edits_in groups ++ more
+groups-all [] more = append-nil more
+groups-all (group ∷ groups) more = ap (λ (l : List Edit). group ++ l) (groups-all groups more) ∙ sym (append_assoc group (edits_in groups) more)
+
+in-groups-more : (Rises : List Edit → List Card → ℕ → ℕ → Type 0) (done more : List Edit) (cards : List Card) (count between now : ℕ) → RisesInGroups Rises done cards count between → between ≤ now →
+    Rises more (edited_by done cards) between now → RisesInGroups Rises (done ++ more) cards count now
+in-groups-more Rises done more cards count between now so_far few last = record {
+  groups = so_far.groups ++ more ∷ [];
+  all = groups-all so_far.groups more ∙ ap (λ (l : List Edit). l ++ more) so_far.all;
+  rises = groups-more Rises so_far.groups more cards count between now so_far.rises few (subst (λ (l : List Edit). Rises more (edited_by l cards) between now) (sym so_far.all) last);
 }
 
 -- some of the edits are made, and these are left
@@ -143,9 +174,11 @@ pub record IsOnWay (edits left : List Edit) (old now : Record) (before behind : 
   pub made : IsRecordOf old.name (edited_by done old.cards) now
   pub apply : against_all left now.is_spent now.cards ≡ None
   pub counts : CountsInOrder done old.cards before behind
+  pub anew : RisesInGroups RisesToAnew done old.cards before.sized behind.sized
+  pub rebound : RisesInGroups RisesToRebound done old.cards before.coded behind.coded
 
 pub on-way-begin : (edits : List Edit) (old : Record) (meter : Meter) → against_all edits old.is_spent old.cards ≡ None → IsRecordOf old.name old.cards old → IsOnWay edits edits old old meter meter
-on-way-begin edits old meter none whole = record { done = []; all = refl; made = whole; apply = none; counts = in-order-none [] old.cards meter refl }
+on-way-begin edits old meter none whole = record { done = []; all = refl; made = whole; apply = none; counts = in-order-none [] old.cards meter refl; anew = record { groups = []; all = refl; rises = refl }; rebound = record { groups = []; all = refl; rises = refl } }
 
 pub on-way-more : (edits left others : List Edit) (count : ℕ) (old now new : Record) (before mid behind : Meter) → IsOnWay edits left old now before mid → IsFirstMade count left others now new mid behind →
     IsOnWay edits others old new before behind
@@ -160,6 +193,8 @@ on-way-more edits left others count old now new before mid behind so_far first =
       made = subst (λ (l : List Card). IsRecordOf old.name l new) cards_are (subst (λ (n : List ℕ). IsRecordOf n (edited_by more now.cards) new) so_far.made.name_is first.made);
       apply = first.apply;
       counts = in-order-append done more old.cards before mid behind so_far.counts (subst (λ (l : List Card). CountsInOrder more l mid behind) so_far.made.cards_are first.counts);
+      anew = in-groups-more RisesToAnew done more old.cards before.sized mid.sized behind.sized so_far.anew first.counts.sized_rises (subst (λ (l : List Card). RisesToAnew more l mid.sized behind.sized) so_far.made.cards_are first.anew);
+      rebound = in-groups-more RisesToRebound done more old.cards before.coded mid.coded behind.coded so_far.rebound first.counts.coded_rises (subst (λ (l : List Card). RisesToRebound more l mid.coded behind.coded) so_far.made.cards_are first.rebound);
     }
 
 -- none is left
@@ -170,6 +205,14 @@ on-way-made edits old now before behind so_far =
 pub on-way-counts : (edits : List Edit) (old now : Record) (before behind : Meter) → IsOnWay edits [] old now before behind → CountsInOrder edits old.cards before behind
 on-way-counts edits old now before behind so_far =
     subst (λ (l : List Edit). CountsInOrder l old.cards before behind) (sym (so_far.all ∙ append-nil so_far.done)) so_far.counts
+
+pub on-way-anew : (edits : List Edit) (old now : Record) (before behind : Meter) → IsOnWay edits [] old now before behind → RisesInGroups RisesToAnew edits old.cards before.sized behind.sized
+on-way-anew edits old now before behind so_far =
+    subst (λ (l : List Edit). RisesInGroups RisesToAnew l old.cards before.sized behind.sized) (sym (so_far.all ∙ append-nil so_far.done)) so_far.anew
+
+pub on-way-rebound : (edits : List Edit) (old now : Record) (before behind : Meter) → IsOnWay edits [] old now before behind → RisesInGroups RisesToRebound edits old.cards before.coded behind.coded
+on-way-rebound edits old now before behind so_far =
+    subst (λ (l : List Edit). RisesInGroups RisesToRebound l old.cards before.coded behind.coded) (sym (so_far.all ∙ append-nil so_far.done)) so_far.rebound
 
 -- memory ran out
 pub on-way-lost : (edits left : List Edit) (old now : Record) (before mid behind : Meter) → IsOnWay edits left old now before mid → CountsInOrder left now.cards mid behind → CountsInOrder edits old.cards before behind

@@ -1,14 +1,17 @@
 -- What edits leave of a record (ours).
-use Rattle.std.specs.Prelude.{◌≡◌, ℕ, ⊤, ◌+◌, ◌-◌, ◌≤◌, All, false, List, [], ◌∷◌, length, reverse}
+use Rattle.std.specs.Prelude.{◌≡◌, ℕ, ⊤, ◌+◌, ◌-◌, ◌^◌, ◌<◌, ◌≤◌, All, false, List, [], ◌∷◌, length, reverse}
+use Rattle.std.specs.List.{count_by}
 use Rattle.definitions.specs.Cards.{Card}
-use Rattle.definitions.specs.DeckKinds.{up_to_end}
+use Rattle.definitions.specs.DeckKinds.{kind_of_statements, up_to_end}
 use Rattle.definitions.specs.Edits.{Edited, IsUntouched, IsWithinDue}
-use Rattle.definitions.specs.Rebound.{IsWithinDueCode}
+use Rattle.definitions.specs.Rebound.{context_from, is_rebound, IsWithinDueCode}
+use Rattle.definitions.specs.Settling.{settled_all}
 use Rattle.definitions.specs.Statements.{Statement, statements_of}
 use Rattle.cards.specs.declared.edits.Edit.{Edit}
 use Rattle.cards.specs.declared.edits.Edit.TheVariants.{Insert, Replace, Remove}
 use Rattle.cards.specs.Counts.{count_after}
 use Rattle.cards.specs.Edits.{edited_by}
+use Rattle.deck_assembler.specs.Stays.{RisesAnew}
 use Rattle.edit_core.specs.Records.{Record, ArePieces}
 
 -- how many statements these cards have up to END
@@ -73,6 +76,11 @@ abbrev pub RisesWithinDue : List Edit → List Card → ℕ → ℕ → Type 0
 RisesWithinDue [] cards count now = now ≡ count
 RisesWithinDue (edit ∷ edits) cards count now = RisesToDue (edit ∷ edits) cards count now
 
+-- and by one at least for each statement that edits leave and that is settled as none of the deck before them, unless that is beyond its greatest value
+abbrev pub RisesToAnew : List Edit → List Card → ℕ → ℕ → Type 0
+RisesToAnew edits cards count now =
+    let new = up_to_end (statements_of (reverse (edited_by edits cards))) in RisesAnew (kind_of_statements new) (up_to_end (statements_of (reverse cards))) new count now
+
 -- as due, where what is counted is coded: with the statements of the front and of the tail that are bound otherwise
 abbrev pub RisesToDueCode : List Edit → List Card → ℕ → ℕ → Type 0
 RisesToDueCode edits cards count now = (decks : Edited) → AreDecksOf edits cards decks → StandUnchanged edits cards decks → IsWithinDueCode decks 128 (now - count)
@@ -80,3 +88,10 @@ RisesToDueCode edits cards count now = (decks : Edited) → AreDecksOf edits car
 abbrev pub RisesWithinDueCode : List Edit → List Card → ℕ → ℕ → Type 0
 RisesWithinDueCode [] cards count now = now ≡ count
 RisesWithinDueCode (edit ∷ edits) cards count now = RisesToDueCode (edit ∷ edits) cards count now
+
+-- and by one at least for each statement that edits leave and that is bound otherwise than in the deck before them, unless that is beyond its greatest value
+abbrev pub RisesToRebound : List Edit → List Card → ℕ → ℕ → Type 0
+RisesToRebound edits cards count now =
+    let old = up_to_end (statements_of (reverse cards)) in
+    let new = up_to_end (statements_of (reverse (edited_by edits cards))) in
+    count + length new < 2 ^ 64 → count + count_by (is_rebound (context_from old) (context_from new)) (settled_all (kind_of_statements new) new) ≤ now

@@ -1,11 +1,11 @@
 -- What is due for edits, one after the other (ours).
-use Rattle.std.specs.Prelude.{ℕ, ⊤, ◌+◌, ◌-◌, ◌*◌, ◌≤◌, List, [], ◌∷◌, length, min}
+use Rattle.std.specs.Prelude.{ℕ, ⊤, ◌≡◌, ◌+◌, ◌-◌, ◌*◌, ◌≤◌, List, [], ◌∷◌, ◌++◌, length, min}
 use Rattle.definitions.specs.Cards.{Card}
 use Rattle.definitions.specs.Edits.{Edited, IsUntouched, Split, DoAgree}
 use Rattle.definitions.specs.Rebound.{rebound_front, rebound_tail}
 use Rattle.definitions.specs.Statements.{Statement}
 use Rattle.cards.specs.Counts.{count_after}
-use Rattle.cards.specs.Edits.{edited}
+use Rattle.cards.specs.Edits.{edited, edited_by}
 use Rattle.cards.specs.declared.edits.Edit.{Edit}
 use Rattle.statement_coder.specs.declared.meter.Meter.{Meter}
 use Rattle.edit_core.specs.Edited.{front_of, count_behind, statement_count, AreDecksOf, StandUnchanged}
@@ -93,3 +93,19 @@ pub record CountsInOrder (edits : List Edit) (cards : List Card) (old new : Mete
   pub sized_few : new.sized ≤ old.sized + statements_sum edits cards
   pub coded_rises : old.coded ≤ new.coded
   pub coded_few : new.coded ≤ old.coded + statements_sum edits cards
+
+-- the edits of groups, one group behind the other
+abbrev pub edits_in : List (List Edit) → List Edit
+edits_in [] = []
+edits_in (group ∷ groups) = group ++ edits_in groups
+
+-- in these groups of edits, made one behind the other, a count rises as is told of each
+abbrev pub RisesByGroups : (List Edit → List Card → ℕ → ℕ → Type 0) → List (List Edit) → List Card → ℕ → ℕ → Type 0
+RisesByGroups Rises [] cards count now = count ≡ now
+RisesByGroups Rises (group ∷ groups) cards count now = (between : ℕ) × ((count ≤ between) × (Rises group cards count between × RisesByGroups Rises groups (edited_by group cards) between now))
+
+-- and the groups are made of these edits, in their order
+pub record RisesInGroups (Rises : List Edit → List Card → ℕ → ℕ → Type 0) (edits : List Edit) (cards : List Card) (count now : ℕ) : Type 0 where
+  pub groups : List (List Edit)
+  pub all : edits_in groups ≡ edits
+  pub rises : RisesByGroups Rises groups cards count now

@@ -3,7 +3,7 @@ ghost use Rattle.std.specs.Prelude.{◌≡◌, ◌≤◌, ◌+◌, length, rever
 ghost use Rattle.definitions.specs.DeckKinds.{kind_of_statements, up_to_end};
 ghost use Rattle.definitions.specs.Statements.{statements_of};
 ghost use Rattle.statement_coder.specs.Joins.Meters.{RisesBy};
-ghost use Rattle.deck_assembler.specs.Joins.DueCodes.{CodePlan, IsPlanOf, code_due_of};
+ghost use Rattle.deck_assembler.specs.Joins.DueCodes.{CodePlan, IsPlanOf, RisesReboundOf, code_due_of};
 ghost use Rattle.deck_assembler.specs.Joins.Formers.{IsFormerOf, known_in};
 ghost use Rattle.deck_assembler.specs.Joins.SizedDecks.{IsSizedDeck};
 ghost use Rattle.deck_assembler.specs.Joins.Tails.{IsEditedOf};
@@ -56,6 +56,7 @@ pub(crate) fn edited_object(
     ensures sized { meter.new.sized ≡ meter.old.sized }
     ensures coded { meter.new.coded ≤ meter.old.coded + length (up_to_end (statements_of (reverse cards.items))) }
     ensures coded_due { (plan : CodePlan) → IsPlanOf (kind_of_statements (known_in cards.items)) object.now.cards cards.items edited.now.former plan → meter.new.coded ≤ meter.old.coded + code_due_of cards.items plan }
+    ensures coded_anew { OnOk result (RisesReboundOf object.now.cards cards.items meter.old.coded meter.new.coded) }
     ensures coded_rises { meter.old.coded ≤ meter.new.coded }
 {
     let parts = edited_parts(alloc, keys, &cards, edited, object, meter)?;

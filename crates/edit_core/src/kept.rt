@@ -7,10 +7,10 @@ ghost use Rattle.definitions.specs.Statements.{statements_of};
 ghost use Rattle.cards.specs.Edits.{edited, edited_by, first_fault};
 ghost use Rattle.statement_coder.specs.Joins.Meters.{RisesBy};
 ghost use Rattle.deck_assembler.specs.Joins.SizedDecks.{IsSizedDeck};
-ghost use Rattle.edit_core.specs.Edited.{edits_bound, statement_count, IsRecordOf, RisesBehindFront, RisesToDue, RisesToDueCode, RisesWithinDue, RisesWithinDueCode};
+ghost use Rattle.edit_core.specs.Edited.{edits_bound, statement_count, IsRecordOf, RisesBehindFront, RisesToAnew, RisesToDue, RisesToDueCode, RisesToRebound, RisesWithinDue, RisesWithinDueCode};
 ghost use Rattle.edit_core.specs.Faults.{against, against_all};
 ghost use Rattle.edit_core.specs.Records.{ArePieces};
-ghost use Rattle.edit_core.specs.Sums.{cards_between, statements_sum, CountsInOrder, RisesWithinSum, RisesWithinSumCode};
+ghost use Rattle.edit_core.specs.Sums.{cards_between, statements_sum, CountsInOrder, RisesInGroups, RisesWithinSum, RisesWithinSumCode};
 ghost use Rattle.edit_core.specs.Joins.Groups.{IsFirstMade};
 
 use crate::assembling::{edited_object, object_of};
@@ -113,7 +113,8 @@ impl Kept {
     /// stays. The meter counts at most one statement sized, and one coded, for each up to END of the
     /// edited cards; none of those that stand untouched in front of both decks, and behind the first
     /// place where both decks agree again no more than the 128 of a piece, but for those coded that are
-    /// bound otherwise.
+    /// bound otherwise. Where it is made each statement that is settled as none of the deck before counts
+    /// one as sized, and each that is bound otherwise one as coded.
     pub fn edit(
         &mut self,
         alloc: Global,
@@ -127,6 +128,8 @@ impl Kept {
         ensures lost { result ≡ Err RecordFault.OutOfMemory → self.new.is_spent ≡ true }
         ensures sized { meter.new.sized ≤ meter.old.sized + statement_count (edited self.old.cards edit.now) }
         ensures sized_front { RisesBehindFront (edit.now ∷ []) self.old.cards meter.old.sized meter.new.sized }
+        ensures sized_anew { OnOk result (RisesToAnew (edit.now ∷ []) self.old.cards meter.old.sized meter.new.sized) }
+        ensures coded_anew { OnOk result (RisesToRebound (edit.now ∷ []) self.old.cards meter.old.coded meter.new.coded) }
         ensures sized_due { against edit.now self.old.is_spent self.old.cards ≡ None → RisesWithinDue (edit.now ∷ []) self.old.cards meter.old.sized meter.new.sized }
         ensures coded_due { against edit.now self.old.is_spent self.old.cards ≡ None → RisesWithinDueCode (edit.now ∷ []) self.old.cards meter.old.coded meter.new.coded }
         ensures sized_rises { meter.old.sized ≤ meter.new.sized }
@@ -144,7 +147,8 @@ impl Kept {
     /// most one statement sized, and one coded, for each up to END of the cards that all of them leave,
     /// and none where there are no edits; none of those that stand untouched in front of both decks, and
     /// behind the first place where both decks agree again no more than the 128 of a piece, but for those
-    /// coded that are bound otherwise.
+    /// coded that are bound otherwise. Where they are made each statement that is settled as none of the
+    /// deck before counts one as sized, and each that is bound otherwise one as coded.
     pub fn edit_all(
         &mut self,
         alloc: Global,
@@ -158,6 +162,8 @@ impl Kept {
         ensures lost { result ≡ Err RecordFault.OutOfMemory → self.new.is_spent ≡ true }
         ensures sized { meter.new.sized ≤ meter.old.sized + edits_bound edits.now self.old.cards }
         ensures sized_front { RisesBehindFront edits.now self.old.cards meter.old.sized meter.new.sized }
+        ensures sized_anew { OnOk result (RisesToAnew edits.now self.old.cards meter.old.sized meter.new.sized) }
+        ensures coded_anew { OnOk result (RisesToRebound edits.now self.old.cards meter.old.coded meter.new.coded) }
         ensures sized_due { against_all edits.now self.old.is_spent self.old.cards ≡ None → RisesWithinDue edits.now self.old.cards meter.old.sized meter.new.sized }
         ensures coded_due { against_all edits.now self.old.is_spent self.old.cards ≡ None → RisesWithinDueCode edits.now self.old.cards meter.old.coded meter.new.coded }
         ensures sized_sum { against_all edits.now self.old.is_spent self.old.cards ≡ None → RisesWithinSum (128 + cards_between edits.now (length self.old.cards)) edits.now self.old.cards meter.old.sized meter.new.sized }
@@ -176,7 +182,9 @@ impl Kept {
     /// them. Where the record is spent, or else at the first edit that doesn't apply to what the ones
     /// before it leave, it says so and changes nothing; where memory runs out it is spent. The meter counts
     /// no more than the sum of what is due for each of them, with the 128 of a piece for each, and at most
-    /// one statement sized, and one coded, for each up to END of the cards that each of them leaves.
+    /// one statement sized, and one coded, for each up to END of the cards that each of them leaves. Where
+    /// they are made, each statement of what those made at once leave counts one as sized that is settled
+    /// as none of the deck before these, and one as coded that is bound otherwise.
     pub fn edit_in_order(
         &mut self,
         alloc: Global,
@@ -189,6 +197,8 @@ impl Kept {
         ensures made { IfOk result (λ _. IsRecordOf self.old.name (edited_by edits.now self.old.cards) self.new) }
         ensures lost { result ≡ Err RecordFault.OutOfMemory → self.new.is_spent ≡ true }
         ensures counts { against_all edits.now self.old.is_spent self.old.cards ≡ None → CountsInOrder edits.now self.old.cards meter.old meter.new }
+        ensures sized_anew { OnOk result (RisesInGroups RisesToAnew edits.now self.old.cards meter.old.sized meter.new.sized) }
+        ensures coded_anew { OnOk result (RisesInGroups RisesToRebound edits.now self.old.cards meter.old.coded meter.new.coded) }
         ensures sized { meter.new.sized ≤ meter.old.sized + statements_sum edits.now self.old.cards }
         ensures sized_rises { meter.old.sized ≤ meter.new.sized }
         ensures coded { meter.new.coded ≤ meter.old.coded + statements_sum edits.now self.old.cards }
@@ -214,6 +224,8 @@ impl Kept {
         ensures made { IfOk result (λ _. IsRecordOf self.old.name (edited_by edits.now self.old.cards) self.new) }
         ensures lost { IfErr result (λ _. self.new.is_spent ≡ true) }
         ensures counts { CountsInOrder edits.now self.old.cards meter.old meter.new }
+        ensures sized_anew { OnOk result (RisesInGroups RisesToAnew edits.now self.old.cards meter.old.sized meter.new.sized) }
+        ensures coded_anew { OnOk result (RisesInGroups RisesToRebound edits.now self.old.cards meter.old.coded meter.new.coded) }
     {
         self.is_whole();
         let mut left = edits;
@@ -265,6 +277,8 @@ impl Kept {
         ensures lost { result ≡ Err RecordFault.OutOfMemory → self.new.is_spent ≡ true }
         ensures sized { meter.new.sized ≤ meter.old.sized + edits_bound edits.now self.old.cards }
         ensures sized_front { RisesBehindFront edits.now self.old.cards meter.old.sized meter.new.sized }
+        ensures sized_anew { OnOk result (RisesToAnew edits.now self.old.cards meter.old.sized meter.new.sized) }
+        ensures coded_anew { OnOk result (RisesToRebound edits.now self.old.cards meter.old.coded meter.new.coded) }
         ensures sized_due { RisesWithinDue edits.now self.old.cards meter.old.sized meter.new.sized }
         ensures coded_due { RisesWithinDueCode edits.now self.old.cards meter.old.coded meter.new.coded }
         ensures sized_rises { meter.old.sized ≤ meter.new.sized }
@@ -322,6 +336,8 @@ impl Kept {
         ensures made { IfOk result (IsRecordOf self.now.name (edited_by edits.now self.now.cards)) }
         ensures sized { meter.new.sized ≤ meter.old.sized + statement_count (edited_by edits.now self.now.cards) }
         ensures sized_front { RisesBehindFront edits.now self.now.cards meter.old.sized meter.new.sized }
+        ensures sized_anew { OnOk result (RisesToAnew edits.now self.now.cards meter.old.sized meter.new.sized) }
+        ensures coded_anew { OnOk result (RisesToRebound edits.now self.now.cards meter.old.coded meter.new.coded) }
         ensures sized_due { RisesToDue edits.now self.now.cards meter.old.sized meter.new.sized }
         ensures coded_due { RisesToDueCode edits.now self.now.cards meter.old.coded meter.new.coded }
         ensures sized_rises { meter.old.sized ≤ meter.new.sized }

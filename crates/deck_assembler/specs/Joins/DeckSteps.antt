@@ -1,5 +1,5 @@
 -- What one statement more makes of the lines and the names of a deck, and of the count of what is coded.
-use Rattle.std.specs.Prelude.{ℕ, ◌≡◌, List, ◌∷◌, Option, Some, false, drop}
+use Rattle.std.specs.Prelude.{ℕ, ◌≡◌, ◌+◌, ◌-◌, ◌^◌, List, ◌∷◌, Option, Some, false, true, drop, min}
 use Rattle.definitions.specs.Rebound.{is_rebound}
 use Rattle.definitions.specs.Settling.{settle, settled_all}
 use Rattle.definitions.specs.StatementItems.{Context}
@@ -24,3 +24,9 @@ abbrev pub IsUncounted : DeckView → SizedStatement → Option FormerLine → �
 IsUncounted view sized found standing old_count new_count = (known others earlier : List Statement) (given : Statement) (old : Context) (one : FormerLine) → let whole = whole_of view known others in
     IsWhole whole → IsSizedStatement whole.deck.kind earlier standing (drop standing whole.cards) sized given → found ≡ Some one → AreBindings one.bindings old →
     is_rebound old (context_in whole) (settle whole.deck.kind (settled_all whole.deck.kind earlier) given) ≡ false → new_count ≡ old_count
+
+-- and where one is, it is counted
+abbrev pub IsCountedAnew : DeckView → SizedStatement → Option FormerLine → ℕ → ℕ → ℕ → Type 0
+IsCountedAnew view sized found standing old_count new_count = (known others earlier : List Statement) (given : Statement) (old : Context) (one : FormerLine) → let whole = whole_of view known others in
+    IsWhole whole → IsSizedStatement whole.deck.kind earlier standing (drop standing whole.cards) sized given → found ≡ Some one → AreBindings one.bindings old →
+    is_rebound old (context_in whole) (settle whole.deck.kind (settled_all whole.deck.kind earlier) given) ≡ true → new_count ≡ min (old_count + 1) (2 ^ 64 - 1)

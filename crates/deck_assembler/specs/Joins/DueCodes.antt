@@ -1,5 +1,5 @@
 -- How many statements of an edited deck are coded again, where the lines of the object before are taken over.
-use Rattle.std.specs.Prelude.{ℕ, ◌≡◌, ◌+◌, ◌<◌, ◌≤◌, ◌⊎◌, nat_lt, nat_le, Bool, true, false, not, ◌||◌, List, [], ◌∷◌, ◌++◌, drop, length, reverse}
+use Rattle.std.specs.Prelude.{ℕ, ◌≡◌, ◌+◌, ◌^◌, ◌<◌, ◌≤◌, ◌⊎◌, nat_lt, nat_le, Bool, true, false, not, ◌||◌, List, [], ◌∷◌, ◌++◌, drop, length, reverse}
 use Rattle.definitions.specs.Cards.{Card}
 use Rattle.definitions.specs.Edits.{Edited, IsUntouched}
 use Rattle.definitions.specs.DeckKinds.{kind_of_statements}
@@ -86,6 +86,24 @@ pub record IsWalkedDue (whole : Whole) (plan : CodePlan) (base : ℕ) (left : Li
   pub beside : IsDueBeside whole.deck.kind whole.cards plan earlier coming standing former
   pub within : coded ≤ base + code_due_in whole plan earlier
 
+-- how many settled statements are bound otherwise than in an old deck, newest first
+abbrev pub bound_otherwise : Context → Context → List Settled → ℕ
+bound_otherwise old new [] = 0
+bound_otherwise old new (settled ∷ earlier) = bound_otherwise old new earlier + one_where (is_rebound old new settled)
+
+-- a count has come from a base to this: by one at least for each of these statements that is bound otherwise, unless that is beyond its greatest value
+abbrev pub RisesRebound : Whole → Context → ℕ → List Statement → ℕ → Type 0
+RisesRebound whole old base statements coded = base + length statements < 2 ^ 64 → base + bound_otherwise old (context_in whole) (settled_all whole.deck.kind statements) ≤ coded
+
+-- a walk over a deck has come to these statements that are left; each so far that is bound otherwise than in an old deck has been counted
+pub record IsWalkedAnew (whole : Whole) (old : Context) (base : ℕ) (left : List SizedStatement) (standing coded : ℕ) : Type 0 where
+  pub earlier : List Statement
+  pub coming : List Statement
+  pub all : reverse coming ++ earlier ≡ whole.known
+  pub sized : AreSizedFrom whole.deck.kind earlier standing (drop standing whole.cards) left coming whole.deck.behind (reverse whole.others)
+  pub few : coded ≤ base + length earlier
+  pub anew : RisesRebound whole old base earlier coded
+
 -- what is due in a deck with these cards
 abbrev pub code_due_of : List Card → CodePlan → ℕ
 code_due_of cards plan =
@@ -99,3 +117,9 @@ pub record IsPlanOf (kind : DeckKind) (old cards : List Card) (former : Former) 
   pub known : plan.old ≡ context_from (known_in old)
   pub few : plan.decks.before ≤ former.before
   pub begins : StandBeforeTail kind old cards former.tail (known_in cards) plan.from
+
+-- each statement of a deck that is bound otherwise than in the one before is counted
+abbrev pub RisesReboundOf : List Card → List Card → ℕ → ℕ → Type 0
+RisesReboundOf old cards count now =
+    let known = known_in cards in
+    count + length known < 2 ^ 64 → count + bound_otherwise (context_from (known_in old)) (context_from known) (settled_all (kind_of_statements known) known) ≤ now

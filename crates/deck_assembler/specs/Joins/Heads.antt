@@ -1,5 +1,5 @@
 -- The neutral statements in front of an edited card, which stay in a deck of another kind but for their two counters.
-use Rattle.std.specs.Prelude.{ℕ, ◌≡◌, ⊤, ◌+◌, ◌≤◌, true, List, [], ◌∷◌, Some, None, take, length}
+use Rattle.std.specs.Prelude.{ℕ, ◌≡◌, ⊤, ◌+◌, ◌≤◌, true, List, [], ◌∷◌, ◌++◌, Some, None, take, length}
 use Rattle.std.specs.List.{AllByRecursion}
 use Rattle.definitions.specs.Blocks.{nominal}
 use Rattle.definitions.specs.Cards.{Card}
@@ -88,9 +88,10 @@ pub record IsWholeDeck (old : OldCards) (deck : OldDeck) : Type 0 where
   pub short : AllByRecursion IsShort deck.pieces.items
   pub behind : deck.behind ≡ old.behind
 
--- what stays of an old deck stands in front of an edited one: all that stands untouched in front of both
+-- what stays of an old deck, which that begins with, stands in front of an edited one: all that stands untouched in front of both
 pub record BeginsBeside (kind : DeckKind) (old cards : List Card) (before : ℕ) (deck : OldDeck) : Type 0 where
   pub of : List Card
+  pub of_old : (behind : List Statement) × (known_in old ≡ behind ++ known_in of)
   pub kept_on : IsKeptOn kind of cards [] deck
   pub stands : (decks : Edited) (front : List Statement) → decks.old ≡ known_in old → decks.new ≡ known_in cards → decks.before ≤ before → kind_of_statements (known_in cards) ≡ kind →
       IsUntouched decks front → StandsInFront of (known_in cards) front deck

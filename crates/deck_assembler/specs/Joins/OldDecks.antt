@@ -11,6 +11,7 @@ use Rattle.deck_assembler.specs.Joins.Formers.{known_in}
 use Rattle.deck_assembler.specs.Joins.SizedDecks.{IsSizedStatement, AreSizedFrom}
 use Rattle.deck_assembler.specs.Joins.Sizers.{stood, ahead, IsNext, IsSizer}
 use Rattle.deck_assembler.specs.Joins.Tails.{AreKeptAlike, HaveOneTail}
+use Rattle.deck_assembler.specs.Stays.{IsAsBefore}
 use Rattle.deck_assembler.specs.declared.old_deck.OldDeck.{OldDeck}
 use Rattle.deck_assembler.specs.declared.old_deck.Stage.{Stage}
 use Rattle.deck_assembler.specs.declared.old_deck.Stage.TheVariants as stages
@@ -68,11 +69,11 @@ abbrev pub KeepsOn : List Card → Span → Sizer → OldDeck → OldDeck → Ty
 KeepsOn cards span sizer deck new =
     (kind : DeckKind) (old : List Card) (earlier : List Statement) → IsOnSpan kind old cards earlier span sizer deck → IsKeptOn kind old cards (statement_at cards span ∷ earlier) new
 
--- wherever a span is the next one of these cards, a statement is that of the span as it was sized
+-- wherever a span is the next one of these cards, a statement is that of the span as it was sized, and settled as one of the old deck
 abbrev pub IsThatOf : List Card → Span → Sizer → OldDeck → SizedStatement → Type 0
 IsThatOf cards span sizer deck sized =
     (kind : DeckKind) (old : List Card) (earlier : List Statement) → IsOnSpan kind old cards earlier span sizer deck →
-    IsSizedStatement kind earlier (stood earlier) (ahead cards earlier) sized (statement_at cards span) × (sized.cards ≡ span.count)
+    IsSizedStatement kind earlier (stood earlier) (ahead cards earlier) sized (statement_at cards span) × ((sized.cards ≡ span.count) × IsAsBefore kind (known_in old) earlier (statement_at cards span))
 
 -- statements that stand untouched in front of the old deck and of these statements
 pub record StandsInFront (old : List Card) (new front : List Statement) (deck : OldDeck) : Type 0 where

@@ -3,7 +3,7 @@ use Rattle.std.specs.Prelude.{ℕ, ◌≡◌, None, List, drop, take}
 use Rattle.cards.specs.declared.edits.Edit.{Edit}
 use Rattle.cards.specs.Edits.{edited_by}
 use Rattle.statement_coder.specs.declared.meter.Meter.{Meter}
-use Rattle.edit_core.specs.Edited.{IsRecordOf}
+use Rattle.edit_core.specs.Edited.{IsRecordOf, RisesToAnew, RisesToRebound}
 use Rattle.edit_core.specs.Faults.{against_all}
 use Rattle.edit_core.specs.Records.{Record}
 use Rattle.edit_core.specs.Sums.{CountsInOrder}
@@ -14,3 +14,5 @@ pub record IsFirstMade (count : ℕ) (edits others : List Edit) (old new : Recor
   pub made : IsRecordOf old.name (edited_by (take count edits) old.cards) new
   pub apply : against_all others new.is_spent new.cards ≡ None
   pub counts : CountsInOrder (take count edits) old.cards before behind
+  pub anew : RisesToAnew (take count edits) old.cards before.sized behind.sized
+  pub rebound : RisesToRebound (take count edits) old.cards before.coded behind.coded

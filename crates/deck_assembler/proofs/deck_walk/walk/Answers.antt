@@ -2,9 +2,10 @@ use Rattle.std.proofs.Common.{List, sym, subst}
 use Rattle.deck_assembler.specs.Joins.DeckParts.{DeckPiece, sized_in}
 use Rattle.deck_assembler.specs.Joins.Walks.{whole_of}
 use Rattle.deck_assembler.specs.Joins.DeckWalks.{IsListing}
-use Rattle.deck_assembler.specs.Joins.DueCodes.{IsWalkedDue}
+use Rattle.deck_assembler.specs.Joins.DueCodes.{IsWalkedAnew, IsWalkedDue}
 use Rattle.deck_assembler.specs.Joins.FormerLines.{IsWalkedBeside}
 use Rattle.deck_assembler.proofs.DueCodeLaws.{due-begins}
+use Rattle.deck_assembler.proofs.ReboundLaws.{anew-begins}
 use Rattle.deck_assembler.proofs.DeckWalkLaws.{walk-listing, walk-noted}
 use Rattle.deck_assembler.proofs.deck_walk.walk.Goals as goal
 
@@ -46,3 +47,11 @@ returns-clause-due c = λ known others plan is planned beside.
     c.in_ok-add_pieces.ensures.due known others plan coded is planned
     (subst (λ (pieces : List DeckPiece). IsWalkedDue whole plan coded (sized_in pieces) c.in_ok-made.made.lines.stood former coded) (sym c.pieces.ensures)
     (subst (λ n. IsWalkedDue whole plan coded (sized_in whole.deck.pieces) n former coded) (sym c.in_ok-made.ensures.stood) (due-begins whole plan former coded is beside)))
+
+pub returns-clause-anew : goal.returns-clause-anew
+returns-clause-anew c = λ known others old is bound.
+    let whole = whole_of c.args.view.now known others in
+    let coded = c.args.meter.now.coded in
+    c.in_ok-add_pieces.ensures.anew known others old coded is bound
+    (subst (λ (pieces : List DeckPiece). IsWalkedAnew whole old coded (sized_in pieces) c.in_ok-made.made.lines.stood coded) (sym c.pieces.ensures)
+    (subst (λ n. IsWalkedAnew whole old coded (sized_in whole.deck.pieces) n coded) (sym c.in_ok-made.ensures.stood) (anew-begins whole old coded is)))

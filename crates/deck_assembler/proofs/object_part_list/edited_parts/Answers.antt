@@ -2,7 +2,8 @@ use Rattle.std.proofs.Common.{◌∙◌, [], length, reverse, refl, ap, sym, sub
 use Rattle.deck_assembler.specs.Joins.DueCodes.{IsDueBeside}
 use Rattle.deck_assembler.specs.Joins.FormerLines.{AreChosen, IsBeside}
 use Rattle.deck_assembler.specs.Joins.Formers.{known_in}
-use Rattle.deck_assembler.proofs.FormerLaws.{begin-beside, begin-due}
+use Rattle.deck_assembler.proofs.FormerLaws.{begin-beside, begin-due, has-lines}
+use Rattle.deck_assembler.proofs.ResultLaws.{on_ok_one}
 use Rattle.deck_assembler.proofs.object_part_list.edited_parts.Goals as goal
 
 pub parts_beside-requires-clause-beside : goal.parts_beside-requires-clause-beside
@@ -27,3 +28,13 @@ returns-clause-due c = λ plan of.
     let bound = c.parts_beside.ensures.due lines found.own refl found.planned (subst (λ k. IsDueBeside k cards found.own [] (reverse (known_in cards)) 0 lines) (sym c.requires.deck.kind) found.beside) in
     let same = found.same in
     omega (arith, bound, same)
+
+pub returns-clause-anew : goal.returns-clause-anew
+returns-clause-anew c =
+    let cards = c.args.cards.now in
+    let old = c.args.object.now.cards in
+    let former = c.args.edited.now.former in
+    let lines = c.lines-lines.result in
+    let chosen = subst (λ n. AreChosen c.kind.result n (length cards) former c.parts.result.now lines) (ap length c.cards.ensures) c.lines-lines.ensures in
+    let has = has-lines c.kind.result former.kind old cards c.args.object.now.name former c.parts.result.now lines c.requires.former c.parts.ensures chosen refl in
+    on_ok_one c.parts_beside.result _ _ (λ step. step lines old refl has.bindings) c.parts_beside.ensures.anew

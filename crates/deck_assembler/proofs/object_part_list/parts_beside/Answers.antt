@@ -3,12 +3,15 @@ use Rattle.std.specs.Prelude.{IfSome}
 use Rattle.std.proofs.lemmas.List.{length-reverse}
 use Rattle.definitions.specs.DeckKinds.{up_to_end, behind_end}
 use Rattle.definitions.specs.Lengths.{rows_of}
+use Rattle.definitions.specs.Rebound.{context_from}
 use Rattle.definitions.specs.Statements.{statements_of}
 use Rattle.deck_objects.specs.declared.object.ObjectParts.{ObjectParts}
 use Rattle.deck_assembler.specs.Joins.DeckParts.{sized_in}
 use Rattle.deck_assembler.specs.Joins.DueCodes.{IsDueBeside}
+use Rattle.deck_assembler.specs.Joins.Formers.{known_in}
+use Rattle.deck_assembler.specs.Joins.Rebindings.{AreBindings}
 use Rattle.deck_assembler.specs.declared.former_lines.FormerLines.{FormerLines}
-use Rattle.deck_assembler.proofs.DueCodeCounts.{due-of-deck}
+use Rattle.deck_assembler.proofs.DueCodeCounts.{anew-of-deck, due-of-deck}
 use Rattle.deck_assembler.specs.Joins.Walks.{Whole, IsWhole}
 use Rattle.deck_assembler.proofs.FormerLaws.{chosen-beside}
 use Rattle.deck_assembler.proofs.PartLaws.{AreMade, parts-of}
@@ -121,3 +124,16 @@ returns-clause-due c = λ lines plan given planned beside.
     let chosen = subst (λ (former : Option FormerLines). IfSome former (λ l. c.lines_or_none.result ≡ l)) given c.lines_or_none.ensures.some in
     let due = c.in_ok-made.ensures.due (up_to_end all) (behind_end all) plan is planned (subst (λ l. IsDueBeside whole.deck.kind whole.cards plan [] (reverse whole.known) 0 l) (sym chosen) beside) in
     subst (λ n. c.walk.new.meter.coded ≤ c.args.meter.now.coded + n) (due-of-deck whole plan is refl) due
+
+pub returns-clause-anew : goal.returns-clause-anew
+returns-clause-anew c = λ lines old given bound.
+    let all = statements_of (reverse c.args.cards.now) in
+    let whole : Whole = record { cards = c.args.cards.now; deck = c.args.deck.now; rows = c.in_ok-bases.bases; known = up_to_end all; others = behind_end all } in
+    let is : IsWhole whole = record {
+      sized = c.requires.deck;
+      rows = c.in_ok-bases.ensures.rows ∙ ap₂ rows_of (c.lengths.ensures ∙ c.requires.deck.lengths) (c.literals-2.ensures ∙ c.requires.deck.literals);
+      few = c.requires.few;
+    } in
+    let chosen = subst (λ (former : Option FormerLines). IfSome former (λ l. c.lines_or_none.result ≡ l)) given c.lines_or_none.ensures.some in
+    anew-of-deck whole old c.args.meter.now.coded c.walk.new.meter.coded is refl
+    (c.in_ok-made.ensures.anew (up_to_end all) (behind_end all) (context_from (known_in old)) is (subst (λ (l : FormerLines). AreBindings l.bindings (context_from (known_in old))) (sym chosen) bound))

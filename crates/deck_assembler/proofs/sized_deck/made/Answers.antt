@@ -4,8 +4,10 @@ use Rattle.cards.specs.Joins.Spans.{IsSpan}
 use Rattle.definitions.specs.DeckKinds.{up_to_end, kind_of_statements}
 use Rattle.definitions.specs.Statements.{Statement}
 use Rattle.statement_coder.specs.Joins.Meters.{RisesBy}
+use Rattle.deck_assembler.specs.Joins.Formers.{known_in}
 use Rattle.deck_assembler.specs.Joins.OldDecks.{StandsInFront}
 use Rattle.deck_assembler.specs.Joins.Tails.{HasTailIfAny, HasTailWithin}
+use Rattle.deck_assembler.specs.Stays.{RisesAnew}
 use Rattle.deck_assembler.specs.declared.old_deck.Stage.TheVariants as stages
 use Rattle.deck_assembler.proofs.DeckLaws.{all-statements, all-numbered, all-behind, deck-made, counts_of}
 use Rattle.deck_assembler.proofs.FrontLaws.{front-in, stands-still}
@@ -88,3 +90,8 @@ pub returns-clause-all : goal.returns-clause-all
 returns-clause-all c =
     subst (λ (l : List Statement). c.args.old_deck.stage ≡ stages.Over → RisesBy (length (up_to_end l)) c.args.meter.now.sized c.take_up_to_end.new.meter.sized)
     (all-statements c.args.cards.now c.args.spans.now c.requires.statements) c.in_ok-taken.ensures.all
+
+pub returns-clause-anew : goal.returns-clause-anew
+returns-clause-anew c = λ of kept.
+    let all = ap up_to_end (sym (all-statements c.args.cards.now c.args.spans.now c.requires.statements)) ∙ c.in_ok-taken.ensures.ended.front in
+    subst (λ (l : List Statement). RisesAnew c.args.kind (known_in of) l c.args.meter.now.sized c.take_up_to_end.new.meter.sized) (sym all) (c.in_ok-taken.ensures.anew of kept)

@@ -4,8 +4,9 @@ use Rattle.definitions.specs.DeckInput.{Deck}
 use Rattle.definitions.specs.DeckKinds.{kind_of_statements}
 use Rattle.definitions.specs.Objects.{object_of}
 use Rattle.deck_objects.specs.Joins.PartsOf.{ArePartsOf}
-use Rattle.deck_assembler.specs.Joins.DueCodes.{IsPlanOf, code_due_of}
+use Rattle.deck_assembler.specs.Joins.DueCodes.{IsPlanOf, RisesReboundOf, code_due_of}
 use Rattle.deck_assembler.specs.Joins.Formers.{known_in}
+use Rattle.deck_assembler.proofs.ResultLaws.{on_ok_any}
 use Rattle.edit_core.proofs.assembling.edited_object.Goals as goal
 
 pub new-requires : goal.new-requires
@@ -24,3 +25,6 @@ returns-clause-coded_due c = λ plan of.
     let same = c.deref.ensures.value in
     let moved = subst (λ (l : List Card). IsPlanOf (kind_of_statements (known_in l)) c.args.object.now.cards l c.args.edited.now.former plan) (sym same) of in
     subst (λ (l : List Card). c.edited_parts.new.meter.coded ≤ c.args.meter.now.coded + code_due_of l plan) same (c.in_ok-parts.ensures.due plan moved)
+
+pub returns-clause-coded_anew : goal.returns-clause-coded_anew
+returns-clause-coded_anew c = on_ok_any _ (subst (λ (l : List Card). RisesReboundOf c.args.object.now.cards l c.args.meter.now.coded c.edited_parts.new.meter.coded) c.deref.ensures.value c.in_ok-parts.ensures.anew)

@@ -8,6 +8,7 @@ use Rattle.deck_assembler.specs.Joins.Rebindings.{AreBindings}
 use Rattle.deck_assembler.specs.Joins.Walks.{context_in, whole_of}
 use Rattle.deck_assembler.specs.declared.former_lines.FormerLine.{FormerLine}
 use Rattle.deck_assembler.proofs.FormerLaws.{still-letters, still-coded}
+use Rattle.deck_assembler.proofs.ResultLaws.{on_ok_any}
 use Rattle.deck_assembler.proofs.deck_lines.DeckLines.put.Goals as goal
 
 pub returns-in-None-clause-lined : goal.returns-in-None-clause-lined
@@ -41,3 +42,18 @@ returns-then-is_rebound-clause-kept c = λ known others earlier given old one is
     let same : c.in-Some.found ≡ one = some-same c.in-Some.found one (sym c.in-Some.is ∙ found) in
     let tested = c.is_rebound.ensures old (context_in whole) settled (subst (λ (f : FormerLine). AreBindings f.bindings old) (sym same) bound) is.sized.symbols refl refl taken sized.sizing.location sized.sizing.origin in
     absurd (true≢false (sym c.if-is_rebound.true ∙ tested ∙ rebound))
+
+-- and what is bound otherwise is counted
+pub returns-in-None-clause-anew : goal.returns-in-None-clause-anew
+returns-in-None-clause-anew c = on_ok_any c.add.result (λ known others earlier given old one is taken sized found bound rebound. c.add.ensures.coded)
+
+pub returns-then-is_rebound-clause-anew : goal.returns-then-is_rebound-clause-anew
+returns-then-is_rebound-clause-anew c = on_ok_any c.add-then-is_rebound.result (λ known others earlier given old one is taken sized found bound rebound. c.add-then-is_rebound.ensures.coded)
+
+pub returns-else-is_rebound-clause-anew : goal.returns-else-is_rebound-clause-anew
+returns-else-is_rebound-clause-anew c = on_ok_any c.copy.result (λ known others earlier given old one is taken sized found bound rebound.
+    let whole = whole_of c.args.view.now known others in
+    let settled : Settled = settle whole.deck.kind (settled_all whole.deck.kind earlier) given in
+    let same : c.in-Some.found ≡ one = some-same c.in-Some.found one (sym c.in-Some.is ∙ found) in
+    let tested = c.is_rebound.ensures old (context_in whole) settled (subst (λ (f : FormerLine). AreBindings f.bindings old) (sym same) bound) is.sized.symbols refl refl taken sized.sizing.location sized.sizing.origin in
+    absurd (true≢false (sym rebound ∙ sym tested ∙ c.if-is_rebound.false)))

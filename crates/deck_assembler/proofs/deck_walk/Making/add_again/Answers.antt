@@ -9,7 +9,7 @@ use Rattle.operations.specs.Joins.OperationsAs.{operation_as}
 use Rattle.statement_coder.specs.Joins.Readings.{IsReading}
 use Rattle.deck_assembler.specs.Joins.Walks.{whole_of}
 use Rattle.deck_assembler.proofs.FormerLaws.{beside-step}
-use Rattle.deck_assembler.proofs.ResultLaws.{on_ok_both}
+use Rattle.deck_assembler.proofs.ResultLaws.{on_ok_both, on_ok_one}
 use Rattle.deck_assembler.proofs.WalkLaws.{settle-codable, stood-step}
 use Rattle.deck_assembler.proofs.deck_walk.Making.add_again.Goals as goal
 
@@ -45,3 +45,16 @@ returns-clause-kept c = λ known others earlier given old one is next found boun
     let again = read_again c.read-statement.result sized.sizing (settle whole.deck.kind (settled_all whole.deck.kind earlier) given) c.read_operand-read.result codes c.read_operand-read.ensures.operation
     (subst (λ b. IsReading c.read_operand-read.result.reading (operand_of code.kind b (operation_as code.operation) code.name.now code.variable.now)) c.number_base.ensures c.read_operand-read.ensures.reading) in
     c.put.ensures.kept known others earlier given old one is again next found bound rebound
+
+pub returns-clause-anew : goal.returns-clause-anew
+returns-clause-anew c = on_ok_one c.put.result _ _ (λ step known others earlier given old one is next found bound rebound.
+    let whole = whole_of c.args.view.now known others in
+    let sized = c.args.sized.now in
+    let read : IsRead whole.deck.kind given.cards c.read-statement.result =
+    subst (λ (cards : List Card). IsRead whole.deck.kind cards c.read-statement.result) (c.next_cards-cards.ensures.cards next.few next.within ∙ next.cards)
+    (subst (λ (kind : DeckKind). IsRead kind c.next_cards-cards.result.now c.read-statement.result) c.kind.ensures c.read-statement.ensures) in
+    let code = c.read-statement.result in
+    let codes = settle-codable whole.deck.kind (settled_all whole.deck.kind earlier) given c.read-statement.result sized.sizing read next.number_base in
+    let again = read_again c.read-statement.result sized.sizing (settle whole.deck.kind (settled_all whole.deck.kind earlier) given) c.read_operand-read.result codes c.read_operand-read.ensures.operation
+    (subst (λ b. IsReading c.read_operand-read.result.reading (operand_of code.kind b (operation_as code.operation) code.name.now code.variable.now)) c.number_base.ensures c.read_operand-read.ensures.reading) in
+    step known others earlier given old one is again next found bound rebound) c.put.ensures.anew

@@ -1,9 +1,11 @@
-use Rattle.std.proofs.Common.{◌∙◌, ◌+◌, List, ◌++◌, drop, refl, subst, arith}
+use Rattle.std.proofs.Common.{◌∙◌, ◌+◌, List, ◌++◌, drop, refl, sym, subst, arith}
 use Rattle.deck_assembler.specs.Joins.FormerLines.{IsWalkedBeside}
 use Rattle.deck_assembler.specs.Joins.Walks.{whole_of}
 use Rattle.deck_assembler.specs.declared.sized_statement.SizedStatement.{SizedStatement}
-use Rattle.deck_assembler.specs.Joins.DueCodes.{IsWalkedDue}
+use Rattle.deck_assembler.specs.Joins.DueCodes.{IsWalkedAnew, IsWalkedDue}
+use Rattle.deck_assembler.specs.Joins.Rebindings.{AreBindings}
 use Rattle.deck_assembler.proofs.DueCodeLaws.{due-all, due-step}
+use Rattle.deck_assembler.proofs.ReboundLaws.{anew-step, line-bound}
 use Rattle.deck_assembler.proofs.WalkLaws.{stood-step}
 use Rattle.deck_assembler.proofs.FormerLaws.{none-left, item-split, all-dropped}
 use Rattle.deck_assembler.proofs.deck_walk.Making.add_all.Goals as goal
@@ -41,6 +43,14 @@ loop-sized-preserved c =
           (c.loop-sized.invariant.due known others left plan base is planned start)) c.next-found.ensures.next added.coded
           (λ earlier given one next found bound rebound. added.kept known others earlier given plan.old one is next found bound rebound)
           (λ some within. added.stood ∙ stood-step c.loop-sized.self.lines.stood sized.cards whole.cards some within is.few);
+      anew = λ known others left old base is bound start.
+          let whole = whole_of c.args.view.now known others in
+          anew-step whole old base (drop (i + 1) piece ++ left) sized c.loop-sized.self.lines.stood c.add.new.self.lines.stood c.next-found.result _ _ is
+          (subst (λ (l : List SizedStatement). IsWalkedAnew whole old base (l ++ left) c.loop-sized.self.lines.stood c.loop-sized.meter.coded) (item-split piece i sized c.loop-sized-test.true c.sized-item.is)
+          (c.loop-sized.invariant.anew known others left old base is bound start)) added.rises added.coded added.all
+          (line-bound c.loop-sized.former c.next-found.new.self c.loop-sized.self.lines.stood sized.cards c.next-found.result c.next-found.ensures.next old (subst (λ b. AreBindings b old) (sym c.loop-sized.invariant.bindings) bound))
+          (λ earlier given one next found bound rebound. added.anew known others earlier given old one is next found bound rebound)
+          (λ some within. added.stood ∙ stood-step c.loop-sized.self.lines.stood sized.cards whole.cards some within is.few);
     }
 
 pub returns-clause-walked : goal.returns-clause-walked
@@ -73,3 +83,9 @@ returns-clause-due_on c = λ known others left plan base is planned start.
 pub returns-clause-due : goal.returns-clause-due
 returns-clause-due c = λ known others left plan base is planned start.
     due-all (whole_of c.args.view.now known others) plan base left c.loop-sized.self.lines.stood c.loop-sized.former _ (returns-clause-due_on c known others left plan base is planned start)
+
+pub returns-clause-anew : goal.returns-clause-anew
+returns-clause-anew c = λ known others left old base is bound start.
+    let whole = whole_of c.args.view.now known others in
+    subst (λ (l : List SizedStatement). IsWalkedAnew whole old base (l ++ left) c.loop-sized.self.lines.stood c.loop-sized.meter.coded) (all-dropped c.args.piece.now c.loop-sized.sized-index c.loop-sized-test.false)
+    (c.loop-sized.invariant.anew known others left old base is bound start)

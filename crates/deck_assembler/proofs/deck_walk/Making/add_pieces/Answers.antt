@@ -3,8 +3,10 @@ use Rattle.deck_assembler.specs.Joins.DeckParts.{DeckPiece, sized_in}
 use Rattle.deck_assembler.specs.Joins.FormerLines.{IsWalkedBeside}
 use Rattle.deck_assembler.specs.Joins.Walks.{whole_of}
 use Rattle.deck_assembler.specs.declared.sized_statement.SizedStatement.{SizedStatement}
-use Rattle.deck_assembler.specs.Joins.DueCodes.{IsWalkedDue}
+use Rattle.deck_assembler.specs.Joins.DueCodes.{IsWalkedAnew, IsWalkedDue}
+use Rattle.deck_assembler.specs.Joins.Rebindings.{AreBindings}
 use Rattle.deck_assembler.proofs.DueCodeLaws.{due-all}
+use Rattle.deck_assembler.proofs.ReboundLaws.{anew-ends}
 use Rattle.deck_assembler.proofs.FormerLaws.{item-split, all-dropped}
 use Rattle.deck_assembler.proofs.PieceCounts.{pieces-within, pieces-more}
 use Rattle.deck_assembler.proofs.deck_walk.Making.add_pieces.Goals as goal
@@ -54,6 +56,14 @@ loop-piece-preserved c =
           (subst (λ (l : List SizedStatement). IsWalkedDue whole plan base (l ++ sized_in (drop (i + 1) pieces)) stood c.loop-piece.former coded) (sym c.statements.ensures.statements)
           (subst (λ (l : List DeckPiece). IsWalkedDue whole plan base (sized_in l) stood c.loop-piece.former coded) (item-split pieces i piece c.loop-piece-test.true c.piece-item.is)
           (c.loop-piece.invariant.due known others plan base is planned start)));
+      anew = λ known others old base is bound start.
+          let whole = whole_of c.args.view.now known others in
+          let stood = c.loop-piece.self.lines.stood in
+          let coded = c.loop-piece.meter.coded in
+          added.anew known others (sized_in (drop (i + 1) pieces)) old base is (subst (λ b. AreBindings b old) (sym c.loop-piece.invariant.bindings) bound)
+          (subst (λ (l : List SizedStatement). IsWalkedAnew whole old base (l ++ sized_in (drop (i + 1) pieces)) stood coded) (sym c.statements.ensures.statements)
+          (subst (λ (l : List DeckPiece). IsWalkedAnew whole old base (sized_in l) stood coded) (item-split pieces i piece c.loop-piece-test.true c.piece-item.is)
+          (c.loop-piece.invariant.anew known others old base is bound start)));
     }
 
 pub returns-clause-walked : goal.returns-clause-walked
@@ -83,3 +93,10 @@ returns-clause-due c = λ known others plan base is planned start.
     due-all whole plan base [] stood c.loop-piece.former coded
     (subst (λ (l : List DeckPiece). IsWalkedDue whole plan base (sized_in l) stood c.loop-piece.former coded) (all-dropped c.args.pieces.now c.loop-piece.piece-index c.loop-piece-test.false)
     (c.loop-piece.invariant.due known others plan base is planned start))
+
+pub returns-clause-anew : goal.returns-clause-anew
+returns-clause-anew c = λ known others old base is bound start.
+    let whole = whole_of c.args.view.now known others in
+    anew-ends whole old base c.loop-piece.self.lines.stood c.loop-piece.meter.coded
+    (subst (λ (l : List DeckPiece). IsWalkedAnew whole old base (sized_in l) c.loop-piece.self.lines.stood c.loop-piece.meter.coded) (all-dropped c.args.pieces.now c.loop-piece.piece-index c.loop-piece-test.false)
+    (c.loop-piece.invariant.anew known others old base is bound start))

@@ -1,10 +1,12 @@
 use Rattle.std.proofs.Common.{◌≡◌, ℕ, ◌≤◌, ◌+◌, List, take, drop, length}
+use Rattle.definitions.specs.StatementItems.{Context}
 use Rattle.definitions.specs.Statements.{Statement}
 use Rattle.statement_coder.specs.Joins.Meters.{RisesBy}
 use Rattle.deck_assembler.specs.Joins.DeckParts.{sized_in}
 use Rattle.deck_assembler.specs.Joins.Walks.{IsWhole, whole_of}
-use Rattle.deck_assembler.specs.Joins.DueCodes.{CodePlan, IsPlanned, IsWalkedDue}
+use Rattle.deck_assembler.specs.Joins.DueCodes.{CodePlan, IsPlanned, IsWalkedAnew, IsWalkedDue}
 use Rattle.deck_assembler.specs.Joins.FormerLines.{IsBare, IsWalkedBeside}
+use Rattle.deck_assembler.specs.Joins.Rebindings.{AreBindings}
 use Rattle.deck_assembler.proofs.deck_walk.Making.add_pieces.Given as goal
 
 -- the statements of the pieces so far are behind, each coded once at most
@@ -21,4 +23,7 @@ invariant-loop-piece l = record {
   due : (known others : List Statement) (plan : CodePlan) (base : ℕ) → IsWhole (whole_of l.view known others) → IsPlanned known plan →
       IsWalkedDue (whole_of l.view known others) plan base (sized_in l.pieces) l.fn.self.lines.stood l.fn.former l.fn.meter.coded →
       IsWalkedDue (whole_of l.view known others) plan base (sized_in (drop l.piece-index l.pieces)) l.self.lines.stood l.former l.meter.coded;
+  anew : (known others : List Statement) (old : Context) (base : ℕ) → IsWhole (whole_of l.view known others) → AreBindings l.fn.former.bindings old →
+      IsWalkedAnew (whole_of l.view known others) old base (sized_in l.pieces) l.fn.self.lines.stood l.fn.meter.coded →
+      IsWalkedAnew (whole_of l.view known others) old base (sized_in (drop l.piece-index l.pieces)) l.self.lines.stood l.meter.coded;
 }

@@ -3,7 +3,7 @@ use Rattle.definitions.specs.Settling.{settle, settled_all}
 use Rattle.deck_assembler.specs.Joins.SharedNames.{enters}
 use Rattle.deck_assembler.specs.Joins.Walks.{whole_of}
 use Rattle.deck_assembler.proofs.FormerLaws.{beside-step}
-use Rattle.deck_assembler.proofs.ResultLaws.{on_ok_both}
+use Rattle.deck_assembler.proofs.ResultLaws.{on_ok_both, on_ok_one}
 use Rattle.deck_assembler.proofs.WalkLaws.{silent-noted, stood-step}
 use Rattle.deck_assembler.proofs.deck_walk.Making.add_read.Goals as goal
 
@@ -26,3 +26,9 @@ returns-in-Some-clause-kept c = λ known others earlier given old one is next fo
     let whole = whole_of c.args.view.now known others in
     let settled = settle whole.deck.kind (settled_all whole.deck.kind earlier) given in
     c.put.ensures.kept known others earlier given old one is (c.in-Some.ensures.read settled next.operation next.kept) next found bound rebound
+
+pub returns-in-Some-clause-anew : goal.returns-in-Some-clause-anew
+returns-in-Some-clause-anew c = on_ok_one c.put.result _ _ (λ step known others earlier given old one is next found bound rebound.
+    let whole = whole_of c.args.view.now known others in
+    let settled = settle whole.deck.kind (settled_all whole.deck.kind earlier) given in
+    step known others earlier given old one is (c.in-Some.ensures.read settled next.operation next.kept) next found bound rebound) c.put.ensures.anew

@@ -1,11 +1,13 @@
-use Rattle.std.proofs.Common.{◌∙◌, Option, ap₂, sym, subst}
+use Rattle.std.proofs.Common.{◌∙◌, Option, true≢false, ap₂, sym, subst}
+use Rattle.std.specs.Prelude.{IfSome}
 use Rattle.definitions.specs.Settling.{settle, settled_all}
-use Rattle.deck_assembler.specs.Joins.FormerLines.{WasLineIfAny}
+use Rattle.deck_assembler.specs.Joins.FormerLines.{MeanAsViewed, WasLineIfAny}
 use Rattle.deck_assembler.specs.Joins.SharedNames.{enters}
 use Rattle.deck_assembler.specs.Joins.Walks.{whole_of}
 use Rattle.deck_assembler.specs.declared.former_lines.FormerLine.{FormerLine}
 use Rattle.deck_assembler.proofs.FormerLaws.{beside-step}
-use Rattle.deck_assembler.proofs.ResultLaws.{on_ok_both}
+use Rattle.deck_assembler.proofs.ResultLaws.{on_ok_any, on_ok_both}
+use Rattle.deck_assembler.proofs.SameLaws.{never-rebound}
 use Rattle.deck_assembler.proofs.WalkLaws.{silent-noted, stood-step}
 use Rattle.deck_assembler.proofs.deck_walk.Making.add_same.Goals as goal
 
@@ -22,3 +24,11 @@ returns-else-enters-clause-walked c =
       noted = silent-noted whole earlier given old.names (ap₂ enters (sym c.kind.ensures) next.operation ∙ sym c.enters.ensures ∙ c.if-enters.false) noted;
       stood = stood ∙ stood-step old.lines.stood sized.cards whole.cards next.some next.within is.few;
     })) c.copy_same.ensures.lined c.copy_same.ensures.stood
+
+-- nothing is bound otherwise
+pub returns-else-enters-clause-anew : goal.returns-else-enters-clause-anew
+returns-else-enters-clause-anew c = on_ok_any c.copy_same.result (λ known others earlier given old one is next found bound rebound.
+    let view = c.args.view.now in
+    let whole = whole_of view known others in
+    let mean = subst (λ (f : Option FormerLine). IfSome f (λ line. MeanAsViewed line.bindings view)) found c.requires in
+    absurd (true≢false (sym rebound ∙ never-rebound one.bindings view known others old (settle whole.deck.kind (settled_all whole.deck.kind earlier) given) is bound mean)))

@@ -1,8 +1,10 @@
 -- A statement that ends before the edited card stays; with another the front is left.
 use Rattle.std.proofs.Common.{◌∷◌, ◌∙◌, ◌+◌, ◌≤◌, List, true≢false, refl, sym, ap, arith, subst}
+use Rattle.std.specs.Prelude.{reverse}
 use Rattle.cards.specs.Joins.Spans.{statement_at}
 use Rattle.definitions.specs.Statements.{Statement}
 use Rattle.deck_assembler.specs.Joins.Agreements.{left, HasFront}
+use Rattle.deck_assembler.specs.Joins.Formers.{known_in}
 use Rattle.deck_assembler.specs.Joins.Meetings.{WillAgreeAt}
 use Rattle.deck_assembler.specs.Joins.OldDecks.{IsAtStage, IsInFront}
 use Rattle.deck_assembler.specs.Joins.Sizers.{ahead}
@@ -14,6 +16,7 @@ use Rattle.deck_assembler.proofs.FrontLaws.{goes-no-more, goes-within}
 use Rattle.deck_assembler.proofs.HeadLaws.{front-next, next-in-front}
 use Rattle.deck_assembler.proofs.MeetLaws.{goes-on}
 use Rattle.deck_assembler.proofs.OldLaws.{at_stage, same-again, same-at}
+use Rattle.deck_assembler.proofs.StayLaws.{same-stays}
 use Rattle.deck_assembler.proofs.old_deck.OldDeck.kept_in_front.Goals as goal
 
 pub leave_front-requires : goal.leave_front-requires
@@ -49,7 +52,7 @@ returns-then-is_within-clause-sized c = λ cards kind old earlier on.
     let count = c.is_within.ensures.count c.if-is_within.true in
     let there = next-in-front kind old cards earlier c.args.span next new sized (left next) on.next (same.deck.kind ∙ on.kept_on.kinds) both.1 count
     (c.is_within.ensures.within c.if-is_within.true) refl refl c.later_cards-self.ensures in
-    (there.0, count)
+    (there.0, (count, same-stays kind (known_in old) (reverse there.1.later) earlier (statement_at cards c.args.span) there.1.all))
 
 pub returns-clause-kept : goal.returns-clause-kept
 returns-clause-kept c = λ cards kind old earlier on.

@@ -7,7 +7,7 @@ use Rattle.deck_assembler.specs.Joins.OldDecks.{IsAtStage}
 use Rattle.deck_assembler.specs.Joins.Sizers.{ahead}
 use Rattle.deck_assembler.specs.declared.old_deck.Stage.TheVariants as stages
 use Rattle.deck_assembler.proofs.DueLaws.{IsNextAlike, next-cut, next-same, next-some}
-use Rattle.deck_assembler.proofs.MeetLaws.{goes-on, soon-next, tail-next}
+use Rattle.deck_assembler.proofs.MeetLaws.{goes-on, soon-next, tail-next, tail-stays}
 use Rattle.deck_assembler.proofs.OldLaws.{at_stage, same-at}
 use Rattle.deck_assembler.proofs.old_deck.OldDeck.kept_in_tail.Goals as goal
 
@@ -30,7 +30,7 @@ returns-then-sized-span-clause-sized c = λ cards sizer kind old earlier on.
     let new = c.next.new.self in
     let here = subst (IsAtStage kind old cards earlier c.args.self.now) c.requires on.kept_on.standing in
     let both = tail-next kind old cards earlier c.args.span c.args.self.now new c.in-Some.sized on.next here c.in-Some.ensures.next c.next.ensures.same.ahead c.if-sized-span.true in
-    (both.0, c.if-sized-span.true)
+    (both.0, (c.if-sized-span.true, tail-stays kind old cards earlier c.args.span c.args.self.now new c.in-Some.sized on.next here c.in-Some.ensures.next c.if-sized-span.true))
 
 pub returns-clause-kept : goal.returns-clause-kept
 returns-clause-kept c = λ cards sizer kind old earlier on.

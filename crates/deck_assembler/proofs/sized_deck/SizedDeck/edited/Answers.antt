@@ -14,9 +14,11 @@ use Rattle.deck_assembler.specs.Joins.FirstSymbols.{symbol_in}
 use Rattle.deck_assembler.specs.Joins.Formers.{known_in}
 use Rattle.deck_assembler.specs.Joins.Meetings.{StandApart, WillAgreeAt}
 use Rattle.deck_assembler.specs.Joins.Tails.{HasTailIfAny, HasTailWithin}
+use Rattle.deck_assembler.specs.Stays.{RisesAnew}
 use Rattle.deck_assembler.proofs.AgreementLaws.{begins-due, untouched-before}
 use Rattle.deck_assembler.proofs.DeckLaws.{all-statements}
 use Rattle.deck_assembler.proofs.FrontLaws.{front-stands, front-still}
+use Rattle.deck_assembler.proofs.StayLaws.{within-all}
 use Rattle.deck_assembler.proofs.sized_deck.SizedDeck.edited.Goals as goal
 
 pub returns-in_err-list-clause-front : goal.returns-in_err-list-clause-front
@@ -154,3 +156,13 @@ returns-clause-within c = λ decks front split apart before is agree more.
     subst (λ (both : DeckKind × ℕ). HasTailWithin both.0 own cards both.1 (known_in cards) limit) (λ i. (kind i, sym (c.with_tail.ensures.tail (c.in_ok-parted.ensures.former.kind ∙ kinds)) i))
     (c.in_ok-all.ensures.within own front limit (two.1 cards c.requires.before c.requires.behind)
     (record { decks = decks; untouched = is; of_old = apart.of_old; of_new = apart.of_new; before = subst (λ n. decks.before ≤ n) (sym two.0.before_is) before; stage = two.0.stage }) (omega (arith, few)) more will)
+
+-- what stays is settled as in the deck before, which begins as what is left of it
+pub returns-clause-anew : goal.returns-clause-anew
+returns-clause-anew c =
+    let cards = c.args.cards.now in
+    let all = ap (λ (spans : List Span). all_statements cards spans) c.as_slice.ensures ∙ all-statements cards c.in_ok-list.list c.in_ok-list.ensures.statements in
+    let kind = c.kind_of-kind.ensures ∙ ap (λ (l : List Statement). kind_of_statements (up_to_end l)) all in
+    let beside = c.in_ok-parted.ensures.beside cards c.requires.before c.requires.behind in
+    subst (λ (k : DeckKind). RisesAnew k (known_in c.args.old.cards.now) (known_in cards) c.args.meter.now.sized c.made.new.meter.sized) kind
+    (λ room. within-all c.kind_of-kind.result (known_in c.args.old.cards.now) (known_in beside.of) beside.of_old.0 (known_in cards) _ beside.of_old.1 (c.in_ok-all.ensures.anew beside.of beside.kept_on room))

@@ -1,5 +1,5 @@
 -- The next statement is one more, kept or sized, and the old deck goes on behind it.
-use Rattle.std.proofs.Common.{ℕ, inr, true≢false, ap, sym, subst, ◌∙◌}
+use Rattle.std.proofs.Common.{ℕ, inl, inr, true≢false, refl, ap, sym, subst, ◌∙◌}
 use Rattle.std.specs.Prelude.{Option, IfSome, is_some}
 use Rattle.deck_assembler.proofs.ResultLaws.{on_ok_any, on_ok_one}
 use Rattle.cards.specs.Joins.Spans.{statement_at}
@@ -36,7 +36,7 @@ returns-in-Some-clause-taken c =
     let found = subst (λ (found : Option SizedStatement). IfSome found (IsThatOf cards span c.args.self.now c.args.old_deck.now)) c.in-Some.is c.in_ok-kept.ensures.sized in
     on_ok_one c.keep_span.result _ _ (λ step old earlier on.
     let both = found kind old earlier on in
-    let next = subst (λ (n : ℕ). IsNext cards earlier n (statement_at cards span)) (sym both.1) on.next in
+    let next = subst (λ (n : ℕ). IsNext cards earlier n (statement_at cards span)) (sym both.1.0) on.next in
     (step earlier next on.sizer_is both.0, c.in_ok-kept.ensures.kept kind old earlier on)) c.keep_span.ensures.kept
 
 pub returns-in-None-clause-taken : goal.returns-in-None-clause-taken
@@ -73,3 +73,12 @@ returns-in-None-clause-due c = on_ok_any c.take_span.result (λ old earlier limi
 
 pub returns-in-None-clause-in_time : goal.returns-in-None-clause-in_time
 returns-in-None-clause-in_time c = λ old earlier limit on next will. inr ((c.in_ok-kept.ensures.due c.args.kind old earlier limit on next will).sized c.in-None.is)
+
+-- what is kept is settled as one of the old deck, and all else is counted
+pub returns-in-Some-clause-anew : goal.returns-in-Some-clause-anew
+returns-in-Some-clause-anew c =
+    let found = subst (λ (found : Option SizedStatement). IfSome found (IsThatOf c.args.cards.now c.args.span c.args.self.now c.args.old_deck.now)) c.in-Some.is c.in_ok-kept.ensures.sized in
+    on_ok_any c.keep_span.result (λ old earlier on. inr (refl, (found c.args.kind old earlier on).1.1))
+
+pub returns-in-None-clause-anew : goal.returns-in-None-clause-anew
+returns-in-None-clause-anew c = on_ok_any c.take_span.result (λ old earlier on. inl c.take_span.ensures.sized)

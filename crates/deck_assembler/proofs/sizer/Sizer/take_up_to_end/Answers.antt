@@ -1,16 +1,20 @@
 -- The statements are sized one behind the other, up to the first END.
-use Rattle.std.proofs.Common.{◌≡◌, ◌+◌, suc, List, get_or, length, sym, ap, ◌∙◌, subst, arith}
+use Rattle.std.proofs.Common.{◌≡◌, ◌+◌, ◌≤◌, suc, List, get_or, length, sym, ap, ◌∙◌, subst, arith}
+use Rattle.cards.specs.Joins.Spans.{statement_at}
 use Rattle.cards.specs.declared.statement_list.Span.{Span}
 use Rattle.definitions.specs.DeckKinds.{has_end, up_to_end}
 use Rattle.definitions.specs.Statements.{Statement}
 use Rattle.deck_assembler.specs.Joins.FirstStatements.{first_statements, IsEnding}
+use Rattle.deck_assembler.specs.Joins.Formers.{known_in}
 use Rattle.deck_assembler.specs.Joins.OldDecks.{IsKeptOn, IsOnSpan}
 use Rattle.deck_assembler.specs.Joins.Sizers.{IsSizer}
 use Rattle.deck_assembler.specs.Joins.Meetings.{WillAgree}
+use Rattle.deck_assembler.specs.Stays.{RisesAnew}
 use Rattle.deck_assembler.proofs.DueLaws.{due-bound, next-known}
 use Rattle.deck_assembler.proofs.EndLaws.{length-first, first-step, next-at, few-sized, ending-here, open-step, ending-none, ending-length, few-all}
 use Rattle.deck_assembler.proofs.FrontLaws.{front-bound, front-end, front-more, goes-at, stands-few}
 use Rattle.deck_assembler.proofs.MeetLaws.{ends-in-tail, tail-taken, tail-within}
+use Rattle.deck_assembler.proofs.StayLaws.{stay-more}
 use Rattle.deck_assembler.proofs.sizer.Sizer.take_up_to_end.Goals as goal
 
 -- what stands where there is no span
@@ -130,6 +134,11 @@ loop-k-preserved c =
           let all = c.loop-k.invariant.all none (omega (arith, room)) in
           let here = c.in_ok-take_next.ensures.all (c.loop-k.invariant.over none) in
           omega (arith, room, all, here);
+      anew = λ of kept. subst (λ (l : List Statement). RisesAnew c.args.kind (known_in of) l c.args.meter.now.sized c.take_next.new.meter.sized) step
+          (stay-more c.args.kind (known_in of) first (statement_at cards (get_or spans c.loop-k.k other)) _ _ _ c.loop-k.invariant.rises
+          (subst (λ n. c.loop-k.meter.sized ≤ c.args.meter.now.sized + n) (sym (length-first cards spans c.loop-k.k (omega (arith, c.loop-k-test.true)))) so_far)
+          (c.loop-k.invariant.anew of kept)
+          (c.in_ok-take_next.ensures.anew of first (record { sizer_is = c.loop-k.invariant.taken; next = next; kept_on = c.loop-k.invariant.kept of kept })));
       coded = c.in_ok-take_next.ensures.coded ∙ c.loop-k.invariant.coded;
     }
 
@@ -244,3 +253,26 @@ returns-clause-within c = λ of front limit kept stands bounded will.
     let all = sym (returns-clause-ended c).front ∙ ap up_to_end bounded.all in
     let ends = ends-in-tail c.args.kind of cards limit (first_statements cards spans (length spans)) c.loop-k.kept c.loop-k.kept.stage all bounded.more now in
     tail-within c.args.kind of cards (first_statements cards spans (length spans)) c.loop-k.kept c.tail-2.result limit there ends.0 (c.tail-2.ensures.tail ends.0) ends.1
+
+-- each statement that is not settled as one of the old deck is counted
+pub returns-then-branch-clause-anew : goal.returns-then-branch-clause-anew
+returns-then-branch-clause-anew c = λ of kept.
+    let cards = c.args.cards.now in
+    let spans = c.args.spans.now in
+    let k = c.loop-k.k in
+    let so_far = c.loop-k.invariant in
+    let first = first_statements cards spans k in
+    let one : suc k ≡ k + 1 = omega arith in
+    let step = sym (first-step cards spans k other c.loop-k-test.true) ∙ ap (first_statements cards spans) one in
+    let next = next-at cards spans k other c.loop-k-test.true c.requires.spans c.requires.numbered in
+    subst (λ (l : List Statement). RisesAnew c.args.kind (known_in of) l c.args.meter.now.sized c.take_next.new.meter.sized) step
+    (stay-more c.args.kind (known_in of) first (statement_at cards (get_or spans k other)) _ _ _ so_far.rises
+    (subst (λ n. c.loop-k.meter.sized ≤ c.args.meter.now.sized + n) (sym (length-first cards spans k (omega (arith, c.loop-k-test.true)))) so_far.sized)
+    (so_far.anew of kept)
+    (c.in_ok-take_next.ensures.anew of first (record { sizer_is = so_far.taken; next = next; kept_on = so_far.kept of kept })))
+
+pub returns-clause-anew : goal.returns-clause-anew
+returns-clause-anew c = λ of kept.
+    let spans = c.args.spans.now in
+    let n : c.loop-k.k ≡ length spans = omega (arith, c.loop-k.auto.k-end, c.loop-k-test.false) in
+    subst (λ k. RisesAnew c.args.kind (known_in of) (first_statements c.args.cards.now spans k) c.args.meter.now.sized c.loop-k.meter.sized) n (c.loop-k.invariant.anew of kept)

@@ -4,9 +4,11 @@ use Rattle.definitions.specs.DeckKinds.{has_end, up_to_end}
 use Rattle.definitions.specs.Statements.{Statement}
 use Rattle.statement_coder.specs.Joins.Meters.{RisesBy}
 use Rattle.deck_assembler.specs.Joins.FirstStatements.{first_statements, all_statements}
+use Rattle.deck_assembler.specs.Joins.Formers.{known_in}
 use Rattle.deck_assembler.specs.Joins.Meetings.{IsBounded, WillAgree}
 use Rattle.deck_assembler.specs.Joins.OldDecks.{IsKeptOn, StandsInFront}
 use Rattle.deck_assembler.specs.Joins.Sizers.{IsSizer}
+use Rattle.deck_assembler.specs.Stays.{RisesAnew}
 use Rattle.deck_assembler.specs.declared.old_deck.Stage.TheVariants as stages
 use Rattle.deck_assembler.proofs.FrontLaws.{IsFrontTaken}
 use Rattle.deck_assembler.proofs.sizer.Sizer.take_up_to_end.Given as goal
@@ -24,6 +26,7 @@ invariant-loop-k l = record {
   due : (of : List Card) (front : List Statement) (limit : ℕ) → IsKeptOn l.kind of l.cards [] l.fn.old_deck → StandsInFront of (up_to_end (all_statements l.cards l.spans)) front l.fn.old_deck → IsBounded l.cards l.spans front limit →
       WillAgree l.kind of l.cards limit [] l.fn.old_deck →
       WillAgree l.kind of l.cards limit (first_statements l.cards l.spans l.k) l.kept × (length front + l.meter.sized ≤ limit + l.initial.meter.sized);
+  anew : (of : List Card) → IsKeptOn l.kind of l.cards [] l.fn.old_deck → RisesAnew l.kind (known_in of) (first_statements l.cards l.spans l.k) l.initial.meter.sized l.meter.sized;
   over : l.fn.old_deck.stage ≡ stages.Over → l.kept.stage ≡ stages.Over;
   all : l.fn.old_deck.stage ≡ stages.Over → RisesBy l.k l.initial.meter.sized l.meter.sized;
   coded : l.meter.coded ≡ l.initial.meter.coded;

@@ -2,7 +2,7 @@
 use Rattle.std.proofs.Common.{List, Err, ap, subst}
 use Rattle.cards.specs.Edits.{edited_by}
 use Rattle.cards.specs.declared.edits.Edit.{Edit}
-use Rattle.edit_core.specs.Edited.{IsRecordOf}
+use Rattle.edit_core.specs.Edited.{IsRecordOf, RisesToAnew, RisesToRebound}
 use Rattle.edit_core.proofs.OrderLaws.{cut-accepted, cut-counts, first-made, whole-counts}
 use Rattle.edit_core.proofs.kept.Kept.edit_first.Goals as goal
 
@@ -14,6 +14,8 @@ returns-in-Ok-clause-made c =
     (subst (λ (l : List Edit). IsRecordOf old.name (edited_by l old.cards) c.edit_all.new.self) c.split_at.ensures.front c.in-Ok.ensures.made)
     (cut-counts c.args.edits.now c.split_at.result.0.now c.args.count old.is_spent old.cards c.args.meter.now c.edit_all.new.meter c.split_at.ensures.front c.requires.apply c.requires.some c.requires.within c.requires.near
     counted.sized_sum counted.coded_sum counted.sized_rises counted.sized counted.coded_rises counted.coded)
+    (subst (λ (l : List Edit). RisesToAnew l old.cards c.args.meter.now.sized c.edit_all.new.meter.sized) c.split_at.ensures.front c.in-Ok.ensures.sized_anew)
+    (subst (λ (l : List Edit). RisesToRebound l old.cards c.args.meter.now.coded c.edit_all.new.meter.coded) c.split_at.ensures.front c.in-Ok.ensures.coded_anew)
 
 pub returns-in-Ok-clause-counts : goal.returns-in-Ok-clause-counts
 returns-in-Ok-clause-counts c =

@@ -1,9 +1,9 @@
 use Rattle.std.proofs.Common.{◌∙◌, ap, arith, subst, sym}
 use Rattle.cards.specs.Edits.{edited_by}
-use Rattle.edit_core.specs.Edited.{statement_count, RisesBehindFront, RisesToDue, RisesToDueCode}
+use Rattle.edit_core.specs.Edited.{statement_count, RisesBehindFront, RisesToAnew, RisesToDue, RisesToDueCode, RisesToRebound}
 use Rattle.edit_core.specs.Records.{Record}
 use Rattle.edit_core.proofs.DueLaws.{due-code-none, due-code-some, due-none, due-some}
-use Rattle.edit_core.proofs.EditLaws.{bound-some, front-still, none-made, not-spent}
+use Rattle.edit_core.proofs.EditLaws.{anew-none, bound-some, front-still, none-made, not-spent, rebound-none}
 use Rattle.edit_core.proofs.kept.Kept.edit_soundly.Goals as goal
 
 pub is_whole-requires : goal.is_whole-requires
@@ -66,3 +66,15 @@ pub returns-in-Err-clause-coded_due : goal.returns-in-Err-clause-coded_due
 returns-in-Err-clause-coded_due c =
     due-code-some c.args.edits.now c.args.self.now.cards _ _ (sym c.is_empty.ensures ∙ c.if-is_empty.false)
     (subst (λ (r : Record). RisesToDueCode c.args.edits.now r.cards c.args.meter.now.coded c.remade.new.meter.coded) c.self.view_is c.remade.ensures.coded_due)
+
+pub returns-then-is_empty-clause-sized_anew : goal.returns-then-is_empty-clause-sized_anew
+returns-then-is_empty-clause-sized_anew c = anew-none c.args.edits.now c.args.self.now.cards c.args.meter.now.sized (sym c.is_empty.ensures ∙ c.if-is_empty.true)
+
+pub returns-in-Ok-clause-sized_anew : goal.returns-in-Ok-clause-sized_anew
+returns-in-Ok-clause-sized_anew c = subst (λ (r : Record). RisesToAnew c.args.edits.now r.cards c.args.meter.now.sized c.remade.new.meter.sized) c.self.view_is c.in-Ok.ensures.sized_anew
+
+pub returns-then-is_empty-clause-coded_anew : goal.returns-then-is_empty-clause-coded_anew
+returns-then-is_empty-clause-coded_anew c = rebound-none c.args.edits.now c.args.self.now.cards c.args.meter.now.coded (sym c.is_empty.ensures ∙ c.if-is_empty.true)
+
+pub returns-in-Ok-clause-coded_anew : goal.returns-in-Ok-clause-coded_anew
+returns-in-Ok-clause-coded_anew c = subst (λ (r : Record). RisesToRebound c.args.edits.now r.cards c.args.meter.now.coded c.remade.new.meter.coded) c.self.view_is c.in-Ok.ensures.coded_anew

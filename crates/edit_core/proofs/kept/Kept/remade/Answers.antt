@@ -8,10 +8,11 @@ use Rattle.deck_assembler.specs.Joins.Agreements.{HaveSameEnd}
 use Rattle.deck_assembler.specs.Joins.Formers.{IsFormerOf, known_in}
 use Rattle.deck_assembler.specs.Joins.SizedDecks.{IsSizedDeck}
 use Rattle.deck_assembler.specs.Joins.Tails.{HasTailIfAny}
-use Rattle.edit_core.specs.Edited.{RisesBehindFront, RisesToDue, RisesToDueCode}
+use Rattle.deck_assembler.proofs.ResultLaws.{on_ok_any}
+use Rattle.edit_core.specs.Edited.{RisesBehindFront, RisesToAnew, RisesToDue, RisesToDueCode}
 use Rattle.edit_core.specs.Records.{Record}
 use Rattle.edit_core.proofs.DueLaws.{are-taken, due-code-object, due-code-still, due-edited, due-still}
-use Rattle.edit_core.proofs.EditLaws.{few-all, front-all, front-edited, front-still}
+use Rattle.edit_core.proofs.EditLaws.{anew-edited, few-all, front-all, front-edited, front-still, rebound-edited}
 use Rattle.edit_core.proofs.kept.Kept.remade.Goals as goal
 
 pub edited-requires-clause-deck : goal.edited-requires-clause-deck
@@ -179,3 +180,15 @@ returns-clause-coded_due c =
     let object = same ∙ sym (ap (λ (r : Record). r.cards) c.self.view_is) ∙ sym (ap (λ (d : Deck). d.cards) c.object.ensures) in
     due-code-object edits own cards c.deref.result.now _ _ c.cards_before_all.result c.cards_behind_all.result c.in_ok-edited.edited.former c.args.meter.now.coded _ _ same (c.deref.ensures.value ∙ c.in_ok-cards.ensures)
     taken object c.deref.ensures.value c.edited.ensures.coded c.edited_object.ensures.coded_rises edited.before edited.kinds edited.tail edited.within c.edited_object.ensures.coded_due
+
+pub returns-clause-sized_anew : goal.returns-clause-sized_anew
+returns-clause-sized_anew c = on_ok_any c.of.result (subst (RisesToAnew c.args.edits.now c.args.self.now.cards c.args.meter.now.sized) (sym c.edited_object.ensures.sized)
+    (anew-edited c.args.edits.now c.cards-own.result.now c.args.self.now.cards c.deref.result.now _ _ c.cards-own.ensures.cards (c.deref.ensures.value ∙ c.in_ok-cards.ensures) c.in_ok-edited.ensures.anew))
+
+pub returns-clause-coded_anew : goal.returns-clause-coded_anew
+returns-clause-coded_anew c =
+    let edits = c.args.edits.now in
+    let own = c.cards-own.result.now in
+    let same = c.cards-own.ensures.cards in
+    let object = same ∙ sym (ap (λ (r : Record). r.cards) c.self.view_is) ∙ sym (ap (λ (d : Deck). d.cards) c.object.ensures) in
+    on_ok_any c.of.result (rebound-edited edits own c.args.self.now.cards c.deref.result.now _ _ c.args.meter.now.coded _ _ same (c.deref.ensures.value ∙ c.in_ok-cards.ensures) object c.deref.ensures.value c.edited.ensures.coded c.in_ok-object.ensures.coded_anew)
