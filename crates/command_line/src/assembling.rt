@@ -1,7 +1,7 @@
 //! `compass asm`: its words, its run and its faults.
 
 use crate::flagged::{Telling, tell_flagged, tell_summary};
-use crate::input_files::{input_of, shown_names, standard_input};
+use crate::input_files::{STANDARD_INPUT, input_of, shown_names, standard_input};
 use crate::input_lines::tell_lines;
 use crate::journal_files::{DecksFault, decks_at};
 use crate::outputs::{Clash, file_named, first_clash};
@@ -26,9 +26,6 @@ use text_ports::{Broken, Counted, LineBuf, Text, put_all};
 
 /// How many decks are linked at most.
 const MOST_DECKS: usize = 64;
-
-/// Standard input as a file that is named.
-const STANDARD_INPUT: &[&str] = &["-"];
 
 /// What goes to a file of the listings.
 const LISTING: Chosen = Chosen {
@@ -77,6 +74,8 @@ struct Named<'w, 'a> {
     check: bool,
     /// Whether messages show the cards.
     explain: bool,
+    /// Whether standard error is a terminal, where a last line tells how much is flagged.
+    at_terminal: bool,
     /// What standard input is called in messages.
     name: Option<&'a str>,
 }
@@ -208,19 +207,24 @@ impl<'w, 'a> Named<'w, 'a> {
     }
 }
 
-/// The files that the words name. Where messages are asked for and no files are named, standard input is
-/// named by them.
-fn inputs_of<'w, 'a>(words: &'w ArgMatches<'a>) -> &'w [&'a str] {
-    match words.get_strs("FILE") {
-        Some(names) => names,
-        None if words.get_flag("check") || words.get_flag("explain") => STANDARD_INPUT,
-        None if words.get_str("name").is_some() => STANDARD_INPUT,
-        None => &[],
-    }
+/// How many files are named where the words name none: standard input, where messages are asked for.
+fn count_unnamed(words: &ArgMatches<'_>) -> usize {
+    let asks = words.get_flag("check") || words.get_flag("explain");
+    usize::from(asks || words.get_str("name").is_some())
 }
 
-/// `compass asm`: what the words name, or standard input to standard output.
-pub fn assemble<R>(rt: &R, words: &ArgMatches<'_>) -> ExitCode
+/// The files that the words name. Where messages are asked for and no files are named, standard input is
+/// named by them.
+fn inputs_of<'w, 'a>(words: &'w ArgMatches<'a>, standard: &'w [&'a str; 1]) -> &'w [&'a str] {
+    let count = count_unnamed(words).min(1);
+    words
+        .get_strs("FILE")
+        .unwrap_or(standard.as_slice().split_at(count).0)
+}
+
+/// `compass asm`: what the words name, or standard input to standard output. Where standard error is a terminal,
+/// messages show the cards, and a last line tells how much is flagged.
+pub fn assemble<R>(rt: &R, words: &ArgMatches<'_>, at_terminal: bool) -> ExitCode
 where
     R: AllocGlobal + Input + Print + Eprint + Files + RandomSource,
     R::File: AsFd,
@@ -228,9 +232,10 @@ where
     let Ok(keys) = RandomState::new(rt) else {
         return tell_run(rt, &Err(RunFault::Asm(AsmFault::ReadFault)));
     };
+    let standard = [STANDARD_INPUT];
     let named = Named {
         keys,
-        inputs: inputs_of(words),
+        inputs: inputs_of(words, &standard),
         filter: filter_of(words),
         journal: words.get_str("journal"),
         version: words.get_one("version"),
@@ -240,7 +245,8 @@ where
         symbols: words.get_flag("symbols"),
         quiet: words.get_flag("quiet"),
         check: words.get_flag("check"),
-        explain: words.get_flag("explain"),
+        explain: at_terminal || words.get_flag("explain"),
+        at_terminal,
         name: words.get_str("name"),
     };
     if let Some(clash) = named.first_clash(rt, rt.alloc()) {
@@ -400,6 +406,9 @@ where
     let tally = write_parts(rt, named, built)?;
     if !named.quiet {
         tell_flagged(rt, built, &telling);
+        if named.at_terminal {
+            tell_summary(rt, tally, built.objects().len());
+        }
     }
     Ok(tally)
 }

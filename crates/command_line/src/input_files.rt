@@ -10,7 +10,7 @@ use std::{fs, io};
 use thiserror::Error;
 
 /// The name that stands for standard input.
-const STANDARD_INPUT: &str = "-";
+pub(crate) const STANDARD_INPUT: &str = "-";
 
 /// What a name of the command line stands for.
 #[derive(Drop)]

@@ -16,6 +16,7 @@ use desk_service::VERSION;
 use serving::{MEMORY_STATUS, run_service, serve_words, settings_of};
 use std::alloc::{AllocError, Global};
 use std::fs::File;
+use std::io::IsTerminal;
 use std::net::{Net, TcpListener, TcpStream};
 use std::process::ExitCode;
 use std::random::RandomSource;
@@ -55,8 +56,8 @@ fn read_words<'a>(alloc: Global, words: &'a [String]) -> Result<ArgMatches<'a>, 
     line_of_commands(alloc)?.try_get_matches_from(words)
 }
 
-/// Does what the words ask for.
-fn run<R>(rt: &R, words: &[String]) -> ExitCode
+/// Does what the words ask for; standard error may be a terminal.
+fn run<R>(rt: &R, words: &[String], at_terminal: bool) -> ExitCode
 where
     R: AllocGlobal
         + Input
@@ -79,7 +80,7 @@ where
         Err(error) => return answer(rt, &error),
     };
     if let Some(words) = matches.subcommand_matches("asm") {
-        return assemble(rt, words);
+        return assemble(rt, words, at_terminal);
     }
     if let Some(words) = matches.subcommand_matches("log") {
         return log(rt, words);
@@ -140,7 +141,7 @@ fn main(rt: HostRuntime) -> ExitCode {
         return refuse_streams(&rt);
     };
     match words_of(&rt) {
-        Ok(words) => run(&rt, words.as_slice()),
+        Ok(words) => run(&rt, words.as_slice(), rt.stderr().is_terminal()),
         Err(WordsFault::OutOfMemory) => tell(&rt, &Err(AsmFault::OutOfMemory)),
         Err(fault) => refuse_words(&rt, fault),
     }
