@@ -85,10 +85,11 @@ pub fn is_common(name: &Name) -> bool
 
 /// The blocks of a deck with their bases. Contracts see the rows, in order of first use, the literals
 /// last, where there are any. The row of a block is found by its name, that of the literals by none, since
-/// a block may have any.
+/// a block may have any; what stands under the name of the literals is found once.
 #[derive(Drop)]
 pub struct Bases {
     rows: Rows,
+    literals: u64,
     end: u64,
 }
 
@@ -98,14 +99,15 @@ type Rows = IndexMap<Option<NameKey>, BlockRow, RandomState>;
 impl Model for Bases {
     ghost use Rattle.std.specs.Prelude.{◌≡◌, List};
     ghost use Rattle.std.specs.Map.{values_of};
-    ghost use Rattle.definitions.specs.Lengths.{BlockRow, total_length};
+    ghost use Rattle.definitions.specs.Blocks.{literals_block};
+    ghost use Rattle.definitions.specs.Lengths.{BlockRow, base_in, total_length};
     ghost use Rattle.use_blocks.specs.Joins.KeyedRows.{AreKeyed};
 
     ghost Value = { List BlockRow };
 
     ghost view = { λ b. values_of b.rows.entries };
 
-    ghost invariant = { λ b. (b.end ≡ total_length (values_of b.rows.entries)) × AreKeyed b.rows.entries };
+    ghost invariant = { λ b. (b.end ≡ total_length (values_of b.rows.entries)) × (b.literals ≡ base_in literals_block (values_of b.rows.entries)) × AreKeyed b.rows.entries };
 }
 
 impl Bases {
@@ -120,7 +122,7 @@ impl Bases {
         let end = place_blocks(&mut rows, blocks)?;
         let words = literals.len();
         if words == 0 {
-            return Ok(Bases { rows, end });
+            return Ok(Bases::found(rows, end));
         }
         let row = BlockRow {
             name: Name::new(b"="),
@@ -128,10 +130,21 @@ impl Bases {
             words: words as u32,
         };
         rows.insert(None, row)?;
-        Ok(Bases {
+        Ok(Bases::found(rows, end + words as u64))
+    }
+
+    /// Those of these rows, which take so many words.
+    fn found(rows: Rows, end: u64) -> Bases
+        requires keyed { AreKeyed rows.entries }
+        requires end { end ≡ total_length (values_of rows.entries) }
+        ensures { result ≡ values_of rows.entries }
+    {
+        let literals = base_found(&rows, &Name::new(b"="));
+        Bases {
             rows,
-            end: end + words as u64,
-        })
+            literals,
+            end,
+        }
     }
 
     /// The blocks with their bases, the literals last.
@@ -148,28 +161,37 @@ impl Bases {
         self.end
     }
 
-    /// The base of a block; 0 of one that is not there. The first is the nominal block, in which most
-    /// words stand, and is found without its key.
+    /// The base of a block; 0 of one that is not there. The literals and the first blocks, which most words of
+    /// most decks stand in, are found without a key.
     pub fn base(&self, name: &Name) -> u64
         ensures { result ≡ base_in name.now self.now }
     {
-        match first_base(self.rows(), name) {
+        if name.is_same(&Name::new(b"=")) {
+            return self.literals;
+        }
+        match front_base(self.rows(), name) {
             Some(base) => base,
             None => base_found(&self.rows, name),
         }
     }
 }
 
-/// The base of the first row, where it has this name.
-fn first_base(rows: &[BlockRow], name: &Name) -> Option<u64>
+/// How many blocks are looked at before one is looked up.
+const FRONT: usize = 4;
+
+/// The base of the row of this name, where it is one of the first.
+fn front_base(rows: &[BlockRow], name: &Name) -> Option<u64>
     ensures { IfSome result (λ base. base ≡ base_in name.now rows.now) }
 {
-    let (first, _) = rows.split_first()?;
-    if name.is_same(&first.name) {
-        Some(first.base())
-    } else {
-        None
+    let mut rest = rows;
+    for _ in 0..FRONT {
+        let (first, behind) = rest.split_first()?;
+        if name.is_same(&first.name) {
+            return Some(first.base());
+        }
+        rest = behind;
     }
+    None
 }
 
 /// The base of the row of this name; 0 of one that is not there.
