@@ -81,6 +81,7 @@ impl Making {
 
     /// One statement more: its cards are read once more where it enters names, or where its operand was
     /// not kept. Where memory runs out what was made is of no use.
+    #[inline(always)]
     fn add_read(
         &mut self,
         view: &DeckView<'_>,

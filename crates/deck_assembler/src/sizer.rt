@@ -25,7 +25,9 @@ use crate::pieces::{Piece, add_statement};
 use crate::sized_statement::{SizedStatement, label_of};
 use crate::symbol_table::SymbolTable;
 use expr_forms::Name;
-use statement_coder::{Defines, KeptSizing, Meter, Reading, Statement, read_operand, size_reading};
+use statement_coder::{
+    Defines, KeptSizing, Meter, Reading, Statement, operand_letters, read_operand, size_reading,
+};
 use std::alloc::{AllocError, Global};
 use std::hash::RandomState;
 use use_blocks::{BlockState, Effect, Lengths, Literals};
@@ -82,7 +84,8 @@ impl Sizer {
         );
         let (state, symbols) = (&self.state, &self.symbols);
         let keys = symbols.keys();
-        let sizing = size_reading(alloc, keys, statement, &reading, state, symbols, meter)?;
+        let letters = operand_letters(alloc, keys, statement, &reading, symbols, meter)?;
+        let sizing = size_reading(statement, &reading, &letters, state, symbols, meter);
         let effect = sizing.effect(statement);
         let is_bare = self.note(&reading, statement.location, sizing.defines, &effect)?;
         let is_counted = self.state.block().counting().is_some();

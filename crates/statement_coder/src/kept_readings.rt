@@ -57,6 +57,7 @@ impl Reading<'_> {
 
 impl KeptReading {
     /// What was read, if it was kept.
+    #[inline(always)]
     pub fn reading(&self) -> Option<Reading<'_>>
         ensures { result ≡ reading_of self.now }
     {

@@ -79,7 +79,7 @@ pub use operand_sources::kept_operand;
 pub use read_operands::ReadOperand;
 pub use readings::{Reading, read_operand};
 pub use six_bits::{count_item, displacement_item, shift_item};
-pub use sized::{size, size_reading};
+pub use sized::{operand_letters, size, size_reading};
 pub use sizing::Sizing;
 pub use statement::Statement;
 pub use statement_cards::known_statement;

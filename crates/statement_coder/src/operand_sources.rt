@@ -38,6 +38,7 @@ impl<'a> Statement<'a> {
 
 /// The operand of a statement that was kept, with its operation, in a deck of this kind; none where, and
 /// only where, it is to be read again.
+#[inline(always)]
 pub fn kept_operand(
     kind: DeckKind,
     operation: Operation,

@@ -37,6 +37,7 @@ pub enum Reading<'a> {
 }
 
 /// The operand of a central instruction.
+#[inline(always)]
 fn read_central<'a>(base: NumberBase, name: &[u8], text: &'a [u8]) -> Reading<'a>
     requires { length text.now ≤ 711 }
     ensures reading { IsReading result (central_operand (central_of base name.now (subfields_of (pieces_of text.now)))) }

@@ -91,7 +91,7 @@ fn ext_letters<S: EarlySymbols>(
 }
 
 /// The letters of an operand; the names of an EXT alone take memory.
-pub(crate) fn operand_letters<S: EarlySymbols>(
+pub(crate) fn found_letters<S: EarlySymbols>(
     alloc: Global,
     keys: RandomState,
     statement: &Statement<'_>,

@@ -1,5 +1,5 @@
 //! What a statement is once the state before it is known.
-ghost use Rattle.std.specs.Prelude.{◌≡◌, ◌≤◌, ◌==◌, ◌+◌, ◌-◌, ◌^◌, true, None, length, min, IfOk, OnErr};
+ghost use Rattle.std.specs.Prelude.{◌≡◌, ◌≤◌, ◌==◌, ◌+◌, ◌-◌, ◌^◌, true, None, length, min, IfOk, OnErr, OnOk};
 ghost use Rattle.definitions.specs.Statements as statements;
 ghost use Rattle.definitions.specs.Statements.{is_stray};
 ghost use Rattle.definitions.specs.Counters.{counters_at};
@@ -25,7 +25,7 @@ use crate::meter::Meter;
 use crate::outcomes::outcome_of;
 use crate::placing::{OperandClass, place_of};
 use crate::readings::{Reading, read_operand};
-use crate::size_letters::{operand_letters, size_letters};
+use crate::size_letters::{found_letters, size_letters};
 use crate::sizes::{is_bad, is_long, size_of};
 use crate::sizing::Sizing;
 use crate::statement::Statement;
@@ -176,32 +176,57 @@ fn settle<S: EarlySymbols>(
     }
 }
 
-/// What a statement is whose operand was read, once the state before it and the early values of
-/// symbols are known, counted in the meter. The state accepts its change. The names of an EXT alone take
-/// memory, for a table that is kept by these keys; without memory it is counted, too.
-pub fn size_reading<S: EarlySymbols>(
+/// The letters of an operand that was read, from the early values of symbols. The names of an EXT alone take
+/// memory, for a table that is kept by these keys; a statement that lacks it is counted in the meter, which
+/// else stays as it was.
+pub fn operand_letters<S: EarlySymbols>(
     alloc: Global,
     keys: RandomState,
     statement: &Statement<'_>,
     reading: &Reading<'_>,
+    symbols: &S,
+    meter: &mut Meter,
+) -> Result<Letters, AllocError>
+    ensures letters { IfOk result (λ letters. (operand : operands.Operand) → IsReading reading.now operand →
+        letters ≡ in_order (operand_letters statement.now.kind (operation_as statement.now.operation) operand (S.view symbols.now))) }
+    ensures names { OnErr result ((operation_as statement.now.operation ≡ op.Ext) × (has_names reading.now ≡ true)) }
+    ensures uncounted { OnOk result (meter.new ≡ meter.old) }
+    ensures sized { OnErr result (meter.new.sized ≡ min (meter.old.sized + 1) (2 ^ 64 - 1)) }
+    ensures rises { meter.old.sized ≤ meter.new.sized }
+    ensures coded { meter.new.coded ≡ meter.old.coded }
+{
+    match found_letters(alloc, keys, statement, symbols, reading) {
+        Ok(letters) => Ok(letters),
+        Err(fault) => {
+            meter.sized = meter.sized.saturating_add(1);
+            Err(fault)
+        }
+    }
+}
+
+/// What a statement is whose operand was read, once the state before it and the early values of symbols are
+/// known, and the letters of its operand; counted in the meter. The state accepts its change.
+pub fn size_reading<S: EarlySymbols>(
+    statement: &Statement<'_>,
+    reading: &Reading<'_>,
+    of_operand: &Letters,
     state: &BlockState,
     symbols: &S,
     meter: &mut Meter,
-) -> Result<Sizing, AllocError>
-    ensures sizing { IfOk result (λ sizing. (given : statements.Statement) (operand : operands.Operand) → is_stray given.cards ≡ statement.now.is_stray → IsReading reading.now operand →
-        IsSizing (S.view symbols.now) (settled_read statement.now.kind (seen_from state.now (S.view symbols.now)) (read_as statement.now given operand)) sizing) }
-    ensures accepted { IfOk result (λ sizing. IsAccepted (change_as sizing.change) state.now) }
-    ensures number_base { IfOk result (λ sizing. sizing.number_base ≡ state.now.number_base) }
-    ensures origin { IfOk result (λ sizing. sizing.origin ≡ (counters_at statement.now.kind sizing.block sizing.place None).origin) }
-    ensures uncounted { IfOk result (λ sizing. (block_now state.now).counting ≡ None → sizing.location ≡ sizing.origin) }
-    ensures names { OnErr result ((operation_as statement.now.operation ≡ op.Ext) × (has_names reading.now ≡ true)) }
+) -> Sizing
+    ensures sizing { (given : statements.Statement) (operand : operands.Operand) → is_stray given.cards ≡ statement.now.is_stray → IsReading reading.now operand →
+        of_operand.now ≡ in_order (operand_letters statement.now.kind (operation_as statement.now.operation) operand (S.view symbols.now)) →
+        IsSizing (S.view symbols.now) (settled_read statement.now.kind (seen_from state.now (S.view symbols.now)) (read_as statement.now given operand)) result }
+    ensures accepted { IsAccepted (change_as result.change) state.now }
+    ensures number_base { result.number_base ≡ state.now.number_base }
+    ensures origin { result.origin ≡ (counters_at statement.now.kind result.block result.place None).origin }
+    ensures uncounted { (block_now state.now).counting ≡ None → result.location ≡ result.origin }
     ensures sized { meter.new.sized ≡ min (meter.old.sized + 1) (2 ^ 64 - 1) }
     ensures rises { meter.old.sized ≤ meter.new.sized }
     ensures coded { meter.new.coded ≡ meter.old.coded }
 {
     meter.sized = meter.sized.saturating_add(1);
-    let letters = operand_letters(alloc, keys, statement, symbols, reading)?;
-    Ok(settle(statement, reading, state, symbols, &letters))
+    settle(statement, reading, state, symbols, of_operand)
 }
 
 /// What a statement is once the state before it and the early values of symbols are known, counted in
@@ -233,5 +258,6 @@ pub fn size<S: EarlySymbols>(
         statement.name,
         statement.variable,
     );
-    size_reading(alloc, keys, statement, &reading, state, symbols, meter)
+    let letters = operand_letters(alloc, keys, statement, &reading, symbols, meter)?;
+    Ok(size_reading(statement, &reading, &letters, state, symbols, meter))
 }

@@ -1,5 +1,4 @@
 use Rattle.std.proofs.Common.{sym, subst}
-use Rattle.std.proofs.lemmas.Result.{IfOk-weaker}
 use Rattle.definitions.specs.States.{seen_from}
 use Rattle.definitions.specs.Operands.{operand_of}
 use Rattle.operations.specs.Joins.OperationsAs.{operation_as}
@@ -15,5 +14,5 @@ returns-clause-sizing g c =
     let operand = operand_of code.kind state.number_base (operation_as code.operation) code.name.now code.variable.now in
     let reading : IsReading c.read_operand-reading.result operand =
     subst (λ base. IsReading c.read_operand-reading.result (operand_of code.kind base (operation_as code.operation) code.name.now code.variable.now)) c.number_base.ensures c.read_operand-reading.ensures.reading in
-    IfOk-weaker c.size_reading.result _ _ (λ sizing told kind given read. settled-sizing view (seen_from state view) kind given code sizing read (told given operand (sym read.stray) reading))
-    c.size_reading.ensures.sizing
+    λ kind given read. settled-sizing view (seen_from state view) kind given code c.size_reading.result read
+    (c.size_reading.ensures.sizing given operand (sym read.stray) reading (c.in_ok-letters.ensures.letters operand reading))

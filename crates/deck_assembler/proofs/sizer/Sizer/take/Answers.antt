@@ -22,14 +22,15 @@ returns-clause-taken c = λ kind cards earlier given read next is.
     let settled = settle kind all given in
     let r = c.read_operand-reading.result in
     let base = c.number_base.result in
-    let sizing = c.in_ok-sizing.sizing in
+    let sizing = c.size_reading-sizing.result in
     let sized : SizedStatement = record { cards = c.args.count; operation = code.operation; label = c.label_of.result; is_bare = c.in_ok-is_bare.is_bare; kept = c.kept.result; sizing = sizing } in
     let based = c.number_base.ensures ∙ ap (λ (state : BlockState). state.number_base) is.state in
     let read_here = subst (λ b. operand_in code b r) c.number_base.ensures c.read_operand-reading.ensures.reading in
+    let here = operand_of code.kind old.state.number_base (operation_as code.operation) code.name.now code.variable.now in
     let operand = settled-operand kind earlier given code base r read based c.read_operand-reading.ensures.reading in
     let is_sizing = settled-sized kind earlier given code old.state (symbol_in old.symbols) sizing read is.state is.symbols
-    (c.in_ok-sizing.ensures.sizing given (operand_of code.kind old.state.number_base (operation_as code.operation) code.name.now code.variable.now) (sym read.stray) read_here) in
-    let number_base = c.in_ok-sizing.ensures.number_base ∙ ap (λ (state : BlockState). state.number_base) is.state in
+    (c.size_reading-sizing.ensures.sizing given here (sym read.stray) read_here (c.in_ok-letters.ensures.letters here read_here)) in
+    let number_base = c.size_reading-sizing.ensures.number_base ∙ ap (λ (state : BlockState). state.number_base) is.state in
     let effect = effect_as c.effect-effect.result in
     let noted = subst (λ (l : List ℕ). IsNoted l settled.read.operand sizing.defines effect old c.note.new.self) read.location (c.in_ok-is_bare.ensures.noted settled.read.operand operand) in
     sizer-step kind cards earlier given effect sized old c.put.new.self next is (record {
