@@ -5,9 +5,9 @@ ghost use Rattle.definitions.specs.DeckInput as definitions;
 use crate::deck::Deck;
 use deck_objects::SharedObject;
 use edit_core::assemble;
-use statement_coder::Meter;
 use std::alloc::{AllocError, Global};
 use std::hash::RandomState;
+use work_meter::Meter;
 
 /// A deck, assembled.
 fn object_of(
@@ -30,7 +30,7 @@ pub(crate) fn objects_of(
 ) -> Result<Vec<SharedObject>, AllocError>
     ensures { IfOk result (λ objects. objects.items ≡ decks.items) }
 {
-    let mut meter = Meter { sized: 0, coded: 0 };
+    let mut meter = work_meter::begin();
     let mut objects = Vec::with_capacity(alloc, decks.len())?;
     for deck in decks {
         objects.push(object_of(alloc, keys, deck, &mut meter)?)?;

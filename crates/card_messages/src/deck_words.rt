@@ -3,7 +3,6 @@
 use crate::first_cards::FirstCards;
 use cards::Card;
 use deck_assembler::{SizedDeck, SizedStatement};
-use statement_coder::Meter;
 use std::alloc::{AllocError, Global};
 use std::hash::RandomState;
 use use_blocks::Bases;
@@ -22,7 +21,7 @@ pub struct DeckWords {
 impl DeckWords {
     /// That of the deck with these cards; its tables hash by these keys.
     pub fn new(alloc: Global, keys: RandomState, cards: &[Card]) -> Result<DeckWords, AllocError> {
-        let mut meter = Meter { sized: 0, coded: 0 };
+        let mut meter = work_meter::begin();
         let deck = SizedDeck::new(alloc, keys, cards, &mut meter)?;
         let bases = Bases::new(alloc, deck.lengths(), deck.literals())?;
         let first = FirstCards::new(alloc, cards, &deck)?;

@@ -7,7 +7,7 @@ use deck_assembler::{SizedDeck, SizedStatement};
 use deck_objects::{Object, SharedObject};
 use expr_forms::{BitFields, ConWords, Datum, Expr, Field, Form, LinkedNames, Part, Relocation};
 use operations::Operation;
-use statement_coder::{Defines, Meter, ReadOperand, Reading, Statement};
+use statement_coder::{Defines, ReadOperand, Reading, Statement};
 use std::alloc::{AllocError, Global};
 use std::hash::RandomState;
 use text_ports::Text;
@@ -290,7 +290,7 @@ fn push_table(
     object: &Object,
 ) -> Result<(), AllocError> {
     push_title(text, object)?;
-    let mut meter = Meter { sized: 0, coded: 0 };
+    let mut meter = work_meter::begin();
     let sized = SizedDeck::new(alloc, keys, object.cards(), &mut meter)?;
     push_symbols(alloc, text, object.cards(), &sized)
 }

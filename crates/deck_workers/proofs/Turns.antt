@@ -8,7 +8,7 @@ use Rattle.desk_core.specs.Desks.{Desk}
 use Rattle.desk_core.specs.Steps.{Steps}
 use Rattle.desk_core.specs.Runs.{History}
 use Rattle.deck_workers.specs.Rounds.{Round, entries_of, entries_in}
-use Rattle.statement_coder.specs.declared.meter.Meter.{Meter}
+use Rattle.work_meter.specs.Counts.{Counts}
 use Rattle.deck_workers.specs.Jobs.{CountsWithin}
 use Rattle.deck_workers.specs.Joins.Settling.{GoesOn, SettlesOn, used_up, ended, IsTurn, round_bound, rounds_bound, round_least, rounds_least}
 use Rattle.deck_workers.specs.declared.settling.Settled.{Settled}
@@ -24,7 +24,7 @@ pub entries-more : (number : ℕ) (rounds : List Round) (round : Round) → entr
 entries-more number rounds round = flat_map_more (entries_of number) [] rounds round
 
 -- so many turns that did not end it
-pub record WentOn (turns : ℕ) (first last : Desk) (old new : Meter) : Type 0 where
+pub record WentOn (turns : ℕ) (first last : Desk) (old new : Counts) : Type 0 where
   pub rounds : List Round
   pub go_on : All GoesOn rounds
   pub count : length rounds ≡ turns
@@ -32,7 +32,7 @@ pub record WentOn (turns : ℕ) (first last : Desk) (old new : Meter) : Type 0 w
   pub counts : CountsWithin (rounds_least rounds) (rounds_bound rounds) old new
 
 -- no turn yet
-pub not-yet : (desk : Desk) (meter : Meter) → WentOn 0 desk desk meter meter
+pub not-yet : (desk : Desk) (meter : Counts) → WentOn 0 desk desk meter meter
 not-yet desk meter = record {
   rounds = [];
   go_on = All-nil GoesOn;
@@ -54,7 +54,7 @@ rounds_least-more [] round = omega arith
 rounds_least-more (one ∷ rounds) round = let rest = rounds_least-more rounds round in omega (arith, rest)
 
 -- what rounds count, and one more
-counts-more : (rounds : List Round) (round : Round) (old middle new : Meter) → CountsWithin (rounds_least rounds) (rounds_bound rounds) old middle →
+counts-more : (rounds : List Round) (round : Round) (old middle new : Counts) → CountsWithin (rounds_least rounds) (rounds_bound rounds) old middle →
     CountsWithin (round_least round) (round_bound round) middle new →
     CountsWithin (rounds_least (rounds ++ round ∷ [])) (rounds_bound (rounds ++ round ∷ [])) old new
 counts-more rounds round old middle new before here =
@@ -78,7 +78,7 @@ counts-more rounds round old middle new before here =
     }
 
 -- one turn more
-pub once-more : (turns : ℕ) (first middle last : Desk) (old between new : Meter) → WentOn turns first middle old between → IsTurn middle None last between new → WentOn (turns + 1) first last old new
+pub once-more : (turns : ℕ) (first middle last : Desk) (old between new : Counts) → WentOn turns first middle old between → IsTurn middle None last between new → WentOn (turns + 1) first last old new
 once-more turns first middle last old between new went turn = record {
   rounds = went.rounds ++ turn.round ∷ [];
   go_on = All-push GoesOn went.rounds turn.round went.go_on (turn.is_round, turn.end_is);
@@ -88,11 +88,11 @@ once-more turns first middle last old between new went turn = record {
 }
 
 -- the turns are used up
-pub settles-used : (turns most : ℕ) (first last : Desk) (old new : Meter) → turns ≡ most → WentOn turns first last old new → SettlesOn most first Turns last old new
+pub settles-used : (turns most : ℕ) (first last : Desk) (old new : Counts) → turns ≡ most → WentOn turns first last old new → SettlesOn most first Turns last old new
 settles-used turns most first last old new all went = (used_up went.rounds went.go_on (went.count ∙ all) refl went.leads, went.counts)
 
 -- one turn ends it
-pub settles-ended : (turns most : ℕ) (first middle last : Desk) (settled : Settled) (old between new : Meter) → turns < most → WentOn turns first middle old between → IsTurn middle (Some settled) last between new →
+pub settles-ended : (turns most : ℕ) (first middle last : Desk) (settled : Settled) (old between new : Counts) → turns < most → WentOn turns first middle old between → IsTurn middle (Some settled) last between new →
     SettlesOn most first settled last old new
 settles-ended turns most first middle last settled old between new less went turn = (
   ended went.rounds turn.round went.go_on (let counted = went.count in omega arith) turn.is_round turn.end_is

@@ -1,7 +1,7 @@
 -- What a job gives (ours): a function of the job, and one free choice.
 use Rattle.std.specs.Prelude.{◌≡◌, ◌⊎◌, ℕ, ◌+◌, ◌^◌, ◌<◌, ◌≤◌, Bool, true, false, List, Option, Some, None}
 use Rattle.statement_coder.specs.Joins.Meters.{CountsAtMost}
-use Rattle.statement_coder.specs.declared.meter.Meter.{Meter}
+use Rattle.work_meter.specs.Counts.{Counts}
 use Rattle.deck_workers.specs.Joins.Language.{Card, Edit, statement_count, statements_sum, CountsInOrder, edits_fault, RecordFault, OutOfMemory, DeckWork, LinkWork, Start, FromRecord, FromCards}
 pub use Rattle.desk_core.specs.Making.{start_deck, start_cards, deck_edited, begun_deck, done_of}
 use Rattle.deck_workers.specs.declared.jobs.Job.{Job}
@@ -59,23 +59,23 @@ if_made (made.Link lease publication) count = count
 if_made (made.Lost lease fault) count = 0
 
 -- neither count fell, and each rose by so many at least and at most; unless it may be at its greatest value
-pub record CountsWithin (least most : ℕ) (old new : Meter) : Type 0 where
+pub record CountsWithin (least most : ℕ) (old new : Counts) : Type 0 where
   pub few : CountsAtMost most old new
   pub sized_all : old.sized + most < 2 ^ 64 → old.sized + least ≤ new.sized
   pub coded_all : old.coded + most < 2 ^ 64 → old.coded + least ≤ new.coded
 
 -- the counts of a job rise by those of its beginning alone, where that or an edit fails; else, behind these, by no more than the sum of what is due for its edits in order
-abbrev pub CountsDue : Start → List Edit → List Card → Meter → Meter → Type 0
+abbrev pub CountsDue : Start → List Edit → List Card → Counts → Counts → Type 0
 CountsDue start edits cards old new =
     CountsAtMost (start_bound start) old new
-    ⊎ ((begun : Meter) × CountsAtMost (start_bound start) old begun × CountsInOrder edits cards begun new)
+    ⊎ ((begun : Counts) × CountsAtMost (start_bound start) old begun × CountsInOrder edits cards begun new)
 
 -- what a deck job counts
-abbrev pub DeckCounts : DeckWork → Meter → Meter → Type 0
+abbrev pub DeckCounts : DeckWork → Counts → Counts → Type 0
 DeckCounts work old new = CountsDue work.start work.edits (begun_deck work).cards old new
 
 -- what a job counts: a link job nothing
-abbrev pub JobCounts : Job → Meter → Meter → Type 0
+abbrev pub JobCounts : Job → Counts → Counts → Type 0
 JobCounts (job.Deck work) old new = DeckCounts work old new
 JobCounts (job.Link work) old new = new ≡ old
 

@@ -9,9 +9,9 @@ use deck_linker::publish;
 use deck_listing::ListedObject;
 use desk_core::{Held, SharedPublication, Start};
 use edit_core::{Kept, RecordFault};
-use statement_coder::Meter;
 use std::alloc::{AllocError, Global};
 use std::hash::RandomState;
+use work_meter::Meter;
 
 /// How many cards a job begins with.
 fn start_len(start: &Start) -> usize

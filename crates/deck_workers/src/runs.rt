@@ -6,15 +6,15 @@ use crate::jobs::Job;
 use crate::made::Made;
 use desk_core::{DeckWork, Done, Held, LinkWork};
 use edit_core::RecordFault;
-use statement_coder::Meter;
 use std::alloc::Global;
 use std::hash::RandomState;
+use work_meter::Meter;
 
 /// What can be run: what may be made of it, and how many statements that sizes and codes, at least where
 /// it is not lost, at most, and by what is due.
 pub trait Runs {
     ghost use Rattle.std.specs.Prelude.{ℕ};
-    ghost use Rattle.statement_coder.specs.declared.meter.Meter.{Meter};
+    ghost use Rattle.work_meter.specs.Counts.{Counts};
     ghost use Rattle.deck_workers.specs.declared.made.Made.{Made};
 
     /// What may be made of it.
@@ -27,7 +27,7 @@ pub trait Runs {
     ghost at_most: { Self → ℕ };
 
     /// How far the counts may rise by what is due for its edits.
-    ghost counts: { Self → Meter → Meter → Type 0 };
+    ghost counts: { Self → Counts → Counts → Type 0 };
 
     /// Runs it. The meter counts what is sized and coded, also where memory runs out.
     fn run(self, alloc: Global, keys: RandomState, meter: &mut Meter) -> Made

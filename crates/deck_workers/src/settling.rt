@@ -10,9 +10,9 @@ use crate::jobs::job_in;
 use crate::made::Made;
 use crate::runs::Runs;
 use desk_core::{Call, Desk, Refusal, Reply};
-use statement_coder::Meter;
 use std::alloc::Global;
 use std::hash::RandomState;
+use work_meter::Meter;
 
 /// What settling a desk ended with.
 #[derive(Clone, Copy, Debug)]

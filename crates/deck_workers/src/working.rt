@@ -16,12 +16,12 @@ use crate::{Job, Made, Runs, job_in};
 use crossbeam_channel::Receiver;
 use deck_listing::ListedObject;
 use desk_core::{Call, Desk, Refusal, Reply, SharedPublication};
-use statement_coder::Meter;
 use std::alloc::Global;
 use std::hash::RandomState;
 use std::sync::Wait;
 use std::time::Clock;
 use turn_office::{Office, Seat};
+use work_meter::Meter;
 
 /// Works at a seat of the office until it is told to stop, and hands the seat back. It claims; a job
 /// that it gets it runs between `enter` and `leave` of the gate, and then delivers what it made, or
@@ -50,7 +50,7 @@ pub fn worker<R: Wait + Clock, G: Gate, S: Subscriber>(
     ensures works { Works S.hears seat.number seat.seen result.seen subscriber.old subscriber.new }
     ensures legal { IsLegal Steps office.now.seats office.now.first result.seen }
 {
-    let mut meter = Meter { sized: 0, coded: 0 };
+    let mut meter = work_meter::begin();
     let mut patience = Patience::new();
     for _ in rt.forever() {
         let round = make_round(

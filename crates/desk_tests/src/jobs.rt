@@ -20,10 +20,10 @@ use desk_core::{
     SharedPublication, Start,
 };
 use edit_core::{Kept, assemble};
-use statement_coder::Meter;
 use std::alloc::{AllocError, Global};
 use std::hash::RandomState;
 use text_ports::Counted;
+use work_meter::Meter;
 
 /// The job that is out, and what was done for all.
 #[derive(Drop)]
@@ -40,7 +40,7 @@ impl Jobs {
             alloc,
             keys,
             out: None,
-            meter: Meter { sized: 0, coded: 0 },
+            meter: work_meter::begin(),
         }
     }
 
@@ -51,7 +51,7 @@ impl Jobs {
             "deliver" => self.deliver(desk, answer),
             "settle" => self.settle(desk, number(rest), answer),
             "image" => show_image(desk, answer),
-            "meter" => push_pair(answer, self.meter.sized, self.meter.coded),
+            "meter" => push_pair(answer, self.meter.sized(), self.meter.coded()),
             "lost" => push_lost(self.alloc, self.keys, answer),
             _ => return self.call(desk, word, rest, answer),
         }
@@ -232,7 +232,7 @@ fn push_edit(answer: &mut Answer, edit: &Edit) {
 
 /// The record of a deck with these cards.
 fn kept(alloc: Global, name: DeckName, lines: &str) -> Result<Kept, AllocError> {
-    let mut meter = Meter { sized: 0, coded: 0 };
+    let mut meter = work_meter::begin();
     let cards = cards_of(alloc, lines)?;
     Kept::new(alloc, fixed_keys()?, name, cards, &mut meter)
 }
@@ -247,7 +247,7 @@ fn record_of(alloc: Global, text: &str) -> Result<Option<Held>, AllocError> {
 
 /// The object of M with this one card.
 fn object_of(alloc: Global, line: &str) -> Result<ListedObject, AllocError> {
-    let mut meter = Meter { sized: 0, coded: 0 };
+    let mut meter = work_meter::begin();
     let object = assemble(
         alloc,
         fixed_keys()?,
@@ -343,7 +343,7 @@ fn job_that_does_not_apply(alloc: Global) -> Result<Job, AllocError> {
 fn push_lost(alloc: Global, keys: RandomState, answer: &mut Answer) {
     match job_that_does_not_apply(alloc) {
         Ok(job) => {
-            let mut meter = Meter { sized: 0, coded: 0 };
+            let mut meter = work_meter::begin();
             push_made(answer, &run(alloc, keys, job, &mut meter));
         }
         Err(error) => answer.keep(Err(error)),

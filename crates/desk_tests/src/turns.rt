@@ -8,11 +8,11 @@ use crate::table_keys::fixed_keys;
 use cards::{Card, DeckName, Edit};
 use deck_workers::{Job, Made, Runs, job_in};
 use desk_core::{Call, Desk, Listed, NewDeck, Reply, SharedPublication};
-use statement_coder::Meter;
 use std::alloc::{AllocError, AllocGlobal, Global};
 use std::hash::RandomState;
 use std::io;
 use std::time::{CpuClock, Duration};
+use work_meter::Meter;
 
 /// How many decks there are.
 const DECKS: usize = 64;
@@ -94,7 +94,7 @@ impl Timed {
             alloc,
             keys,
             desk: Desk::new(alloc, keys),
-            meter: Meter { sized: 0, coded: 0 },
+            meter: work_meter::begin(),
             rows: all_rows(alloc)?,
         })
     }

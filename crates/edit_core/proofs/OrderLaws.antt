@@ -6,7 +6,7 @@ use Rattle.cards.specs.Edits.{edited, edited_by, first_fault}
 use Rattle.cards.specs.declared.edits.Edit.{Edit}
 use Rattle.cards.specs.declared.edits.EditFault.{EditFault}
 use Rattle.cards.proofs.FaultLaws.{applies-in}
-use Rattle.statement_coder.specs.declared.meter.Meter.{Meter}
+use Rattle.statement_coder.specs.Joins.Meters.{Counts}
 use Rattle.edit_core.specs.Edited.{edits_bound, IsRecordOf, RisesToAnew, RisesToRebound}
 use Rattle.edit_core.specs.Faults.{against_all, record_fault}
 use Rattle.edit_core.specs.Joins.Groups.{IsFirstMade}
@@ -40,7 +40,7 @@ ordered (edit ∷ edits) cards none each =
     omega (arith, first, rest)
 
 -- some edits, and others behind them
-pub in-order-append : (some others : List Edit) (cards : List Card) (old mid new : Meter) → CountsInOrder some cards old mid → CountsInOrder others (edited_by some cards) mid new → CountsInOrder (some ++ others) cards old new
+pub in-order-append : (some others : List Edit) (cards : List Card) (old mid new : Counts) → CountsInOrder some cards old mid → CountsInOrder others (edited_by some cards) mid new → CountsInOrder (some ++ others) cards old new
 in-order-append some others cards old mid new one two =
     let both = length-append some others in
     let sums = sum-of-both some others cards in
@@ -66,7 +66,7 @@ in-order-append some others cards old mid new one two =
     }
 
 -- edits that are not made
-pub in-order-none : (edits : List Edit) (cards : List Card) (meter : Meter) → first_fault edits cards ≡ None → CountsInOrder edits cards meter meter
+pub in-order-none : (edits : List Edit) (cards : List Card) (meter : Counts) → first_fault edits cards ≡ None → CountsInOrder edits cards meter meter
 in-order-none edits cards meter none = record {
   sized = λ each. let few = ordered edits cards none each in omega (arith, few);
   coded = λ each. let few = ordered edits cards none each in omega (arith, few);
@@ -77,7 +77,7 @@ in-order-none edits cards meter none = record {
 }
 
 -- edits that lie near each other, made at once
-pub in-order-once : (edits : List Edit) (cards : List Card) (old new : Meter) → 0 < length edits → cards_between edits (length cards) ≤ 128 * (length edits - 1) →
+pub in-order-once : (edits : List Edit) (cards : List Card) (old new : Counts) → 0 < length edits → cards_between edits (length cards) ≤ 128 * (length edits - 1) →
     RisesWithinSum (128 + cards_between edits (length cards)) edits cards old.sized new.sized → RisesWithinSumCode (128 + cards_between edits (length cards)) edits cards old.coded new.coded →
     old.sized ≤ new.sized → new.sized ≤ old.sized + edits_bound edits cards → old.coded ≤ new.coded → new.coded ≤ old.coded + edits_bound edits cards → CountsInOrder edits cards old new
 in-order-once edits cards old new some near sized coded sized_rises sized_few coded_rises coded_few =
@@ -112,7 +112,7 @@ others-apply edits count is_spent cards none =
     (apply-split (take count edits) (drop count edits) cards split).1
 
 -- what the first of some edits count, made at once
-pub first-counts : (edits : List Edit) (count : ℕ) (cards : List Card) (old new : Meter) → 0 < count → count ≤ length edits → cards_between (take count edits) (length cards) ≤ 128 * (count - 1) →
+pub first-counts : (edits : List Edit) (count : ℕ) (cards : List Card) (old new : Counts) → 0 < count → count ≤ length edits → cards_between (take count edits) (length cards) ≤ 128 * (count - 1) →
     RisesWithinSum (128 + cards_between (take count edits) (length cards)) (take count edits) cards old.sized new.sized →
     RisesWithinSumCode (128 + cards_between (take count edits) (length cards)) (take count edits) cards old.coded new.coded →
     old.sized ≤ new.sized → new.sized ≤ old.sized + edits_bound (take count edits) cards → old.coded ≤ new.coded → new.coded ≤ old.coded + edits_bound (take count edits) cards →
@@ -121,12 +121,12 @@ first-counts edits count cards old new some within near sized coded sized_rises 
     let same = length-take-le count edits within in
     in-order-once (take count edits) cards old new (omega (arith, same, some)) (omega (arith, same, near)) sized coded sized_rises sized_few coded_rises coded_few
 
-pub whole-counts : (edits : List Edit) (count : ℕ) (is_spent : Bool) (cards : List Card) (old new : Meter) → against_all edits is_spent cards ≡ None → CountsInOrder (take count edits) cards old new → CountsInOrder edits cards old new
+pub whole-counts : (edits : List Edit) (count : ℕ) (is_spent : Bool) (cards : List Card) (old new : Counts) → against_all edits is_spent cards ≡ None → CountsInOrder (take count edits) cards old new → CountsInOrder edits cards old new
 whole-counts edits count is_spent cards old new none first =
     subst (λ (l : List Edit). CountsInOrder l cards old new) (take-append-drop count edits)
     (in-order-append (take count edits) (drop count edits) cards old new new first (in-order-none (drop count edits) (edited_by (take count edits) cards) new (others-apply edits count is_spent cards none)))
 
-pub first-made : (edits others : List Edit) (count : ℕ) (old new : Record) (before behind : Meter) → others ≡ drop count edits → against_all edits old.is_spent old.cards ≡ None →
+pub first-made : (edits others : List Edit) (count : ℕ) (old new : Record) (before behind : Counts) → others ≡ drop count edits → against_all edits old.is_spent old.cards ≡ None →
     IsRecordOf old.name (edited_by (take count edits) old.cards) new → CountsInOrder (take count edits) old.cards before behind → RisesToAnew (take count edits) old.cards before.sized behind.sized →
     RisesToRebound (take count edits) old.cards before.coded behind.coded → IsFirstMade count edits others old new before behind
 first-made edits others count old new before behind are none made counts anew rebound = record {
@@ -168,7 +168,7 @@ in-groups-more Rises done more cards count between now so_far few last = record 
 }
 
 -- some of the edits are made, and these are left
-pub record IsOnWay (edits left : List Edit) (old now : Record) (before behind : Meter) : Type 0 where
+pub record IsOnWay (edits left : List Edit) (old now : Record) (before behind : Counts) : Type 0 where
   pub done : List Edit
   pub all : edits ≡ done ++ left
   pub made : IsRecordOf old.name (edited_by done old.cards) now
@@ -177,10 +177,10 @@ pub record IsOnWay (edits left : List Edit) (old now : Record) (before behind : 
   pub anew : RisesInGroups RisesToAnew done old.cards before.sized behind.sized
   pub rebound : RisesInGroups RisesToRebound done old.cards before.coded behind.coded
 
-pub on-way-begin : (edits : List Edit) (old : Record) (meter : Meter) → against_all edits old.is_spent old.cards ≡ None → IsRecordOf old.name old.cards old → IsOnWay edits edits old old meter meter
+pub on-way-begin : (edits : List Edit) (old : Record) (meter : Counts) → against_all edits old.is_spent old.cards ≡ None → IsRecordOf old.name old.cards old → IsOnWay edits edits old old meter meter
 on-way-begin edits old meter none whole = record { done = []; all = refl; made = whole; apply = none; counts = in-order-none [] old.cards meter refl; anew = record { groups = []; all = refl; rises = refl }; rebound = record { groups = []; all = refl; rises = refl } }
 
-pub on-way-more : (edits left others : List Edit) (count : ℕ) (old now new : Record) (before mid behind : Meter) → IsOnWay edits left old now before mid → IsFirstMade count left others now new mid behind →
+pub on-way-more : (edits left others : List Edit) (count : ℕ) (old now new : Record) (before mid behind : Counts) → IsOnWay edits left old now before mid → IsFirstMade count left others now new mid behind →
     IsOnWay edits others old new before behind
 on-way-more edits left others count old now new before mid behind so_far first =
     let done = so_far.done in
@@ -198,24 +198,24 @@ on-way-more edits left others count old now new before mid behind so_far first =
     }
 
 -- none is left
-pub on-way-made : (edits : List Edit) (old now : Record) (before behind : Meter) → IsOnWay edits [] old now before behind → IsRecordOf old.name (edited_by edits old.cards) now
+pub on-way-made : (edits : List Edit) (old now : Record) (before behind : Counts) → IsOnWay edits [] old now before behind → IsRecordOf old.name (edited_by edits old.cards) now
 on-way-made edits old now before behind so_far =
     subst (λ (l : List Edit). IsRecordOf old.name (edited_by l old.cards) now) (sym (so_far.all ∙ append-nil so_far.done)) so_far.made
 
-pub on-way-counts : (edits : List Edit) (old now : Record) (before behind : Meter) → IsOnWay edits [] old now before behind → CountsInOrder edits old.cards before behind
+pub on-way-counts : (edits : List Edit) (old now : Record) (before behind : Counts) → IsOnWay edits [] old now before behind → CountsInOrder edits old.cards before behind
 on-way-counts edits old now before behind so_far =
     subst (λ (l : List Edit). CountsInOrder l old.cards before behind) (sym (so_far.all ∙ append-nil so_far.done)) so_far.counts
 
-pub on-way-anew : (edits : List Edit) (old now : Record) (before behind : Meter) → IsOnWay edits [] old now before behind → RisesInGroups RisesToAnew edits old.cards before.sized behind.sized
+pub on-way-anew : (edits : List Edit) (old now : Record) (before behind : Counts) → IsOnWay edits [] old now before behind → RisesInGroups RisesToAnew edits old.cards before.sized behind.sized
 on-way-anew edits old now before behind so_far =
     subst (λ (l : List Edit). RisesInGroups RisesToAnew l old.cards before.sized behind.sized) (sym (so_far.all ∙ append-nil so_far.done)) so_far.anew
 
-pub on-way-rebound : (edits : List Edit) (old now : Record) (before behind : Meter) → IsOnWay edits [] old now before behind → RisesInGroups RisesToRebound edits old.cards before.coded behind.coded
+pub on-way-rebound : (edits : List Edit) (old now : Record) (before behind : Counts) → IsOnWay edits [] old now before behind → RisesInGroups RisesToRebound edits old.cards before.coded behind.coded
 on-way-rebound edits old now before behind so_far =
     subst (λ (l : List Edit). RisesInGroups RisesToRebound l old.cards before.coded behind.coded) (sym (so_far.all ∙ append-nil so_far.done)) so_far.rebound
 
 -- memory ran out
-pub on-way-lost : (edits left : List Edit) (old now : Record) (before mid behind : Meter) → IsOnWay edits left old now before mid → CountsInOrder left now.cards mid behind → CountsInOrder edits old.cards before behind
+pub on-way-lost : (edits left : List Edit) (old now : Record) (before mid behind : Counts) → IsOnWay edits left old now before mid → CountsInOrder left now.cards mid behind → CountsInOrder edits old.cards before behind
 on-way-lost edits left old now before mid behind so_far last =
     subst (λ (l : List Edit). CountsInOrder l old.cards before behind) (sym so_far.all)
     (in-order-append so_far.done left old.cards before mid behind so_far.counts (subst (λ (l : List Card). CountsInOrder left l mid behind) so_far.made.cards_are last))
@@ -228,7 +228,7 @@ near-first first others near count few =
     omega (arith, few, same)
 
 -- what the first of some edits count, told of the list that they are cut off as
-pub cut-counts : (edits first : List Edit) (count : ℕ) (is_spent : Bool) (cards : List Card) (old new : Meter) → first ≡ take count edits → against_all edits is_spent cards ≡ None →
+pub cut-counts : (edits first : List Edit) (count : ℕ) (is_spent : Bool) (cards : List Card) (old new : Counts) → first ≡ take count edits → against_all edits is_spent cards ≡ None →
     0 < count → count ≤ length edits → cards_between (take count edits) (length cards) ≤ 128 * (count - 1) →
     (against_all first is_spent cards ≡ None → RisesWithinSum (128 + cards_between first (length cards)) first cards old.sized new.sized) →
     (against_all first is_spent cards ≡ None → RisesWithinSumCode (128 + cards_between first (length cards)) first cards old.coded new.coded) →

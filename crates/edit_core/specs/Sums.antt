@@ -7,7 +7,7 @@ use Rattle.definitions.specs.Statements.{Statement}
 use Rattle.cards.specs.Counts.{count_after}
 use Rattle.cards.specs.Edits.{edited, edited_by}
 use Rattle.cards.specs.declared.edits.Edit.{Edit}
-use Rattle.statement_coder.specs.declared.meter.Meter.{Meter}
+use Rattle.statement_coder.specs.Joins.Meters.{Counts}
 use Rattle.edit_core.specs.Edited.{front_of, count_behind, statement_count, AreDecksOf, StandUnchanged}
 
 -- where that ends what is due for an edit: with the deck, or where both decks agree
@@ -86,7 +86,7 @@ statements_sum [] cards = 0
 statements_sum (edit ∷ edits) cards = statement_count (edited cards edit) + statements_sum edits (edited cards edit)
 
 -- what edits count, made one after the other: no more than the sum of what is due for each, with the 128 of a piece for each, nor than the statements of each deck that they leave
-pub record CountsInOrder (edits : List Edit) (cards : List Card) (old new : Meter) : Type 0 where
+pub record CountsInOrder (edits : List Edit) (cards : List Card) (old new : Counts) : Type 0 where
   pub sized : RisesWithinSum (128 * length edits) edits cards old.sized new.sized
   pub coded : RisesWithinSumCode (128 * length edits) edits cards old.coded new.coded
   pub sized_rises : old.sized ≤ new.sized

@@ -11,8 +11,8 @@ use cards::{Card, DeckName, Edit};
 use deck_assembler::{Piece, SizedDeck, object_parts};
 use deck_objects::{CodedLine, Line, LineFields, ObjectParts};
 use edit_core::{Kept, RecordFault};
-use statement_coder::Meter;
 use std::alloc::{AllocError, Global};
+use work_meter::Meter;
 
 /// Whether this is one of the topics here; what is found of the text is then in the answer.
 pub fn answer(answer: &mut Answer, topic: &str, text: &str) -> Result<bool, AllocError> {
@@ -36,7 +36,7 @@ fn deck(answer: &mut Answer, topic: &str, text: &str) -> Result<(), AllocError> 
 
 /// What a topic tells of the deck of these cards.
 fn deck_of(answer: &mut Answer, topic: &str, cards: &[Card]) -> Result<(), AllocError> {
-    let mut done = Meter { sized: 0, coded: 0 };
+    let mut done = work_meter::begin();
     let deck = SizedDeck::new(answer.alloc, answer.keys, cards, &mut done)?;
     match topic {
         "sized_decks" => {
@@ -224,7 +224,7 @@ fn record_shown(answer: &mut Answer, kept: &Kept, done: &Meter) {
 
 /// The record of the deck of these lines.
 fn record(answer: &mut Answer, text: &str) -> Result<(), AllocError> {
-    let mut done = Meter { sized: 0, coded: 0 };
+    let mut done = work_meter::begin();
     let cards = repeated_cards(answer.alloc, text)?;
     match record_of(answer.alloc, cards, &mut done)? {
         Some(kept) => record_shown(answer, &kept, &done),
@@ -264,7 +264,7 @@ fn make_edits(
     words: &str,
     card: &[u8],
 ) -> Result<(), AllocError> {
-    let mut done = Meter { sized: 0, coded: 0 };
+    let mut done = work_meter::begin();
     for edit in &edits_of(answer.alloc, words, card)? {
         edited(answer, kept, edit, &mut done)?;
     }
@@ -280,7 +280,7 @@ fn make_edits(
 /// card at place 20 goes, and `I20`, this card comes in at place 20.
 fn record_edits(answer: &mut Answer, text: &str, card: &[u8]) -> Result<(), AllocError> {
     let (count, words) = cut(text);
-    let mut done = Meter { sized: 0, coded: 0 };
+    let mut done = work_meter::begin();
     let cards = comment_cards(answer.alloc, count)?;
     match record_of(answer.alloc, cards, &mut done)? {
         Some(mut kept) => make_edits(answer, &mut kept, words, card),

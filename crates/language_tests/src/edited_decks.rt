@@ -5,13 +5,13 @@ use crate::deck_topics::{record_of, repeated_cards};
 use crate::fixed_keys::fixed_keys;
 use crate::inputs::{cut, decimal};
 use crate::outputs::Answer;
-use crate::statement_topics::meter;
+use crate::statement_topics::{Counts, put_counts};
 use cards::{Card, Edit, edited_copy};
 use deck_linker::{Publication, link};
 use deck_objects::SharedObject;
 use edit_core::{Kept, RecordFault, assemble};
-use statement_coder::Meter;
 use std::alloc::{AllocError, Global};
+use work_meter::Meter;
 
 /// Whether this is a topic here; what is found of the text is then in the answer.
 pub fn answer(answer: &mut Answer, topic: &str, text: &str) -> Result<bool, AllocError> {
@@ -31,7 +31,7 @@ fn edited_deck(
     edits: &str,
     is_counted: bool,
 ) -> Result<(), AllocError> {
-    let mut done = Meter { sized: 0, coded: 0 };
+    let mut done = work_meter::begin();
     let cards = repeated_cards(answer.alloc, deck)?;
     match record_of(answer.alloc, cards, &mut done)? {
         Some(mut kept) => edited(answer, &mut kept, edits, is_counted),
@@ -52,7 +52,7 @@ fn edited(
     let mut are_same = true;
     for line in edits.lines() {
         match edits_of_line(answer.alloc, kept, line)? {
-            Some(most) if is_counted => meter(answer, &most),
+            Some(most) if is_counted => put_counts(answer, most),
             Some(_) => {}
             None => are_same = false,
         }
@@ -67,7 +67,7 @@ fn edited(
 
 /// Makes the edit of a line, and three times where it begins with `#3`: how many statements were sized and coded for
 /// one of them, at most; none where the record is not as a new one then.
-fn edits_of_line(alloc: Global, kept: &mut Kept, line: &str) -> Result<Option<Meter>, AllocError> {
+fn edits_of_line(alloc: Global, kept: &mut Kept, line: &str) -> Result<Option<Counts>, AllocError> {
     let (times, line) = match line.strip_prefix("#") {
         Some(counted) => cut(counted),
         None => ("1", line),
@@ -75,15 +75,15 @@ fn edits_of_line(alloc: Global, kept: &mut Kept, line: &str) -> Result<Option<Me
     let Some(edit) = edit_of(line) else {
         return Ok(None);
     };
-    let mut most = Meter { sized: 0, coded: 0 };
+    let mut most = Counts { sized: 0, coded: 0 };
     for _ in 0..decimal(times) {
-        let mut done = Meter { sized: 0, coded: 0 };
+        let mut done = work_meter::begin();
         if !is_edited(alloc, kept, &edit, &mut done)? {
             return Ok(None);
         }
-        most = Meter {
-            sized: most.sized.max(done.sized),
-            coded: most.coded.max(done.coded),
+        most = Counts {
+            sized: most.sized.max(done.sized()),
+            coded: most.coded.max(done.coded()),
         };
     }
     Ok(Some(most))
@@ -121,7 +121,7 @@ fn is_edited(
 
 /// The link of a new object of a record's cards.
 fn published_anew(alloc: Global, kept: &Kept) -> Result<Publication, AllocError> {
-    let mut done = Meter { sized: 0, coded: 0 };
+    let mut done = work_meter::begin();
     let cards = edited_copy(alloc, kept.cards(), &[])?;
     published(
         alloc,

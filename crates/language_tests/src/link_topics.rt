@@ -8,7 +8,6 @@ use deck_linker::{Layout, Publication, link};
 use deck_objects::SharedObject;
 use edit_core::assemble;
 use expr_forms::Name;
-use statement_coder::Meter;
 use std::alloc::{AllocError, Global};
 
 /// Whether this is one of the topics here; what is found of the text is then in the answer.
@@ -27,7 +26,7 @@ pub fn answer(answer: &mut Answer, topic: &str, text: &str) -> Result<bool, Allo
 /// The object of a deck.
 fn object_of(alloc: Global, name: &str, text: &str) -> Result<Option<SharedObject>, AllocError> {
     let cards = repeated_cards(alloc, text)?;
-    let mut done = Meter { sized: 0, coded: 0 };
+    let mut done = work_meter::begin();
     match DeckName::read(name.as_bytes()) {
         Ok(name) if cards.len() <= 20_000 => Ok(Some(assemble(
             alloc,

@@ -12,14 +12,13 @@ use crate::outputs::Answer;
 use cards::{Card, StatementRoom};
 use definitions::DeckKind;
 use expr_forms::{Form, Name};
-use statement_coder::{
-    Coded, CodedItems, Defines, KeptSizing, Meter, Sizing, Statement, code, size,
-};
+use statement_coder::{Coded, CodedItems, Defines, KeptSizing, Sizing, Statement, code, size};
 use std::alloc::{AllocError, Global};
 use std::hash::RandomState;
 use use_blocks::{
     Bases, BlockState, Counting, Effect, Lengths, Literals, LocationSetting, location, origin,
 };
+use work_meter::Meter;
 
 /// Whether this is one of the topics here; what is found of the text is then in the answer.
 pub fn answer(answer: &mut Answer, topic: &str, text: &str) -> Result<bool, AllocError> {
@@ -48,10 +47,25 @@ fn names(value: &str) -> KnownNames {
     }
 }
 
-pub fn meter(answer: &mut Answer, meter: &Meter) {
+/// How many statements were sized and coded.
+#[derive(Clone, Copy)]
+pub struct Counts {
+    pub sized: u64,
+    pub coded: u64,
+}
+
+pub fn put_counts(answer: &mut Answer, counts: Counts) {
     answer.word("done");
-    answer.decimal(meter.sized);
-    answer.decimal(meter.coded)
+    answer.decimal(counts.sized);
+    answer.decimal(counts.coded)
+}
+
+pub fn meter(answer: &mut Answer, meter: &Meter) {
+    let counts = Counts {
+        sized: meter.sized(),
+        coded: meter.coded(),
+    };
+    put_counts(answer, counts)
 }
 
 fn defined(answer: &mut Answer, defines: &Defines) {
@@ -88,7 +102,7 @@ fn one_statement(
     let mut room = StatementRoom::new();
     let statement = Statement::read(DeckKind::Rel, cards, &mut room);
     let state = BlockState::new(answer.alloc)?;
-    let mut done = Meter { sized: 0, coded: 0 };
+    let mut done = work_meter::begin();
     let sizing = size(
         answer.alloc,
         answer.keys,
@@ -175,7 +189,7 @@ impl Blocks {
         } = self;
         let mut room = StatementRoom::new();
         let statement = Statement::read(DeckKind::Rel, cards, &mut room);
-        let mut done = Meter { sized: 0, coded: 0 };
+        let mut done = work_meter::begin();
         let sizing = size(alloc, keys, &statement, &state, &names("none"), &mut done)?;
         let effect = sizing.effect(&statement);
         lengths.follow(&state, &effect)?;

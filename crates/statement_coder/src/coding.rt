@@ -24,13 +24,13 @@ use crate::coded::{Coded, CodedItems};
 use crate::entry_letters::entry_letters;
 use crate::final_names::{FinalNames, FinalSymbols};
 use crate::kept_sizing::KeptSizing;
-use crate::meter::Meter;
 use crate::operand_fields::{fields_told, take_back, told_letters};
 use crate::read_operands::ReadOperand;
 use crate::statement::Statement;
 use crate::{BlockBases, Item};
 use operations::Operation;
 use std::alloc::AllocError;
+use work_meter::{Meter, count_coded};
 
 /// The fields of a statement that stores those of its operand: none where it ends at its place.
 fn within(sizing: &KeptSizing, items: CodedItems, list: &mut Vec<Item>) -> CodedItems
@@ -124,7 +124,7 @@ pub fn code_read<S: FinalSymbols, B: BlockBases>(
     ensures rises { meter.old.coded ≤ meter.new.coded }
     ensures sized { meter.new.sized ≡ meter.old.sized }
 {
-    meter.coded = meter.coded.saturating_add(1);
+    count_coded(meter);
     coded(read, sizing, symbols, bases, list)
 }
 

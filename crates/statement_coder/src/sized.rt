@@ -21,7 +21,6 @@ ghost use Rattle.statement_coder.specs.Joins.Sizings.{read_as, settled_read, IsS
 use crate::block_changes::change_of;
 use crate::definitions_made::definition_made;
 use crate::early_values::{EarlyNames, EarlySymbols, early_value, equated};
-use crate::meter::Meter;
 use crate::outcomes::outcome_of;
 use crate::placing::{OperandClass, place_of};
 use crate::readings::{Reading, read_operand};
@@ -35,6 +34,7 @@ use operations::{Letters, Operation};
 use std::alloc::{AllocError, Global};
 use std::hash::RandomState;
 use use_blocks::{BlockState, LocationSetting};
+use work_meter::{Meter, count_sized};
 
 /// Whether a variable field has one subfield.
 fn is_one(text: &[u8]) -> bool
@@ -198,7 +198,7 @@ pub fn operand_letters<S: EarlySymbols>(
     match found_letters(alloc, keys, statement, symbols, reading) {
         Ok(letters) => Ok(letters),
         Err(fault) => {
-            meter.sized = meter.sized.saturating_add(1);
+            count_sized(meter);
             Err(fault)
         }
     }
@@ -225,7 +225,7 @@ pub fn size_reading<S: EarlySymbols>(
     ensures rises { meter.old.sized ≤ meter.new.sized }
     ensures coded { meter.new.coded ≡ meter.old.coded }
 {
-    meter.sized = meter.sized.saturating_add(1);
+    count_sized(meter);
     settle(statement, reading, state, symbols, of_operand)
 }
 

@@ -1,6 +1,6 @@
 -- What one caller alone makes of a desk by claiming, running and delivering (ours).
 use Rattle.std.specs.Prelude.{◌≡◌, ⊤, ℕ, ◌+◌, ◌<◌, List, [], ◌∷◌, ◌++◌, length, All, Option, Some, None, option_map}
-use Rattle.statement_coder.specs.declared.meter.Meter.{Meter}
+use Rattle.work_meter.specs.Counts.{Counts}
 use Rattle.definitions.specs.Build.{listing_of, image_of}
 use Rattle.turn_office.specs.Histories.{Leads}
 use Rattle.desk_core.specs.Desks.{Desk, Publication, decks_of}
@@ -77,7 +77,7 @@ rounds_in (used_up rounds go_on all is leads) = rounds
 rounds_in (ended rounds round go_on less is_round end leads) = rounds ++ round ∷ []
 
 -- settling, on a meter that counts what its jobs do
-abbrev pub SettlesOn : ℕ → Desk → Settled → Desk → Meter → Meter → Type 0
+abbrev pub SettlesOn : ℕ → Desk → Settled → Desk → Counts → Counts → Type 0
 SettlesOn turns first settled last old new = (settles : Settles turns first settled last) × CountsWithin (rounds_least (rounds_in settles)) (rounds_bound (rounds_in settles)) old new
 
 -- a desk that is idle: its publication is of its version, and of its present decks where the first desk comes from a new one
@@ -98,7 +98,7 @@ IsSettled first Waiting desk = ⊤
 IsSettled first Turns desk = ⊤
 
 -- one turn: a round that the desk allows, what it ends settling with, and a meter that counts what its job does
-pub record IsTurn (first : Desk) (end : Option Settled) (last : Desk) (old new : Meter) : Type 0 where
+pub record IsTurn (first : Desk) (end : Option Settled) (last : Desk) (old new : Counts) : Type 0 where
   pub round : Round
   pub is_round : IsRound round
   pub end_is : end_of round ≡ end

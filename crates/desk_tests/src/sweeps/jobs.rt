@@ -6,7 +6,6 @@ use crate::sweeps::scene::Scene;
 use deck_workers::{Job, Made, Runs, job_in};
 use desk_core::{Call, Desk, Refusal, Reply, SharedPublication};
 use edit_core::RecordFault;
-use statement_coder::Meter;
 
 /// What a reply of the desk tells, but for what it gives.
 #[derive(Clone, Copy, PartialEq, Eq)]
@@ -161,7 +160,7 @@ pub enum End {
 
 /// What ends a job, and whether that is foreign.
 fn made_of(scene: &Scene, job: Job, end: End) -> (Made, bool) {
-    let mut meter = Meter { sized: 0, coded: 0 };
+    let mut meter = work_meter::begin();
     match end {
         End::Delivered => (job.run(scene.alloc, scene.keys, &mut meter), false),
         End::Foreign => (foreign(job).run(scene.alloc, scene.keys, &mut meter), true),

@@ -12,7 +12,6 @@ use asm_main::{AsmFault, Built, Chosen, asm_build, write_chosen};
 use deck_linker::{Publication, link};
 use deck_objects::SharedObject;
 use edit_core::assemble;
-use statement_coder::Meter;
 use std::alloc::{AllocError, Global};
 use std::io::BufRead;
 use text_ports::Counted;
@@ -80,7 +79,7 @@ fn object_of(alloc: Global, deck: &DeckText) -> Result<SharedObject, AllocError>
     let mut lines = Vec::new(alloc);
     push_deck(&mut lines, deck)?;
     let cards = cards_of(alloc, str::from_utf8(&lines).unwrap_or(""))?;
-    let mut meter = Meter { sized: 0, coded: 0 };
+    let mut meter = work_meter::begin();
     assemble(alloc, fixed_keys()?, name_of(deck.name)?, cards, &mut meter)
 }
 

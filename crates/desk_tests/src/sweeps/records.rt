@@ -12,7 +12,6 @@ use deck_listing::{image, listing};
 use deck_objects::SharedObject;
 use edit_core::{FinishFault, Kept, RecordFault};
 use session_line::read_batch_line;
-use statement_coder::Meter;
 use std::alloc::{AllocError, Global};
 use std::hash::RandomState;
 
@@ -38,7 +37,7 @@ fn record_of(alloc: Global, name: DeckName, cards: Vec<Card>) -> Result<Kept, Al
     if cards.len() > MOST_CARDS {
         return Err(AllocError);
     }
-    let mut meter = Meter { sized: 0, coded: 0 };
+    let mut meter = work_meter::begin();
     Kept::new(alloc, fixed_keys()?, name, cards, &mut meter)
 }
 
@@ -49,7 +48,7 @@ fn fault_of_edit(
     kept: &mut Kept,
     edit: &Edit,
 ) -> Option<RecordFault> {
-    let mut meter = Meter { sized: 0, coded: 0 };
+    let mut meter = work_meter::begin();
     match kept.edit(alloc, keys, edit, &mut meter) {
         Ok(()) => None,
         Err(fault) => Some(fault),

@@ -9,7 +9,6 @@ use deck_files::{MemoryShelf, Shelf};
 use deck_workers::{Settled, settle};
 use desk_core::Desk;
 use session_line::Calls;
-use statement_coder::Meter;
 use std::alloc::{AllocError, Global};
 use std::hash::RandomState;
 use text_ports::Counted;
@@ -60,7 +59,7 @@ fn name_in(row: &str) -> &str {
 
 /// Settles a desk in so many turns: whether all of its version is published then.
 fn is_settled(alloc: Global, keys: RandomState, desk: &mut Desk, turns: u32) -> bool {
-    let mut meter = Meter { sized: 0, coded: 0 };
+    let mut meter = work_meter::begin();
     match settle(alloc, keys, desk, &mut meter, turns) {
         Settled::Idle { .. } => true,
         _ => false,

@@ -2,14 +2,14 @@
 use Rattle.std.specs.Prelude.{ℕ, ◌≡◌, None, List, drop, take}
 use Rattle.cards.specs.declared.edits.Edit.{Edit}
 use Rattle.cards.specs.Edits.{edited_by}
-use Rattle.statement_coder.specs.declared.meter.Meter.{Meter}
+use Rattle.statement_coder.specs.Joins.Meters.{Counts}
 use Rattle.edit_core.specs.Edited.{IsRecordOf, RisesToAnew, RisesToRebound}
 use Rattle.edit_core.specs.Faults.{against_all}
 use Rattle.edit_core.specs.Records.{Record}
 use Rattle.edit_core.specs.Sums.{CountsInOrder}
 
 -- so many of these edits were made, and the others, which apply, are left
-pub record IsFirstMade (count : ℕ) (edits others : List Edit) (old new : Record) (before behind : Meter) : Type 0 where
+pub record IsFirstMade (count : ℕ) (edits others : List Edit) (old new : Record) (before behind : Counts) : Type 0 where
   pub others_are : others ≡ drop count edits
   pub made : IsRecordOf old.name (edited_by (take count edits) old.cards) new
   pub apply : against_all others new.is_spent new.cards ≡ None

@@ -6,11 +6,11 @@ use crate::deck_topics;
 use crate::fixed_keys::fixed_keys;
 use cards::{Card, Edit, edited_copy};
 use edit_core::Kept;
-use statement_coder::Meter;
 use std::alloc::{AllocError, AllocGlobal, Global};
 use std::rt::Files;
 use std::time::{CpuClock, Duration};
 use std::{fs, io};
+use work_meter::Meter;
 
 /// How often each is measured; the least time counts.
 const ROUNDS: u32 = 20;
@@ -32,6 +32,16 @@ struct Cost {
     time: Duration,
     sized: u64,
     coded: u64,
+}
+
+impl Cost {
+    fn counted(time: Duration, meter: &Meter) -> Cost {
+        Cost {
+            time,
+            sized: meter.sized(),
+            coded: meter.coded(),
+        }
+    }
 }
 
 /// The edits that replace these cards.
@@ -58,18 +68,17 @@ fn record_of(alloc: Global, cards: &[Card], meter: &mut Meter) -> io::Result<Kep
 
 /// What a new record costs.
 fn new_cost<R: AllocGlobal + CpuClock>(rt: &R, cards: &[Card]) -> io::Result<Cost> {
-    let mut meter = Meter { sized: 0, coded: 0 };
+    let mut meter = work_meter::begin();
     let before = rt.process_cpu_time()?;
     let kept = record_of(rt.alloc(), cards, &mut meter)?;
     let time = rt.process_cpu_time()?.saturating_sub(before);
     drop(kept);
-    let Meter { sized, coded } = meter;
-    Ok(Cost { time, sized, coded })
+    Ok(Cost::counted(time, &meter))
 }
 
 /// What these edits of a record cost, made as a job makes them.
 fn cost_of<R: AllocGlobal + CpuClock>(rt: &R, kept: &mut Kept, edits: &[Edit]) -> io::Result<Cost> {
-    let mut meter = Meter { sized: 0, coded: 0 };
+    let mut meter = work_meter::begin();
     let keys = fixed_keys()?;
     let before = rt.process_cpu_time()?;
     if kept
@@ -79,8 +88,7 @@ fn cost_of<R: AllocGlobal + CpuClock>(rt: &R, kept: &mut Kept, edits: &[Edit]) -
         return Err(io::Error::other("no such edits"));
     }
     let time = rt.process_cpu_time()?.saturating_sub(before);
-    let Meter { sized, coded } = meter;
-    Ok(Cost { time, sized, coded })
+    Ok(Cost::counted(time, &meter))
 }
 
 /// What edits cost.
@@ -89,7 +97,7 @@ fn edit_cost<R: AllocGlobal + CpuClock>(
     cards: &[Card],
     spread: Spread,
 ) -> io::Result<Cost> {
-    let mut meter = Meter { sized: 0, coded: 0 };
+    let mut meter = work_meter::begin();
     let mut kept = record_of(rt.alloc(), cards, &mut meter)?;
     let edits = replacements(rt.alloc(), spread)?;
     cost_of(rt, &mut kept, &edits)

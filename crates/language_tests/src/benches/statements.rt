@@ -6,11 +6,12 @@ use crate::known_names::KnownNames;
 use cards::{Card, StatementRoom};
 use definitions::{DeckKind, is_same_text};
 use expr_forms::Form;
-use statement_coder::{CodedItems, EarlySymbols, Item, KeptSizing, Meter, Statement, code, size};
+use statement_coder::{CodedItems, EarlySymbols, Item, KeptSizing, Statement, code, size};
 use std::alloc::Global;
 use std::hash::RandomState;
 use std::io;
 use use_blocks::BlockState;
+use work_meter::Meter;
 
 /// One deck has them 2,500 times: 20,000 statements in 30,000 words.
 const CARDS: [&[u8]; 8] = [
@@ -170,12 +171,12 @@ pub fn size_all(alloc: Global) -> io::Result<u64> {
     let keys = fixed_keys()?;
     let mut room = StatementRoom::new();
     let mut state = BlockState::new(alloc)?;
-    let mut meter = Meter { sized: 0, coded: 0 };
+    let mut meter = work_meter::begin();
     let mut sum: u64 = 0;
     for _ in 0..TIMES {
         sum = sum.wrapping_add(size_each(alloc, keys, &mut room, &mut state, &mut meter)?);
     }
-    Ok(sum.wrapping_add(meter.sized))
+    Ok(sum.wrapping_add(meter.sized()))
 }
 
 /// Reads the same cards, sizes each behind the others and codes it, where each symbol is 64 and all else
@@ -191,12 +192,12 @@ pub fn code_all(alloc: Global) -> io::Result<u64> {
     let mut room = StatementRoom::new();
     let mut state = BlockState::new(alloc)?;
     let mut list = Vec::new(alloc);
-    let mut meter = Meter { sized: 0, coded: 0 };
+    let mut meter = work_meter::begin();
     let mut sum: u64 = 0;
     for _ in 0..TIMES {
         sum = sum.wrapping_add(code_each(
             alloc, keys, &mut room, &mut state, &symbols, &mut list, &mut meter,
         )?);
     }
-    Ok(sum.wrapping_add(meter.coded))
+    Ok(sum.wrapping_add(meter.coded()))
 }
