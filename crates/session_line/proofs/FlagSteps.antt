@@ -1,6 +1,6 @@
 -- The flagged statements of a deck, statement by statement.
 use Rattle.std.proofs.Common.{ℕ, ◌≡◌, ◌+◌, ◌<◌, ◌≤◌, Bool, true, false, List, [], ◌∷◌, ◌++◌, ◌⊎◌, inl, inr, ⊎_elim, length, take, drop, get_or, reverse, refl, sym, ap, ap₂, ◌∙◌, arith, append-nil, append_assoc, length-append, if◌then◌else◌}
-use Rattle.std.specs.Prelude.{All, codes, filter, flat_map, map}
+use Rattle.std.specs.Prelude.{All, ◌&&◌, Option, None, Some, codes, filter, flat_map, is_none, map}
 use Rattle.std.specs.List.{AllByRecursion, count_by}
 use Rattle.std.proofs.lemmas.Grind.{flat_map-append}
 use Rattle.std.proofs.lemmas.List.{drop_all, drop_more, reverse-append, take_all, take_more}
@@ -17,12 +17,14 @@ use Rattle.definitions.specs.Settled.{Settled}
 use Rattle.definitions.specs.Settling.{settled_all}
 use Rattle.definitions.specs.StatementItems.{Context}
 use Rattle.definitions.specs.Statements.{Statement, statements_of}
-use Rattle.deck_objects.specs.Joins.CodedLines.{AreShown}
+use Rattle.definitions.specs.Words.{Coded}
+use Rattle.deck_objects.specs.Joins.CodedLines.{AreShown, IsStored}
 use Rattle.deck_objects.specs.Joins.PartsOf.{ArePartsOf}
+use Rattle.deck_objects.specs.declared.lines.CodedLine.{CodedLine}
 use Rattle.deck_objects.specs.declared.lines.Line.{Line}
 use Rattle.deck_objects.specs.declared.object.ObjectParts.{ObjectParts}
 use Rattle.deck_listing.proofs.ListingLaws.{behind-cards, take-none}
-use Rattle.session_line.specs.Errors.{Flag, deck_errors, errors_where, flag_of, flags_of, flag_text, shown_flag, shows_deck}
+use Rattle.session_line.specs.Errors.{Begins, Flag, begins_deck, deck_errors, errors_where, flag_of, flags_of, flag_text, shown_flag, shows_deck}
 use Rattle.session_line.specs.Joins.FlagWalks.{flags_in, flags_text}
 use Rattle.session_line.specs.Replies.{line_of, text_of_lines}
 use Rattle.session_line.specs.declared.errors.ErrorsView.{ErrorsView}
@@ -36,7 +38,7 @@ flags_text-append name (flag ∷ flags) others =
 
 -- the next statement, and those behind it
 pub flags-next : (before : ℕ) (cards : List Card) (lines : List Line) (i : ℕ) (shown : Line) → i < length lines → shown ≡ get_or lines i shown →
-    flags_in before cards (drop i lines) ≡ flag_of before (take shown.cards cards) shown.letters ++ flags_in (before + length (take shown.cards cards)) (drop shown.cards cards) (drop (i + 1) lines)
+    flags_in before cards (drop i lines) ≡ flag_of before (take shown.cards cards) shown.letters (is_none shown.coded) ++ flags_in (before + length (take shown.cards cards)) (drop shown.cards cards) (drop (i + 1) lines)
 flags-next before cards lines i shown within is =
     ap (flags_in before cards) (drop_more lines i shown within)
     ∙ ap (λ (line : Line). flags_in before cards (line ∷ drop (i + 1) lines)) (sym is)
@@ -44,18 +46,18 @@ flags-next before cards lines i shown within is =
 -- and their lines
 pub texts-next : (name : List ℕ) (before : ℕ) (cards : List Card) (lines : List Line) (i : ℕ) (shown : Line) → i < length lines → shown ≡ get_or lines i shown →
     flags_text name (flags_in before cards (drop i lines))
-    ≡ flags_text name (flag_of before (take shown.cards cards) shown.letters) ++ flags_text name (flags_in (before + length (take shown.cards cards)) (drop shown.cards cards) (drop (i + 1) lines))
+    ≡ flags_text name (flag_of before (take shown.cards cards) shown.letters (is_none shown.coded)) ++ flags_text name (flags_in (before + length (take shown.cards cards)) (drop shown.cards cards) (drop (i + 1) lines))
 texts-next name before cards lines i shown within is =
     ap (flags_text name) (flags-next before cards lines i shown within is)
-    ∙ flags_text-append name (flag_of before (take shown.cards cards) shown.letters) (flags_in (before + length (take shown.cards cards)) (drop shown.cards cards) (drop (i + 1) lines))
+    ∙ flags_text-append name (flag_of before (take shown.cards cards) shown.letters (is_none shown.coded)) (flags_in (before + length (take shown.cards cards)) (drop shown.cards cards) (drop (i + 1) lines))
 
 -- the same, where cards and bytes are told otherwise
 pub texts-step : (name : List ℕ) (before : ℕ) (cards own behind : List Card) (lines : List Line) (i : ℕ) (shown : Line) (bytes : List ℕ) → i < length lines → shown ≡ get_or lines i shown →
-    own ≡ take shown.cards cards → behind ≡ drop shown.cards cards → bytes ≡ flags_text name (flag_of before own shown.letters) →
+    own ≡ take shown.cards cards → behind ≡ drop shown.cards cards → bytes ≡ flags_text name (flag_of before own shown.letters (is_none shown.coded)) →
     flags_text name (flags_in before cards (drop i lines)) ≡ bytes ++ flags_text name (flags_in (before + length own) behind (drop (i + 1) lines))
 texts-step name before cards own behind lines i shown bytes within is own-is behind-is bytes-is =
     texts-next name before cards lines i shown within is
-    ∙ ap₂ (λ (o b : List Card). flags_text name (flag_of before o shown.letters) ++ flags_text name (flags_in (before + length o) b (drop (i + 1) lines))) (sym own-is) (sym behind-is)
+    ∙ ap₂ (λ (o b : List Card). flags_text name (flag_of before o shown.letters (is_none shown.coded)) ++ flags_text name (flags_in (before + length o) b (drop (i + 1) lines))) (sym own-is) (sym behind-is)
     ∙ ap (λ (l : List ℕ). l ++ flags_text name (flags_in (before + length own) behind (drop (i + 1) lines))) (sym bytes-is)
 
 -- no statement is left
@@ -63,36 +65,47 @@ pub texts-end : (name : List ℕ) (before : ℕ) (cards : List Card) (lines : Li
 texts-end name before cards lines i past = ap (λ (l : List Line). flags_text name (flags_in before cards l)) (drop_all i lines past)
 
 -- how many one is does not depend on its number
-flag-count : (m n : ℕ) (cards : List Card) (letters : List ℕ) → length (flag_of m cards letters) ≡ length (flag_of n cards letters)
-flag-count m n [] letters = refl
-flag-count m n (card ∷ cards) [] = refl
-flag-count m n (card ∷ cards) (letter ∷ letters) = refl
+begun-count : (told : Bool) (m n : ℕ) (card : Card) → length (if told then Begins m card ∷ [] else []) ≡ length (if told then Begins n card ∷ [] else [])
+begun-count true m n card = refl
+begun-count false m n card = refl
+
+flag-count : (m n : ℕ) (cards : List Card) (letters : List ℕ) (behind : Bool) → length (flag_of m cards letters behind) ≡ length (flag_of n cards letters behind)
+flag-count m n [] letters behind = refl
+flag-count m n (card ∷ cards) [] behind = begun-count (behind && begins_deck card) (m + 1) (n + 1) card
+flag-count m n (card ∷ cards) (letter ∷ letters) behind = refl
 
 flags-count : (m n : ℕ) (cards : List Card) (lines : List Line) → length (flags_in m cards lines) ≡ length (flags_in n cards lines)
 flags-count m n cards [] = refl
 flags-count m n cards (shown ∷ lines) =
     let own = take shown.cards cards in
     let behind = drop shown.cards cards in
-    length-append (flag_of m own shown.letters) (flags_in (m + length own) behind lines)
-    ∙ ap₂ (λ (x y : ℕ). x + y) (flag-count m n own shown.letters) (flags-count (m + length own) (n + length own) behind lines)
-    ∙ sym (length-append (flag_of n own shown.letters) (flags_in (n + length own) behind lines))
+    length-append (flag_of m own shown.letters (is_none shown.coded)) (flags_in (m + length own) behind lines)
+    ∙ ap₂ (λ (x y : ℕ). x + y) (flag-count m n own shown.letters (is_none shown.coded)) (flags-count (m + length own) (n + length own) behind lines)
+    ∙ sym (length-append (flag_of n own shown.letters (is_none shown.coded)) (flags_in (n + length own) behind lines))
 
 -- how many are left, with the next
 pub count-next : (cards : List Card) (lines : List Line) (i : ℕ) (shown : Line) → i < length lines → shown ≡ get_or lines i shown →
-    length (flags_in 0 cards (drop i lines)) ≡ length (flag_of 0 (take shown.cards cards) shown.letters) + length (flags_in 0 (drop shown.cards cards) (drop (i + 1) lines))
+    length (flags_in 0 cards (drop i lines)) ≡ length (flag_of 0 (take shown.cards cards) shown.letters (is_none shown.coded)) + length (flags_in 0 (drop shown.cards cards) (drop (i + 1) lines))
 count-next cards lines i shown within is =
     let own = take shown.cards cards in
     ap length (flags-next 0 cards lines i shown within is)
-    ∙ length-append (flag_of 0 own shown.letters) (flags_in (0 + length own) (drop shown.cards cards) (drop (i + 1) lines))
-    ∙ ap (λ (n : ℕ). length (flag_of 0 own shown.letters) + n) (flags-count (0 + length own) 0 (drop shown.cards cards) (drop (i + 1) lines))
+    ∙ length-append (flag_of 0 own shown.letters (is_none shown.coded)) (flags_in (0 + length own) (drop shown.cards cards) (drop (i + 1) lines))
+    ∙ ap (λ (n : ℕ). length (flag_of 0 own shown.letters (is_none shown.coded)) + n) (flags-count (0 + length own) 0 (drop shown.cards cards) (drop (i + 1) lines))
 
 -- numbers of cards, where there are any
-flag-same : (before stood : ℕ) (cards : List Card) (letters : List ℕ) → (cards ≡ []) ⊎ (before ≡ stood) → flag_of before cards letters ≡ flag_of stood cards letters
-flag-same before stood cards letters which =
-    ⊎_elim (λ (none : cards ≡ []). ap (λ (c : List Card). flag_of before c letters) none ∙ sym (ap (λ (c : List Card). flag_of stood c letters) none))
-    (λ (same : before ≡ stood). ap (λ (n : ℕ). flag_of n cards letters) same) which
+flag-same : (before stood : ℕ) (cards : List Card) (letters : List ℕ) (behind : Bool) → (cards ≡ []) ⊎ (before ≡ stood) → flag_of before cards letters behind ≡ flag_of stood cards letters behind
+flag-same before stood cards letters behind which =
+    ⊎_elim (λ (none : cards ≡ []). ap (λ (c : List Card). flag_of before c letters behind) none ∙ sym (ap (λ (c : List Card). flag_of stood c letters behind) none))
+    (λ (same : before ≡ stood). ap (λ (n : ℕ). flag_of n cards letters behind) same) which
 
--- the flagged ones of lines are those of the statements that they show
+-- a line stores nothing where its statement stands behind END
+behind-same : (parts : ObjectParts) (line : Option CodedLine) (shown : Option Coded) → IsStored parts.kind parts.bases parts.items.items line shown → is_none line ≡ is_none shown
+behind-same parts None None stored = refl
+behind-same parts None (Some coded) stored = absurd stored
+behind-same parts (Some line) None stored = absurd stored
+behind-same parts (Some line) (Some coded) stored = refl
+
+-- what is told of lines is what is told of the statements that they show
 flags-same : (parts : ObjectParts) (before stood : ℕ) (cards : List Card) (lines : List Line) (all : List Shown) →
     AreShown parts.kind parts.bases parts.items.items stood cards lines all → (cards ≡ []) ⊎ (before ≡ stood) →
     flags_in before cards lines ≡ flat_map shown_flag all
@@ -102,9 +115,10 @@ flags-same parts before stood cards (shown ∷ lines) [] are which = absurd are
 flags-same parts before stood cards (shown ∷ lines) (statement ∷ others) are which =
     let own = take shown.cards cards in
     ap₂ (λ (front rest : List Flag). front ++ rest)
-    (flag-same before stood own shown.letters (⊎_elim (λ none. inl (take-none shown.cards cards none)) (λ same. inr same) which)
-    ∙ ap (λ (n : ℕ). flag_of n own shown.letters) are.0.before
-    ∙ ap₂ (λ (c : List Card) (l : List ℕ). flag_of statement.statement.before c l) are.0.cards are.0.letters)
+    (flag-same before stood own shown.letters (is_none shown.coded) (⊎_elim (λ none. inl (take-none shown.cards cards none)) (λ same. inr same) which)
+    ∙ ap (λ (n : ℕ). flag_of n own shown.letters (is_none shown.coded)) are.0.before
+    ∙ ap₂ (λ (c : List Card) (l : List ℕ). flag_of statement.statement.before c l (is_none shown.coded)) are.0.cards are.0.letters
+    ∙ ap (λ (b : Bool). flag_of statement.statement.before statement.statement.cards statement.letters b) (behind-same parts shown.coded statement.coded are.0.stored))
     (flags-same parts (before + length own) (stood + shown.cards) (drop shown.cards cards) lines others are.1 (behind-cards shown.cards before stood cards which))
 
 -- those of a deck

@@ -230,6 +230,13 @@ all_errors = unfold digits in refl
 pub errors_of_one : told_text (told_of_errors (Of (codes "T")) (reply.Shown (record { version = 2; decks = two_decks }))) ≡ codes "OK 2 2\nERR T 3 U           SA1    X\nLINK U T GO\n"
 errors_of_one = unfold digits in refl
 
+-- a deck whose cards have another behind its END
+abbrev pub deck_of_two : List Deck
+deck_of_two = record { name = codes "T"; cards = codes "          IDENT  T" ∷ codes "          END" ∷ codes "*" ∷ codes "          IDENT  U" ∷ codes "          END" ∷ [] } ∷ []
+
+pub more_decks : told_text (told_of_errors Every (reply.Shown (record { version = 1; decks = deck_of_two }))) ≡ codes "OK 1 2\nMORE T 4           IDENT  U\nEND\n"
+more_decks = unfold digits in refl
+
 -- the section of one of them
 pub section_of_one : told_text (told_of_part part.Section (codes "U") (reply.Shown (record { version = 2; decks = two_decks }))) ≡ codes "OK 2 1\nDECK U REL 000101\n"
 section_of_one = unfold digits in refl

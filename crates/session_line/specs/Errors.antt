@@ -1,40 +1,48 @@
--- What ERRORS shows of a publication: the flagged statements of its decks, and the LINK lines of its map (ours).
-use Rattle.std.specs.Prelude.{ℕ, ◌+◌, ◌==◌, Bool, true, false, ◌&&◌, ◌||◌, List, [], ◌∷◌, ◌++◌, codes, decimal, drop, filter, flat_map, map, reverse, if◌then◌else◌}
+-- What ERRORS shows of a publication: the flagged statements of its decks, with those behind END that begin another deck, and the LINK lines of its map (ours).
+use Rattle.std.specs.Prelude.{ℕ, ◌+◌, ◌==◌, Bool, true, false, ◌&&◌, ◌||◌, is_none, List, [], ◌∷◌, ◌++◌, codes, decimal, drop, filter, flat_map, map, reverse, if◌then◌else◌}
 use Rattle.definitions.specs.Characters.{line_feed, same_text}
 use Rattle.definitions.specs.Cards.{Card}
 use Rattle.definitions.specs.DeckInput.{Deck}
-use Rattle.definitions.specs.Fields.{unbroken_front}
+use Rattle.definitions.specs.Fields.{fields_of, unbroken_front}
 use Rattle.definitions.specs.Objects.{Shown, object_of}
 use Rattle.session_line.specs.Views.{begins_with}
 use Rattle.session_line.specs.Words.{from_blank, behind_word}
 use Rattle.session_line.specs.declared.errors.ErrorsView.{ErrorsView}
 use Rattle.session_line.specs.declared.errors.ErrorsView.TheVariants.{Every, Of}
 
--- a flagged statement: the number of its first card in the deck, its letters, and that card
-pub record Flag : Type 0 where
-  pub number : ℕ
-  pub letters : List ℕ
-  pub card : Card
+-- what is told of a statement: it is flagged, with the number of its first card in the deck, its letters, and that card; or it stands behind END and begins another deck, with the number of its first card, and that card
+pub data Flag : Type 0 where
+  Flagged : ℕ → List ℕ → Card → Flag
+  Begins : ℕ → Card → Flag
 
--- a statement that has these cards, of which so many stand before, where it has letters
-abbrev pub flag_of : ℕ → List Card → List ℕ → List Flag
-flag_of before [] letters = []
-flag_of before (card ∷ cards) [] = []
-flag_of before (card ∷ cards) (letter ∷ letters) = record { number = before + 1; letters = letter ∷ letters; card = card } ∷ []
+-- whether a card begins a deck of a file, which is told by that card alone
+abbrev pub begins_deck : Card → Bool
+begins_deck card = same_text (fields_of (card ∷ [])).operation (codes "IDENT")
 
--- a statement of the listing, where it is flagged
+-- a statement without letters, of whose cards so many stand before: it is told where it stands behind END and begins another deck
+abbrev pub deck_begun : ℕ → Card → Bool → List Flag
+deck_begun before card is_behind = if is_behind && begins_deck card then Begins (before + 1) card ∷ [] else []
+
+-- a statement that has these cards, of which so many stand before, where it has letters, or stands behind END and begins another deck
+abbrev pub flag_of : ℕ → List Card → List ℕ → Bool → List Flag
+flag_of before [] letters is_behind = []
+flag_of before (card ∷ cards) [] is_behind = deck_begun before card is_behind
+flag_of before (card ∷ cards) (letter ∷ letters) is_behind = Flagged (before + 1) (letter ∷ letters) card ∷ []
+
+-- a statement of the listing, where it is told
 abbrev pub shown_flag : Shown → List Flag
-shown_flag shown = flag_of shown.statement.before shown.statement.cards shown.letters
+shown_flag shown = flag_of shown.statement.before shown.statement.cards shown.letters (is_none shown.coded)
 
--- the flagged statements of a deck, in order
+-- those of a deck that are told, in order
 abbrev pub flags_of : Deck → List Flag
 flags_of deck = flat_map shown_flag (reverse (object_of deck).shown)
 
--- the line of a flagged statement: its deck, the number of its first card, its letters, and that card
+-- the line of a statement that is told: its deck, the number of its first card, its letters where it is flagged, and that card
 abbrev pub flag_text : List ℕ → Flag → List ℕ
-flag_text name flag = codes "ERR " ++ (name ++ (codes " " ++ (decimal flag.number ++ (codes " " ++ (flag.letters ++ (codes " " ++ flag.card))))))
+flag_text name (Flagged number letters card) = codes "ERR " ++ (name ++ (codes " " ++ (decimal number ++ (codes " " ++ (letters ++ (codes " " ++ card))))))
+flag_text name (Begins number card) = codes "MORE " ++ (name ++ (codes " " ++ (decimal number ++ (codes " " ++ card))))
 
--- the lines of the flagged statements of a deck
+-- the lines of the statements of a deck that are told
 abbrev pub deck_errors : Deck → List (List ℕ)
 deck_errors deck = map (flag_text deck.name) (flags_of deck)
 

@@ -1,17 +1,16 @@
-//! What is flagged in a publication, as bytes to a writer: a line each.
-ghost use Rattle.std.specs.Prelude.{◌≡◌, ◌≤◌, ◌<◌, ◌+◌, ◌*◌, ◌^◌, ◌++◌, All, codes, filter, flat_map, length, IfErr, IfOk};
+//! What ERRORS tells of a publication, as bytes to a writer: a line each.
+ghost use Rattle.std.specs.Prelude.{◌≡◌, ◌≤◌, ◌<◌, ◌+◌, ◌*◌, ◌^◌, ◌++◌, All, codes, filter, flat_map, is_none, length, IfErr, IfOk};
 ghost use Rattle.deck_objects.specs.declared.lines.Line.{Line};
 ghost use Rattle.text_ports.specs.Joins.Sending.{Sends, count_after_sending};
-ghost use Rattle.session_line.specs.Errors.{error_lines, errors_where, flag_of, flag_text, lines_in, shows_line};
+ghost use Rattle.session_line.specs.Errors.{Begins, Flagged, error_lines, errors_where, flag_of, flag_text, lines_in, shows_line};
 ghost use Rattle.session_line.specs.Joins.FlagWalks.{flags_in, flags_text, shown_text};
 ghost use Rattle.session_line.specs.Replies.{line_of, text_of_lines};
 
-use crate::errors::{ErrorsView, shows_deck, shows_line, split_cards, split_line};
+use crate::errors::{ErrorsView, begins_deck, shows_deck, shows_line, split_cards, split_line};
 use crate::reply_line::ReplyLine;
 use cards::{Card, DeckName};
 use deck_listing::ListedObject;
 use deck_objects::{Line, Object};
-use operations::Letters;
 use std::io::Write;
 use text_ports::{Broken, Counted, put_all};
 
@@ -28,7 +27,7 @@ fn put_word(line: &mut ReplyLine, word: &[u8])
 /// The line of a flagged statement: its deck, the number of its first card, its letters, and that card.
 fn flagged_line(name: &DeckName, number: u64, letters: &[u8], card: &Card) -> ReplyLine
     requires { length letters.now ≤ 9 }
-    ensures line { result ≡ line_of (flag_text name.now (record { number = number; letters = letters.now; card = card.now })) }
+    ensures line { result ≡ line_of (flag_text name.now (Flagged number letters.now card.now)) }
     ensures short { length result ≤ 128 }
 {
     let mut line = ReplyLine::new();
@@ -42,23 +41,46 @@ fn flagged_line(name: &DeckName, number: u64, letters: &[u8], card: &Card) -> Re
     line
 }
 
-/// The line of a statement with these cards, of which so many stand before, where it is flagged. Otherwise
+/// The line of a statement behind END that begins another deck: its deck, the number of its first card, and
+/// that card.
+fn begun_line(name: &DeckName, number: u64, card: &Card) -> ReplyLine
+    ensures line { result ≡ line_of (flag_text name.now (Begins number card.now)) }
+    ensures short { length result ≤ 128 }
+{
+    let mut line = ReplyLine::new();
+    line.put(b"MORE ");
+    put_word(&mut line, name.as_slice());
+    line.put_number(number);
+    line.put(b" ");
+    line.put(card.as_slice());
+    line.end();
+    line
+}
+
+/// The line of a statement with these cards, of which so many stand before, where it is told. Otherwise
 /// nothing.
-fn flag_line(name: &DeckName, before: usize, cards: &[Card], letters: &Letters) -> ReplyLine
+fn flag_line(name: &DeckName, before: usize, cards: &[Card], shown: &Line) -> ReplyLine
     requires few { before ≤ 20000 }
-    requires letters { length letters.now ≤ 9 }
-    ensures line { result ≡ flags_text name.now (flag_of before cards.now letters.now) }
+    requires letters { length shown.now.letters ≤ 9 }
+    ensures line { result ≡ flags_text name.now (flag_of before cards.now shown.now.letters (is_none shown.now.coded)) }
     ensures short { length result ≤ 128 * length cards.now }
 {
-    let text = letters.text();
-    let characters = text.as_slice();
-    match (cards.split_first(), characters.is_empty()) {
-        (Some((card, _)), false) => flagged_line(name, before as u64 + 1, characters, card),
-        _ => ReplyLine::new(),
+    let Some((card, _)) = cards.split_first() else {
+        return ReplyLine::new();
+    };
+    let text = shown.letters.text();
+    let letters = text.as_slice();
+    if !letters.is_empty() {
+        return flagged_line(name, before as u64 + 1, letters, card);
+    }
+    if shown.coded.is_none() && begins_deck(card) {
+        begun_line(name, before as u64 + 1, card)
+    } else {
+        ReplyLine::new()
     }
 }
 
-/// The lines of the flagged ones of statements that have these cards; how many bytes they are.
+/// The lines of those that are told of statements that have these cards; how many bytes they are.
 fn write_flags<W: Write>(
     output: &mut Counted<W>,
     name: &DeckName,
@@ -78,7 +100,7 @@ fn write_flags<W: Write>(
     let mut ahead = cards;
     for shown in lines {
         let (own, behind) = split_cards(ahead, shown.cards);
-        let line = flag_line(name, before, own, &shown.letters);
+        let line = flag_line(name, before, own, shown);
         let bytes = line.as_slice();
         if let Err(broken) = put_all(output, bytes) {
             return Err(Broken {

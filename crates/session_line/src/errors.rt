@@ -1,16 +1,16 @@
-//! What is flagged in a publication: statements of its decks, and LINK lines of its map.
-ghost use Rattle.std.specs.Prelude.{◌≡◌, ◌≤◌, ◌+◌, ◌*◌, ◌∷◌, cond, filter, flat_map, length, take, drop};
+//! What ERRORS tells of a publication: statements of its decks that are flagged, or stand behind END and
+//! begin another deck, and LINK lines of its map.
+ghost use Rattle.std.specs.Prelude.{◌≡◌, ◌≤◌, ◌+◌, ◌*◌, ◌∷◌, cond, filter, flat_map, is_none, length, take, drop};
 ghost use Rattle.definitions.specs.DeckInput.{Deck};
-ghost use Rattle.session_line.specs.Errors.{deck_errors, error_lines, errors_where, flag_of, has_deck, is_link, lines_in, link_deck, shows_any, shows_deck, shows_line};
+ghost use Rattle.session_line.specs.Errors.{begins_deck, deck_errors, error_lines, errors_where, flag_of, has_deck, is_link, lines_in, link_deck, shows_any, shows_deck, shows_line};
 ghost use Rattle.session_line.specs.Joins.FlagWalks.{flags_in, line_len};
 
 use crate::views::begins_with;
 use crate::words::{behind_blank, behind_word, from_blank, to_blank};
-use cards::{Card, DeckName};
+use cards::{Card, DeckName, Fields};
 use deck_listing::ListedObject;
 use deck_objects::{Line, Object};
 use definitions::is_same_text;
-use operations::Letters;
 
 /// Whose flagged statements and LINK lines are shown.
 #[derive(Drop)]
@@ -64,20 +64,31 @@ pub(crate) fn split_cards(cards: &[Card], count: u32) -> (&[Card], &[Card])
     cards.split_at(cards.len().min(count as usize))
 }
 
-/// How many flagged statements one with these cards and letters is: one or none.
-fn flag_size(cards: &[Card], letters: &Letters) -> usize
-    ensures size { result ≡ length (flag_of 0 cards.now letters.now) }
+/// Whether a card begins a deck of a file.
+pub(crate) fn begins_deck(card: &Card) -> bool
+    ensures { result ≡ begins_deck card.now }
+{
+    is_same_text(Fields::operation_of_card(card), b"IDENT")
+}
+
+/// How many lines one with these cards has: one where it is flagged, or stands behind END and begins
+/// another deck, or else none.
+fn flag_size(cards: &[Card], shown: &Line) -> usize
+    ensures size { result ≡ length (flag_of 0 cards.now shown.now.letters (is_none shown.now.coded)) }
     ensures few { result ≤ length cards.now }
 {
-    let text = letters.text();
-    if cards.is_empty() || text.as_slice().is_empty() {
-        0
-    } else {
+    let Some((card, _)) = cards.split_first() else {
+        return 0;
+    };
+    let text = shown.letters.text();
+    if !text.as_slice().is_empty() || (shown.coded.is_none() && begins_deck(card)) {
         1
+    } else {
+        0
     }
 }
 
-/// How many of statements that have these cards are flagged.
+/// How many lines statements have that have these cards.
 fn flag_count(cards: &[Card], lines: &[Line]) -> usize
     ensures count { result ≡ length (flags_in 0 cards.now lines.now) }
     ensures few { result ≤ length cards.now }
@@ -86,13 +97,13 @@ fn flag_count(cards: &[Card], lines: &[Line]) -> usize
     let mut ahead = cards;
     for shown in lines {
         let (own, behind) = split_cards(ahead, shown.cards);
-        count += flag_size(own, &shown.letters);
+        count += flag_size(own, shown);
         ahead = behind;
     }
     count
 }
 
-/// How many statements of a deck are shown.
+/// How many lines of a deck are shown.
 fn deck_count(view: &ErrorsView, object: &Object) -> usize
     ensures count { result ≡ length (errors_where view.now object.now) }
     ensures few { result ≤ 20000 }
@@ -103,7 +114,7 @@ fn deck_count(view: &ErrorsView, object: &Object) -> usize
     flag_count(object.cards(), object.parts().lines.as_slice())
 }
 
-/// How many statements of decks are shown.
+/// How many lines of decks are shown.
 fn decks_count(view: &ErrorsView, objects: &[ListedObject]) -> usize
     requires { length objects.now ≤ 64 }
     ensures count { result ≡ length (flat_map (errors_where view.now) objects.now) }

@@ -1,4 +1,5 @@
 use Rattle.std.proofs.Common.{◌+◌, List, length, drop, arith, ap, ◌∙◌}
+use Rattle.std.specs.Prelude.{is_none}
 use Rattle.definitions.specs.Cards.{Card}
 use Rattle.session_line.specs.Errors.{flag_of}
 use Rattle.session_line.specs.Joins.FlagWalks.{flags_in}
@@ -8,7 +9,7 @@ use Rattle.session_line.proofs.errors.flag_count.Goals as goal
 pub loop-shown-preserved : goal.loop-shown-preserved
 loop-shown-preserved c =
     let step = count-next c.loop-shown.ahead.now c.args.lines.now c.loop-shown.shown-index c.shown-item.result c.loop-shown-test.true c.shown-item.is in
-    let size = c.flag_size-count.ensures.size ∙ ap (λ (own : List Card). length (flag_of 0 own c.shown-item.result.letters)) c.split_cards.ensures.first in
+    let size = c.flag_size-count.ensures.size ∙ ap (λ (own : List Card). length (flag_of 0 own c.shown-item.result.letters (is_none c.shown-item.result.coded))) c.split_cards.ensures.first in
     let rest = ap (λ (cards : List Card). length (flags_in 0 cards (drop (c.loop-shown.shown-index + 1) c.args.lines.now))) c.split_cards.ensures.behind in
     record {
       counted = omega (arith, step, size, rest, c.loop-shown.invariant.counted);
