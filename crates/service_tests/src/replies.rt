@@ -12,7 +12,7 @@ use desk_core::{Row, State};
 use desk_service::ServeFault;
 use desk_tests::{Answer, cards_of, cut_line, name_of, number};
 use journal::Moment;
-use session_line::{MarkedRow, Refusal, Reply, SavedDeck, reply_text, write_reply};
+use session_line::{DeckOutcome, MarkedRow, Refusal, Reply, ToldDeck, reply_text, write_reply};
 use std::alloc::{AllocError, Global};
 use text_ports::{Counted, FaultyWriter};
 
@@ -44,7 +44,7 @@ fn is_within(reply: &Reply<'_>) -> bool
         Reply::Errors { decks, .. } => decks.len() <= 64,
         Reply::Status { decks, .. } => decks.len() <= 64,
         Reply::FileStatus { decks, .. } => decks.len() <= 64,
-        Reply::Saved { decks, .. } => decks.len() <= 64,
+        Reply::Decks { decks, .. } => decks.len() <= 64,
         Reply::Files { files, .. } => files.len() <= MOST_FILES,
         Reply::Sessions { sessions, .. } => sessions.len() <= 64,
         Reply::Done { .. } | Reply::Unkept { .. } => true,
@@ -215,16 +215,16 @@ fn push_marked(answer: &mut Answer) -> Result<(), AllocError> {
 /// Pushes what became of a deck that was saved, and of one that was not.
 fn push_saved(answer: &mut Answer) -> Result<(), AllocError> {
     let decks = [
-        SavedDeck {
+        ToldDeck {
             name: name_of("M")?,
-            outcome: Ok(7),
+            outcome: DeckOutcome::Done(7),
         },
-        SavedDeck {
+        ToldDeck {
             name: name_of("N")?,
-            outcome: Err(Refusal::WriteFault { sent: 3 }),
+            outcome: DeckOutcome::Refused(Refusal::WriteFault { sent: 3 }),
         },
     ];
-    let reply = Reply::Saved {
+    let reply = Reply::Decks {
         version: 12,
         decks: &decks,
     };

@@ -13,3 +13,5 @@ pub mod SentSoFar
 pub mod FlagSteps
 pub mod LinkSteps
 pub mod RowSteps
+pub mod CutSteps
+pub mod AddSteps

@@ -1,6 +1,7 @@
 -- A command of a session that is refused changes nothing of a desk of which no refused call, no question, no wait and no greeting changes anything.
 use Rattle.std.proofs.Common.{ℕ, ◌≡◌, Bool, true, false, cond, inl, inr, List, [], ◌∷◌, Option, Some, Result, Ok, Err, refl, sym, ap, subst, ◌∙◌}
 use Rattle.definitions.specs.Cards.{Card}
+use Rattle.definitions.specs.DeckInput.{Deck}
 use Rattle.deck_files.specs.declared.deck_shelf.ShelfLoadFault.{ShelfLoadFault}
 use Rattle.deck_files.specs.declared.deck_shelf.ShelfSaveFault.{ShelfSaveFault}
 use Rattle.deck_files.specs.declared.file_rows.FileRow.{FileRow}
@@ -14,9 +15,9 @@ use Rattle.session_line.specs.declared.answers.Told.{Told}
 use Rattle.session_line.specs.declared.answers.Told.TheVariants as told
 use Rattle.session_line.specs.declared.greetings.Greeting.{Greeting}
 use Rattle.session_line.specs.declared.refusals.Refusal.{Refusal}
-use Rattle.session_line.specs.declared.saved_decks.SavedDeck.{SavedDeck}
+use Rattle.session_line.specs.declared.told_decks.ToldDeck.{ToldDeck}
 use Rattle.session_line.specs.declared.tasks.Task.{Task}
-use Rattle.session_line.specs.declared.tasks.Task.TheVariants.{Ask, AwaitVersion, ShowCards, ShowCardsAt, ShowText, ShowPart, ShowErrors, LoadDeck, SaveDeck, SaveAll, ShowFiles, ShowFileStatus, Greet, Leave, Refuse}
+use Rattle.session_line.specs.declared.tasks.Task.TheVariants.{Ask, AwaitVersion, ShowCards, ShowCardsAt, ShowText, ShowPart, ShowErrors, LoadDeck, LoadAll, SaveDeck, SaveAll, ShowFiles, ShowFileStatus, Greet, Leave, Refuse}
 use Rattle.session_line.specs.Answers.{told_of_call, called}
 use Rattle.session_line.specs.Executing.{Asks, AddsLoaded, Executes}
 use Rattle.session_line.specs.Rights.{allowed, changes}
@@ -35,6 +36,8 @@ use Rattle.cards.specs.declared.edits.Edit.{Edit}
 use Rattle.session_line.specs.Refusing.{is_refusal, tells_refusal, RefusesCommand}
 use Rattle.session_line.specs.SavingDecks.{SavesDeck}
 use Rattle.session_line.specs.Serving.{Sides}
+use Rattle.session_line.specs.DeckCuts.{decks_in}
+use Rattle.session_line.specs.LoadingAll.{TellsAdds, added_all, not_added, no_memory, AddsTold, AddsCut, AddsFile, cut, uncut, AddsLoadedDecks}
 use Rattle.session_line.specs.SavingAll.{SavesRow, SavesRows, is_saved, unsaved, no_row, next_row, TellsSaves, told_all, lacking, SavesAllTold}
 
 -- a question of a session
@@ -77,11 +80,11 @@ module _ {C S : Type 0} (makes : C → Call → Reply → C → Type 0) (awaits 
   adds-same name (Ok cards) desk next answer adds refused = asks-same (AddDeck (record { name = name; cards = cards })) desk next answer refl adds refused
   adds-same name (Err fault) desk next answer adds refused = uncalled-same desk next adds.0
 
-  row-same : (row : Row) (desk next : C) (shelf after : S) (line : Option SavedDeck) → SavesRow makes saves refuses_to_save tells_saved row desk next shelf after line → IsSame desk next
+  row-same : (row : Row) (desk next : C) (shelf after : S) (line : Option ToldDeck) → SavesRow makes saves refuses_to_save tells_saved row desk next shelf after line → IsSame desk next
   row-same row desk next shelf after _ (is_saved stays tells) = uncalled-same desk next stays
   row-same row desk next shelf after _ (unsaved between answer tells saves) = steady.asked desk next (Cards row.name) saves.reply refl saves.made
 
-  rows-same : (first : C) (start : S) (rows : List Row) (saved : List SavedDeck) (last : C) (end : S) → SavesRows makes saves refuses_to_save tells_saved first start rows saved last end → IsSame first last
+  rows-same : (first : C) (start : S) (rows : List Row) (saved : List ToldDeck) (last : C) (end : S) → SavesRows makes saves refuses_to_save tells_saved first start rows saved last end → IsSame first last
   rows-same first start _ _ _ _ no_row = steady.same first
   rows-same first start _ _ _ _ (next_row rows saved desk next shelf after row line before now) = steady.joined first desk next (rows-same first start rows saved desk shelf before) (row-same row desk next shelf after line now)
 
@@ -100,11 +103,47 @@ module _ {C S : Type 0} (makes : C → Call → Reply → C → Type 0) (awaits 
   all-same (told.Errors publication view) desk next shelf after answer saves = uncalled-same desk next saves.0
   all-same (told.FileStatus version published decks) desk next shelf after answer saves = uncalled-same desk next saves.0
   all-same (told.Standing version published) desk next shelf after answer saves = uncalled-same desk next saves.0
-  all-same (told.Saved version decks) desk next shelf after answer saves = uncalled-same desk next saves.0
+  all-same (told.Decks version decks) desk next shelf after answer saves = uncalled-same desk next saves.0
   all-same (told.Files version rows) desk next shelf after answer saves = uncalled-same desk next saves.0
   all-same (told.Sessions version sessions) desk next shelf after answer saves = uncalled-same desk next saves.0
   all-same (told.Refused reason) desk next shelf after answer saves = uncalled-same desk next saves.0
   all-same told.Bye desk next shelf after answer saves = uncalled-same desk next saves.0
+
+  -- decks of which a refusal is told were not added
+  adds-told-same : (version : ℕ) (rows : List Row) (decks : List Deck) (desk next : C) (answer : Answer) → TellsAdds makes version rows decks desk next answer → is_refusal answer.told ≡ true → IsSame desk next
+  adds-told-same version rows decks desk next answer (added_all lines room each answered) refused = let not : false ≡ true = sym (ap (λ (a : Answer). is_refusal a.told) answered) ∙ refused in cc
+  adds-told-same version rows decks desk next answer (not_added refusal why stays answered) refused = uncalled-same desk next stays
+  adds-told-same version rows decks desk next answer (no_memory stays answered) refused = uncalled-same desk next stays
+
+  adds-all-same : (what : Told) (decks : List Deck) (desk next : C) (answer : Answer) → AddsTold makes decks what desk next answer → is_refusal answer.told ≡ true → IsSame desk next
+  adds-all-same (told.Status version published rows) decks desk next answer adds refused = adds-told-same version rows decks desk next answer adds refused
+  adds-all-same (told.Done version) decks desk next answer adds refused = uncalled-same desk next adds.0
+  adds-all-same (told.Unkept version) decks desk next answer adds refused = uncalled-same desk next adds.0
+  adds-all-same (told.Cards version cards view) decks desk next answer adds refused = uncalled-same desk next adds.0
+  adds-all-same (told.Changes version kept) decks desk next answer adds refused = uncalled-same desk next adds.0
+  adds-all-same (told.Published publication text) decks desk next answer adds refused = uncalled-same desk next adds.0
+  adds-all-same (told.Part publication text name) decks desk next answer adds refused = uncalled-same desk next adds.0
+  adds-all-same (told.Errors publication view) decks desk next answer adds refused = uncalled-same desk next adds.0
+  adds-all-same (told.FileStatus version published marks) decks desk next answer adds refused = uncalled-same desk next adds.0
+  adds-all-same (told.Standing version published) decks desk next answer adds refused = uncalled-same desk next adds.0
+  adds-all-same (told.Decks version lines) decks desk next answer adds refused = uncalled-same desk next adds.0
+  adds-all-same (told.Files version rows) decks desk next answer adds refused = uncalled-same desk next adds.0
+  adds-all-same (told.Sessions version sessions) decks desk next answer adds refused = uncalled-same desk next adds.0
+  adds-all-same (told.Refused reason) decks desk next answer adds refused = uncalled-same desk next adds.0
+  adds-all-same told.Bye decks desk next answer adds refused = uncalled-same desk next adds.0
+
+  cut-same : (decks : Result (List Deck) Refusal) (desk next : C) (answer : Answer) → AddsCut makes decks desk next answer → is_refusal answer.told ≡ true → IsSame desk next
+  cut-same (Ok decks) desk next answer adds refused =
+      steady.joined desk adds.between next (steady.asked desk adds.between Status adds.reply refl adds.made) (adds-all-same (told_of_call adds.reply) decks adds.between next answer adds.kept refused)
+  cut-same (Err refusal) desk next answer adds refused = uncalled-same desk next adds.0
+
+  file-same : (cards : List Card) (desk next : C) (answer : Answer) → AddsFile makes cards desk next answer → is_refusal answer.told ≡ true → IsSame desk next
+  file-same cards desk next answer (cut adds) refused = cut-same (decks_in cards) desk next answer adds refused
+  file-same cards desk next answer (uncut stays answered) refused = uncalled-same desk next stays
+
+  loaded-same : (loaded : Result (List Card) ShelfLoadFault) (desk next : C) (answer : Answer) → AddsLoadedDecks makes loaded desk next answer → is_refusal answer.told ≡ true → IsSame desk next
+  loaded-same (Ok cards) desk next answer adds refused = file-same cards desk next answer adds refused
+  loaded-same (Err fault) desk next answer adds refused = uncalled-same desk next adds.0
 
   refused-same : (task : Task) (desk next : C) (shelf after : S) (answer : Answer) → asks_session task ≡ true →
       Executes makes awaits greets loads refuses_to_load saves refuses_to_save lists notes tells_saved task desk next shelf after answer → is_refusal answer.told ≡ true → IsSame desk next
@@ -116,6 +155,7 @@ module _ {C S : Type 0} (makes : C → Call → Reply → C → Type 0) (awaits 
   refused-same (ShowPart text name) desk next shelf after answer session is refused = steady.asked desk next Show is.0.reply refl is.0.made
   refused-same (ShowErrors view) desk next shelf after answer session is refused = steady.asked desk next Show is.0.reply refl is.0.made
   refused-same (LoadDeck name) desk next shelf after answer session is refused = adds-same name is.loaded desk next answer is.added refused
+  refused-same (LoadAll name) desk next shelf after answer session is refused = loaded-same is.loaded desk next answer is.added refused
   refused-same (SaveDeck name over) desk next shelf after answer session is refused = steady.asked desk next (Cards name) is.reply refl is.made
   refused-same SaveAll desk next shelf after answer session is refused =
       steady.joined desk is.between next (steady.asked desk is.between Status is.reply refl is.made) (all-same (told_of_call is.reply) is.between next shelf after answer is.kept)
@@ -146,6 +186,7 @@ put-session (Err refusal) version cards = refl
 command-session : (command : Command) (lines : List (List ℕ)) → asks_session (task_of_command command lines) ≡ true
 command-session (command.Add name) lines = refl
 command-session (command.Load name) lines = refl
+command-session (command.LoadAll name) lines = refl
 command-session (command.Drop name version) lines = refl
 command-session (command.Edit name seen edit) lines = edit_call-session name seen edit
 command-session (command.Cards name view) lines = refl

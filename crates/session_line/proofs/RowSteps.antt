@@ -8,7 +8,7 @@ use Rattle.deck_files.specs.declared.deck_shelf.ShelfSaveFault.{ShelfSaveFault}
 use Rattle.deck_files.specs.Savings.{Saving}
 use Rattle.desk_core.specs.declared.calls.Call.{Call}
 use Rattle.desk_core.specs.declared.replies.Reply.{Reply}
-use Rattle.session_line.specs.declared.saved_decks.SavedDeck.{SavedDeck}
+use Rattle.session_line.specs.declared.told_decks.ToldDeck.{ToldDeck}
 use Rattle.session_line.specs.SavingAll.{SavesRow, SavesRows, no_row as nothing_saved, next_row as row_saved}
 
 -- the first decks, with one more
@@ -37,14 +37,14 @@ line-few lines (Some x) = let all = length-append lines (x ∷ []) in omega (ari
 module _ {C S : Type 0} (makes : C → Call → Reply → C → Type 0) (saves : S → Saving → S → Type 0) (refuses_to_save : S → Saving → ShelfSaveFault → S → Type 0)
     (tells_saved : S → List ℕ → ℕ → Bool → S → Type 0) where
   -- no deck was saved
-  pub saves-none : (first : C) (start : S) (saved : List SavedDeck) → saved ≡ [] → SavesRows makes saves refuses_to_save tells_saved first start [] saved first start
-  saves-none first start saved none = subst (λ (d : List SavedDeck). SavesRows makes saves refuses_to_save tells_saved first start [] d first start) (sym none) nothing_saved
+  pub saves-none : (first : C) (start : S) (saved : List ToldDeck) → saved ≡ [] → SavesRows makes saves refuses_to_save tells_saved first start [] saved first start
+  saves-none first start saved none = subst (λ (d : List ToldDeck). SavesRows makes saves refuses_to_save tells_saved first start [] d first start) (sym none) nothing_saved
 
   -- one deck more, where it was to be saved
-  pub saves-more : (first desk next : C) (start shelf last : S) (rows : List Row) (saved after : List SavedDeck) (index : ℕ) (row : Row) (line : Option SavedDeck) → index < length rows → row ≡ get_or rows index row →
+  pub saves-more : (first desk next : C) (start shelf last : S) (rows : List Row) (saved after : List ToldDeck) (index : ℕ) (row : Row) (line : Option ToldDeck) → index < length rows → row ≡ get_or rows index row →
       SavesRows makes saves refuses_to_save tells_saved first start (take index rows) saved desk shelf → SavesRow makes saves refuses_to_save tells_saved row desk next shelf last line → after ≡ saved ++ option_to_list line →
       SavesRows makes saves refuses_to_save tells_saved first start (take (index + 1) rows) after next last
   saves-more first desk next start shelf last rows saved after index row line within is sofar one put =
       subst (λ (l : List Row). SavesRows makes saves refuses_to_save tells_saved first start l after next last) (sym (rows-more rows index row within is))
-      (subst (λ (d : List SavedDeck). SavesRows makes saves refuses_to_save tells_saved first start (take index rows ++ row ∷ []) d next last) (sym put)
+      (subst (λ (d : List ToldDeck). SavesRows makes saves refuses_to_save tells_saved first start (take index rows ++ row ∷ []) d next last) (sym put)
       (row_saved (take index rows) saved desk next shelf last row line sofar one))

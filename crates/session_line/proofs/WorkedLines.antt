@@ -16,6 +16,12 @@ use Rattle.session_line.specs.Commands.{command_of}
 pub add : command_of (codes "ADD M") ≡ Ok (command.Add (codes "M"))
 add = refl
 
+pub load_all : command_of (codes "LOADALL M") ≡ Ok (command.LoadAll (codes "M"))
+load_all = refl
+
+pub load_all_of_nobody : command_of (codes "LOADALL") ≡ Err BadCommand
+load_all_of_nobody = refl
+
 pub load : command_of (codes "LOAD 1AJ") ≡ Ok (command.Load (codes "1AJ"))
 load = refl
 

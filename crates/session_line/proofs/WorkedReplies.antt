@@ -1,14 +1,15 @@
 -- Worked replies, computed.
-use Rattle.std.proofs.Common.{◌≡◌, true, false, [], ◌∷◌, None, Some, Ok, Err, codes, refl}
+use Rattle.std.proofs.Common.{◌≡◌, true, false, [], ◌∷◌, None, Some, codes, refl}
 use Rattle.std.specs.Fmt.{digits}
 use Rattle.cards.specs.declared.card.CardFault.TheVariants as card
 use Rattle.cards.specs.declared.edits.EditFault.TheVariants as fault
 use Rattle.session_line.specs.declared.refusals.Refusal.TheVariants as refusal
+use Rattle.session_line.specs.declared.told_decks.DeckOutcome.TheVariants as outcome
 use Rattle.session_line.specs.declared.replies.Reply.TheVariants as reply
 use Rattle.desk_core.specs.declared.replies.State.TheVariants.{Behind}
 use Rattle.session_line.specs.UnknownWords.{told_word}
 use Rattle.session_line.specs.PublishedTexts.{line_count}
-use Rattle.session_line.specs.Replies.{text_of_reply, row_text, marked_text, saved_text, published_text, counted_text, numbers_text}
+use Rattle.session_line.specs.Replies.{text_of_reply, row_text, marked_text, told_deck_text, published_text, counted_text, numbers_text}
 use Rattle.session_line.specs.FileLines.{file_line}
 use Rattle.session_line.specs.declared.rights.Rights.TheVariants.{Edits, Reads}
 use Rattle.session_line.specs.Greetings.{connected_text, service_text}
@@ -70,10 +71,10 @@ pub unsaved_row : marked_text (record { row = record { name = codes "M"; version
 unsaved_row = unfold digits in refl
 
 -- the lines of decks that were to be saved
-pub saved : saved_text (record { name = codes "M"; outcome = Ok 7 }) ≡ codes "M 7"
+pub saved : told_deck_text (record { name = codes "M"; outcome = outcome.Done 7 }) ≡ codes "M 7"
 saved = unfold digits in refl
 
-pub unsaved : saved_text (record { name = codes "M"; outcome = Err refusal.FileExists }) ≡ codes "M NO FileExists"
+pub unsaved : told_deck_text (record { name = codes "M"; outcome = outcome.Refused refusal.FileExists }) ≡ codes "M NO FileExists"
 unsaved = refl
 
 -- the lines of files

@@ -1,5 +1,5 @@
 -- Worked commands with the lines that belong to them, and worked texts, computed.
-use Rattle.std.proofs.Common.{ℕ, ◌≡◌, true, false, List, [], ◌∷◌, None, Some, codes, refl}
+use Rattle.std.proofs.Common.{ℕ, ◌≡◌, true, false, List, [], ◌∷◌, ◌++◌, None, Some, Ok, Err, codes, refl}
 use Rattle.std.specs.Fmt.{digits}
 use Rattle.cards.specs.declared.card.CardFault.TheVariants as card
 use Rattle.cards.specs.declared.edits.Edit.TheVariants.{Insert, Replace, Remove}
@@ -9,7 +9,8 @@ use Rattle.desk_core.specs.declared.replies.Reply.TheVariants as reply
 use Rattle.desk_core.specs.declared.replies.State.TheVariants.{Behind}
 use Rattle.desk_core.specs.declared.replies.Refusal.TheVariants as desk
 use Rattle.deck_files.specs.declared.deck_shelf.SaveOver.TheVariants.{Known}
-use Rattle.session_line.specs.declared.refusals.Refusal.TheVariants.{BadCommand, UnknownCommand, BadName, BadCard, BadLine, FileExists, ReadOnly}
+use Rattle.session_line.specs.declared.refusals.Refusal.TheVariants.{BadCommand, UnknownCommand, BadName, BadCard, BadLine, FileExists, NameTaken, ReadOnly}
+use Rattle.definitions.specs.Cards.{Card}
 use Rattle.definitions.specs.DeckInput.{Deck}
 use Rattle.session_line.specs.UnknownWords.{told_word}
 use Rattle.session_line.specs.Commands.{command_of}
@@ -17,11 +18,12 @@ use Rattle.session_line.specs.declared.errors.ErrorsView.TheVariants.{Every, Of}
 use Rattle.session_line.specs.declared.views.CardsView.TheVariants.{All, From, With}
 use Rattle.session_line.specs.declared.published_texts.DeckText.TheVariants as part
 use Rattle.session_line.specs.declared.published_texts.PublishedText.TheVariants.{Image, Listing, Map}
-use Rattle.session_line.specs.declared.tasks.Task.TheVariants.{Ask, AwaitVersion, ShowCards, ShowCardsAt, ShowText, ShowPart, ShowErrors, LoadDeck, SaveDeck, SaveAll, ShowFiles, ShowFileStatus, Greet, Leave, Refuse}
+use Rattle.session_line.specs.declared.tasks.Task.TheVariants.{Ask, AwaitVersion, ShowCards, ShowCardsAt, ShowText, ShowPart, ShowErrors, LoadDeck, LoadAll, SaveDeck, SaveAll, ShowFiles, ShowFileStatus, Greet, Leave, Refuse}
 use Rattle.session_line.specs.Tasks.{lines_due, nobody, task_of}
 use Rattle.session_line.specs.Answers.{told_of_call, told_of_wait, told_of_greeting, told_of_cards, told_of_cards_at, told_of_publication, told_of_part, told_of_errors, told_text}
 use Rattle.session_line.specs.FileStatus.{marked}
-use Rattle.session_line.specs.SavingAll.{saved_deck}
+use Rattle.session_line.specs.ToldDecks.{told_deck}
+use Rattle.session_line.specs.DeckCuts.{decks_in}
 use Rattle.session_line.specs.declared.answers.Told.TheVariants as told
 use Rattle.session_line.specs.Greetings.{met}
 use Rattle.session_line.specs.Rights.{allowed}
@@ -36,6 +38,9 @@ insert = refl
 
 pub insert-since : task_of (codes "INS M 2+ 1 *A") [] ≡ Ask (call.EditSince (codes "M") 2 (Insert 1 (codes "*A")) nobody)
 insert-since = refl
+
+pub load_all : task_of (codes "LOADALL M") [] ≡ LoadAll (codes "M")
+load_all = refl
 
 pub load : task_of (codes "LOAD M") [] ≡ LoadDeck (codes "M")
 load = refl
@@ -255,8 +260,24 @@ pub status_of_files : told_text (told.FileStatus 2 None (marked (record { name =
     ≡ codes "OK 2 3\nPUBLISHED NONE\nM 1 0 BEHIND SAVED\nN 2 0 BEHIND UNSAVED\n"
 status_of_files = unfold digits in refl
 
-pub saves_of_decks : told_text (told.Saved 9 (saved_deck (codes "M") (told.Done 7) ∷ saved_deck (codes "N") (told.Refused FileExists) ∷ [])) ≡ codes "OK 9 2\nM 7\nN NO FileExists\n"
+pub saves_of_decks : told_text (told.Decks 9 (told_deck (codes "M") (told.Done 7) ∷ told_deck (codes "N") (told.Refused FileExists) ∷ [])) ≡ codes "OK 9 2\nM 7\nN NO FileExists\n"
 saves_of_decks = unfold digits in refl
+
+-- the decks of a file with two, and why there are none
+abbrev pub file_of_two : List Card
+file_of_two = codes "          IDENT  T" ∷ codes "          END" ∷ codes "*" ∷ codes "          IDENT  U,1" ∷ codes "          END" ∷ []
+
+pub decks_of_two : decks_in file_of_two ≡ Ok (record { name = codes "T"; cards = codes "          IDENT  T" ∷ codes "          END" ∷ codes "*" ∷ [] } ∷ record { name = codes "U"; cards = codes "          IDENT  U,1" ∷ codes "          END" ∷ [] } ∷ [])
+decks_of_two = refl
+
+pub decks_of_a_name_twice : decks_in (file_of_two ++ file_of_two) ≡ Err NameTaken
+decks_of_a_name_twice = refl
+
+pub decks_behind_a_comment : decks_in (codes "*" ∷ file_of_two) ≡ Err BadName
+decks_behind_a_comment = refl
+
+pub loads_of_decks : told_text (told.Decks 3 (told_deck (codes "T") (told.Done 4) ∷ told_deck (codes "U") (told.Unkept 5) ∷ told_deck (codes "V") (told.Refused NameTaken) ∷ [])) ≡ codes "OK 3 3\nT 4\nU UNKEPT 5\nV NO NameTaken\n"
+loads_of_decks = unfold digits in refl
 
 pub awaited : told_text (told_of_wait (reply.StatusIs 9 (Some 7) (record { name = codes "M"; version = 9; cards = 0; state = Behind } ∷ []))) ≡ codes "OK 9 1\nPUBLISHED 7\n"
 awaited = unfold digits in refl

@@ -11,7 +11,7 @@ use Rattle.deck_files.specs.FileRows.{most_files}
 use Rattle.session_line.specs.declared.refusals.Refusal.{Refusal}
 use Rattle.session_line.specs.declared.refusals.Refusal.TheVariants as refusal
 use Rattle.session_line.specs.Refusals.{refusal_text}
-use Rattle.session_line.specs.Replies.{line_of, ok_text, unkept_text, counted_text, published_text, rows_text, marks_text, saves_text, sessions_text, numbers_text, text_of_lines}
+use Rattle.session_line.specs.Replies.{line_of, ok_text, unkept_text, counted_text, published_text, rows_text, marks_text, told_decks_text, sessions_text, numbers_text, text_of_lines}
 use Rattle.session_line.specs.FileLines.{files_text}
 use Rattle.session_line.specs.Reasons.{desk_reason}
 use Rattle.session_line.specs.Greetings.{service_text}
@@ -173,7 +173,7 @@ told_text (told.Errors publication view) = errors_text publication.version view 
 told_text (told.Status version published rows) = status_text version published rows
 told_text (told.FileStatus version published decks) = with_body (counted_text version (length decks + 1)) (line_of (published_text published) ++ marks_text decks)
 told_text (told.Standing version published) = status_text version published []
-told_text (told.Saved version decks) = with_body (counted_text version (length decks)) (saves_text decks)
+told_text (told.Decks version decks) = with_body (counted_text version (length decks)) (told_decks_text decks)
 told_text (told.Files version rows) = with_body (counted_text version (length rows)) (files_text rows)
 told_text (told.Sessions version sessions) = with_body (counted_text version (length sessions + 1)) (line_of service_text ++ sessions_text sessions)
 told_text (told.Refused reason) = refused_text reason
@@ -191,7 +191,7 @@ IsTellable (told.Changes version kept) = length kept ≤ most_kept
 IsTellable (told.Errors publication view) = length publication.decks ≤ most_decks
 IsTellable (told.Status version published rows) = length rows ≤ most_decks
 IsTellable (told.FileStatus version published decks) = length decks ≤ most_decks
-IsTellable (told.Saved version decks) = length decks ≤ most_decks
+IsTellable (told.Decks version decks) = length decks ≤ most_decks
 IsTellable (told.Files version rows) = length rows ≤ most_files
 IsTellable (told.Sessions version sessions) = length sessions ≤ most_sessions
 IsTellable _ = ⊤

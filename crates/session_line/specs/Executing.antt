@@ -9,7 +9,7 @@ use Rattle.desk_core.specs.declared.calls.Call.{Call}
 use Rattle.desk_core.specs.declared.replies.Reply.{Reply}
 use Rattle.desk_core.specs.declared.calls.Call.TheVariants.{AddDeck, Cards, CardsAt, Show}
 use Rattle.session_line.specs.declared.tasks.Task.{Task}
-use Rattle.session_line.specs.declared.tasks.Task.TheVariants.{Ask, AwaitVersion, ShowCards, ShowCardsAt, ShowText, ShowPart, ShowErrors, LoadDeck, SaveDeck, SaveAll, ShowFiles, ShowFileStatus, Greet, Leave, Refuse}
+use Rattle.session_line.specs.declared.tasks.Task.TheVariants.{Ask, AwaitVersion, ShowCards, ShowCardsAt, ShowText, ShowPart, ShowErrors, LoadDeck, LoadAll, SaveDeck, SaveAll, ShowFiles, ShowFileStatus, Greet, Leave, Refuse}
 use Rattle.session_line.specs.declared.answers.Told.{Told}
 use Rattle.session_line.specs.declared.answers.Told.TheVariants as told
 use Rattle.session_line.specs.declared.answers.Answer.{Answer}
@@ -19,6 +19,7 @@ use Rattle.session_line.specs.FileTasks.{ShowsFiles}
 use Rattle.session_line.specs.FileStatus.{ShowsFileStatus}
 use Rattle.session_line.specs.SavingDecks.{SavesDeck}
 use Rattle.session_line.specs.SavingAll.{SavesAll}
+use Rattle.session_line.specs.LoadingAll.{LoadsAll, ShelfLoads}
 use Rattle.session_line.specs.Answers.{told_of_call, told_of_wait, told_of_greeting, told_of_cards, told_of_publication, told_of_part, told_of_errors, IsToldAt, called, uncalled}
 
 module _ {C : Type 0} (makes : C → Call → Reply → C → Type 0) where
@@ -40,12 +41,6 @@ module _ {C : Type 0} (makes : C → Call → Reply → C → Type 0) where
   abbrev pub AddsLoaded : List ℕ → Result (List Card) ShelfLoadFault → C → C → Answer → Type 0
   AddsLoaded name (Ok cards) desk next answer = Asks (AddDeck (record { name = name; cards = cards })) told_of_call desk next answer
   AddsLoaded name (Err fault) desk next answer = (next ≡ desk) × (answer ≡ uncalled (told.Refused (load_reason fault)))
-
-module _ {S : Type 0} (loads : S → List ℕ → List Card → S → Type 0) (refuses_to_load : S → List ℕ → ShelfLoadFault → S → Type 0) where
-  -- what the shelf answers to one load
-  abbrev pub ShelfLoads : List ℕ → S → Result (List Card) ShelfLoadFault → S → Type 0
-  ShelfLoads name shelf (Ok cards) after = loads shelf name cards after
-  ShelfLoads name shelf (Err fault) after = refuses_to_load shelf name fault after
 
 module _ {S : Type 0} (notes : S → List ℕ → ℕ → S → Type 0) where
   -- the shelf notes the version that is told, if one is
@@ -97,6 +92,7 @@ module _ {C S : Type 0} (makes : C → Call → Reply → C → Type 0) (awaits 
   Executes (ShowPart text name) desk next shelf after answer = Asks makes Show (told_of_part text name) desk next answer × (after ≡ shelf)
   Executes (ShowErrors view) desk next shelf after answer = Asks makes Show (told_of_errors view) desk next answer × (after ≡ shelf)
   Executes (LoadDeck name) desk next shelf after answer = LoadsDeck makes loads refuses_to_load notes name desk next shelf after answer
+  Executes (LoadAll name) desk next shelf after answer = LoadsAll makes loads refuses_to_load name desk next shelf after answer
   Executes (SaveDeck name over) desk next shelf after answer = SavesDeck makes saves refuses_to_save name over desk next shelf after answer
   Executes SaveAll desk next shelf after answer = SavesAll makes saves refuses_to_save tells_saved desk next shelf after answer
   Executes ShowFiles desk next shelf after answer = ShowsFiles makes lists desk next shelf after answer

@@ -3,3 +3,4 @@ pub mod FlagWalks
 pub mod ChangeWalks
 pub mod LineItems
 pub mod Kinds
+pub mod DeckOrders

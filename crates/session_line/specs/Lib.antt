@@ -18,10 +18,13 @@ pub mod Rights
 pub mod Taking
 pub mod Reasons
 pub mod Answers
+pub mod ToldDecks
 pub mod FileTasks
 pub mod FileStatus
 pub mod SavingDecks
 pub mod SavingAll
+pub mod DeckCuts
+pub mod LoadingAll
 pub mod Executing
 pub mod Serving
 pub mod Refusing

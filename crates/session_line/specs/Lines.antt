@@ -61,6 +61,7 @@ line_of_view name (With text) = codes "FIND" ++ behind_a_blank (name ++ behind_a
 abbrev pub line_of_command : Command → List ℕ
 line_of_command (command.Add name) = codes "ADD" ++ behind_a_blank (name ++ [])
 line_of_command (command.Load name) = codes "LOAD" ++ behind_a_blank (name ++ [])
+line_of_command (command.LoadAll name) = codes "LOADALL" ++ behind_a_blank (name ++ [])
 line_of_command (command.Drop name version) = codes "DROP" ++ name_and_number name version []
 line_of_command (command.Edit name seen edit) = line_of_edit name seen edit
 line_of_command (command.Cards name view) = line_of_view name view
@@ -112,6 +113,7 @@ IsLawfulView (With text) = (card_of text ≡ IsCard text) × IsTrue (is_sought_s
 abbrev pub IsLawful : Command → Type 0
 IsLawful (command.Add name) = IsTrue (is_deck_name name)
 IsLawful (command.Load name) = IsTrue (is_deck_name name)
+IsLawful (command.LoadAll name) = IsTrue (is_deck_name name)
 IsLawful (command.Drop name version) = IsTrue (is_deck_name name) × (version ≤ greatest_number)
 IsLawful (command.Edit name seen edit) = IsTrue (is_deck_name name) × IsLawfulSeen seen × IsLawfulEdit edit
 IsLawful (command.Cards name view) = IsTrue (is_deck_name name) × IsLawfulView view

@@ -1,5 +1,5 @@
 -- The texts of replies (ours): a first line, and for some commands as many lines more as it tells.
-use Rattle.std.specs.Prelude.{ℕ, ◌+◌, ◌≤◌, ⊤, Bool, true, false, List, [], ◌∷◌, ◌++◌, Option, Some, None, Result, Ok, Err, length, flat_map, codes, decimal}
+use Rattle.std.specs.Prelude.{ℕ, ◌+◌, ◌≤◌, ⊤, Bool, true, false, List, [], ◌∷◌, ◌++◌, Option, Some, None, length, flat_map, codes, decimal}
 use Rattle.definitions.specs.Characters.{line_feed}
 use Rattle.deck_files.specs.DeckFiles.{file_of}
 use Rattle.deck_files.specs.FileRows.{most_files}
@@ -9,8 +9,9 @@ use Rattle.session_line.specs.FileLines.{files_text}
 use Rattle.session_line.specs.Greetings.{service_text, connected_text}
 use Rattle.session_line.specs.declared.greetings.Connected.{Connected}
 use Rattle.session_line.specs.declared.marked_rows.MarkedRow.{MarkedRow}
-use Rattle.session_line.specs.declared.saved_decks.SavedDeck.{SavedDeck}
-use Rattle.session_line.specs.declared.refusals.Refusal.{Refusal}
+use Rattle.session_line.specs.declared.told_decks.ToldDeck.{ToldDeck}
+use Rattle.session_line.specs.declared.told_decks.DeckOutcome.{DeckOutcome}
+use Rattle.session_line.specs.declared.told_decks.DeckOutcome.TheVariants.{Done, Unkept, Refused}
 use Rattle.session_line.specs.Errors.{error_lines}
 use Rattle.session_line.specs.Views.{numbers_of}
 use Rattle.session_line.specs.ChangeLines.{change_lines}
@@ -43,14 +44,15 @@ saved_word false = codes " UNSAVED"
 abbrev pub marked_text : MarkedRow → List ℕ
 marked_text deck = row_text deck.row ++ saved_word deck.saved
 
--- the version that a file has now, or why the deck was not saved
-abbrev pub outcome_text : Result ℕ Refusal → List ℕ
-outcome_text (Ok version) = codes " " ++ decimal version
-outcome_text (Err refusal) = codes " NO " ++ refusal_text refusal
+-- the version of a deck, or why nothing was done
+abbrev pub outcome_text : DeckOutcome → List ℕ
+outcome_text (Done version) = codes " " ++ decimal version
+outcome_text (Unkept version) = codes " UNKEPT " ++ decimal version
+outcome_text (Refused refusal) = codes " NO " ++ refusal_text refusal
 
 -- the name of a deck, and what became of it
-abbrev pub saved_text : SavedDeck → List ℕ
-saved_text deck = deck.name ++ outcome_text deck.outcome
+abbrev pub told_deck_text : ToldDeck → List ℕ
+told_deck_text deck = deck.name ++ outcome_text deck.outcome
 
 -- the version that is published
 abbrev pub published_text : Option ℕ → List ℕ
@@ -81,7 +83,7 @@ head_text (reply.Published publication text) = counted_text publication.now.vers
 head_text (reply.Errors version view decks map) = counted_text version (length (error_lines view.now decks.now map.now))
 head_text (reply.Status version published decks) = counted_text version (length decks.now + 1)
 head_text (reply.FileStatus version published decks) = counted_text version (length decks.now + 1)
-head_text (reply.Saved version decks) = counted_text version (length decks.now)
+head_text (reply.Decks version decks) = counted_text version (length decks.now)
 head_text (reply.Files version files) = counted_text version (length files.now)
 head_text (reply.Sessions version sessions) = counted_text version (length sessions.now + 1)
 head_text reply.Bye = codes "BYE"
@@ -95,9 +97,9 @@ rows_text rows = flat_map (λ row. line_of (row_text row)) rows
 abbrev pub marks_text : List MarkedRow → List ℕ
 marks_text decks = flat_map (λ deck. line_of (marked_text deck)) decks
 
--- the lines of decks that were to be saved
-abbrev pub saves_text : List SavedDeck → List ℕ
-saves_text decks = flat_map (λ deck. line_of (saved_text deck)) decks
+-- the lines of decks, and of what became of them
+abbrev pub told_decks_text : List ToldDeck → List ℕ
+told_decks_text decks = flat_map (λ deck. line_of (told_deck_text deck)) decks
 
 -- the lines of sessions that are connected
 abbrev pub sessions_text : List Connected → List ℕ
@@ -123,7 +125,7 @@ body_text (reply.Published publication text) = shown_text text publication.now.d
 body_text (reply.Errors version view decks map) = text_of_lines (error_lines view.now decks.now map.now)
 body_text (reply.Status version published decks) = line_of (published_text published) ++ rows_text decks.now
 body_text (reply.FileStatus version published decks) = line_of (published_text published) ++ marks_text decks.now
-body_text (reply.Saved version decks) = saves_text decks.now
+body_text (reply.Decks version decks) = told_decks_text decks.now
 body_text (reply.Files version files) = files_text files.now
 body_text (reply.Sessions version sessions) = line_of service_text ++ sessions_text sessions.now
 body_text reply.Bye = []
@@ -145,7 +147,7 @@ IsWithinLimits (reply.Published publication text) = ⊤
 IsWithinLimits (reply.Errors version view decks map) = length decks.now ≤ 64
 IsWithinLimits (reply.Status version published decks) = length decks.now ≤ 64
 IsWithinLimits (reply.FileStatus version published decks) = length decks.now ≤ 64
-IsWithinLimits (reply.Saved version decks) = length decks.now ≤ 64
+IsWithinLimits (reply.Decks version decks) = length decks.now ≤ 64
 IsWithinLimits (reply.Files version files) = length files.now ≤ most_files
 IsWithinLimits (reply.Sessions version sessions) = length sessions.now ≤ 64
 IsWithinLimits reply.Bye = ⊤

@@ -1,5 +1,5 @@
 -- SAVEALL (ours): the desk is asked for its status, and then, deck by deck, the shelf whether its file has its cards; where it has not, the deck is saved as SAVE does.
-use Rattle.std.specs.Prelude.{ℕ, ◌≡◌, Bool, true, false, List, [], ◌∷◌, ◌++◌, Option, Some, None, Result, Ok, Err, option_to_list}
+use Rattle.std.specs.Prelude.{ℕ, ◌≡◌, Bool, true, false, List, [], ◌∷◌, ◌++◌, Option, Some, None, option_to_list}
 use Rattle.deck_files.specs.declared.deck_shelf.ShelfSaveFault.{ShelfSaveFault}
 use Rattle.deck_files.specs.declared.deck_shelf.SaveOver.TheVariants.{Known}
 use Rattle.deck_files.specs.Savings.{Saving}
@@ -7,42 +7,32 @@ use Rattle.desk_core.specs.declared.calls.Call.{Call}
 use Rattle.desk_core.specs.declared.calls.Call.TheVariants.{Status}
 use Rattle.desk_core.specs.declared.replies.Reply.{Reply}
 use Rattle.desk_core.specs.declared.replies.Row.{Row}
-use Rattle.session_line.specs.declared.saved_decks.SavedDeck.{SavedDeck}
-use Rattle.session_line.specs.declared.refusals.Refusal.{Refusal}
-use Rattle.session_line.specs.declared.refusals.Refusal.TheVariants.{OutOfMemory, Foreign}
+use Rattle.session_line.specs.declared.told_decks.ToldDeck.{ToldDeck}
+use Rattle.session_line.specs.declared.refusals.Refusal.TheVariants.{OutOfMemory}
 use Rattle.session_line.specs.declared.answers.Told.{Told}
 use Rattle.session_line.specs.declared.answers.Told.TheVariants as told
 use Rattle.session_line.specs.declared.answers.Answer.{Answer}
 use Rattle.session_line.specs.Answers.{told_of_call, called}
 use Rattle.session_line.specs.SavingDecks.{SavesDeck}
-
--- the version that was saved, or why none was
-abbrev pub outcome_of : Told → Result ℕ Refusal
-outcome_of (told.Done version) = Ok version
-outcome_of (told.Refused refusal) = Err refusal
-outcome_of _ = Err Foreign
-
--- the deck of this name, and what became of it
-abbrev pub saved_deck : List ℕ → Told → SavedDeck
-saved_deck name what = record { name = name; outcome = outcome_of what }
+use Rattle.session_line.specs.ToldDecks.{told_deck}
 
 module _ {C S : Type 0} (makes : C → Call → Reply → C → Type 0) (saves : S → Saving → S → Type 0) (refuses_to_save : S → Saving → ShelfSaveFault → S → Type 0)
     (tells_saved : S → List ℕ → ℕ → Bool → S → Type 0) where
   -- nothing is done where the deck's file has its cards; else what SAVE does, and that is told
-  pub data SavesRow (row : Row) (desk next : C) (shelf after : S) : Option SavedDeck → Type 0 where
+  pub data SavesRow (row : Row) (desk next : C) (shelf after : S) : Option ToldDeck → Type 0 where
     is_saved : next ≡ desk → tells_saved shelf row.name row.version true after → SavesRow row desk next shelf after None
     unsaved : (between : S) (answer : Answer) → tells_saved shelf row.name row.version false between → SavesDeck makes saves refuses_to_save row.name Known desk next between after answer →
-        SavesRow row desk next shelf after (Some (saved_deck row.name answer.told))
+        SavesRow row desk next shelf after (Some (told_deck row.name answer.told))
 
   -- these decks one after the other, and what became of those that were to be saved
-  pub data SavesRows (first : C) (start : S) : List Row → List SavedDeck → C → S → Type 0 where
+  pub data SavesRows (first : C) (start : S) : List Row → List ToldDeck → C → S → Type 0 where
     no_row : SavesRows first start [] [] first start
-    next_row : (rows : List Row) (saved : List SavedDeck) (desk next : C) (shelf after : S) (row : Row) (line : Option SavedDeck) → SavesRows first start rows saved desk shelf → SavesRow row desk next shelf after line →
+    next_row : (rows : List Row) (saved : List ToldDeck) (desk next : C) (shelf after : S) (row : Row) (line : Option ToldDeck) → SavesRows first start rows saved desk shelf → SavesRow row desk next shelf after line →
         SavesRows first start (rows ++ row ∷ []) (saved ++ option_to_list line) next after
 
   -- what became of the decks is told; or there was no memory for that, and nothing was called
   pub data TellsSaves (version : ℕ) (rows : List Row) (desk next : C) (shelf after : S) (answer : Answer) : Type 0 where
-    told_all : (saved : List SavedDeck) → SavesRows desk shelf rows saved next after → answer ≡ called (told.Saved version saved) → TellsSaves version rows desk next shelf after answer
+    told_all : (saved : List ToldDeck) → SavesRows desk shelf rows saved next after → answer ≡ called (told.Decks version saved) → TellsSaves version rows desk next shelf after answer
     lacking : next ≡ desk → after ≡ shelf → answer ≡ called (told.Refused OutOfMemory) → TellsSaves version rows desk next shelf after answer
 
   -- the decks of the status that would be told are saved; what else would be told is, and nothing more is called

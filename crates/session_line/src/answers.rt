@@ -11,7 +11,7 @@ use crate::errors::{ErrorsView, shows_any};
 use crate::greetings::{Connected, Greeting};
 use crate::marked_rows::MarkedRow;
 use crate::published_texts::{DeckText, PublishedText, shown_part};
-use crate::saved_decks::SavedDeck;
+use crate::told_decks::ToldDeck;
 use crate::views::{CardsView, cards_from};
 use cards::{Card, DeckName, Edit, MOST_CARDS, edited_copy, first_fault};
 use deck_files::FileRow;
@@ -23,7 +23,7 @@ use std::alloc::Global;
 const MOST_KEPT: usize = 2_000;
 
 /// How many decks a desk has at most.
-const MOST_DECKS: usize = 64;
+pub(crate) const MOST_DECKS: usize = 64;
 
 /// How many sessions are connected at most.
 const MOST_SESSIONS: usize = 64;
@@ -51,8 +51,8 @@ pub(crate) enum Told {
     FileStatus(u64, Option<u64>, Listed<MarkedRow>),
     /// The desk's version and the published one.
     Standing(u64, Option<u64>),
-    /// The desk's version, and what became of each deck that was to be saved.
-    Saved(u64, Listed<SavedDeck>),
+    /// The desk's version, and what became of each deck that was to be saved or added.
+    Decks(u64, Listed<ToldDeck>),
     /// The desk's version, and the rows of the files of decks.
     Files(u64, Listed<FileRow>),
     /// The desk's version, and the sessions that are connected.
@@ -338,7 +338,7 @@ impl Told {
                 decks: decks.as_slice(),
             },
             Told::Standing(version, published) => status_reply(*version, *published, &[]),
-            Told::Saved(version, decks) => crate::Reply::Saved {
+            Told::Decks(version, decks) => crate::Reply::Decks {
                 version: *version,
                 decks: decks.as_slice(),
             },

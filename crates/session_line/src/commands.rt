@@ -33,6 +33,10 @@ pub enum Command {
     Load {
         name: DeckName,
     },
+    /// New decks with the cards of the shelf's file of this name: one for each IDENT card.
+    LoadAll {
+        name: DeckName,
+    },
     /// The deck goes.
     Drop {
         name: DeckName,
@@ -506,6 +510,9 @@ fn command_by(verb: Verb, rest: &[u8]) -> Result<Command, Refusal>
             name: only_name(rest)?,
         }),
         Verb::Load => Ok(Command::Load {
+            name: only_name(rest)?,
+        }),
+        Verb::LoadAll => Ok(Command::LoadAll {
             name: only_name(rest)?,
         }),
         Verb::Drop => drop_in(rest),

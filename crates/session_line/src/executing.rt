@@ -14,6 +14,7 @@ use crate::calls::Calls;
 use crate::errors::ErrorsView;
 use crate::file_status::show_file_status;
 use crate::file_tasks::show_files;
+use crate::loading_all::load_all;
 use crate::published_texts::{DeckText, PublishedText};
 use crate::saving_all::save_all;
 use crate::tasks::Task;
@@ -34,7 +35,7 @@ pub(crate) fn called(told: Told) -> Answer
 }
 
 /// The answer without one.
-fn uncalled(told: Told) -> Answer
+pub(crate) fn uncalled(told: Told) -> Answer
     ensures { result ≡ uncalled told }
 {
     Answer {
@@ -170,7 +171,7 @@ pub(crate) fn save_deck<C: Calls, S: Shelf>(
 }
 
 /// Executes a task: at most one call of the desk, with the calls of the shelf that belong to it; and for each
-/// deck that SAVEALL saves one more.
+/// deck that SAVEALL saves or LOADALL adds one more.
 pub(crate) fn execute<C: Calls, S: Shelf>(
     alloc: Global,
     desk: &mut C,
@@ -189,6 +190,7 @@ pub(crate) fn execute<C: Calls, S: Shelf>(
         Task::ShowPart(text, name) => show_part(desk, text, name),
         Task::ShowErrors(view) => show_errors(desk, view),
         Task::LoadDeck(name) => load_deck(desk, shelf, name),
+        Task::LoadAll(name) => load_all(alloc, desk, shelf, &name),
         Task::SaveDeck(name, over) => save_deck(desk, shelf, &name, over),
         Task::SaveAll => save_all(alloc, desk, shelf),
         Task::ShowFiles => show_files(desk, shelf),

@@ -36,8 +36,8 @@ mod refusal_texts;
 mod replies;
 mod reply_line;
 mod reply_texts;
-mod saved_decks;
 mod session_writing;
+mod told_decks;
 mod writing;
 
 // The desk that is called.
@@ -53,9 +53,11 @@ mod tasks;
 
 // What is done and told.
 mod answers;
+mod deck_cuts;
 mod executing;
 mod file_status;
 mod file_tasks;
+mod loading_all;
 mod reasons;
 mod saving_all;
 mod serving;
@@ -80,11 +82,11 @@ pub use published_texts::PublishedText;
 pub use refusals::Refusal;
 pub use replies::Reply;
 pub use rights::Rights;
-pub use saved_decks::SavedDeck;
 pub use seat_calls::SeatCalls;
 pub use serving::{Outcome, serve_one};
 pub use strangers::{is_command, is_request_of_http};
 pub use taken_lines::serve_taken;
+pub use told_decks::{DeckOutcome, ToldDeck};
 pub use unknown_words::UnknownWord;
 pub use views::CardsView;
 pub use words::{Seen, behind_blank, behind_word, first_number, first_word, from_blank, to_blank};

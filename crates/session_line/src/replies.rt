@@ -5,7 +5,7 @@ use crate::greetings::Connected;
 use crate::marked_rows::MarkedRow;
 use crate::published_texts::PublishedText;
 use crate::refusals::Refusal;
-use crate::saved_decks::SavedDeck;
+use crate::told_decks::ToldDeck;
 use cards::Card;
 use deck_files::FileRow;
 use deck_linker::ListedPublication;
@@ -68,10 +68,10 @@ pub enum Reply<'a> {
         published: Option<u64>,
         decks: &'a [MarkedRow],
     },
-    /// `OK version n`, then a line for each deck that was to be saved.
-    Saved {
+    /// `OK version n`, then a line for each deck that was to be saved or added.
+    Decks {
         version: u64,
-        decks: &'a [SavedDeck],
+        decks: &'a [ToldDeck],
     },
     /// `OK version n`, then a line for each file of a deck.
     Files {

@@ -107,7 +107,7 @@ pub(crate) fn head_line(reply: &Reply<'_>) -> ReplyLine
         } => counted_line(*version, error_count(view, decks, map)),
         Reply::Status { version, decks, .. } => counted_line(*version, decks.len() + 1),
         Reply::FileStatus { version, decks, .. } => counted_line(*version, decks.len() + 1),
-        Reply::Saved { version, decks } => counted_line(*version, decks.len()),
+        Reply::Decks { version, decks } => counted_line(*version, decks.len()),
         Reply::Files { version, files } => counted_line(*version, files.len()),
         Reply::Sessions { version, sessions } => counted_line(*version, sessions.len() + 1),
         Reply::Bye => bye_line(),

@@ -1,44 +1,33 @@
 //! Saves each deck whose file has not its cards.
 ghost use Rattle.std.specs.Prelude.{◌≡◌, ◌≤◌, ◌<◌, ◌+◌, ◌++◌, length, vec_len, vec_capacity, option_to_list, IfOk, OnErr};
 ghost use Rattle.session_line.specs.Answers.{IsTellable, most_decks};
-ghost use Rattle.session_line.specs.SavingAll.{SavesAll, SavesRow, SavesRows, TellsSaves, outcome_of};
+ghost use Rattle.session_line.specs.SavingAll.{SavesAll, SavesRow, SavesRows, TellsSaves};
 
 use crate::Refusal;
 use crate::answers::{Answer, Told, told_of_call};
 use crate::calls::Calls;
 use crate::executing::{called, save_deck};
-use crate::saved_decks::SavedDeck;
+use crate::told_decks::{ToldDeck, outcome_of};
 use deck_files::{SaveOver, Shelf};
 use desk_core::{Call, Listed, Row};
 use std::alloc::{AllocError, Global};
 
-/// The version that was saved, or why none was.
-fn outcome_of(told: &Told) -> Result<u64, Refusal>
-    ensures { result ≡ outcome_of told.now }
-{
-    match told {
-        Told::Done(version) => Ok(*version),
-        Told::Refused(refusal) => Err(*refusal),
-        _ => Err(Refusal::Foreign),
-    }
-}
-
 /// Saves a deck, where its file has not its cards: what became of it.
-fn save_row<C: Calls, S: Shelf>(desk: &mut C, shelf: &mut S, row: &Row) -> Option<SavedDeck>
+fn save_row<C: Calls, S: Shelf>(desk: &mut C, shelf: &mut S, row: &Row) -> Option<ToldDeck>
     ensures { SavesRow C.makes S.saves S.refuses_to_save S.tells_saved row.now desk.old desk.new shelf.old shelf.new result }
 {
     if shelf.is_saved(&row.name, row.version) {
         return None;
     }
     let answer = save_deck(desk, shelf, &row.name, SaveOver::Known);
-    Some(SavedDeck {
+    Some(ToldDeck {
         name: row.name.copied(),
         outcome: outcome_of(&answer.told),
     })
 }
 
 /// Puts what became of a deck, if it was to be saved, where there is room.
-fn put_saved(saved: &mut Vec<SavedDeck>, told: Option<SavedDeck>)
+fn put_saved(saved: &mut Vec<ToldDeck>, told: Option<ToldDeck>)
     requires { vec_len saved.old < vec_capacity saved.old }
     ensures items { saved.new.items ≡ saved.old.items ++ option_to_list told }
     ensures room { vec_capacity saved.new ≡ vec_capacity saved.old }
@@ -56,7 +45,7 @@ fn save_rows<C: Calls, S: Shelf>(
     desk: &mut C,
     shelf: &mut S,
     rows: &[Row],
-) -> Result<Vec<SavedDeck>, AllocError>
+) -> Result<Vec<ToldDeck>, AllocError>
     ensures saved { IfOk result (λ saved. SavesRows C.makes S.saves S.refuses_to_save S.tells_saved desk.old shelf.old rows.now saved.items desk.new shelf.new) }
     ensures few { IfOk result (λ saved. length saved.items ≤ length rows.now) }
     ensures desk { OnErr result (desk.new ≡ desk.old) }
@@ -83,7 +72,7 @@ fn tell_saves<C: Calls, S: Shelf>(
     ensures fits { IsTellable result.told }
 {
     match save_rows(alloc, desk, shelf, rows) {
-        Ok(saved) => called(Told::Saved(version, Listed::new(saved))),
+        Ok(saved) => called(Told::Decks(version, Listed::new(saved))),
         Err(_) => called(Told::Refused(Refusal::OutOfMemory)),
     }
 }

@@ -18,6 +18,7 @@ pub(crate) enum EditKind {
 pub(crate) enum Verb {
     Add,
     Load,
+    LoadAll,
     Drop,
     Edit(EditKind),
     Cards,
@@ -60,6 +61,8 @@ fn file_verb_of(word: &[u8]) -> Option<Verb>
 {
     if is_same_text(word, b"LOAD") {
         Some(Verb::Load)
+    } else if is_same_text(word, b"LOADALL") {
+        Some(Verb::LoadAll)
     } else if is_same_text(word, b"SAVE") {
         Some(Verb::Save)
     } else if is_same_text(word, b"SAVEALL") {

@@ -85,7 +85,7 @@ fn write_body<W: Write>(output: &mut Counted<W>, reply: &Reply<'_>) -> Result<()
             map,
             ..
         } => write_errors(output, view, decks, map),
-        Reply::Saved { decks, .. } => write_rows(output, decks),
+        Reply::Decks { decks, .. } => write_rows(output, decks),
         Reply::Files { files, .. } => write_rows(output, files),
         Reply::Sessions { sessions, .. } => write_sessions(output, sessions),
         Reply::Status {

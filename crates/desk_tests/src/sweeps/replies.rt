@@ -44,7 +44,7 @@ fn is_within(reply: &Reply<'_>) -> bool
         Reply::Errors { decks, .. } => decks.len() <= 64,
         Reply::Status { decks, .. } => decks.len() <= 64,
         Reply::FileStatus { decks, .. } => decks.len() <= 64,
-        Reply::Saved { decks, .. } => decks.len() <= 64,
+        Reply::Decks { decks, .. } => decks.len() <= 64,
         Reply::Files { files, .. } => files.len() <= MOST_FILES,
         Reply::Sessions { sessions, .. } => sessions.len() <= 64,
         Reply::Done { .. } | Reply::Unkept { .. } => true,

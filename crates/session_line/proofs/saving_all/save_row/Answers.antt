@@ -1,6 +1,7 @@
-use Rattle.std.proofs.Common.{ℕ, List, Result, Some, refl, sym, subst}
-use Rattle.session_line.specs.declared.refusals.Refusal.{Refusal}
-use Rattle.session_line.specs.SavingAll.{SavesRow, is_saved, outcome_of, unsaved}
+use Rattle.std.proofs.Common.{ℕ, List, Some, refl, sym, subst}
+use Rattle.session_line.specs.declared.told_decks.DeckOutcome.{DeckOutcome}
+use Rattle.session_line.specs.SavingAll.{SavesRow, is_saved, unsaved}
+use Rattle.session_line.specs.ToldDecks.{outcome_of}
 use Rattle.session_line.proofs.saving_all.save_row.Goals as goal
 
 -- its file has its cards
@@ -13,7 +14,7 @@ returns g c =
     let P : List ℕ → Type 0 =
     λ (name : List ℕ). SavesRow g.C.Calls.makes g.S.Shelf.saves g.S.Shelf.refuses_to_save g.S.Shelf.tells_saved c.args.row.now c.args.desk.now c.save_deck-answer.new.desk c.args.shelf.now c.save_deck-answer.new.shelf
     (Some (record { name = name; outcome = outcome_of c.save_deck-answer.result.told })) in
-    let Q : Result ℕ Refusal → Type 0 =
-    λ (outcome : Result ℕ Refusal). SavesRow g.C.Calls.makes g.S.Shelf.saves g.S.Shelf.refuses_to_save g.S.Shelf.tells_saved c.args.row.now c.args.desk.now c.save_deck-answer.new.desk c.args.shelf.now
+    let Q : DeckOutcome → Type 0 =
+    λ (outcome : DeckOutcome). SavesRow g.C.Calls.makes g.S.Shelf.saves g.S.Shelf.refuses_to_save g.S.Shelf.tells_saved c.args.row.now c.args.desk.now c.save_deck-answer.new.desk c.args.shelf.now
     c.save_deck-answer.new.shelf (Some (record { name = c.copied.result; outcome = outcome })) in
     subst Q (sym c.outcome_of.ensures) (subst P (sym c.copied.ensures) (unsaved c.is_saved.new.self c.save_deck-answer.result c.if-is_saved.ensures c.save_deck-answer.ensures.saves))

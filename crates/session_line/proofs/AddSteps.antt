@@ -1,0 +1,74 @@
+-- The decks of a file added one by one.
+use Rattle.std.proofs.Common.{ℕ, suc, ◌≡◌, ◌+◌, ◌-◌, ◌<◌, List, [], ◌∷◌, ◌++◌, arith, drop, get_or, length, length-append, take, ◌⊎◌, ⊎_elim, Ok, Err, refl, sym, subst, ap, ◌∙◌}
+use Rattle.std.specs.Prelude.{Result}
+use Rattle.std.proofs.lemmas.List.{drop_more, length-drop, take_all, take_more}
+use Rattle.definitions.specs.Cards.{Card}
+use Rattle.definitions.specs.DeckInput.{Deck}
+use Rattle.desk_core.specs.declared.calls.Call.{Call}
+use Rattle.desk_core.specs.declared.replies.Reply.{Reply}
+use Rattle.session_line.specs.declared.told_decks.ToldDeck.{ToldDeck}
+use Rattle.session_line.specs.declared.answers.Answer.{Answer}
+use Rattle.session_line.specs.declared.answers.Told.TheVariants as told
+use Rattle.session_line.specs.declared.refusals.Refusal.{Refusal}
+use Rattle.session_line.specs.declared.refusals.Refusal.TheVariants.{OutOfMemory}
+use Rattle.session_line.specs.Answers.{uncalled}
+use Rattle.session_line.specs.DeckCuts.{decks_in}
+use Rattle.session_line.specs.LoadingAll.{AddsAll, AddsCut, AddsDeck, AddsDecks, AddsFile, cut, no_deck, next_deck, uncut}
+
+-- a deck that is left
+left-some : (decks : List Deck) (n : ℕ) (deck : Deck) (behind : List Deck) → drop n decks ≡ deck ∷ behind → n < length decks
+left-some decks n deck behind is = let all : length decks - n ≡ suc (length behind) = sym (length-drop n decks) ∙ ap length is in omega (arith, all)
+
+head-is : (x y : Deck) (xs ys : List Deck) → x ∷ xs ≡ y ∷ ys → x ≡ y
+head-is x y xs ys same = cc
+
+tail-is : (x y : Deck) (xs ys : List Deck) → x ∷ xs ≡ y ∷ ys → xs ≡ ys
+tail-is x y xs ys same = cc
+
+take-left : (decks : List Deck) (n : ℕ) (deck : Deck) (behind : List Deck) → drop n decks ≡ deck ∷ behind → take (n + 1) decks ≡ take n decks ++ deck ∷ []
+take-left decks n deck behind is =
+    let within = left-some decks n deck behind is in
+    take_more decks n deck within
+    ∙ ap (λ (d : Deck). take n decks ++ d ∷ []) (head-is (get_or decks n deck) deck (drop (n + 1) decks) behind (sym (drop_more decks n deck within) ∙ is))
+
+drop-left : (decks : List Deck) (n : ℕ) (deck : Deck) (behind : List Deck) → drop n decks ≡ deck ∷ behind → behind ≡ drop (n + 1) decks
+drop-left decks n deck behind is =
+    sym (tail-is (get_or decks n deck) deck (drop (n + 1) decks) behind (sym (drop_more decks n deck (left-some decks n deck behind is)) ∙ is))
+
+longer : (lines after : List ToldDeck) (line : ToldDeck) → after ≡ lines ++ line ∷ [] → length after ≡ length lines + 1
+longer lines after line put = ap length put ∙ length-append lines (line ∷ [])
+
+-- there is room for a line of one that is left
+pub room-left : (decks : List Deck) (lines : List ToldDeck) (deck : Deck) (behind : List Deck) → deck ∷ behind ≡ drop (length lines) decks → length lines < length decks
+room-left decks lines deck behind is = left-some decks (length lines) deck behind (sym is)
+
+-- those behind it
+pub behind-left : (decks : List Deck) (lines after : List ToldDeck) (line : ToldDeck) (deck : Deck) (behind : List Deck) → deck ∷ behind ≡ drop (length lines) decks → after ≡ lines ++ line ∷ [] → behind ≡ drop (length after) decks
+behind-left decks lines after line deck behind is put =
+    drop-left decks (length lines) deck behind (sym is) ∙ ap (λ (n : ℕ). drop n decks) (sym (longer lines after line put))
+
+-- none is left
+pub none-left : (decks : List Deck) (lines : List ToldDeck) → [] ≡ drop (length lines) decks → take (length lines) decks ≡ decks
+none-left decks lines is = let all : length decks - length lines ≡ 0 = sym (length-drop (length lines) decks) ∙ ap length (sym is) in take_all (length lines) decks (omega (arith, all))
+
+module _ {C : Type 0} (makes : C → Call → Reply → C → Type 0) where
+  -- none was added
+  pub adds-none : (first : C) (decks : List Deck) (lines : List ToldDeck) → lines ≡ [] → AddsDecks makes first (take (length lines) decks) lines first
+  adds-none first decks lines none = subst (λ (l : List ToldDeck). AddsDecks makes first (take (length l) decks) l first) (sym none) no_deck
+
+  -- one more was
+  pub adds-more : (first desk next : C) (decks : List Deck) (lines after : List ToldDeck) (deck : Deck) (behind : List Deck) (line : ToldDeck) → AddsDecks makes first (take (length lines) decks) lines desk → AddsDeck makes deck desk next line →
+      deck ∷ behind ≡ drop (length lines) decks → after ≡ lines ++ line ∷ [] → AddsDecks makes first (take (length after) decks) after next
+  adds-more first desk next decks lines after deck behind line sofar one is put =
+      subst (λ (d : List Deck). AddsDecks makes first d after next) (sym (ap (λ (n : ℕ). take n decks) (longer lines after line put) ∙ take-left decks (length lines) deck behind (sym is)))
+      (subst (λ (l : List ToldDeck). AddsDecks makes first (take (length lines) decks ++ deck ∷ []) l next) (sym put) (next_deck (take (length lines) decks) lines desk next deck line sofar one))
+
+  -- the decks of a file were added
+  pub file-cut : (cards : List Card) (decks : List Deck) (desk next : C) (answer : Answer) → decks_in cards ≡ Ok decks → AddsAll makes decks desk next answer → AddsFile makes cards desk next answer
+  file-cut cards decks desk next answer is adds = cut (subst (λ (result : Result (List Deck) Refusal). AddsCut makes result desk next answer) (sym is) adds)
+
+  -- or it has none, or there was no memory for them
+  pub file-refused : (cards : List Card) (refusal : Refusal) (desk : C) (answer : Answer) → (decks_in cards ≡ Err refusal) ⊎ (refusal ≡ OutOfMemory) → answer ≡ uncalled (told.Refused refusal) → AddsFile makes cards desk desk answer
+  file-refused cards refusal desk answer why is =
+      ⊎_elim (λ (none : decks_in cards ≡ Err refusal). cut (subst (λ (result : Result (List Deck) Refusal). AddsCut makes result desk desk answer) (sym none) (refl, is)))
+      (λ (lacking : refusal ≡ OutOfMemory). uncut refl (is ∙ ap (λ r. uncalled (told.Refused r)) lacking)) why

@@ -1,0 +1,17 @@
+use Rattle.std.proofs.Common.{List, sym, subst}
+use Rattle.desk_core.specs.declared.replies.Row.{Row}
+use Rattle.session_line.specs.declared.answers.Told.{Told}
+use Rattle.session_line.specs.Answers.{told_of_call}
+use Rattle.session_line.specs.LoadingAll.{AddsTold, TellsAdds}
+use Rattle.session_line.proofs.loading_all.add_all.Goals as goal
+
+pub returns-in-Status-clause-adds : goal.returns-in-Status-clause-adds
+returns-in-Status-clause-adds g c =
+    let P : List Row → Type 0 = λ (rows : List Row). TellsAdds g.C.Calls.makes c.in-Status.version rows c.args.decks.items c.call.new.self c.tell_adds.new.desk c.tell_adds.result in
+    let Q : Told → Type 0 = λ (what : Told). AddsTold g.C.Calls.makes c.args.decks.items what c.call.new.self c.tell_adds.new.desk c.tell_adds.result in
+    record {
+      reply = c.call.result;
+      between = c.call.new.self;
+      made = c.call.ensures;
+      kept = subst Q {y = told_of_call c.call.result} c.told_of_call.ensures.told (subst Q {y = c.told_of_call.result} (sym c.in-Status.is) (subst P c.as_slice.ensures c.tell_adds.ensures.tells));
+    }

@@ -1,0 +1,120 @@
+//! Adds each deck of a file of the shelf.
+ghost use Rattle.std.specs.Prelude.{◌≡◌, ◌≤◌, ◌+◌, length, vec_capacity, vec_len, Err, IfErr, IfNone, IfOk, Ok, OnErr};
+ghost use Rattle.session_line.specs.Answers.{IsTellable, most_decks};
+ghost use Rattle.session_line.specs.LoadingAll.{AddsAll, AddsCut, AddsDeck, AddsDecks, LoadsAll, TellsAdds, is_any_there, refusal_to_add};
+
+use crate::Refusal;
+use crate::answers::{Answer, MOST_DECKS, Told, told_of_call};
+use crate::calls::Calls;
+use crate::deck_cuts::{cut_cards, is_taken};
+use crate::executing::{called, uncalled};
+use crate::told_decks::{ToldDeck, outcome_of};
+use cards::DeckName;
+use deck_files::Shelf;
+use desk_core::{Call, Listed, NewDeck, Row};
+use std::alloc::{AllocError, Global};
+
+/// Whether a desk with these decks has the name of one of others.
+fn is_any_there(rows: &[Row], decks: &[NewDeck]) -> bool
+    ensures { result ≡ is_any_there rows.now decks.now }
+{
+    rows.iter().any(|row| is_taken(row.name.as_slice(), decks))
+}
+
+/// Why a desk with these decks is asked to add none of others.
+fn refusal_to_add(rows: &[Row], decks: &[NewDeck]) -> Option<Refusal>
+    requires { length rows.now ≤ most_decks }
+    ensures refusal { result ≡ refusal_to_add rows.now decks.now }
+    ensures few { IfNone result (length decks.now ≤ most_decks) }
+{
+    if is_any_there(rows, decks) {
+        return Some(Refusal::NameTaken);
+    }
+    if decks.len() > MOST_DECKS - rows.len() {
+        Some(Refusal::TooManyDecks)
+    } else {
+        None
+    }
+}
+
+/// The desk is asked to add a deck: what became of it.
+fn add_deck<C: Calls>(desk: &mut C, deck: NewDeck) -> ToldDeck
+    ensures { AddsDeck C.makes deck desk.old desk.new result }
+{
+    let name = deck.name.copied();
+    let told = told_of_call(desk.call(Call::AddDeck(deck)));
+    ToldDeck {
+        name,
+        outcome: outcome_of(&told),
+    }
+}
+
+/// Adds decks one after the other: what became of each. The memory for that is there before any is added.
+fn add_decks<C: Calls>(
+    alloc: Global,
+    desk: &mut C,
+    decks: Vec<NewDeck>,
+) -> Result<Vec<ToldDeck>, AllocError>
+    ensures adds { IfOk result (λ lines. AddsDecks C.makes desk.old decks.items lines.items desk.new) }
+    ensures each { IfOk result (λ lines. length lines.items ≡ length decks.items) }
+    ensures lacking { OnErr result (desk.new ≡ desk.old) }
+{
+    let mut lines = Vec::with_capacity(alloc, decks.len())?;
+    for deck in decks {
+        lines.push_reserved(add_deck(desk, deck));
+    }
+    Ok(lines)
+}
+
+/// Adds decks to a desk that has these, where it has the name of none and room for all, and tells what became
+/// of them with this version.
+fn tell_adds<C: Calls>(
+    alloc: Global,
+    desk: &mut C,
+    version: u64,
+    rows: &[Row],
+    decks: Vec<NewDeck>,
+) -> Answer
+    requires { length rows.now ≤ most_decks }
+    ensures tells { TellsAdds C.makes version rows.now decks.items desk.old desk.new result }
+    ensures fits { IsTellable result.told }
+{
+    if let Some(refusal) = refusal_to_add(rows, decks.as_slice()) {
+        return called(Told::Refused(refusal));
+    }
+    match add_decks(alloc, desk, decks) {
+        Ok(lines) => called(Told::Decks(version, Listed::new(lines))),
+        Err(_) => called(Told::Refused(Refusal::OutOfMemory)),
+    }
+}
+
+/// The desk is asked for its status, and then to add the decks.
+fn add_all<C: Calls>(alloc: Global, desk: &mut C, decks: Vec<NewDeck>) -> Answer
+    ensures adds { AddsAll C.makes decks.items desk.old desk.new result }
+    ensures fits { IsTellable result.told }
+{
+    match told_of_call(desk.call(Call::Status)) {
+        Told::Status(version, _, rows) => tell_adds(alloc, desk, version, rows.as_slice(), decks),
+        told => called(told),
+    }
+}
+
+/// One load of the shelf, and then the addition of the decks of its file; the shelf is told no version of
+/// them, so none of their files is known by it.
+pub(crate) fn load_all<C: Calls, S: Shelf>(
+    alloc: Global,
+    desk: &mut C,
+    shelf: &mut S,
+    name: &DeckName,
+) -> Answer
+    ensures loads { LoadsAll C.makes S.loads S.refuses_to_load name.now desk.old desk.new shelf.old shelf.new result }
+    ensures fits { IsTellable result.told }
+{
+    match shelf.load(name) {
+        Ok(cards) => match cut_cards(alloc, cards.as_slice()) {
+            Ok(decks) => add_all(alloc, desk, decks),
+            Err(refusal) => uncalled(Told::Refused(refusal)),
+        },
+        Err(fault) => uncalled(Told::Refused(Refusal::from(fault))),
+    }
+}
