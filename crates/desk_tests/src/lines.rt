@@ -110,6 +110,7 @@ fn push_change(answer: &mut Answer, command: &Command) {
         Command::Add { name } => push_named(answer, "add ", name.as_slice()),
         Command::Load { name } => push_named(answer, "load ", name.as_slice()),
         Command::LoadAll { name } => push_named(answer, "load all ", name.as_slice()),
+        Command::Reload { name } => push_named(answer, "reload ", name.as_slice()),
         Command::Drop { name, version } => {
             push_named(answer, "drop ", name.as_slice());
             answer.number(" ", *version);

@@ -224,6 +224,7 @@ pub line-back : (command : Command) → IsLawful command → command_of (line_of
 line-back (command.Add name) is = ap (λ (r : Result (List ℕ) Refusal). made_of command.Add r) (only-name name is)
 line-back (command.Load name) is = ap (λ (r : Result (List ℕ) Refusal). made_of command.Load r) (only-name name is)
 line-back (command.LoadAll name) is = ap (λ (r : Result (List ℕ) Refusal). made_of command.LoadAll r) (only-name name is)
+line-back (command.Reload name) is = ap (λ (r : Result (List ℕ) Refusal). made_of command.Reload r) (only-name name is)
 line-back (command.Drop name version) lawful = version-back command.Drop name version lawful.0 lawful.1
 line-back (command.Edit name seen edit) lawful = edit-back name seen edit lawful.0 lawful.1 lawful.2
 line-back (command.Cards name All) lawful = cards-back name [] All lawful.0 refl refl

@@ -7,7 +7,7 @@ use Rattle.deck_files.specs.declared.deck_shelf.ShelfSaveFault.{ShelfSaveFault}
 use Rattle.deck_files.specs.declared.file_rows.FileRow.{FileRow}
 use Rattle.deck_files.specs.Savings.{Saving}
 use Rattle.desk_core.specs.declared.calls.Call.{Call}
-use Rattle.desk_core.specs.declared.calls.Call.TheVariants.{AddDeck, Cards, CardsAt, Show, Status}
+use Rattle.desk_core.specs.declared.calls.Call.TheVariants.{AddDeck, Cards, CardsAt, PutDeck, Show, Status}
 use Rattle.desk_core.specs.declared.replies.Reply.{Reply}
 use Rattle.desk_core.specs.declared.replies.Row.{Row}
 use Rattle.session_line.specs.declared.answers.Answer.{Answer}
@@ -17,9 +17,11 @@ use Rattle.session_line.specs.declared.greetings.Greeting.{Greeting}
 use Rattle.session_line.specs.declared.refusals.Refusal.{Refusal}
 use Rattle.session_line.specs.declared.told_decks.ToldDeck.{ToldDeck}
 use Rattle.session_line.specs.declared.tasks.Task.{Task}
-use Rattle.session_line.specs.declared.tasks.Task.TheVariants.{Ask, AwaitVersion, ShowCards, ShowCardsAt, ShowText, ShowPart, ShowErrors, LoadDeck, LoadAll, SaveDeck, SaveAll, ShowFiles, ShowFileStatus, Greet, Leave, Refuse}
+use Rattle.session_line.specs.declared.tasks.Task.TheVariants.{Ask, AwaitVersion, ShowCards, ShowCardsAt, ShowText, ShowPart, ShowErrors, LoadDeck, LoadAll, ReloadDeck, SaveDeck, SaveAll, ShowFiles, ShowFileStatus, Greet, Leave, Refuse}
 use Rattle.session_line.specs.Answers.{told_of_call, called}
-use Rattle.session_line.specs.Executing.{Asks, AddsLoaded, Executes}
+use Rattle.session_line.specs.Asking.{Asks}
+use Rattle.session_line.specs.Executing.{AddsLoaded, Executes}
+use Rattle.session_line.specs.Reloading.{PutsBy, PutsLoaded, version_told}
 use Rattle.session_line.specs.Rights.{allowed, changes}
 use Rattle.session_line.specs.Joins.Kinds.{is_session_call}
 use Rattle.session_line.specs.Taking.{IsTaskFor, TakesTask}
@@ -79,6 +81,17 @@ module _ {C S : Type 0} (makes : C → Call → Reply → C → Type 0) (awaits 
   adds-same : (name : List ℕ) (loaded : Result (List Card) ShelfLoadFault) (desk next : C) (answer : Answer) → AddsLoaded makes name loaded desk next answer → is_refusal answer.told ≡ true → IsSame desk next
   adds-same name (Ok cards) desk next answer adds refused = asks-same (AddDeck (record { name = name; cards = cards })) desk next answer refl adds refused
   adds-same name (Err fault) desk next answer adds refused = uncalled-same desk next adds.0
+
+  -- a deck that was put over another, of which a refusal is told
+  put-same : (deck : Deck) (version : Result ℕ Refusal) (desk next : C) (answer : Answer) → PutsBy makes deck version desk next answer → is_refusal answer.told ≡ true → IsSame desk next
+  put-same deck (Ok version) desk next answer puts refused = asks-same (PutDeck deck version) desk next answer refl puts refused
+  put-same deck (Err refusal) desk next answer puts refused = uncalled-same desk next puts.0
+
+  puts-same : (name : List ℕ) (loaded : Result (List Card) ShelfLoadFault) (desk next : C) (answer : Answer) → PutsLoaded makes name loaded desk next answer → is_refusal answer.told ≡ true → IsSame desk next
+  puts-same name (Ok cards) desk next answer puts refused =
+      let deck : Deck = record { name = name; cards = cards } in
+      steady.joined desk puts.between next (steady.asked desk puts.between Status puts.reply refl puts.made) (put-same deck (version_told name puts.reply) puts.between next answer puts.put refused)
+  puts-same name (Err fault) desk next answer puts refused = uncalled-same desk next puts.0
 
   row-same : (row : Row) (desk next : C) (shelf after : S) (line : Option ToldDeck) → SavesRow makes saves refuses_to_save tells_saved row desk next shelf after line → IsSame desk next
   row-same row desk next shelf after _ (is_saved stays tells) = uncalled-same desk next stays
@@ -156,6 +169,7 @@ module _ {C S : Type 0} (makes : C → Call → Reply → C → Type 0) (awaits 
   refused-same (ShowErrors view) desk next shelf after answer session is refused = steady.asked desk next Show is.0.reply refl is.0.made
   refused-same (LoadDeck name) desk next shelf after answer session is refused = adds-same name is.loaded desk next answer is.added refused
   refused-same (LoadAll name) desk next shelf after answer session is refused = loaded-same is.loaded desk next answer is.added refused
+  refused-same (ReloadDeck name) desk next shelf after answer session is refused = puts-same name is.loaded desk next answer is.put refused
   refused-same (SaveDeck name over) desk next shelf after answer session is refused = steady.asked desk next (Cards name) is.reply refl is.made
   refused-same SaveAll desk next shelf after answer session is refused =
       steady.joined desk is.between next (steady.asked desk is.between Status is.reply refl is.made) (all-same (told_of_call is.reply) is.between next shelf after answer is.kept)
@@ -187,6 +201,7 @@ command-session : (command : Command) (lines : List (List ℕ)) → asks_session
 command-session (command.Add name) lines = refl
 command-session (command.Load name) lines = refl
 command-session (command.LoadAll name) lines = refl
+command-session (command.Reload name) lines = refl
 command-session (command.Drop name version) lines = refl
 command-session (command.Edit name seen edit) lines = edit_call-session name seen edit
 command-session (command.Cards name view) lines = refl

@@ -22,6 +22,12 @@ load_all = refl
 pub load_all_of_nobody : command_of (codes "LOADALL") ≡ Err BadCommand
 load_all_of_nobody = refl
 
+pub reload : command_of (codes "RELOAD M") ≡ Ok (command.Reload (codes "M"))
+reload = refl
+
+pub reload_of_nobody : command_of (codes "RELOAD") ≡ Err BadCommand
+reload_of_nobody = refl
+
 pub load : command_of (codes "LOAD 1AJ") ≡ Ok (command.Load (codes "1AJ"))
 load = refl
 

@@ -178,6 +178,7 @@ abbrev pub command_by : Verb → List ℕ → Result Command Refusal
 command_by verb.Add rest = made_of command.Add (only_name rest)
 command_by verb.Load rest = made_of command.Load (only_name rest)
 command_by verb.LoadAll rest = made_of command.LoadAll (only_name rest)
+command_by verb.Reload rest = made_of command.Reload (only_name rest)
 command_by verb.Drop rest = of_version command.Drop (named_version rest)
 command_by (verb.Edit kind) rest = edit_in kind rest
 command_by verb.Cards rest = cards_in rest

@@ -9,7 +9,7 @@ use Rattle.desk_core.specs.declared.calls.Call.{Call}
 use Rattle.desk_core.specs.declared.replies.Reply.{Reply}
 use Rattle.desk_core.specs.declared.calls.Call.TheVariants.{AddDeck, Cards, CardsAt, Show}
 use Rattle.session_line.specs.declared.tasks.Task.{Task}
-use Rattle.session_line.specs.declared.tasks.Task.TheVariants.{Ask, AwaitVersion, ShowCards, ShowCardsAt, ShowText, ShowPart, ShowErrors, LoadDeck, LoadAll, SaveDeck, SaveAll, ShowFiles, ShowFileStatus, Greet, Leave, Refuse}
+use Rattle.session_line.specs.declared.tasks.Task.TheVariants.{Ask, AwaitVersion, ShowCards, ShowCardsAt, ShowText, ShowPart, ShowErrors, LoadDeck, LoadAll, ReloadDeck, SaveDeck, SaveAll, ShowFiles, ShowFileStatus, Greet, Leave, Refuse}
 use Rattle.session_line.specs.declared.answers.Told.{Told}
 use Rattle.session_line.specs.declared.answers.Told.TheVariants as told
 use Rattle.session_line.specs.declared.answers.Answer.{Answer}
@@ -19,16 +19,12 @@ use Rattle.session_line.specs.FileTasks.{ShowsFiles}
 use Rattle.session_line.specs.FileStatus.{ShowsFileStatus}
 use Rattle.session_line.specs.SavingDecks.{SavesDeck}
 use Rattle.session_line.specs.SavingAll.{SavesAll}
-use Rattle.session_line.specs.LoadingAll.{LoadsAll, ShelfLoads}
+use Rattle.session_line.specs.LoadingAll.{LoadsAll}
+use Rattle.session_line.specs.Asking.{Asks, NotesTold, ShelfLoads}
+use Rattle.session_line.specs.Reloading.{ReloadsDeck}
 use Rattle.session_line.specs.Answers.{told_of_call, told_of_wait, told_of_greeting, told_of_cards, told_of_publication, told_of_part, told_of_errors, IsToldAt, called, uncalled}
 
 module _ {C : Type 0} (makes : C → Call → Reply → C → Type 0) where
-  -- one call of the desk, and what is told of its reply
-  pub record Asks (call : Call) (telling : Reply → Told) (desk next : C) (answer : Answer) : Type 0 where
-    pub reply : Reply
-    pub made : makes desk call reply next
-    pub answered : answer ≡ called (telling reply)
-
   -- CARDS AT: one call of the desk for the cards of now and the changes since, and what is told of that
   pub record AsksAt (name : List ℕ) (version : ℕ) (desk next : C) (answer : Answer) : Type 0 where
     pub reply : Reply
@@ -39,15 +35,8 @@ module _ {C : Type 0} (makes : C → Call → Reply → C → Type 0) where
 
   -- the deck that the shelf gave is added; or its fault is told, and the desk is not called
   abbrev pub AddsLoaded : List ℕ → Result (List Card) ShelfLoadFault → C → C → Answer → Type 0
-  AddsLoaded name (Ok cards) desk next answer = Asks (AddDeck (record { name = name; cards = cards })) told_of_call desk next answer
+  AddsLoaded name (Ok cards) desk next answer = Asks makes (AddDeck (record { name = name; cards = cards })) told_of_call desk next answer
   AddsLoaded name (Err fault) desk next answer = (next ≡ desk) × (answer ≡ uncalled (told.Refused (load_reason fault)))
-
-module _ {S : Type 0} (notes : S → List ℕ → ℕ → S → Type 0) where
-  -- the shelf notes the version that is told, if one is
-  abbrev pub NotesTold : List ℕ → Told → S → S → Type 0
-  NotesTold name (told.Done version) shelf after = notes shelf name version after
-  NotesTold name (told.Unkept version) shelf after = notes shelf name version after
-  NotesTold name what shelf after = after ≡ shelf
 
 module _ {C S : Type 0} (makes : C → Call → Reply → C → Type 0) (loads : S → List ℕ → List Card → S → Type 0) (refuses_to_load : S → List ℕ → ShelfLoadFault → S → Type 0)
     (notes : S → List ℕ → ℕ → S → Type 0) where
@@ -93,6 +82,7 @@ module _ {C S : Type 0} (makes : C → Call → Reply → C → Type 0) (awaits 
   Executes (ShowErrors view) desk next shelf after answer = Asks makes Show (told_of_errors view) desk next answer × (after ≡ shelf)
   Executes (LoadDeck name) desk next shelf after answer = LoadsDeck makes loads refuses_to_load notes name desk next shelf after answer
   Executes (LoadAll name) desk next shelf after answer = LoadsAll makes loads refuses_to_load name desk next shelf after answer
+  Executes (ReloadDeck name) desk next shelf after answer = ReloadsDeck makes loads refuses_to_load notes name desk next shelf after answer
   Executes (SaveDeck name over) desk next shelf after answer = SavesDeck makes saves refuses_to_save name over desk next shelf after answer
   Executes SaveAll desk next shelf after answer = SavesAll makes saves refuses_to_save tells_saved desk next shelf after answer
   Executes ShowFiles desk next shelf after answer = ShowsFiles makes lists desk next shelf after answer

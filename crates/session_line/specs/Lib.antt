@@ -18,6 +18,7 @@ pub mod Rights
 pub mod Taking
 pub mod Reasons
 pub mod Answers
+pub mod Asking
 pub mod ToldDecks
 pub mod FileTasks
 pub mod FileStatus
@@ -25,6 +26,7 @@ pub mod SavingDecks
 pub mod SavingAll
 pub mod DeckCuts
 pub mod LoadingAll
+pub mod Reloading
 pub mod Executing
 pub mod Serving
 pub mod Refusing

@@ -62,6 +62,7 @@ abbrev pub line_of_command : Command → List ℕ
 line_of_command (command.Add name) = codes "ADD" ++ behind_a_blank (name ++ [])
 line_of_command (command.Load name) = codes "LOAD" ++ behind_a_blank (name ++ [])
 line_of_command (command.LoadAll name) = codes "LOADALL" ++ behind_a_blank (name ++ [])
+line_of_command (command.Reload name) = codes "RELOAD" ++ behind_a_blank (name ++ [])
 line_of_command (command.Drop name version) = codes "DROP" ++ name_and_number name version []
 line_of_command (command.Edit name seen edit) = line_of_edit name seen edit
 line_of_command (command.Cards name view) = line_of_view name view
@@ -114,6 +115,7 @@ abbrev pub IsLawful : Command → Type 0
 IsLawful (command.Add name) = IsTrue (is_deck_name name)
 IsLawful (command.Load name) = IsTrue (is_deck_name name)
 IsLawful (command.LoadAll name) = IsTrue (is_deck_name name)
+IsLawful (command.Reload name) = IsTrue (is_deck_name name)
 IsLawful (command.Drop name version) = IsTrue (is_deck_name name) × (version ≤ greatest_number)
 IsLawful (command.Edit name seen edit) = IsTrue (is_deck_name name) × IsLawfulSeen seen × IsLawfulEdit edit
 IsLawful (command.Cards name view) = IsTrue (is_deck_name name) × IsLawfulView view

@@ -15,15 +15,10 @@ use Rattle.session_line.specs.declared.answers.Told.{Told}
 use Rattle.session_line.specs.declared.answers.Told.TheVariants as told
 use Rattle.session_line.specs.declared.answers.Answer.{Answer}
 use Rattle.session_line.specs.Answers.{called, most_decks, told_of_call, uncalled}
+use Rattle.session_line.specs.Asking.{ShelfLoads}
 use Rattle.session_line.specs.DeckCuts.{decks_in}
 use Rattle.session_line.specs.Reasons.{load_reason}
 use Rattle.session_line.specs.ToldDecks.{told_deck}
-
-module _ {S : Type 0} (loads : S → List ℕ → List Card → S → Type 0) (refuses_to_load : S → List ℕ → ShelfLoadFault → S → Type 0) where
-  -- what the shelf answers to one load
-  abbrev pub ShelfLoads : List ℕ → S → Result (List Card) ShelfLoadFault → S → Type 0
-  ShelfLoads name shelf (Ok cards) after = loads shelf name cards after
-  ShelfLoads name shelf (Err fault) after = refuses_to_load shelf name fault after
 
 -- whether a desk with these decks has the name of one of others
 abbrev pub is_any_there : List Row → List Deck → Bool

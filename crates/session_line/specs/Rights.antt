@@ -6,7 +6,7 @@ use Rattle.session_line.specs.declared.refusals.Refusal.TheVariants.{ReadOnly}
 use Rattle.session_line.specs.declared.rights.Rights.{Rights}
 use Rattle.session_line.specs.declared.rights.Rights.TheVariants.{Edits, Reads}
 use Rattle.session_line.specs.declared.tasks.Task.{Task}
-use Rattle.session_line.specs.declared.tasks.Task.TheVariants.{Ask, LoadDeck, LoadAll, SaveDeck, SaveAll, Refuse}
+use Rattle.session_line.specs.declared.tasks.Task.TheVariants.{Ask, LoadDeck, LoadAll, ReloadDeck, SaveDeck, SaveAll, Refuse}
 
 -- whether a call changes decks
 abbrev pub makes_change : Call → Bool
@@ -25,6 +25,7 @@ abbrev pub changes : Task → Bool
 changes (Ask call) = makes_change call
 changes (LoadDeck name) = true
 changes (LoadAll name) = true
+changes (ReloadDeck name) = true
 changes (SaveDeck name over) = true
 changes SaveAll = true
 changes _ = false

@@ -14,7 +14,7 @@ use Rattle.session_line.specs.Commands.{command_of}
 use Rattle.session_line.specs.declared.published_texts.DeckText.TheVariants as part
 use Rattle.session_line.specs.declared.published_texts.PublishedText.TheVariants.{Image, Listing, Map}
 use Rattle.session_line.specs.declared.tasks.Task.{Task}
-use Rattle.session_line.specs.declared.tasks.Task.TheVariants.{Ask, AwaitVersion, ShowCards, ShowCardsAt, ShowText, ShowPart, ShowErrors, LoadDeck, LoadAll, SaveDeck, SaveAll, ShowFiles, ShowFileStatus, Greet, Leave, Refuse}
+use Rattle.session_line.specs.declared.tasks.Task.TheVariants.{Ask, AwaitVersion, ShowCards, ShowCardsAt, ShowText, ShowPart, ShowErrors, LoadDeck, LoadAll, ReloadDeck, SaveDeck, SaveAll, ShowFiles, ShowFileStatus, Greet, Leave, Refuse}
 
 -- how many lines belong to a command behind its first
 abbrev pub lines_behind : Command → ℕ
@@ -90,6 +90,7 @@ abbrev pub task_of_command : Command → List (List ℕ) → Task
 task_of_command (command.Add name) lines = Ask (AddDeck (record { name = name; cards = [] }))
 task_of_command (command.Load name) lines = LoadDeck name
 task_of_command (command.LoadAll name) lines = LoadAll name
+task_of_command (command.Reload name) lines = ReloadDeck name
 task_of_command (command.Drop name version) lines = Ask (DropDeck name version)
 task_of_command (command.Edit name seen edit) lines = Ask (edit_call name seen edit)
 task_of_command (command.Cards name view) lines = ShowCards name view

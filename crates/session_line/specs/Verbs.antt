@@ -19,6 +19,7 @@ abbrev pub file_verb_of : List ℕ → Option Verb
 file_verb_of word =
     if same_text word (codes "LOAD") then Some verb.Load
     else if same_text word (codes "LOADALL") then Some verb.LoadAll
+    else if same_text word (codes "RELOAD") then Some verb.Reload
     else if same_text word (codes "SAVE") then Some verb.Save
     else if same_text word (codes "SAVEALL") then Some verb.SaveAll
     else if same_text word (codes "FILES") then Some verb.Files

@@ -37,6 +37,10 @@ pub enum Command {
     LoadAll {
         name: DeckName,
     },
+    /// `RELOAD name`
+    Reload {
+        name: DeckName,
+    },
     /// The deck goes.
     Drop {
         name: DeckName,
@@ -513,6 +517,9 @@ fn command_by(verb: Verb, rest: &[u8]) -> Result<Command, Refusal>
             name: only_name(rest)?,
         }),
         Verb::LoadAll => Ok(Command::LoadAll {
+            name: only_name(rest)?,
+        }),
+        Verb::Reload => Ok(Command::Reload {
             name: only_name(rest)?,
         }),
         Verb::Drop => drop_in(rest),

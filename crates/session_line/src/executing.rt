@@ -1,7 +1,8 @@
 //! Executes a task once.
 ghost use Rattle.std.specs.Prelude.{◌≡◌, ◌≤◌, length};
 ghost use Rattle.session_line.specs.Answers.{IsTellable, called, most_cards, told_of_call, told_of_cards, told_of_errors, told_of_greeting, told_of_part, told_of_publication, told_of_wait, uncalled};
-ghost use Rattle.session_line.specs.Executing.{Asks, AsksAt, AwaitsVersion, Executes, Greets, LoadsDeck, NotesTold};
+ghost use Rattle.session_line.specs.Asking.{Asks, NotesTold};
+ghost use Rattle.session_line.specs.Executing.{AsksAt, AwaitsVersion, Executes, Greets, LoadsDeck};
 ghost use Rattle.session_line.specs.SavingDecks.{SavesCards, SavesDeck};
 ghost use Rattle.desk_core.specs.declared.calls.Call.TheVariants.{Cards, Show};
 
@@ -16,6 +17,7 @@ use crate::file_status::show_file_status;
 use crate::file_tasks::show_files;
 use crate::loading_all::load_all;
 use crate::published_texts::{DeckText, PublishedText};
+use crate::reloading::reload_deck;
 use crate::saving_all::save_all;
 use crate::tasks::Task;
 use crate::views::CardsView;
@@ -45,7 +47,7 @@ pub(crate) fn uncalled(told: Told) -> Answer
 }
 
 /// One call of the desk that shows neither cards nor a publication.
-fn ask<C: Calls>(desk: &mut C, call: Call) -> Answer
+pub(crate) fn ask<C: Calls>(desk: &mut C, call: Call) -> Answer
     ensures asks { Asks C.makes call told_of_call desk.old desk.new result }
     ensures fits { IsTellable result.told }
 {
@@ -110,7 +112,7 @@ fn show_errors<C: Calls>(desk: &mut C, view: ErrorsView) -> Answer
 }
 
 /// The shelf notes the version that is told of the deck, if one is.
-fn note_told<S: Shelf>(shelf: &mut S, name: &DeckName, told: &Told)
+pub(crate) fn note_told<S: Shelf>(shelf: &mut S, name: &DeckName, told: &Told)
     ensures { NotesTold S.notes name.now told.now shelf.old shelf.new }
 {
     match told {
@@ -170,8 +172,8 @@ pub(crate) fn save_deck<C: Calls, S: Shelf>(
     }
 }
 
-/// Executes a task: at most one call of the desk, with the calls of the shelf that belong to it; and for each
-/// deck that SAVEALL saves or LOADALL adds one more.
+/// Executes a task: at most one call of the desk, with the calls of the shelf that belong to it; of RELOAD two,
+/// and for each deck that SAVEALL saves or LOADALL adds one more.
 pub(crate) fn execute<C: Calls, S: Shelf>(
     alloc: Global,
     desk: &mut C,
@@ -191,6 +193,7 @@ pub(crate) fn execute<C: Calls, S: Shelf>(
         Task::ShowErrors(view) => show_errors(desk, view),
         Task::LoadDeck(name) => load_deck(desk, shelf, name),
         Task::LoadAll(name) => load_all(alloc, desk, shelf, &name),
+        Task::ReloadDeck(name) => reload_deck(desk, shelf, &name),
         Task::SaveDeck(name, over) => save_deck(desk, shelf, &name, over),
         Task::SaveAll => save_all(alloc, desk, shelf),
         Task::ShowFiles => show_files(desk, shelf),

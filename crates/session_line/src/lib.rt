@@ -4,7 +4,7 @@
 //!
 //! All lines of a batch or a put are read before the first is looked at, so a fault or an end among them
 //! makes no call. A `Task` is what a command asks for: one call of the desk, a load, a save, the
-//! end, or nothing, for a reason; only SAVEALL calls the desk more than once. LOAD reads the shelf
+//! end, or nothing, for a reason; only SAVEALL, LOADALL and RELOAD call the desk more than once. LOAD reads the shelf
 //! first, so that a file that is no deck adds none; SAVE asks the desk first. A reply borrows its cards and texts, and takes no memory. What
 //! one call makes of a desk is named by the trait `Calls`: a `Desk` meets it with its own clause,
 //! `SeatCalls` with that of `Seat::call`. The lines are meant to stay: one is added only where it
@@ -59,6 +59,7 @@ mod file_status;
 mod file_tasks;
 mod loading_all;
 mod reasons;
+mod reloading;
 mod saving_all;
 mod serving;
 mod taken_lines;

@@ -33,7 +33,8 @@ fn changes(task: &Task) -> bool
 {
     match task {
         Task::Ask(call) => makes_change(call),
-        Task::LoadDeck(_) | Task::LoadAll(_) | Task::SaveDeck(..) | Task::SaveAll => true,
+        Task::LoadDeck(_) | Task::LoadAll(_) | Task::ReloadDeck(_) => true,
+        Task::SaveDeck(..) | Task::SaveAll => true,
         _ => false,
     }
 }

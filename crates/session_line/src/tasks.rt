@@ -38,6 +38,8 @@ pub(crate) enum Task {
     LoadDeck(DeckName),
     /// The decks of the shelf's file of this name are added.
     LoadAll(DeckName),
+    /// The cards of the shelf's file of this name take the place of those of the deck.
+    ReloadDeck(DeckName),
     /// The cards of the deck of this name go to the shelf, over what may be written over.
     SaveDeck(DeckName, SaveOver),
     /// The cards of each deck whose file has them not go to the shelf.
@@ -62,7 +64,7 @@ fn lines_behind(command: &Command) -> u64
         Command::Batch(head) => head.count,
         Command::Put(head) => head.count,
         Command::Add { .. } | Command::Load { .. } | Command::LoadAll { .. } => 0,
-        Command::Drop { .. } => 0,
+        Command::Reload { .. } | Command::Drop { .. } => 0,
         Command::Edit { .. } | Command::Cards { .. } | Command::Save { .. } => 0,
         Command::CardsAt { .. } | Command::Changes { .. } | Command::Undo { .. } => 0,
         Command::SaveAll | Command::Image | Command::List | Command::Map => 0,
@@ -201,6 +203,7 @@ fn task_of_command(alloc: Global, command: Command, edits: ItemsRead<Edit>) -> T
         Command::Add { name } => Task::Ask(Call::AddDeck(NewDeck::new(name, Vec::new(alloc)))),
         Command::Load { name } => Task::LoadDeck(name),
         Command::LoadAll { name } => Task::LoadAll(name),
+        Command::Reload { name } => Task::ReloadDeck(name),
         Command::Drop { name, version } => Task::Ask(Call::DropDeck {
             name,
             seen: version,

@@ -19,6 +19,7 @@ pub(crate) enum Verb {
     Add,
     Load,
     LoadAll,
+    Reload,
     Drop,
     Edit(EditKind),
     Cards,
@@ -63,6 +64,8 @@ fn file_verb_of(word: &[u8]) -> Option<Verb>
         Some(Verb::Load)
     } else if is_same_text(word, b"LOADALL") {
         Some(Verb::LoadAll)
+    } else if is_same_text(word, b"RELOAD") {
+        Some(Verb::Reload)
     } else if is_same_text(word, b"SAVE") {
         Some(Verb::Save)
     } else if is_same_text(word, b"SAVEALL") {

@@ -1,0 +1,30 @@
+-- What several commands do of the desk and the shelf (ours): one call with what is told of its reply, one load, and the version that the shelf notes.
+use Rattle.std.specs.Prelude.{ℕ, ◌≡◌, List, Result, Ok, Err}
+use Rattle.definitions.specs.Cards.{Card}
+use Rattle.deck_files.specs.declared.deck_shelf.ShelfLoadFault.{ShelfLoadFault}
+use Rattle.desk_core.specs.declared.calls.Call.{Call}
+use Rattle.desk_core.specs.declared.replies.Reply.{Reply}
+use Rattle.session_line.specs.declared.answers.Told.{Told}
+use Rattle.session_line.specs.declared.answers.Told.TheVariants as told
+use Rattle.session_line.specs.declared.answers.Answer.{Answer}
+use Rattle.session_line.specs.Answers.{called}
+
+module _ {C : Type 0} (makes : C → Call → Reply → C → Type 0) where
+  -- one call of the desk, and what is told of its reply
+  pub record Asks (call : Call) (telling : Reply → Told) (desk next : C) (answer : Answer) : Type 0 where
+    pub reply : Reply
+    pub made : makes desk call reply next
+    pub answered : answer ≡ called (telling reply)
+
+module _ {S : Type 0} (loads : S → List ℕ → List Card → S → Type 0) (refuses_to_load : S → List ℕ → ShelfLoadFault → S → Type 0) where
+  -- what the shelf answers to one load
+  abbrev pub ShelfLoads : List ℕ → S → Result (List Card) ShelfLoadFault → S → Type 0
+  ShelfLoads name shelf (Ok cards) after = loads shelf name cards after
+  ShelfLoads name shelf (Err fault) after = refuses_to_load shelf name fault after
+
+module _ {S : Type 0} (notes : S → List ℕ → ℕ → S → Type 0) where
+  -- the shelf notes the version that is told, if one is
+  abbrev pub NotesTold : List ℕ → Told → S → S → Type 0
+  NotesTold name (told.Done version) shelf after = notes shelf name version after
+  NotesTold name (told.Unkept version) shelf after = notes shelf name version after
+  NotesTold name what shelf after = after ≡ shelf

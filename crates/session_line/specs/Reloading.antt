@@ -1,0 +1,62 @@
+-- RELOAD (ours): the shelf's file is loaded; then the desk is asked for its status, and the cards are put in the place of those of the deck of that name, by the version that it has there.
+use Rattle.std.specs.Prelude.{ℕ, ◌≡◌, List, Option, Some, None, Result, Ok, Err}
+use Rattle.std.specs.List.{find}
+use Rattle.definitions.specs.Cards.{Card}
+use Rattle.definitions.specs.Characters.{same_text}
+use Rattle.definitions.specs.DeckInput.{Deck}
+use Rattle.deck_files.specs.declared.deck_shelf.ShelfLoadFault.{ShelfLoadFault}
+use Rattle.desk_core.specs.declared.calls.Call.{Call}
+use Rattle.desk_core.specs.declared.calls.Call.TheVariants.{PutDeck, Status}
+use Rattle.desk_core.specs.declared.replies.Reply.{Reply}
+use Rattle.desk_core.specs.declared.replies.Reply.TheVariants.{StatusIs, Refused}
+use Rattle.desk_core.specs.declared.replies.Row.{Row}
+use Rattle.session_line.specs.declared.refusals.Refusal.{Refusal}
+use Rattle.session_line.specs.declared.refusals.Refusal.TheVariants.{Foreign, NoDeck}
+use Rattle.session_line.specs.declared.answers.Told.TheVariants as told
+use Rattle.session_line.specs.declared.answers.Answer.{Answer}
+use Rattle.session_line.specs.Answers.{called, told_of_call, uncalled}
+use Rattle.session_line.specs.Asking.{Asks, NotesTold, ShelfLoads}
+use Rattle.session_line.specs.Reasons.{desk_reason, load_reason}
+
+-- the version of a deck, if there is one
+abbrev pub version_of_row : Option Row → Result ℕ Refusal
+version_of_row (Some row) = Ok row.version
+version_of_row None = Err NoDeck
+
+-- the version of the deck of a name among these
+abbrev pub version_in : List ℕ → List Row → Result ℕ Refusal
+version_in name rows = version_of_row (find (λ (row : Row). same_text row.name name) rows)
+
+-- the version of the deck of a name that is told, or why none is
+abbrev pub version_told : List ℕ → Reply → Result ℕ Refusal
+version_told name (StatusIs version published rows) = version_in name rows
+version_told name (Refused reason) = Err (desk_reason reason)
+version_told name _ = Err Foreign
+
+module _ {C : Type 0} (makes : C → Call → Reply → C → Type 0) where
+  -- a deck is put by a version; without one nothing more is called, and the reason is told
+  abbrev pub PutsBy : Deck → Result ℕ Refusal → C → C → Answer → Type 0
+  PutsBy deck (Ok version) desk next answer = Asks makes (PutDeck deck version) told_of_call desk next answer
+  PutsBy deck (Err refusal) desk next answer = (next ≡ desk) × (answer ≡ called (told.Refused refusal))
+
+  -- one call of the desk for the status, and then one that puts the deck
+  pub record PutsOver (deck : Deck) (desk next : C) (answer : Answer) : Type 0 where
+    pub reply : Reply
+    pub between : C
+    pub made : makes desk Status reply between
+    pub put : PutsBy deck (version_told deck.name reply) between next answer
+
+  -- the cards that the shelf gave are put; or its fault is told, and the desk is not called
+  abbrev pub PutsLoaded : List ℕ → Result (List Card) ShelfLoadFault → C → C → Answer → Type 0
+  PutsLoaded name (Ok cards) desk next answer = PutsOver (record { name = name; cards = cards }) desk next answer
+  PutsLoaded name (Err fault) desk next answer = (next ≡ desk) × (answer ≡ uncalled (told.Refused (load_reason fault)))
+
+module _ {C S : Type 0} (makes : C → Call → Reply → C → Type 0) (loads : S → List ℕ → List Card → S → Type 0) (refuses_to_load : S → List ℕ → ShelfLoadFault → S → Type 0)
+    (notes : S → List ℕ → ℕ → S → Type 0) where
+  -- RELOAD: one load of the shelf, and then the calls of the desk; the shelf notes the version that the deck has then
+  pub record ReloadsDeck (name : List ℕ) (desk next : C) (shelf after : S) (answer : Answer) : Type 0 where
+    pub loaded : Result (List Card) ShelfLoadFault
+    pub between : S
+    pub shelved : ShelfLoads loads refuses_to_load name shelf loaded between
+    pub put : PutsLoaded makes name loaded desk next answer
+    pub noted : NotesTold notes name answer.told between after
