@@ -167,6 +167,7 @@ fn push_question(answer: &mut Answer, command: &Command) {
         Command::Files => answer.push("files"),
         Command::Wait { version } => answer.number("wait ", *version),
         Command::Hello { name } => push_named(answer, "hello ", name.as_slice()),
+        Command::Help => answer.push("help"),
         Command::Bye => answer.push("bye"),
         _ => answer.push("another"),
     }

@@ -251,4 +251,5 @@ line-back (command.Batch head) lawful = batch-back head.name head.seen head.coun
 line-back (command.Put head) lawful = put-back head.name head.version head.count lawful.0 lawful.1 lawful.2
 line-back (command.Undo name version) lawful = version-back command.Undo name version lawful.0 lawful.1
 line-back (command.Hello name) is = ap (λ (r : Result (List ℕ) Refusal). made_of command.Hello r) (only-name name is)
+line-back command.Help _ = refl
 line-back command.Bye _ = refl

@@ -17,7 +17,7 @@ use Rattle.session_line.specs.declared.greetings.Greeting.{Greeting}
 use Rattle.session_line.specs.declared.refusals.Refusal.{Refusal}
 use Rattle.session_line.specs.declared.told_decks.ToldDeck.{ToldDeck}
 use Rattle.session_line.specs.declared.tasks.Task.{Task}
-use Rattle.session_line.specs.declared.tasks.Task.TheVariants.{Ask, AwaitVersion, ShowCards, ShowCardsAt, ShowText, ShowPart, ShowErrors, LoadDeck, LoadAll, ReloadDeck, SaveDeck, SaveAll, ShowFiles, ShowFileStatus, Greet, Leave, Refuse}
+use Rattle.session_line.specs.declared.tasks.Task.TheVariants.{Ask, AwaitVersion, ShowCards, ShowCardsAt, ShowText, ShowPart, ShowErrors, LoadDeck, LoadAll, ReloadDeck, SaveDeck, SaveAll, ShowFiles, ShowFileStatus, Greet, ShowHelp, Leave, Refuse}
 use Rattle.session_line.specs.Answers.{told_of_call, called}
 use Rattle.session_line.specs.Asking.{Asks}
 use Rattle.session_line.specs.Executing.{AddsLoaded, Executes}
@@ -119,6 +119,7 @@ module _ {C S : Type 0} (makes : C → Call → Reply → C → Type 0) (awaits 
   all-same (told.Decks version decks) desk next shelf after answer saves = uncalled-same desk next saves.0
   all-same (told.Files version rows) desk next shelf after answer saves = uncalled-same desk next saves.0
   all-same (told.Sessions version sessions) desk next shelf after answer saves = uncalled-same desk next saves.0
+  all-same (told.Help version) desk next shelf after answer saves = uncalled-same desk next saves.0
   all-same (told.Refused reason) desk next shelf after answer saves = uncalled-same desk next saves.0
   all-same told.Bye desk next shelf after answer saves = uncalled-same desk next saves.0
 
@@ -142,6 +143,7 @@ module _ {C S : Type 0} (makes : C → Call → Reply → C → Type 0) (awaits 
   adds-all-same (told.Decks version lines) decks desk next answer adds refused = uncalled-same desk next adds.0
   adds-all-same (told.Files version rows) decks desk next answer adds refused = uncalled-same desk next adds.0
   adds-all-same (told.Sessions version sessions) decks desk next answer adds refused = uncalled-same desk next adds.0
+  adds-all-same (told.Help version) decks desk next answer adds refused = uncalled-same desk next adds.0
   adds-all-same (told.Refused reason) decks desk next answer adds refused = uncalled-same desk next adds.0
   adds-all-same told.Bye decks desk next answer adds refused = uncalled-same desk next adds.0
 
@@ -176,6 +178,7 @@ module _ {C S : Type 0} (makes : C → Call → Reply → C → Type 0) (awaits 
   refused-same ShowFiles desk next shelf after answer session is refused = steady.asked desk next Status is.reply refl is.made
   refused-same ShowFileStatus desk next shelf after answer session is refused = steady.asked desk next Status is.reply refl is.made
   refused-same (Greet name) desk next shelf after answer session is refused = steady.greeted desk next name is.0.greeting is.0.greeted
+  refused-same ShowHelp desk next shelf after answer session is refused = steady.asked desk next Status is.0.reply refl is.0.made
   refused-same Leave desk next shelf after answer session is refused = uncalled-same desk next is.0
   refused-same (Refuse why) desk next shelf after answer session is refused = uncalled-same desk next is.0
 
@@ -223,6 +226,7 @@ command-session (command.Batch head) lines = batch-session head.name head.seen (
 command-session (command.Put head) lines = put-session head.name head.version (cards_of lines)
 command-session (command.Undo name version) lines = refl
 command-session (command.Hello name) lines = refl
+command-session command.Help lines = refl
 command-session command.Bye lines = refl
 
 task-session : (command : Result Command Refusal) (lines : List (List ℕ)) → asks_session (task_by command lines) ≡ true

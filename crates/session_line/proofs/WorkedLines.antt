@@ -22,6 +22,12 @@ load_all = refl
 pub load_all_of_nobody : command_of (codes "LOADALL") ≡ Err BadCommand
 load_all_of_nobody = refl
 
+pub help : command_of (codes "HELP") ≡ Ok command.Help
+help = refl
+
+pub help_named : command_of (codes "HELP ADD") ≡ Err BadCommand
+help_named = refl
+
 pub reload : command_of (codes "RELOAD M") ≡ Ok (command.Reload (codes "M"))
 reload = refl
 

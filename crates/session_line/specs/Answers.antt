@@ -15,6 +15,7 @@ use Rattle.session_line.specs.Replies.{line_of, ok_text, unkept_text, counted_te
 use Rattle.session_line.specs.FileLines.{files_text}
 use Rattle.session_line.specs.Reasons.{desk_reason}
 use Rattle.session_line.specs.Greetings.{service_text}
+use Rattle.session_line.specs.Help.{help_text}
 use Rattle.session_line.specs.declared.greetings.Connected.{Connected}
 use Rattle.session_line.specs.declared.greetings.Greeting.{Greeting}
 use Rattle.session_line.specs.declared.views.CardsView.{CardsView}
@@ -77,6 +78,12 @@ told_of_sessions _ sessions = foreign
 -- what is told of the answer to who greets
 abbrev pub told_of_greeting : Greeting → Told
 told_of_greeting greeting = told_of_sessions greeting.status greeting.sessions
+
+-- what is told of a status to who asks for what may be asked
+abbrev pub told_of_help : Reply → Told
+told_of_help (StatusIs version published rows) = told.Help version
+told_of_help (Refused reason) = told.Refused (desk_reason reason)
+told_of_help _ = foreign
 
 -- what is told of the reply to a call for the cards of a deck, of which this is shown; no more than a deck may have
 abbrev pub told_of_cards : CardsView → Reply → Told
@@ -176,6 +183,7 @@ told_text (told.Standing version published) = status_text version published []
 told_text (told.Decks version decks) = with_body (counted_text version (length decks)) (told_decks_text decks)
 told_text (told.Files version rows) = with_body (counted_text version (length rows)) (files_text rows)
 told_text (told.Sessions version sessions) = with_body (counted_text version (length sessions + 1)) (line_of service_text ++ sessions_text sessions)
+told_text (told.Help version) = lines_text version help_text
 told_text (told.Refused reason) = refused_text reason
 told_text told.Bye = with_body (codes "BYE") []
 

@@ -197,6 +197,7 @@ command_by verb.Batch rest = batch_by (head_in rest)
 command_by verb.Put rest = put_by (head_in rest)
 command_by verb.Undo rest = of_version command.Undo (named_version rest)
 command_by verb.Hello rest = made_of command.Hello (only_name rest)
+command_by verb.Help rest = alone command.Help rest
 command_by verb.Bye rest = alone command.Bye rest
 
 -- why a line is none whose first word begins no command: that word is told, where it can be

@@ -7,9 +7,9 @@ use Rattle.deck_files.specs.Savings.{Saving}
 use Rattle.deck_files.specs.declared.file_rows.FileRow.{FileRow}
 use Rattle.desk_core.specs.declared.calls.Call.{Call}
 use Rattle.desk_core.specs.declared.replies.Reply.{Reply}
-use Rattle.desk_core.specs.declared.calls.Call.TheVariants.{AddDeck, Cards, CardsAt, Show}
+use Rattle.desk_core.specs.declared.calls.Call.TheVariants.{AddDeck, Cards, CardsAt, Show, Status}
 use Rattle.session_line.specs.declared.tasks.Task.{Task}
-use Rattle.session_line.specs.declared.tasks.Task.TheVariants.{Ask, AwaitVersion, ShowCards, ShowCardsAt, ShowText, ShowPart, ShowErrors, LoadDeck, LoadAll, ReloadDeck, SaveDeck, SaveAll, ShowFiles, ShowFileStatus, Greet, Leave, Refuse}
+use Rattle.session_line.specs.declared.tasks.Task.TheVariants.{Ask, AwaitVersion, ShowCards, ShowCardsAt, ShowText, ShowPart, ShowErrors, LoadDeck, LoadAll, ReloadDeck, SaveDeck, SaveAll, ShowFiles, ShowFileStatus, Greet, ShowHelp, Leave, Refuse}
 use Rattle.session_line.specs.declared.answers.Told.{Told}
 use Rattle.session_line.specs.declared.answers.Told.TheVariants as told
 use Rattle.session_line.specs.declared.answers.Answer.{Answer}
@@ -22,7 +22,7 @@ use Rattle.session_line.specs.SavingAll.{SavesAll}
 use Rattle.session_line.specs.LoadingAll.{LoadsAll}
 use Rattle.session_line.specs.Asking.{Asks, NotesTold, ShelfLoads}
 use Rattle.session_line.specs.Reloading.{ReloadsDeck}
-use Rattle.session_line.specs.Answers.{told_of_call, told_of_wait, told_of_greeting, told_of_cards, told_of_publication, told_of_part, told_of_errors, IsToldAt, called, uncalled}
+use Rattle.session_line.specs.Answers.{told_of_call, told_of_wait, told_of_greeting, told_of_help, told_of_cards, told_of_publication, told_of_part, told_of_errors, IsToldAt, called, uncalled}
 
 module _ {C : Type 0} (makes : C → Call → Reply → C → Type 0) where
   -- CARDS AT: one call of the desk for the cards of now and the changes since, and what is told of that
@@ -88,5 +88,6 @@ module _ {C S : Type 0} (makes : C → Call → Reply → C → Type 0) (awaits 
   Executes ShowFiles desk next shelf after answer = ShowsFiles makes lists desk next shelf after answer
   Executes ShowFileStatus desk next shelf after answer = ShowsFileStatus makes tells_saved desk next shelf after answer
   Executes (Greet name) desk next shelf after answer = Greets greets name desk next answer × (after ≡ shelf)
+  Executes ShowHelp desk next shelf after answer = Asks makes Status told_of_help desk next answer × (after ≡ shelf)
   Executes Leave desk next shelf after answer = OnlyTells (uncalled told.Bye) desk next shelf after answer
   Executes (Refuse reason) desk next shelf after answer = OnlyTells (uncalled (told.Refused reason)) desk next shelf after answer

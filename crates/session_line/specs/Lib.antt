@@ -12,6 +12,7 @@ pub mod ChangeLines
 pub mod Refusals
 pub mod FileLines
 pub mod Greetings
+pub mod Help
 pub mod Replies
 pub mod Tasks
 pub mod Rights

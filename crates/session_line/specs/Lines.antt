@@ -86,6 +86,7 @@ line_of_command (command.Batch head) = line_of_head (codes "BATCH") head.name he
 line_of_command (command.Put head) = line_of_head (codes "PUT") head.name (Exactly head.version) head.count
 line_of_command (command.Undo name version) = codes "UNDO" ++ name_and_number name version []
 line_of_command (command.Hello name) = codes "HELLO" ++ behind_a_blank (name ++ [])
+line_of_command command.Help = codes "HELP"
 line_of_command command.Bye = codes "BYE"
 
 -- a place that can be told, and a card
@@ -138,4 +139,5 @@ IsLawful (command.Batch head) = IsLawfulName head.name × IsLawfulSeen head.seen
 IsLawful (command.Put head) = IsLawfulName head.name × (head.version ≤ greatest_number) × IsTrue (is_put_size head.count)
 IsLawful (command.Undo name version) = IsTrue (is_deck_name name) × (version ≤ greatest_number)
 IsLawful (command.Hello name) = IsTrue (is_deck_name name)
+IsLawful command.Help = ⊤
 IsLawful command.Bye = ⊤

@@ -14,7 +14,7 @@ use Rattle.session_line.specs.Commands.{command_of}
 use Rattle.session_line.specs.declared.published_texts.DeckText.TheVariants as part
 use Rattle.session_line.specs.declared.published_texts.PublishedText.TheVariants.{Image, Listing, Map}
 use Rattle.session_line.specs.declared.tasks.Task.{Task}
-use Rattle.session_line.specs.declared.tasks.Task.TheVariants.{Ask, AwaitVersion, ShowCards, ShowCardsAt, ShowText, ShowPart, ShowErrors, LoadDeck, LoadAll, ReloadDeck, SaveDeck, SaveAll, ShowFiles, ShowFileStatus, Greet, Leave, Refuse}
+use Rattle.session_line.specs.declared.tasks.Task.TheVariants.{Ask, AwaitVersion, ShowCards, ShowCardsAt, ShowText, ShowPart, ShowErrors, LoadDeck, LoadAll, ReloadDeck, SaveDeck, SaveAll, ShowFiles, ShowFileStatus, Greet, ShowHelp, Leave, Refuse}
 
 -- how many lines belong to a command behind its first
 abbrev pub lines_behind : Command → ℕ
@@ -112,6 +112,7 @@ task_of_command (command.Batch head) lines = batch_named head.name head.seen (ed
 task_of_command (command.Put head) lines = put_named head.name head.version (cards_of lines)
 task_of_command (command.Undo name version) lines = Ask (Undo name version nobody)
 task_of_command (command.Hello name) lines = Greet name
+task_of_command command.Help lines = ShowHelp
 task_of_command command.Bye lines = Leave
 
 -- what a first line asks for, with the lines behind it; one that is no command is refused

@@ -43,6 +43,7 @@ other_verb_of word =
     else if same_text word (codes "PUT") then Some verb.Put
     else if same_text word (codes "UNDO") then Some verb.Undo
     else if same_text word (codes "HELLO") then Some verb.Hello
+    else if same_text word (codes "HELP") then Some verb.Help
     else if same_text word (codes "BYE") then Some verb.Bye
     else None
 

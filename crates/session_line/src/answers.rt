@@ -3,12 +3,13 @@ ghost use Rattle.std.specs.Prelude.{◌≡◌, ◌≤◌, ◌⊎◌, length};
 ghost use Rattle.session_line.specs.Replies.{text_of_reply, IsWithinLimits};
 ghost use Rattle.deck_linker.specs.Publishing.{map_of};
 ghost use Rattle.desk_core.specs.declared.replies.Reply.TheVariants.{CardsAre};
-ghost use Rattle.session_line.specs.Answers.{foreign, told_of_call, told_of_wait, told_of_greeting, told_of_sessions, told_of_cards, told_of_backs, told_of_part, told_of_errors, told_of_publication, part_text, errors_text, status_text, view_text, told_text, is_bye, IsTellable, IsToldAt};
+ghost use Rattle.session_line.specs.Answers.{foreign, told_of_call, told_of_wait, told_of_greeting, told_of_help, told_of_sessions, told_of_cards, told_of_backs, told_of_part, told_of_errors, told_of_publication, part_text, errors_text, status_text, view_text, told_text, is_bye, IsTellable, IsToldAt};
 ghost use Rattle.session_line.specs.PublishedTexts.{shown_part};
 
 use crate::Refusal;
 use crate::errors::{ErrorsView, shows_any};
 use crate::greetings::{Connected, Greeting};
+use crate::help::help_text;
 use crate::marked_rows::MarkedRow;
 use crate::published_texts::{DeckText, PublishedText, shown_part};
 use crate::told_decks::ToldDeck;
@@ -57,6 +58,8 @@ pub(crate) enum Told {
     Files(u64, Listed<FileRow>),
     /// The desk's version, and the sessions that are connected.
     Sessions(u64, Listed<Connected>),
+    /// The desk's version, and what may be asked.
+    Help(u64),
     /// Why nothing was done.
     Refused(Refusal),
     /// The end of the session.
@@ -139,6 +142,18 @@ fn told_of_sessions(status: Reply, sessions: Listed<Connected>) -> Told
                 foreign()
             }
         }
+        Reply::Refused(refusal) => Told::Refused(Refusal::from(refusal)),
+        _ => foreign(),
+    }
+}
+
+/// What is told of a status to who asks for what may be asked.
+pub(crate) fn told_of_help(reply: Reply) -> Told
+    ensures told { result ≡ told_of_help reply }
+    ensures fits { IsTellable result }
+{
+    match reply {
+        Reply::StatusIs(version, _, _) => Told::Help(version),
         Reply::Refused(refusal) => Told::Refused(Refusal::from(refusal)),
         _ => foreign(),
     }
@@ -349,6 +364,10 @@ impl Told {
             Told::Sessions(version, sessions) => crate::Reply::Sessions {
                 version: *version,
                 sessions: sessions.as_slice(),
+            },
+            Told::Help(version) => crate::Reply::Text {
+                version: *version,
+                text: help_text(),
             },
             Told::Refused(refusal) => crate::Reply::Refused(*refusal),
             Told::Bye => crate::Reply::Bye,

@@ -114,6 +114,8 @@ pub enum Command {
     Hello {
         name: DeckName,
     },
+    /// `HELP`
+    Help,
     /// The end of the session.
     Bye,
 }
@@ -542,6 +544,7 @@ fn command_by(verb: Verb, rest: &[u8]) -> Result<Command, Refusal>
         Verb::Hello => Ok(Command::Hello {
             name: only_name(rest)?,
         }),
+        Verb::Help => alone(Command::Help, rest),
         Verb::Bye => alone(Command::Bye, rest),
     }
 }

@@ -1,15 +1,15 @@
 //! Executes a task once.
 ghost use Rattle.std.specs.Prelude.{◌≡◌, ◌≤◌, length};
-ghost use Rattle.session_line.specs.Answers.{IsTellable, called, most_cards, told_of_call, told_of_cards, told_of_errors, told_of_greeting, told_of_part, told_of_publication, told_of_wait, uncalled};
+ghost use Rattle.session_line.specs.Answers.{IsTellable, called, most_cards, told_of_call, told_of_cards, told_of_errors, told_of_greeting, told_of_help, told_of_part, told_of_publication, told_of_wait, uncalled};
 ghost use Rattle.session_line.specs.Asking.{Asks, NotesTold};
 ghost use Rattle.session_line.specs.Executing.{AsksAt, AwaitsVersion, Executes, Greets, LoadsDeck};
 ghost use Rattle.session_line.specs.SavingDecks.{SavesCards, SavesDeck};
-ghost use Rattle.desk_core.specs.declared.calls.Call.TheVariants.{Cards, Show};
+ghost use Rattle.desk_core.specs.declared.calls.Call.TheVariants.{Cards, Show, Status};
 
 use crate::Refusal;
 use crate::answers::{
     Answer, Told, told_of_call, told_of_cards, told_of_cards_at, told_of_errors, told_of_greeting,
-    told_of_part, told_of_publication, told_of_wait,
+    told_of_help, told_of_part, told_of_publication, told_of_wait,
 };
 use crate::calls::Calls;
 use crate::errors::ErrorsView;
@@ -68,6 +68,14 @@ fn greet<C: Calls>(alloc: Global, desk: &mut C, name: &DeckName) -> Answer
     ensures fits { IsTellable result.told }
 {
     called(told_of_greeting(desk.greet(alloc, name)))
+}
+
+/// The desk is asked for its version, and what may be asked is shown.
+fn show_help<C: Calls>(desk: &mut C) -> Answer
+    ensures asks { Asks C.makes Status told_of_help desk.old desk.new result }
+    ensures fits { IsTellable result.told }
+{
+    called(told_of_help(desk.call(Call::Status)))
 }
 
 /// The desk is asked for the cards of the deck.
@@ -199,6 +207,7 @@ pub(crate) fn execute<C: Calls, S: Shelf>(
         Task::ShowFiles => show_files(desk, shelf),
         Task::ShowFileStatus => show_file_status(alloc, desk, shelf),
         Task::Greet(name) => greet(alloc, desk, &name),
+        Task::ShowHelp => show_help(desk),
         Task::Leave => uncalled(Told::Bye),
         Task::Refuse(refusal) => uncalled(Told::Refused(refusal)),
     }

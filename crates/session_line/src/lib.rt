@@ -43,6 +43,7 @@ mod writing;
 // The desk that is called.
 mod calls;
 mod greetings;
+mod help;
 mod seat_calls;
 
 // What is asked.

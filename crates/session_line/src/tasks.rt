@@ -50,6 +50,8 @@ pub(crate) enum Task {
     ShowFileStatus,
     /// This is the session's name, and who is connected is shown.
     Greet(DeckName),
+    /// What may be asked is shown.
+    ShowHelp,
     /// The end of the session.
     Leave,
     /// Nothing, for this reason.
@@ -71,7 +73,7 @@ fn lines_behind(command: &Command) -> u64
         Command::ImageOf { .. } | Command::ListOf { .. } | Command::Errors(_) => 0,
         Command::Status | Command::FileStatus | Command::Files => 0,
         Command::Wait { .. } => 0,
-        Command::Hello { .. } | Command::Bye => 0,
+        Command::Hello { .. } | Command::Help | Command::Bye => 0,
     }
 }
 
@@ -235,6 +237,7 @@ fn task_of_command(alloc: Global, command: Command, edits: ItemsRead<Edit>) -> T
             by: nobody(),
         }),
         Command::Hello { name } => Task::Greet(name),
+        Command::Help => Task::ShowHelp,
         Command::Bye => Task::Leave,
     }
 }

@@ -38,6 +38,7 @@ pub(crate) enum Verb {
     Put,
     Undo,
     Hello,
+    Help,
     Bye,
 }
 
@@ -111,6 +112,8 @@ fn other_verb_of(word: &[u8]) -> Option<Verb>
         Some(Verb::Undo)
     } else if is_same_text(word, b"HELLO") {
         Some(Verb::Hello)
+    } else if is_same_text(word, b"HELP") {
+        Some(Verb::Help)
     } else if is_same_text(word, b"BYE") {
         Some(Verb::Bye)
     } else {
