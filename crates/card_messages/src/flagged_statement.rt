@@ -1,4 +1,5 @@
 //! A statement that is flagged, and the message of each of its letters.
+ghost use Rattle.std.specs.Prelude.{◌≡◌, ◌≤◌, ◌<◌, ◌+◌, ◌-◌, ◌/◌, ◌%◌};
 
 use crate::deck_words::DeckWords;
 use crate::defined_twice::defined_twice;
@@ -200,7 +201,9 @@ impl<'a> FlaggedStatement<'a> {
     }
 
     /// A message with its place on the cards.
-    fn placed(&self, found: Found<'a>) -> Message<'a> {
+    fn placed(&self, found: Found<'a>) -> Message<'a>
+        ensures { (1 ≤ result.column) × (result.column ≤ 72) }
+    {
         let begins = self.begins();
         let offset = match found.place {
             Place::Location(count) => begins.location.saturating_add(count),
@@ -221,8 +224,10 @@ impl<'a> FlaggedStatement<'a> {
         }
     }
 
-    /// What is said of one of its letters.
-    pub fn message(&self, letter: u8) -> Message<'a> {
+    /// What is said of one of its letters, in a column that is read.
+    pub fn message(&self, letter: u8) -> Message<'a>
+        ensures { (1 ≤ result.column) × (result.column ≤ 72) }
+    {
         let found = match letter {
             b'A' => range_words(self),
             b'D' => defined_twice(self),
@@ -244,19 +249,24 @@ impl<'a> FlaggedStatement<'a> {
     }
 }
 
-/// A message about the character behind so many of a statement.
-fn message_at<'a>(offset: usize, words: Words<'a>) -> Message<'a> {
+/// A message about the character behind so many of a statement: on its first card, or on the comma card that
+/// has it, each of which has a column for its comma.
+fn message_at<'a>(offset: usize, words: Words<'a>) -> Message<'a>
+    ensures first { offset < 72 → (result.card ≡ 0) × (result.column ≡ offset + 1) }
+    ensures behind { 72 ≤ offset → (result.card ≡ (offset - 72) / 71 + 1) × (result.column ≡ (offset - 72) % 71 + 2) }
+    ensures read { (1 ≤ result.column) × (result.column ≤ 72) }
+{
     if offset < READ_COLUMNS {
         return Message {
             card: 0,
-            column: offset.saturating_add(1),
+            column: offset + 1,
             words,
         };
     }
-    let behind_first = offset.saturating_sub(READ_COLUMNS);
+    let behind_first = offset - READ_COLUMNS;
     Message {
-        card: (behind_first / COMMA_COLUMNS).saturating_add(1),
-        column: (behind_first % COMMA_COLUMNS).saturating_add(2),
+        card: behind_first / COMMA_COLUMNS + 1,
+        column: behind_first % COMMA_COLUMNS + 2,
         words,
     }
 }
