@@ -1,5 +1,5 @@
 //! Readers one after the other as one reader, which knows where its lines stand.
-ghost use Rattle.std.specs.Prelude.{◌≡◌, ◌<◌, ◌-◌, take, [], vec_len, IfOk, false, None, Some};
+ghost use Rattle.std.specs.Prelude.{◌≡◌, ◌<◌, ◌-◌, take, [], vec_len, slice_get, option_map, IfOk, false, None, Some};
 ghost use Rattle.std.specs.Io.{ReadsAtMost};
 ghost use Rattle.std.specs.Io.KnownBytes.{Consumes, IsAtEnd, ReadConsumes};
 ghost use Rattle.asm_main.specs.Joins.Chains.{IsBehindRead, IsBehindTurn, TurnReads, ends_behind, given_in, is_open_behind, left_of, lines_given, next_after, place_in};
@@ -171,6 +171,16 @@ impl<R> Chained<R> {
     {
         let asked = self.asked.min(self.parts.len());
         place_in(self.parts.as_slice().split_at(asked).0, line)
+    }
+
+    /// The reader of the part with this number, from 0; none where there is no such part.
+    pub fn reader(&self, part: usize) -> Option<&R>
+        ensures { option_map (λ reader. reader.now) result ≡ option_map (λ part. part.reader) (slice_get self.now.parts.items part) }
+    {
+        match self.parts.get(part) {
+            Some(part) => Some(&part.reader),
+            None => None,
+        }
     }
 
     /// Goes on behind the part that ended: to the next, or to the end where a line is open.

@@ -42,7 +42,7 @@ fn folded(filter: Filter, byte: u8) -> u8
 }
 
 /// How many blanks stand for a tab behind so many columns of its line.
-fn tab_blanks(columns: usize) -> usize
+pub fn tab_blanks(columns: usize) -> usize
     ensures blanks { result ≡ tab_blanks columns }
     ensures some { 0 < result }
     ensures few { result ≤ 12 }
@@ -98,6 +98,13 @@ impl<R> Filtered<R> {
             columns: 0,
             blanks: 0,
         }
+    }
+
+    /// The reader in front of which the filter stands.
+    pub fn reader(&self) -> &R
+        ensures { result.now ≡ self.now.reader }
+    {
+        &self.reader
     }
 
     /// What a byte of the reader becomes; the blanks of a tab behind the first are still to be given.

@@ -42,7 +42,7 @@ pub use chained::{Chained, LinePlace, Part};
 pub use deck::Deck;
 pub use fault_words::{column_of, line_of, words_of};
 pub use filter_laws::plain_stays;
-pub use filtered::{Filter, Filtered};
+pub use filtered::{Filter, Filtered, tab_blanks};
 pub use link_words::words_of_link;
 pub use remembering::Remembering;
 pub use running::{Tally, asm_build, asm_build_with, asm_run, asm_status};

@@ -8,6 +8,7 @@ use crate::outputs::{Clash, file_named, first_clash};
 use crate::run_faults::{RunFault, tell_clash, tell_run};
 use crate::standard_output::standard_output;
 use crate::symbols::symbol_tables;
+use crate::tab_places::FileColumns;
 use crate::words::{plain_word, valued_word};
 use asm_main::{
     AsmFault, Built, Chained, Chosen, Deck, Filter, Remembering, Tally, asm_build, asm_build_with,
@@ -361,7 +362,7 @@ fn from_chain<'a, R, I>(
 where
     R: AllocGlobal + Print + Eprint + Files,
     R::File: AsFd,
-    I: Read + Drop,
+    I: Read + FileColumns + Drop,
 {
     let Ok(reader) = BufReader::new(rt.alloc(), chain) else {
         return Err(RunFault::Asm(AsmFault::OutOfMemory));
@@ -391,6 +392,7 @@ fn write_and_tell<'a, R, I>(
 where
     R: AllocGlobal + Print + Eprint + Files,
     R::File: AsFd,
+    I: FileColumns,
 {
     let telling = Telling {
         chain,

@@ -1,6 +1,7 @@
 //! What is flagged in files, as lines on standard error: `FILE:LINE:COLUMN: letter: what is wrong`, a line for
-//! each letter.
+//! each letter. Lines and columns are those of the file as it is.
 
+use crate::tab_places::{FileColumns, column_at};
 use asm_main::{Built, Chained, LinePlace, Tally, words_of_link};
 use card_messages::{DeckWords, FlaggedStatement, Message};
 use cards::StatementRoom;
@@ -21,7 +22,7 @@ pub(crate) struct Telling<'t, I> {
 const LINK: &[u8] = b"LINK ";
 
 /// Tells the flagged statements and the LINK lines of what was built of these files.
-pub(crate) fn tell_flagged<R: AllocGlobal + Eprint, I>(
+pub(crate) fn tell_flagged<R: AllocGlobal + Eprint, I: FileColumns>(
     rt: &R,
     built: &Built,
     telling: &Telling<'_, I>,
@@ -68,7 +69,7 @@ fn is_flagged(object: &Object) -> bool {
 }
 
 /// Tells the flagged statements of a deck whose IDENT card is this line of the input.
-fn tell_object<R: AllocGlobal + Eprint, I>(
+fn tell_object<R: AllocGlobal + Eprint, I: FileColumns>(
     rt: &R,
     object: &Object,
     first: u64,
@@ -86,7 +87,7 @@ fn tell_object<R: AllocGlobal + Eprint, I>(
 }
 
 /// Tells the flagged statements of a deck.
-fn tell_deck<R: Eprint, I>(
+fn tell_deck<R: Eprint, I: FileColumns>(
     rt: &R,
     deck: &DeckWords,
     object: &Object,
@@ -131,7 +132,7 @@ struct Cards<'o> {
 }
 
 /// Tells the letters of a statement that begins with the first of these cards, a line for each.
-fn tell_letters<R: Eprint, I>(
+fn tell_letters<R: Eprint, I: FileColumns>(
     rt: &R,
     statement: &FlaggedStatement<'_>,
     letters: &[u8],
@@ -143,8 +144,8 @@ fn tell_letters<R: Eprint, I>(
     }
 }
 
-/// Tells a message, and shows its card where that is asked for.
-fn tell_message<R: Eprint, I>(
+/// Tells a message in the column that its file has, and shows its card where that is asked for, as it was read.
+fn tell_message<R: Eprint, I: FileColumns>(
     rt: &R,
     letter: u8,
     message: &Message<'_>,
@@ -153,12 +154,9 @@ fn tell_message<R: Eprint, I>(
 ) {
     let card = cards.card.saturating_add(message.card);
     let line = cards.first.saturating_add(card as u64);
-    tell_place(
-        rt,
-        telling.chain.place_of(line),
-        message.column,
-        telling.names,
-    );
+    let place = telling.chain.place_of(line);
+    let column = column_at(telling.chain, place, message.column);
+    tell_place(rt, place, column, telling.names);
     tell_words(rt, letter, message);
     if telling.explain {
         show_card(rt, cards.object, card, message.column);
@@ -193,7 +191,7 @@ fn tell_place<R: Eprint>(rt: &R, place: LinePlace, column: usize, names: &[&str]
 }
 
 /// Tells the LINK lines of the map, each at the IDENT card of its deck.
-fn tell_links<R: Eprint, I>(rt: &R, built: &Built, telling: &Telling<'_, I>) {
+fn tell_links<R: Eprint, I: FileColumns>(rt: &R, built: &Built, telling: &Telling<'_, I>) {
     for line in built.map().split(|byte| *byte == b'\n') {
         if let Some(link) = line.strip_prefix(LINK) {
             tell_link(rt, link, built.objects(), telling);
@@ -202,7 +200,7 @@ fn tell_links<R: Eprint, I>(rt: &R, built: &Built, telling: &Telling<'_, I>) {
 }
 
 /// Tells one of them; one of a common block has no deck and no place.
-fn tell_link<R: Eprint, I>(
+fn tell_link<R: Eprint, I: FileColumns>(
     rt: &R,
     link: &[u8],
     objects: &[SharedObject],

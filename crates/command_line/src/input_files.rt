@@ -1,6 +1,7 @@
 //! The files that the command line names, as one reader.
 ghost use Rattle.std.specs.Io.{ReadsAtMost};
 
+use crate::tab_places::{FileColumns, Noting};
 use asm_main::{AsmFault, Chained, Filter, Filtered, Part};
 use std::alloc::{AllocError, Global};
 use std::io::{BufReader, Read};
@@ -21,11 +22,12 @@ pub(crate) enum InputFile<F, S> {
     Standard(S),
 }
 
-/// An input file, as it is or behind a filter.
+/// An input file, as it is or behind a filter, which may take its tabs as blanks.
 #[derive(Drop)]
 pub(crate) enum Given<F, S> {
     Plain(InputFile<F, S>),
     Filtered(Filtered<BufReader<InputFile<F, S>>>),
+    WithTabs(Filtered<BufReader<Noting<InputFile<F, S>>>>),
 }
 
 /// Why a file of the command line can't be read.
@@ -50,6 +52,16 @@ impl<F: Read, S: Read> Read for Given<F, S> {
         match self {
             Given::Plain(file) => file.read(buf),
             Given::Filtered(reader) => reader.read(buf),
+            Given::WithTabs(reader) => reader.read(buf),
+        }
+    }
+}
+
+impl<F: Read, S: Read> FileColumns for Given<F, S> {
+    fn file_column(&self, line: u64, column: usize) -> usize {
+        match self {
+            Given::Plain(_) | Given::Filtered(_) => column,
+            Given::WithTabs(filtered) => { filtered.reader().get_ref().file_column(line, column) }
         }
     }
 }
@@ -61,6 +73,10 @@ fn behind_filter<F: Read + Drop, S: Read + Drop>(
     filter: Option<Filter>,
 ) -> io::Result<Given<F, S>> {
     match filter {
+        Some(filter) if filter.tabs => {
+            let reader = BufReader::new(alloc, Noting::new(alloc, file))?;
+            Ok(Given::WithTabs(Filtered::new(reader, filter)))
+        }
         Some(filter) => {
             let reader = BufReader::new(alloc, file)?;
             Ok(Given::Filtered(Filtered::new(reader, filter)))

@@ -1,7 +1,8 @@
 //! The lines of files that are no cards, told on standard error: the first, which ends the run, and behind it the
 //! others, up to twenty.
 
-use crate::run_faults::{BadCharacter, LineFault, RunFault, placed};
+use crate::run_faults::{BadCharacter, LineFault, RunFault, fault_column, placed};
+use crate::tab_places::FileColumns;
 use asm_main::{AsmFault, Chained, words_of};
 use cards::{Card, CardFault};
 use std::io::{BufReader, Read};
@@ -83,7 +84,7 @@ fn next_bad_line<R: Read>(
 }
 
 /// Tells a line that is no card.
-fn tell_bad_line<R: Eprint, I>(
+fn tell_bad_line<R: Eprint, I: FileColumns>(
     rt: &R,
     bad: BadLine,
     chain: &Chained<I>,
@@ -99,6 +100,7 @@ fn tell_bad_line<R: Eprint, I>(
         let line = LineFault {
             name: *name,
             line: place.line,
+            column: fault_column(fault, chain, place),
             words,
             character: bad.character,
             fault,
@@ -108,7 +110,7 @@ fn tell_bad_line<R: Eprint, I>(
 }
 
 /// Tells the lines that are no cards behind the one with this number, in the order in which they stand.
-fn tell_others<R: Eprint, I: Read + Drop>(
+fn tell_others<R: Eprint, I: Read + FileColumns + Drop>(
     rt: &R,
     first: u64,
     reader: BufReader<Chained<I>>,
@@ -140,7 +142,7 @@ fn behind_line<R: Read + Drop>(reader: BufReader<R>, line: &mut LineBuf) -> BufR
 }
 
 /// The fault of a run with its place. Where it is a line that is no card, it is told, and those behind it.
-pub(crate) fn tell_lines<'a, R: Eprint, I: Read + Drop>(
+pub(crate) fn tell_lines<'a, R: Eprint, I: Read + FileColumns + Drop>(
     rt: &R,
     fault: AsmFault,
     reader: BufReader<Chained<I>>,

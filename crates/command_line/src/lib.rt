@@ -12,6 +12,7 @@ mod words;
 // What they name: files, and journals in place of files.
 mod input_files;
 mod journal_files;
+mod tab_places;
 
 // A run of `compass asm`, and what it tells.
 mod assembling;

@@ -7,7 +7,8 @@ use crate::input_files::InputFault;
 use crate::input_lines::character_of;
 use crate::journal_files::{JOURNAL_STATUS, JournalError};
 use crate::outputs::Clash;
-use asm_main::{AsmFault, Chained, Tally, asm_status, column_of, line_of, words_of};
+use crate::tab_places::{FileColumns, column_at};
+use asm_main::{AsmFault, Chained, LinePlace, Tally, asm_status, column_of, line_of, words_of};
 use std::process::ExitCode;
 use std::{fmt, io};
 use text_ports::LineBuf;
@@ -21,6 +22,8 @@ const COMMAND_LINE_STATUS: u8 = 2;
 pub(crate) struct LineFault<'a> {
     pub name: &'a str,
     pub line: u64,
+    /// The column of the file, where one is known.
+    pub column: Option<usize>,
     pub words: &'static str,
     /// The character that is in no set.
     pub character: BadCharacter,
@@ -53,11 +56,12 @@ impl fmt::Display for LineFault<'_> {
         let LineFault {
             name,
             line,
+            column,
             words,
             character,
             fault,
         } = *self;
-        match column_of(fault) {
+        match column {
             Some(column) => write!(f, "{name}:{line}:{column}: {character}{words} [{fault}]"),
             None => write!(f, "{name}:{line}: {character}{words} [{fault}]"),
         }
@@ -90,9 +94,21 @@ pub(crate) enum RunFault<'a> {
     Standard { fault: AsmFault, error: io::Error },
 }
 
+/// The column of the file that a fault of a line at this place is about, where one is known.
+pub(crate) fn fault_column<I: FileColumns>(
+    fault: AsmFault,
+    chain: &Chained<I>,
+    place: LinePlace,
+) -> Option<usize> {
+    match column_of(fault) {
+        Some(column) => Some(column_at(chain, place, column)),
+        None => None,
+    }
+}
+
 /// A fault of the input with the file and the line that it is about: `held` are the bytes of the files
 /// that no line was made of so far, and `line` was read last.
-pub(crate) fn placed<'a, I>(
+pub(crate) fn placed<'a, I: FileColumns>(
     fault: AsmFault,
     chain: &Chained<I>,
     held: &[u8],
@@ -106,6 +122,7 @@ pub(crate) fn placed<'a, I>(
                 Some(name) => RunFault::Line(LineFault {
                     name: *name,
                     line: place.line,
+                    column: fault_column(fault, chain, place),
                     words,
                     character: character_at(fault, line.as_slice()),
                     fault,
