@@ -1,15 +1,23 @@
 -- The end of the journal that a session has (ours): what its calls answer.
 use Rattle.std.specs.Prelude.{ℕ, ◌≡◌, ⊤, ◌⊎◌, List, Bool, true, false, Option, Some, None, Result, Ok, Err}
+use Rattle.cards.specs.declared.edits.Edit.{Edit}
+use Rattle.desk_core.specs.declared.calls.Call.{Call}
 use Rattle.desk_core.specs.declared.replies.Refusal.{Refusal}
 use Rattle.desk_core.specs.declared.replies.Refusal.TheVariants.{NotKept, OutOfMemory}
+use Rattle.desk_core.specs.declared.replies.Reply.{Reply}
+use Rattle.desk_core.specs.declared.replies.Reply.TheVariants.{Changed, Carried}
 use Rattle.desk_service.specs.declared.journals.News.{News}
 use Rattle.desk_service.specs.declared.journals.News.TheVariants.{Fails, GoesOn}
+use Rattle.journal.specs.declared.changes.Carry.{Carry}
 use Rattle.journal.specs.declared.changes.Change.{Change}
+use Rattle.journal.specs.declared.changes.Change.TheVariants.{Batch}
 use Rattle.journal.specs.declared.drafts.Stamp.{Stamp}
+use Rattle.journal.specs.Asking.{call_of_carry, carried_deck}
 use Rattle.journal.specs.Drafts.{takes_memory}
-use Rattle.journal.specs.JournalFiles.{Step, IsKept}
+use Rattle.journal.specs.JournalFiles.{Step, IsKept, IsKeptAs}
 use Rattle.journal.specs.Names.{session_name}
 use Rattle.journal.specs.Records.{text_behind_version}
+use Rattle.journal.specs.Replaying.{call_of}
 
 -- whether there is a journal, the number of the session, the version of its latest change that was told as not kept, and the name by which it asks for changes
 pub record SessionKeeper : Type 0 where
@@ -38,7 +46,11 @@ abbrev pub IsDraft : List ℕ → Change → List ℕ → Type 0
 IsDraft name change draft = (moment : List ℕ) × (draft ≡ text_behind_version moment name change)
 
 module _ {F : Type 0} (has_done : F → List Step → Type 0) where
-  -- what was told as not kept is kept now
+  -- the record of this change is kept with this version, as who has this name asked for it at some moment; with all before it, in the order of versions
+  abbrev pub IsChangeKept : ℕ → List ℕ → Change → Type 0
+  IsChangeKept version name change = (moment : List ℕ) × IsKeptAs has_done version (text_behind_version moment name change)
+
+  -- for what was told as not kept some record is kept now
   abbrev pub IsMadeUp : Option ℕ → Type 0
   IsMadeUp None = ⊤
   IsMadeUp (Some version) = IsKept has_done version
@@ -53,7 +65,19 @@ module _ {F : Type 0} (has_done : F → List Step → Type 0) where
   OpensRecord old (Ok stamp) new = (new ≡ old) × (old.journaled ≡ true → IsMadeUp old.missed × (stamp.by ≡ old.name))
   OpensRecord old (Err refusal) new = (new ≡ old) × (refusal ≡ NotKept)
 
-  -- what is answered where a change was made: that its record is kept, or that it is not, which the session remembers
+  -- what is answered where a change was made: that its record is kept, this one with this version, or that it is not, which the session remembers
   abbrev pub KeepsRecord : SessionKeeper → ℕ → List ℕ → Bool → SessionKeeper → Type 0
-  KeepsRecord old version draft true new = (new ≡ old) × (old.journaled ≡ true → IsKept has_done version)
+  KeepsRecord old version draft true new = (new ≡ old) × (old.journaled ≡ true → IsKeptAs has_done version draft)
   KeepsRecord old version draft false new = (new ≡ record old { missed = Some version }) × (old.journaled ≡ true)
+
+  -- the desk makes a change that who has a name asks for, with this version, and the record of just that change is kept
+  pub record IsMadeAndKept {C : Type 0} (makes : C → Call → Reply → C → Type 0) (name : List ℕ) (change : Change) (version : ℕ) (old new : C) : Type 0 where
+    pub made : makes old (call_of name change) (Changed version) new
+    pub kept : IsChangeKept version name change
+
+  -- the desk makes a change that is carried, with this version and these edits, and the record of just these edits is kept
+  pub record IsCarriedAndKept {C : Type 0} (makes : C → Call → Reply → C → Type 0) (name : List ℕ) (carry : Carry) (version : ℕ) (old new : C) : Type 0 where
+    pub seen : ℕ
+    pub edits : List Edit
+    pub made : makes old (call_of_carry name carry) (Carried version seen edits) new
+    pub kept : IsChangeKept version name (Batch (carried_deck carry) seen edits)

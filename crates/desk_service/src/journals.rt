@@ -6,16 +6,18 @@
 //! | who writes | takes a copy of all records that may go out, leaves the queue to others, writes and syncs once, and tells those who wait |
 //! | a session that wants to change | is refused where a record was given up, unless that can be written now |
 //!
-//! That records can't be written is told on standard error once, and once that they can be again.
-ghost use Rattle.std.specs.Prelude.{◌≡◌, ◌<◌, is_some, true, IfOk, IfSome, None};
-ghost use Rattle.journal.specs.JournalFiles.{IsKept};
+//! That records can't be written is told on standard error once, and once that they can be again. Locks tell
+//! contracts nothing of what they hold, so a session looks whether what was kept is its own record before it
+//! says so.
+ghost use Rattle.std.specs.Prelude.{◌≡◌, ◌<◌, is_some, true, IfOk, IfSome, IsSomeAnd, None};
+ghost use Rattle.journal.specs.JournalFiles.{IsKept, IsKeptAs};
 ghost use Rattle.desk_service.specs.SessionKeepers.{IsMadeUp, news_of};
 ghost use Rattle.journal.specs.Names.{session_name};
 
 use desk_core::Refusal;
 use journal::{
-    Batch, Change, DeckName, Draft, JournalFile, Keep, KeptRecords, Moment, Queue, RecordsFile,
-    Stamp, draft_change, session_name,
+    Batch, Change, DeckName, Draft, JournalFile, Keep, KeptBatch, Moment, Queue, RecordsFile,
+    SharedText, Stamp, draft_change, session_name,
 };
 use std::alloc::{AllocError, Global};
 use std::marker::Model;
@@ -66,7 +68,7 @@ struct Shared<F: RecordsFile> {
 
 impl<F: RecordsFile> Shared<F> {
     /// Notes what a write kept, if it kept anything: what is told of that.
-    fn settle(&mut self, kept: Option<KeptRecords<F>>) -> Option<News> {
+    fn settle(&mut self, kept: Option<KeptBatch<F>>) -> Option<News> {
         let news = news_of(self.fails, kept.is_none());
         self.fails = kept.is_none();
         self.writing = false;
@@ -75,6 +77,17 @@ impl<F: RecordsFile> Shared<F> {
             None => self.queue.give_up(),
         }
         news
+    }
+
+    /// Whether it is shown that the record of a session is kept, of this version and with this text, if there
+    /// is one.
+    fn shows(&self, session: usize, version: u64, text: &Option<SharedText>) -> bool
+        ensures { result ≡ true → IsSomeAnd text.now (λ text. IsKeptAs F.has_done version text) }
+    {
+        match text {
+            Some(text) => self.queue.shows(session, version, text),
+            None => false,
+        }
     }
 
     /// Whether a change may be made: no record was given up, and that of this version is kept, if there is
@@ -134,7 +147,7 @@ impl<F: RecordsFile + Drop> Journal<F> {
     }
 
     /// Appends what may go out: what is kept then, or nothing where it is not.
-    fn append<R: Wait>(&self, rt: &R, batch: &Batch) -> Option<KeptRecords<F>> {
+    fn append<R: Wait>(&self, rt: &R, batch: Batch) -> Option<KeptBatch<F>> {
         self.file.lock(rt).append(batch)
     }
 
@@ -148,7 +161,7 @@ impl<F: RecordsFile + Drop> Journal<F> {
         shared.writing = true;
         let batch = shared.queue.batch(self.alloc);
         drop(shared);
-        let kept = match &batch {
+        let kept = match batch {
             Ok(batch) => self.append(rt, batch),
             Err(_) => None,
         };
@@ -182,18 +195,17 @@ impl<F: RecordsFile + Drop> Journal<F> {
         false
     }
 
-    /// Keeps the record of a session: whether it is kept, with all before it.
-    fn keep<R: Wait + Eprint>(&self, rt: &R, session: usize, version: u64, draft: Draft) -> bool
-        ensures { result ≡ true → IsKept F.has_done version }
-    {
-        let mut shared = self.shared.lock(rt);
-        shared.queue.put(session, version, draft);
+    /// Waits until the record of a version is kept, or was given up; writes where it is the next and nobody
+    /// writes.
+    fn await_written<'a, R: Wait + Eprint>(
+        &'a self,
+        rt: &R,
+        mut shared: MutexGuard<'a, Shared<F>>,
+        version: u64,
+    ) -> MutexGuard<'a, Shared<F>> {
         for _ in rt.forever() {
-            if shared.queue.is_kept(version) {
-                return true;
-            }
-            if shared.queue.is_given_up(version) {
-                return false;
+            if shared.queue.is_kept(version) || shared.queue.is_given_up(version) {
+                return shared;
             }
             shared = if !shared.writing && shared.queue.has_next() {
                 self.write(rt, shared)
@@ -201,7 +213,18 @@ impl<F: RecordsFile + Drop> Journal<F> {
                 self.told.wait(rt, shared)
             };
         }
-        false
+        shared
+    }
+
+    /// Keeps the record of a session: whether it is kept, and no other in its place, with all before it.
+    fn keep<R: Wait + Eprint>(&self, rt: &R, session: usize, version: u64, draft: Draft) -> bool
+        ensures { result ≡ true → IsKeptAs F.has_done version draft }
+    {
+        let (draft, text) = draft.with_text(self.alloc);
+        let mut shared = self.shared.lock(rt);
+        shared.queue.put(session, version, draft);
+        let shared = self.await_written(rt, shared, version);
+        shared.shows(session, version, &text)
     }
 }
 
@@ -281,7 +304,7 @@ impl<R: Wait + Clock + Eprint, F: RecordsFile + Drop> Keep for SessionKeeper<'_,
 
     fn begin(&mut self, change: &Change) -> Result<Draft, Refusal> {
         let Some(journal) = self.journal else {
-            return Ok(Draft::empty(self.alloc));
+            return Ok(Draft::empty());
         };
         if !journal.may_change(self.rt, self.missed) {
             return Err(Refusal::NotKept);

@@ -1,11 +1,11 @@
 -- Steps of the file of a journal: what it has kept goes on.
-use Rattle.std.proofs.Common.{ℕ, ◌≡◌, ◌+◌, ◌≤◌, ◌<◌, inl, inr, List, [], ◌∷◌, ◌++◌, length, Bool, true, false, refl, sym, ap, subst, ◌∙◌, arith, append_assoc, length-append}
+use Rattle.std.proofs.Common.{ℕ, ◌≡◌, ◌+◌, ◌≤◌, ◌<◌, inl, inr, List, [], ◌∷◌, ◌++◌, length, Bool, true, false, refl, sym, ap, subst, ◌∙◌, arith, append_assoc, append-nil, length-append}
 use Rattle.journal.specs.Queues.{InOrder, texts_from}
 use Rattle.journal.specs.Records.{text_with_version}
 use Rattle.journal.specs.declared.marks.Mark.{Mark}
 use Rattle.journal.specs.Marks.{mark_behind}
 use Rattle.journal.proofs.MarkSteps.{mark-none, mark-more}
-use Rattle.journal.specs.JournalFiles.{Append, Sync, CutTo, Step, Note, HasKept, at_opening, cut_back, noted, not_noted, not_synced, not_written, IsRun, JournalFile, TakesStep, TakesSome, CutsLast, IsCutBack, WritesAndNotes, told_to_note, sync_failed, append_failed, HasRecords, AreKept, IsKept}
+use Rattle.journal.specs.JournalFiles.{Append, Sync, CutTo, Step, Note, HasKept, at_opening, cut_back, noted, not_noted, not_synced, not_written, IsRun, JournalFile, TakesStep, TakesSome, CutsLast, IsCutBack, WritesAndNotes, told_to_note, sync_failed, append_failed, HasRecords, AreKept, AreKeptAs, IsKept, IsKeptAs}
 
 -- ---- runs of records
 
@@ -18,31 +18,39 @@ texts_from-append version (draft ∷ drafts) more =
     ap (λ (t : List ℕ). text_with_version version draft ++ t) (texts_from-append (version + 1) drafts more ∙ ap (λ (n : ℕ). texts_from (version + 1) drafts ++ texts_from n more) same)
     ∙ sym (append_assoc (text_with_version version draft) (texts_from (version + 1) drafts) (texts_from (version + length (draft ∷ drafts)) more))
 
-pub run-none : (first : ℕ) → IsRun first [] first
-run-none first = record { drafts = []; text_is = refl; next_is = omega arith }
+pub run-none : (first : ℕ) → IsRun first [] [] first
+run-none first = record { text_is = refl; next_is = omega arith }
 
-pub run-join : (first middle next : ℕ) (text more : List ℕ) → IsRun first text middle → IsRun middle more next → IsRun first (text ++ more) next
-run-join first middle next text more one two =
-    let more_is : more ≡ texts_from (first + length one.drafts) two.drafts = two.text_is ∙ ap (λ (n : ℕ). texts_from n two.drafts) one.next_is in
-    let a : middle ≡ first + length one.drafts = one.next_is in
-    let b : next ≡ middle + length two.drafts = two.next_is in
-    let both : length (one.drafts ++ two.drafts) ≡ length one.drafts + length two.drafts = length-append one.drafts two.drafts in
+pub run-join : (first middle next : ℕ) (drafts others : List (List ℕ)) (text more : List ℕ) → IsRun first drafts text middle → IsRun middle others more next → IsRun first (drafts ++ others) (text ++ more) next
+run-join first middle next drafts others text more one two =
+    let more_is : more ≡ texts_from (first + length drafts) others = two.text_is ∙ ap (λ (n : ℕ). texts_from n others) one.next_is in
+    let a : middle ≡ first + length drafts = one.next_is in
+    let b : next ≡ middle + length others = two.next_is in
+    let both : length (drafts ++ others) ≡ length drafts + length others = length-append drafts others in
     record {
-      drafts = one.drafts ++ two.drafts;
-      text_is = ap (λ (t : List ℕ). t ++ more) one.text_is ∙ (ap (λ (t : List ℕ). texts_from first one.drafts ++ t) more_is ∙ sym (texts_from-append first one.drafts two.drafts));
+      text_is = ap (λ (t : List ℕ). t ++ more) one.text_is ∙ (ap (λ (t : List ℕ). texts_from first drafts ++ t) more_is ∙ sym (texts_from-append first drafts others));
       next_is = omega (arith, a, b, both);
     }
 
+-- a run that ends where it begins has no records
+pub no-drafts : (first next : ℕ) (drafts : List (List ℕ)) → next ≡ first + length drafts → next ≡ first → drafts ≡ []
+no-drafts first next [] is none = refl
+no-drafts first next (draft ∷ drafts) is none = let not : first + 1 + length drafts ≡ first = omega (arith, is, none) in absurd (omega arith)
+
+-- where the last of those that are left is taken, it has gone with the others
+pub one-gone : (all left fewer gone : List (List ℕ)) (draft : List ℕ) → all ≡ left ++ gone → left ≡ fewer ++ draft ∷ [] → all ≡ fewer ++ draft ∷ gone
+one-gone all left fewer gone draft is last = is ∙ (ap (λ (ds : List (List ℕ)). ds ++ gone) last ∙ append_assoc fewer (draft ∷ []) gone)
+
 -- what goes out in order is such a run
-pub run-in-order : {places : _} (first : ℕ) (text : List ℕ) (next : ℕ) → InOrder places first text next → IsRun first text next
-run-in-order first text next out = record { drafts = out.drafts; text_is = out.text_is; next_is = out.next_is }
+pub run-in-order : {places : _} (first : ℕ) (drafts : List (List ℕ)) (text : List ℕ) (next : ℕ) → InOrder places first drafts text next → IsRun first drafts text next
+run-in-order first drafts text next out = record { text_is = out.text_is; next_is = out.next_is }
 
 -- ---- the file
 
 module _ {F : Type 0} (has_done : F → List Step → Type 0) where
   pub has-opened : (file : F) (begun : Mark) (next : ℕ) → HasRecords has_done (record { file = file; begun = begun; has = begun; first = next; next = next; clean = false })
   has-opened file begun next =
-      record { opened = file; steps = []; text = []; taken = λ before had. had; kept = at_opening; run = run-none next; has_is = mark-none begun }
+      record { opened = file; steps = []; drafts = []; text = []; taken = λ before had. had; kept = at_opening; run = run-none next; has_is = mark-none begun }
 
   -- what stands behind the whole records is cut off, or is not
   pub has-cut : (journal : JournalFile F) (done : Bool) (file : F) → HasRecords has_done journal → TakesStep has_done journal.file (CutTo journal.has.length, done) file → HasRecords has_done (record journal { file = file; clean = done })
@@ -50,6 +58,7 @@ module _ {F : Type 0} (has_done : F → List Step → Type 0) where
       record {
         opened = has.opened;
         steps = (CutTo journal.has.length, done) ∷ has.steps;
+        drafts = has.drafts;
         text = has.text;
         taken = λ before had. step (has.steps ++ before) (has.taken before had);
         kept = subst (λ (m : Mark). HasKept journal.begun ((CutTo m.length, done) ∷ has.steps) has.text done) (sym has.has_is) (cut_back has.steps has.text journal.clean done has.kept);
@@ -62,24 +71,74 @@ module _ {F : Type 0} (has_done : F → List Step → Type 0) where
   mark-with journal text more mark has_is is = is ∙ ap (λ (m : Mark). mark_behind m more) has_is ∙ mark-more journal.begun text more
 
   -- a text is kept
-  pub has-written : (journal : JournalFile F) (more : List ℕ) (mark : Mark) (next : ℕ) (file : F) → HasRecords has_done journal → journal.clean ≡ true → IsRun journal.next more next → mark ≡ mark_behind journal.has more →
-      WritesAndNotes has_done more mark true journal.file file → HasRecords has_done (record journal { file = file; has = mark; next = next })
-  has-written journal more mark next file has clean run is (told_to_note steps) =
+  pub has-written : (journal : JournalFile F) (drafts : List (List ℕ)) (more : List ℕ) (mark : Mark) (next : ℕ) (file : F) → HasRecords has_done journal → journal.clean ≡ true → IsRun journal.next drafts more next →
+      mark ≡ mark_behind journal.has more → WritesAndNotes has_done more mark true journal.file file → HasRecords has_done (record journal { file = file; has = mark; next = next })
+  has-written journal drafts more mark next file has clean run is (told_to_note steps) =
       let with : mark ≡ mark_behind journal.begun (has.text ++ more) = mark-with journal has.text more mark has.has_is is in
       record {
         opened = has.opened;
         steps = (Note mark, true) ∷ (Sync, true) ∷ (Append more, true) ∷ has.steps;
+        drafts = has.drafts ++ drafts;
         text = has.text ++ more;
         taken = λ before had. steps (has.steps ++ before) (has.taken before had);
         kept =
             subst (λ (m : Mark). HasKept journal.begun ((Note m, true) ∷ (Sync, true) ∷ (Append more, true) ∷ has.steps) (has.text ++ more) journal.clean) (sym with)
             (subst (λ (c : Bool). HasKept journal.begun ((Note (mark_behind journal.begun (has.text ++ more)), true) ∷ (Sync, true) ∷ (Append more, true) ∷ has.steps) (has.text ++ more) c) (sym clean)
             (noted has.steps has.text more (subst (λ (c : Bool). HasKept journal.begun has.steps has.text c) clean has.kept)));
-        run = run-join journal.first journal.next next has.text more has.run run;
+        run = run-join journal.first journal.next next has.drafts drafts has.text more has.run run;
         has_is = with;
       }
-  has-written journal more mark next file has clean run is (sync_failed none steps) = cc
-  has-written journal more mark next file has clean run is (append_failed none steps) = cc
+  has-written journal drafts more mark next file has clean run is (sync_failed none steps) = cc
+  has-written journal drafts more mark next file has clean run is (append_failed none steps) = cc
+
+  -- and so are its records, as the last
+  pub are-kept-as : (journal : JournalFile F) (drafts : List (List ℕ)) (more : List ℕ) (mark : Mark) (next : ℕ) (file : F) → HasRecords has_done journal → journal.clean ≡ true → IsRun journal.next drafts more next →
+      mark ≡ mark_behind journal.has more → WritesAndNotes has_done more mark true journal.file file → AreKeptAs has_done journal.first next journal.next drafts
+  unfolding has-written
+  are-kept-as journal drafts more mark next file has clean run is (told_to_note steps) =
+      let new : JournalFile F = record journal { file = file; has = mark; next = next } in
+      record {
+        journal = new;
+        records = has-written journal drafts more mark next file has clean run is (told_to_note steps);
+        before = has.drafts;
+        drafts_are = refl;
+        first_is = refl;
+        next_is = refl;
+        from_is = has.run.next_is;
+      }
+  are-kept-as journal drafts more mark next file has clean run is (sync_failed none steps) = cc
+  are-kept-as journal drafts more mark next file has clean run is (append_failed none steps) = cc
+
+  -- no records are always the last
+  pub none-kept-as : (journal : JournalFile F) → HasRecords has_done journal → AreKeptAs has_done journal.first journal.next journal.next []
+  none-kept-as journal has =
+      record { journal = journal; records = has; before = has.drafts; drafts_are = sym (append-nil has.drafts); first_is = refl; next_is = refl; from_is = has.run.next_is }
+
+  -- they end with the last of all
+  pub kept-to : (first next from : ℕ) (drafts : List (List ℕ)) → AreKeptAs has_done first next from drafts → next ≡ from + length drafts
+  kept-to first next from drafts are =
+      let both : length (are.before ++ drafts) ≡ length are.before + length drafts = length-append are.before drafts in
+      let all : length are.records.drafts ≡ length are.before + length drafts = ap length are.drafts_are ∙ both in
+      let a : from ≡ first + length are.before = are.from_is in
+      let b : are.journal.first ≡ first = are.first_is in
+      let c : are.journal.next ≡ next = are.next_is in
+      let d : are.journal.next ≡ are.journal.first + length are.records.drafts = are.records.run.next_is in
+      omega (arith, a, b, c, d, all)
+
+  -- one of those that are kept
+  pub is-kept-as : (first next from : ℕ) (drafts fewer behind : List (List ℕ)) (draft : List ℕ) → AreKeptAs has_done first next from drafts → drafts ≡ fewer ++ draft ∷ behind → IsKeptAs has_done (from + length fewer) draft
+  is-kept-as first next from drafts fewer behind draft are is =
+      let both : length (are.before ++ fewer) ≡ length are.before + length fewer = length-append are.before fewer in
+      let a : from ≡ first + length are.before = are.from_is in
+      let b : are.journal.first ≡ first = are.first_is in
+      record {
+        journal = are.journal;
+        records = are.records;
+        before = are.before ++ fewer;
+        behind = behind;
+        drafts_are = are.drafts_are ∙ (ap (λ (ds : List (List ℕ)). are.before ++ ds) is ∙ sym (append_assoc are.before fewer (draft ∷ behind)));
+        version_is = omega (arith, a, b, both);
+      }
 
   -- a text is not kept
   pub has-not-written : (journal : JournalFile F) (more : List ℕ) (mark : Mark) (file : F) → HasRecords has_done journal → journal.clean ≡ true → mark ≡ mark_behind journal.has more → WritesAndNotes has_done more mark false journal.file file →
@@ -89,6 +148,7 @@ module _ {F : Type 0} (has_done : F → List Step → Type 0) where
       record {
         opened = has.opened;
         steps = (Note mark, false) ∷ (Sync, true) ∷ (Append more, true) ∷ has.steps;
+        drafts = has.drafts;
         text = has.text;
         taken = λ before had. steps (has.steps ++ before) (has.taken before had);
         kept =
@@ -101,6 +161,7 @@ module _ {F : Type 0} (has_done : F → List Step → Type 0) where
       record {
         opened = has.opened;
         steps = (Sync, false) ∷ (Append more, true) ∷ has.steps;
+        drafts = has.drafts;
         text = has.text;
         taken = λ before had. steps (has.steps ++ before) (has.taken before had);
         kept = not_synced has.steps has.text more (subst (λ (c : Bool). HasKept journal.begun has.steps has.text c) clean has.kept);
@@ -111,6 +172,7 @@ module _ {F : Type 0} (has_done : F → List Step → Type 0) where
       record {
         opened = has.opened;
         steps = (Append more, false) ∷ has.steps;
+        drafts = has.drafts;
         text = has.text;
         taken = λ before had. steps (has.steps ++ before) (has.taken before had);
         kept = not_written has.steps has.text more (subst (λ (c : Bool). HasKept journal.begun has.steps has.text c) clean has.kept);
@@ -124,6 +186,13 @@ module _ {F : Type 0} (has_done : F → List Step → Type 0) where
 
   pub is-kept : (first next version : ℕ) → AreKept has_done first next → first ≤ version → version < next → IsKept has_done version
   is-kept first next version are from below = record { first = first; next = next; records = are; from = from; below = below }
+
+  -- the last of those that are left, where some of the last have gone
+  pub kept-last : (first next from version : ℕ) (drafts left fewer gone : List (List ℕ)) (draft : List ℕ) → AreKeptAs has_done first next from drafts → drafts ≡ left ++ gone → left ≡ fewer ++ draft ∷ [] →
+      version ≡ from + length fewer → IsKeptAs has_done version draft
+  kept-last first next from version drafts left fewer gone draft are is last at_version =
+      subst (λ (n : ℕ). IsKeptAs has_done n draft) (sym at_version)
+      (is-kept-as first next from drafts fewer gone draft are (one-gone drafts left fewer gone draft is last))
 
   -- ---- what a text leaves that is not kept
 

@@ -13,4 +13,5 @@ pub mod QueueSteps
 pub mod QueueOrder
 pub mod MarkSteps
 pub mod FileSteps
+pub mod ShownRecords
 pub mod SessionNames

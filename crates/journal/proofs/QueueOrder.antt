@@ -69,27 +69,25 @@ texts-more version (first ∷ drafts) draft =
     ∙ sym (append_assoc (text_with_version version first) (texts_from (version + 1) drafts) (text_with_version (version + length (first ∷ drafts)) draft))
 
 -- what went out so far
-record SoFar (places : List (Option Unwritten)) (first : ℕ) (text : List ℕ) (next : ℕ) : Type 0 where
-  drafts : List (List ℕ)
+record SoFar (places : List (Option Unwritten)) (first : ℕ) (drafts : List (List ℕ)) (text : List ℕ) (next : ℕ) : Type 0 where
   text_is : text ≡ texts_from first drafts
   all_wait : AllWait places first drafts
   next_is : next ≡ first + length drafts
 
-so-far : (places : List (Option Unwritten)) (first : ℕ) (text : List ℕ) (next : ℕ) → GoOut places first text next → SoFar places first text next
-so-far places first text next start = record { drafts = []; text_is = refl; all_wait = tt; next_is = omega arith }
-so-far places first text next (more before version draft out queued) =
-    let b = so-far places first before version out in
-    let at_version : version ≡ first + length b.drafts = b.next_is in
-    let longer : length (b.drafts ++ draft ∷ []) ≡ length b.drafts + 1 = length-append b.drafts (draft ∷ []) in
+so-far : (places : List (Option Unwritten)) (first : ℕ) (drafts : List (List ℕ)) (text : List ℕ) (next : ℕ) → GoOut places first drafts text next → SoFar places first drafts text next
+so-far places first drafts text next start = record { text_is = refl; all_wait = tt; next_is = omega arith }
+so-far places first drafts text next (more fewer before version draft out queued) =
+    let b = so-far places first fewer before version out in
+    let at_version : version ≡ first + length fewer = b.next_is in
+    let longer : length (fewer ++ draft ∷ []) ≡ length fewer + 1 = length-append fewer (draft ∷ []) in
     record {
-      drafts = b.drafts ++ draft ∷ [];
-      text_is = ap (λ (t : List ℕ). t ++ text_with_version version draft) b.text_is ∙ (ap (λ (n : ℕ). texts_from first b.drafts ++ text_with_version n draft) at_version ∙ sym (texts-more first b.drafts draft));
-      all_wait = wait-more places first b.drafts draft b.all_wait (subst (λ (n : ℕ). Waits places n draft) at_version (queued-waits places version draft queued));
+      text_is = ap (λ (t : List ℕ). t ++ text_with_version version draft) b.text_is ∙ (ap (λ (n : ℕ). texts_from first fewer ++ text_with_version n draft) at_version ∙ sym (texts-more first fewer draft));
+      all_wait = wait-more places first fewer draft b.all_wait (subst (λ (n : ℕ). Waits places n draft) at_version (queued-waits places version draft queued));
       next_is = omega arith;
     }
 
 -- all that goes out
-pub in-order : (places : List (Option Unwritten)) (first : ℕ) (text : List ℕ) (next : ℕ) → GoOut places first text next → draft_queued next places ≡ None → InOrder places first text next
-in-order places first text next out none =
-    let b = so-far places first text next out in
-    record { drafts = b.drafts; text_is = b.text_is; all_wait = b.all_wait; next_is = b.next_is; none_waits = none-waits places next none }
+pub in-order : (places : List (Option Unwritten)) (first : ℕ) (drafts : List (List ℕ)) (text : List ℕ) (next : ℕ) → GoOut places first drafts text next → draft_queued next places ≡ None → InOrder places first drafts text next
+in-order places first drafts text next out none =
+    let b = so-far places first drafts text next out in
+    record { text_is = b.text_is; all_wait = b.all_wait; next_is = b.next_is; none_waits = none-waits places next none }

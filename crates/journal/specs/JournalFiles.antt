@@ -24,9 +24,8 @@ pub data HasKept (begun : Mark) : List Step → List ℕ → Bool → Type 0 whe
   not_synced : (steps : List Step) (text more : List ℕ) → HasKept begun steps text true → HasKept begun ((Sync, false) ∷ (Append more, true) ∷ steps) text false
   not_written : (steps : List Step) (text more : List ℕ) → HasKept begun steps text true → HasKept begun ((Append more, false) ∷ steps) text false
 
--- the text of records from a version on, one version after the other, and the version behind the last of them
-pub record IsRun (first : ℕ) (text : List ℕ) (next : ℕ) : Type 0 where
-  pub drafts : List (List ℕ)
+-- the text of these records from a version on, one version after the other, and the version behind the last of them
+pub record IsRun (first : ℕ) (drafts : List (List ℕ)) (text : List ℕ) (next : ℕ) : Type 0 where
   pub text_is : text ≡ texts_from first drafts
   pub next_is : next ≡ first + length drafts
 
@@ -43,6 +42,13 @@ pub record JournalFile (F : Type 0) : Type 0 where
 pub record Versions : Type 0 where
   pub first : ℕ
   pub next : ℕ
+
+-- versions of records in the same way, of which the last, from one on, are these
+pub record Batch : Type 0 where
+  pub first : ℕ
+  pub next : ℕ
+  pub from : ℕ
+  pub drafts : List (List ℕ)
 
 module _ {F : Type 0} (has_done : F → List Step → Type 0) where
   -- the file takes these steps and no others, the newest first
@@ -73,10 +79,11 @@ module _ {F : Type 0} (has_done : F → List Step → Type 0) where
   pub record HasRecords (journal : JournalFile F) : Type 0 where
     pub opened : F
     pub steps : List Step
+    pub drafts : List (List ℕ)
     pub text : List ℕ
     pub taken : TakesSteps opened steps journal.file
     pub kept : HasKept journal.begun steps text journal.clean
-    pub run : IsRun journal.first text journal.next
+    pub run : IsRun journal.first drafts text journal.next
     pub has_is : journal.has ≡ mark_behind journal.begun text
 
   -- what a text leaves that is not kept: the last that the file is asked cuts off what stands behind the whole records, which are as before, and it is known whether nothing does
@@ -96,7 +103,26 @@ module _ {F : Type 0} (has_done : F → List Step → Type 0) where
     pub first_is : journal.first ≡ first
     pub next_is : journal.next ≡ next
 
-  -- the record of a version is kept, with all before it, back to the first since the file was opened
+  -- the file of a journal has kept the records from one version on, up to another, of which the last, from a version on, are these
+  pub record AreKeptAs (first next from : ℕ) (drafts : List (List ℕ)) : Type 0 where
+    pub journal : JournalFile F
+    pub records : HasRecords journal
+    pub before : List (List ℕ)
+    pub drafts_are : records.drafts ≡ before ++ drafts
+    pub first_is : journal.first ≡ first
+    pub next_is : journal.next ≡ next
+    pub from_is : from ≡ first + length before
+
+  -- the record of a version is kept, and has this text behind its version, with all before it, back to the first since the file was opened
+  pub record IsKeptAs (version : ℕ) (draft : List ℕ) : Type 0 where
+    pub journal : JournalFile F
+    pub records : HasRecords journal
+    pub before : List (List ℕ)
+    pub behind : List (List ℕ)
+    pub drafts_are : records.drafts ≡ before ++ draft ∷ behind
+    pub version_is : version ≡ journal.first + length before
+
+  -- some record of a version is kept, with all before it
   pub record IsKept (version : ℕ) : Type 0 where
     pub first : ℕ
     pub next : ℕ

@@ -1,12 +1,13 @@
 //! Records of changes that are asked for, whose versions are not known yet.
-ghost use Rattle.std.specs.Prelude.{◌≡◌, IfOk, OnErr, true};
+ghost use Rattle.std.specs.Prelude.{◌≡◌, IfOk, IfSome, OnErr, true};
 ghost use Rattle.journal.specs.Drafts.{carried_text, form_text, takes_memory};
-ghost use Rattle.journal.specs.Records.{text_behind_version, text_with_version};
+ghost use Rattle.journal.specs.Records.{text_behind_version};
 
 use crate::changes::Change;
-use crate::writing::{text_behind_version, text_with_version};
+use crate::writing::text_behind_version;
 use cards::{DeckName, Edit};
 use deck_files::Moment;
+use deck_listing::SharedText;
 use desk_core::Listed;
 use std::alloc::{AllocError, Global};
 use std::marker::Model;
@@ -23,9 +24,11 @@ pub struct Stamp {
 #[derive(Drop)]
 pub(crate) enum Form {
     /// As its text.
-    Written(Text),
+    Written(SharedText),
     /// As what it tells, whose text is made when it is written.
     Told(Stamp, Change),
+    /// None is written.
+    Nothing,
 }
 
 /// The record of a change that is asked for. Contracts see its text, from behind the version to in front
@@ -72,8 +75,9 @@ pub fn draft_change(
     if let Change::Dropped { name, seen } = change {
         return Ok(draft_dropped(moment, by, name, *seen));
     }
+    let text = text_behind_version(alloc, moment, by, change)?;
     Ok(Draft {
-        form: Form::Written(text_behind_version(alloc, moment, by, change)?),
+        form: Form::Written(SharedText::new(alloc, text)?),
     })
 }
 
@@ -89,22 +93,41 @@ pub(crate) fn draft_carried(stamp: Stamp, name: DeckName, seen: u64, edits: List
 
 impl Draft {
     /// What stands in place of a record where none is written.
-    pub fn empty(alloc: Global) -> Draft {
+    pub fn empty() -> Draft {
         Draft {
-            form: Form::Written(Text::new(alloc)),
+            form: Form::Nothing,
         }
     }
 
-    /// The text of the record, once its version is known.
-    pub(crate) fn text(&self, alloc: Global, version: u64) -> Result<Text, AllocError>
-        ensures { IfOk result (λ text. text ≡ text_with_version version self.now) }
+    /// The text of the record, from behind its version.
+    pub(crate) fn text(&self, alloc: Global) -> Result<SharedText, AllocError>
+        ensures { IfOk result (λ text. text ≡ self.now) }
     {
         match &self.form {
-            Form::Written(behind) => text_with_version(alloc, version, behind.as_slice()),
+            Form::Written(text) => text.share(),
             Form::Told(stamp, change) => {
-                let behind = text_behind_version(alloc, &stamp.moment, &stamp.by, change)?;
-                text_with_version(alloc, version, behind.as_slice())
+                let text = text_behind_version(alloc, &stamp.moment, &stamp.by, change)?;
+                SharedText::new(alloc, text)
             }
+            Form::Nothing => SharedText::new(alloc, Text::new(alloc)),
+        }
+    }
+
+    /// The record as its text, and that text once more; or the record as it was, where there is no memory for
+    /// the text.
+    pub fn with_text(self, alloc: Global) -> (Draft, Option<SharedText>)
+        ensures draft { result.0 ≡ self }
+        ensures text { IfSome result.1 (λ text. text ≡ self) }
+    {
+        let Ok(text) = self.text(alloc) else {
+            return (self, None);
+        };
+        match text.share() {
+            Ok(own) => {
+                let form = Form::Written(text);
+                (Draft { form }, Some(own))
+            }
+            Err(_) => (self, None),
         }
     }
 }

@@ -1,11 +1,12 @@
 //! The file of a journal: records are appended in the order of their versions, all of a text or none.
 ghost use Rattle.std.specs.Prelude.{◌≡◌, true, false, IfNone, IfSome, if◌then◌else◌};
-ghost use Rattle.journal.specs.JournalFiles.{CutTo, CutsLast, IsCutBack, IsLeft, IsRun, TakesSome, TakesStep, WritesAndNotes};
+ghost use Rattle.journal.specs.JournalFiles.{AreKeptAs, CutTo, CutsLast, IsCutBack, IsLeft, IsRun, TakesSome, TakesStep, WritesAndNotes};
 
-use crate::kept_records::KeptRecords;
+use crate::kept_records::{KeptBatch, KeptRecords};
 use crate::marks::Mark;
 use crate::queue::Batch;
 use crate::records_file::RecordsFile;
+use deck_listing::SharedText;
 use std::marker::Model;
 
 /// The file of a journal, which is written at its end alone: the mark of the whole records that it was
@@ -89,16 +90,17 @@ impl<F: RecordsFile> JournalFile<F> {
         self.cut_back()
     }
 
-    /// Writes the text of records behind the whole ones, where nothing else stands: whether it is kept.
-    fn write(&mut self, text: &[u8], next: u64) -> bool
+    /// Writes the text of these records behind the whole ones, where nothing else stands: whether it is kept.
+    fn write(&mut self, text: &[u8], drafts: &[SharedText], next: u64) -> bool
         requires clean { self.old.clean ≡ true }
-        requires run { IsRun self.old.next text.now next }
+        requires run { IsRun self.old.next drafts.now text.now next }
         ensures begun { self.new.begun ≡ self.old.begun }
         ensures first { self.new.first ≡ self.old.first }
         ensures next { self.new.next ≡ (if result then next else self.old.next) }
         ensures clean { result ≡ true → self.new.clean ≡ true }
         ensures same { result ≡ false → self.new ≡ record self.old { file = self.new.file; clean = self.new.clean } }
         ensures steps { TakesSome F.has_done self.old.file self.new.file }
+        ensures kept { result ≡ true → AreKeptAs F.has_done self.new.first self.new.next self.old.next drafts.now }
     {
         let Some(has) = self.has.behind(text) else {
             return false;
@@ -112,20 +114,21 @@ impl<F: RecordsFile> JournalFile<F> {
         true
     }
 
-    /// Writes the text of records behind the whole ones: whether it is kept. Where it is not, what was
+    /// Writes the text of these records behind the whole ones: whether it is kept. Where it is not, what was
     /// written of it is cut off again, now or before the next text.
-    fn put(&mut self, text: &[u8], next: u64) -> bool
-        requires { IsRun self.old.next text.now next }
+    fn put(&mut self, text: &[u8], drafts: &[SharedText], next: u64) -> bool
+        requires { IsRun self.old.next drafts.now text.now next }
         ensures begun { self.new.begun ≡ self.old.begun }
         ensures first { self.new.first ≡ self.old.first }
         ensures next { self.new.next ≡ (if result then next else self.old.next) }
         ensures clean { result ≡ true → self.new.clean ≡ true }
         ensures left { result ≡ false → IsCutBack F.has_done self.old self.new }
+        ensures kept { result ≡ true → AreKeptAs F.has_done self.new.first self.new.next self.old.next drafts.now }
     {
         if !self.make_clean() {
             return false;
         }
-        if self.write(text, next) {
+        if self.write(text, drafts, next) {
             return true;
         }
         self.cut_back();
@@ -141,7 +144,7 @@ impl<F: RecordsFile> JournalFile<F> {
         ensures clean { result ≡ true → self.new.clean ≡ true }
     {
         let next = self.next;
-        self.put(b"", next)
+        self.put(b"", &[], next)
     }
 
     /// Appends records that begin with the one that comes next; where there are none, that is all.
@@ -151,27 +154,29 @@ impl<F: RecordsFile> JournalFile<F> {
         ensures first { self.new.first ≡ self.old.first }
         ensures next { self.new.next ≡ (if result then batch.now.next else self.old.next) }
         ensures left { result ≡ false → IsCutBack F.has_done self.old self.new }
+        ensures kept { result ≡ true → AreKeptAs F.has_done self.new.first self.new.next self.old.next batch.now.drafts }
     {
-        if batch.next == batch.first {
+        if batch.next == self.next {
             return true;
         }
-        self.put(batch.text.as_slice(), batch.next)
+        self.put(batch.text.as_slice(), batch.drafts.as_slice(), batch.next)
     }
 
-    /// Appends records, where they begin with the one that comes next: what is kept then. Where they are not
-    /// kept there is nothing, and what was written of them is cut off again, now or before the next text.
-    pub fn append(&mut self, batch: &Batch) -> Option<KeptRecords<F>>
+    /// Appends records, where they begin with the one that comes next: what is kept then, these among them.
+    /// Where they are not kept there is nothing, and what was written of them is cut off again, now or before
+    /// the next text.
+    pub fn append(&mut self, batch: Batch) -> Option<KeptBatch<F>>
         ensures begun { self.new.begun ≡ self.old.begun }
         ensures first { self.new.first ≡ self.old.first }
-        ensures kept { IfSome result (λ kept. (kept ≡ record { first = self.old.first; next = batch.now.next }) × (self.new.next ≡ batch.now.next)) }
+        ensures kept { IfSome result (λ kept. (kept ≡ record { first = self.old.first; next = batch.next; from = batch.first; drafts = batch.drafts }) × (self.new.next ≡ batch.next)) }
         ensures none { IfNone result (self.new.next ≡ self.old.next) }
-        ensures left { IfNone result (IsLeft F.has_done batch.now.first self.old self.new) }
+        ensures left { IfNone result (IsLeft F.has_done batch.first self.old self.new) }
     {
         if batch.first != self.next {
             return None;
         }
-        if self.put_batch(batch) {
-            Some(self.kept())
+        if self.put_batch(&batch) {
+            Some(KeptBatch::new(self.kept(), batch.first, batch.into_drafts()))
         } else {
             None
         }

@@ -1,11 +1,13 @@
 //! Records that are not written yet: they go out in the order of their versions, and none is left out.
-ghost use Rattle.std.specs.Prelude.{◌≡◌, ◌+◌, ◌<◌, ◌≤◌, ◌^◌, ◌⊎◌, All, IfOk, None, Some, true, false, is_some, length, max, nat_lt, option_map, set};
-ghost use Rattle.journal.specs.JournalFiles.{IsKept, IsRun};
-ghost use Rattle.journal.specs.Queues.{GoOut, InOrder, draft_of, draft_queued, unwritten};
+ghost use Rattle.std.specs.Prelude.{◌≡◌, ◌+◌, ◌<◌, ◌≤◌, ◌^◌, ◌⊎◌, All, IfOk, None, Some, true, false, is_some, length, max, nat_lt, option_map, position, set, slice_get};
+ghost use Rattle.journal.specs.JournalFiles.{IsKept, IsKeptAs, IsRun};
+ghost use Rattle.journal.specs.Queues.{GoOut, InOrder, all_shown, draft_of, draft_queued, is_at, is_shown, shown_at, unwritten};
 
 use crate::drafts::Draft;
-use crate::kept_records::KeptRecords;
+use crate::kept_records::{KeptBatch, KeptRecord, KeptRecords};
 use crate::records_file::RecordsFile;
+use crate::writing::text_with_version;
+use deck_listing::SharedText;
 use std::alloc::{AllocError, Global};
 use std::marker::Model;
 use text_ports::Text;
@@ -18,15 +20,16 @@ pub struct Unwritten {
 }
 
 /// The records of accepted changes that are not written yet. Each session has one place, whose record
-/// stays until the next one of the session takes it. The records behind those that are kept are to be
-/// written; those below `told` that are not kept were given up, and their sessions told so; `behind` is
-/// above all versions that were put here.
+/// stays until the next one of the session takes it, and beside it what shows that the latest is kept. The
+/// records behind those that are kept are to be written; those below `told` that are not kept were given up,
+/// and their sessions told so; `behind` is above all versions that were put here.
 #[derive(Drop)]
 pub struct Queue<F: RecordsFile> {
     kept: KeptRecords<F>,
     told: u64,
     behind: u64,
     places: Vec<Option<Unwritten>>,
+    shown: Vec<Option<KeptRecord<F>>>,
 }
 
 impl<F: RecordsFile> Model for Queue<F> {
@@ -34,7 +37,7 @@ impl<F: RecordsFile> Model for Queue<F> {
 
     ghost Value = { queues.Queue };
 
-    ghost view = { λ q. record { first = q.kept.first; next = q.kept.next; told = q.told; behind = q.behind; places = q.places.items } };
+    ghost view = { λ q. record { first = q.kept.first; next = q.kept.next; told = q.told; behind = q.behind; places = q.places.items; shown = q.shown.items } };
 }
 
 /// The text of the records from a version on, one version after the other, and the version behind the last
@@ -44,6 +47,7 @@ pub struct Batch {
     pub text: Text,
     pub first: u64,
     pub next: u64,
+    pub(crate) drafts: Vec<SharedText>,
 }
 
 impl Model for Batch {
@@ -52,17 +56,29 @@ impl Model for Batch {
 
     ghost Value = { queues.Batch };
 
-    ghost view = { λ b. record { text = b.text; first = b.first; next = b.next } };
+    ghost view = { λ b. record { text = b.text; first = b.first; next = b.next; drafts = b.drafts.items } };
 
-    ghost invariant = { λ b. files.IsRun b.first b.text b.next };
+    ghost invariant = { λ b. files.IsRun b.first b.drafts.items b.text b.next };
 }
 
 impl Batch {
-    fn new(text: Text, first: u64, next: u64) -> Batch
-        requires { IsRun first text next }
-        ensures { result ≡ record { text = text; first = first; next = next } }
+    fn new(text: Text, first: u64, next: u64, drafts: Vec<SharedText>) -> Batch
+        requires { IsRun first drafts.items text next }
+        ensures { result ≡ record { text = text; first = first; next = next; drafts = drafts.items } }
     {
-        Batch { text, first, next }
+        Batch {
+            text,
+            first,
+            next,
+            drafts,
+        }
+    }
+
+    /// The records.
+    pub(crate) fn into_drafts(self) -> Vec<SharedText>
+        ensures { result.items ≡ self.drafts }
+    {
+        self.drafts
     }
 }
 
@@ -91,17 +107,69 @@ fn draft_queued(places: &[Option<Unwritten>], version: u64) -> Option<&Draft>
 /// What goes out from a version on.
 fn batch_from(alloc: Global, places: &[Option<Unwritten>], first: u64) -> Result<Batch, AllocError>
     ensures first { IfOk result (λ batch. batch.first ≡ first) }
-    ensures out { IfOk result (λ batch. GoOut places.now first batch.text batch.next) }
-    ensures order { IfOk result (λ batch. InOrder places.now first batch.text batch.next) }
+    ensures out { IfOk result (λ batch. GoOut places.now first batch.drafts batch.text batch.next) }
+    ensures order { IfOk result (λ batch. InOrder places.now first batch.drafts batch.text batch.next) }
 {
-    let mut text = Text::new(alloc);
+    let (mut text, mut drafts) = (Text::new(alloc), Vec::new(alloc));
     for version in first..u64::MAX {
         let Some(draft) = draft_queued(places, version) else {
-            return Ok(Batch::new(text, first, version));
+            return Ok(Batch::new(text, first, version, drafts));
         };
-        text.append(draft.text(alloc, version)?)?;
+        let draft = draft.text(alloc)?;
+        text.append(text_with_version(alloc, version, draft.as_slice())?)?;
+        drafts.push(draft)?;
     }
     Err(AllocError)
+}
+
+/// Whether the record of a place is the one of a version.
+fn is_at(place: &Option<Unwritten>, version: u64) -> bool
+    ensures { result ≡ is_at version place.now }
+{
+    match place {
+        Some(unwritten) => unwritten.version == version,
+        None => false,
+    }
+}
+
+/// The number of the place that has the record of a version.
+fn place_of(places: &[Option<Unwritten>], version: u64) -> Option<usize>
+    ensures { result ≡ position (is_at version) places.now }
+{
+    places.iter().position(|place| is_at(place, version))
+}
+
+/// Puts what shows that a record is kept to a place, if there is one.
+fn show_at<F: RecordsFile>(
+    shown: &mut Vec<Option<KeptRecord<F>>>,
+    place: Option<usize>,
+    one: KeptRecord<F>,
+)
+    ensures { shown.new.items ≡ shown_at place one shown.old.items }
+{
+    let Some(place) = place else {
+        return;
+    };
+    if let Some(shown) = shown.get_mut(place) {
+        *shown = Some(one);
+    }
+}
+
+/// Puts what shows that the records of a batch are kept to the places that have them.
+fn show_all<F: RecordsFile>(
+    shown: &mut Vec<Option<KeptRecord<F>>>,
+    places: &[Option<Unwritten>],
+    kept: KeptBatch<F>,
+)
+    ensures { shown.new.items ≡ all_shown places.now kept.from kept.drafts shown.old.items }
+{
+    let mut version = kept.records.next();
+    let mut drafts = kept.drafts;
+    while let Some(draft) = drafts.pop() {
+        version = version.saturating_sub(1);
+        let place = place_of(places, version);
+        show_at(shown, place, KeptRecord::new(version, draft));
+    }
 }
 
 impl<F: RecordsFile> Queue<F> {
@@ -112,10 +180,12 @@ impl<F: RecordsFile> Queue<F> {
         ensures none { IfOk result (λ queue. nat_lt queue.next queue.told ≡ false) }
         ensures places { IfOk result (λ queue. length queue.places ≡ sessions) }
         ensures empty { IfOk result (λ queue. All (λ place. place ≡ None) queue.places) }
+        ensures shown { IfOk result (λ queue. length queue.shown ≡ sessions) }
     {
-        let mut places = Vec::new(alloc);
+        let (mut places, mut shown) = (Vec::new(alloc), Vec::new(alloc));
         for _ in 0..sessions {
             places.push(None)?;
+            shown.push(None)?;
         }
         let next = kept.next();
         Ok(Queue {
@@ -123,6 +193,7 @@ impl<F: RecordsFile> Queue<F> {
             told: next,
             behind: next,
             places,
+            shown,
         })
     }
 
@@ -133,6 +204,7 @@ impl<F: RecordsFile> Queue<F> {
         ensures told { self.new.told ≡ self.old.told }
         ensures behind { version + 1 < 2 ^ 64 → self.new.behind ≡ max self.old.behind (version + 1) }
         ensures place { self.new.places ≡ set self.old.places session (Some (unwritten version draft)) }
+        ensures shown { self.new.shown ≡ self.old.shown }
     {
         self.behind = self.behind.max(version.saturating_add(1));
         if let Some(place) = self.places.get_mut(session) {
@@ -147,12 +219,23 @@ impl<F: RecordsFile> Queue<F> {
         draft_queued(self.places.as_slice(), self.kept.next()).is_some()
     }
 
-    /// Whether the record of a version is kept.
+    /// Whether some record of a version is kept.
     pub fn is_kept(&self, version: u64) -> bool
         ensures kept { result ≡ true → IsKept F.has_done version }
         ensures other { result ≡ false → (version < self.now.first) ⊎ (self.now.next ≤ version) }
     {
         self.kept.has(version)
+    }
+
+    /// Whether it is shown that the record of a session is kept, of this version and with this text behind it.
+    pub fn shows(&self, session: usize, version: u64, text: &SharedText) -> bool
+        ensures is { result ≡ is_shown version text.now (slice_get self.now.shown session) }
+        ensures kept { result ≡ true → IsKeptAs F.has_done version text.now }
+    {
+        match self.shown.get(session) {
+            Some(Some(record)) => record.is_of(version, text),
+            _ => false,
+        }
     }
 
     /// Whether the record of a version, which is not kept, was given up.
@@ -173,17 +256,18 @@ impl<F: RecordsFile> Queue<F> {
     /// a gap, at whichever places they wait, up to the first that is not there.
     pub fn batch(&self, alloc: Global) -> Result<Batch, AllocError>
         ensures first { IfOk result (λ batch. batch.first ≡ self.now.next) }
-        ensures out { IfOk result (λ batch. GoOut self.now.places self.now.next batch.text batch.next) }
-        ensures order { IfOk result (λ batch. InOrder self.now.places self.now.next batch.text batch.next) }
+        ensures out { IfOk result (λ batch. GoOut self.now.places self.now.next batch.drafts batch.text batch.next) }
+        ensures order { IfOk result (λ batch. InOrder self.now.places self.now.next batch.drafts batch.text batch.next) }
     {
         batch_from(alloc, self.places.as_slice(), self.kept.next())
     }
 
     /// These records are kept.
-    pub fn settle(&mut self, kept: KeptRecords<F>)
-        ensures { self.new ≡ record self.old { first = kept.first; next = kept.next } }
+    pub fn settle(&mut self, kept: KeptBatch<F>)
+        ensures { self.new ≡ record self.old { first = kept.first; next = kept.next; shown = all_shown self.old.places kept.from kept.drafts self.old.shown } }
     {
-        self.kept = kept;
+        self.kept = kept.records();
+        show_all(&mut self.shown, self.places.as_slice(), kept);
     }
 
     /// The records could not be written: they stay, and who waits for one is told so.

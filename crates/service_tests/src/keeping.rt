@@ -300,18 +300,19 @@ fn push_told<F: RecordsFile>(queue: &Queue<F>, answer: &mut Answer) {
     answer.debug(&kept);
 }
 
-/// A file takes a batch once, and the queue has kept it then.
+/// A file takes a batch once, and no second one of the same records, and the queue has kept it then.
 fn append_twice<F: RecordsFile>(
     queue: &mut Queue<F>,
     file: &mut JournalFile<F>,
-    batch: &Batch,
+    batch: Batch,
+    again: Batch,
     answer: &mut Answer,
 ) {
     if let Some(kept) = file.append(batch) {
         queue.settle(kept);
     }
     push_told(queue, answer);
-    answer.debug(&file.append(batch).is_none());
+    answer.debug(&file.append(again).is_none());
 }
 
 /// Fills a queue, which gives up, and whose records are then appended all the same.
@@ -322,11 +323,11 @@ fn fill<F: RecordsFile>(
     answer: &mut Answer,
 ) -> Result<(), AllocError> {
     put_all(alloc, queue, answer)?;
-    let batch = queue.batch(alloc)?;
+    let (batch, again) = (queue.batch(alloc)?, queue.batch(alloc)?);
     answer.number("next ", batch.next);
     queue.give_up();
     push_told(queue, answer);
-    append_twice(queue, file, &batch, answer);
+    append_twice(queue, file, batch, again, answer);
     answer.line("");
     Ok(())
 }

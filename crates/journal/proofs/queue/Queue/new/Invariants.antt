@@ -6,4 +6,5 @@ abbrev pub invariant-loop : goal.invariant-loop
 invariant-loop g l = record {
   all : length l.places.items ≡ l.counter;
   empty : All (λ place. place ≡ None) l.places.items;
+  shown : length l.shown.items ≡ l.counter;
 }
