@@ -10,7 +10,7 @@
 //! contracts nothing of what they hold, so a session looks whether what was kept is its own record before it
 //! says so.
 ghost use Rattle.std.specs.Prelude.{◌≡◌, ◌<◌, is_some, true, IfOk, IfSome, IsSomeAnd, None};
-ghost use Rattle.journal.specs.JournalFiles.{IsKept, IsKeptAs};
+ghost use Rattle.journal.specs.JournalFiles.{IsKeptAs};
 ghost use Rattle.desk_service.specs.SessionKeepers.{IsMadeUp, news_of};
 ghost use Rattle.journal.specs.Names.{session_name};
 

@@ -1,5 +1,5 @@
 -- Steps of the file of a journal: what it has kept goes on.
-use Rattle.std.proofs.Common.{ℕ, ◌≡◌, ◌+◌, ◌≤◌, ◌<◌, inl, inr, List, [], ◌∷◌, ◌++◌, length, Bool, true, false, refl, sym, ap, subst, ◌∙◌, arith, append_assoc, append-nil, length-append}
+use Rattle.std.proofs.Common.{ℕ, ◌≡◌, ◌+◌, ◌≤◌, ◌<◌, List, [], ◌∷◌, ◌++◌, length, Bool, true, false, refl, sym, ap, subst, ◌∙◌, arith, append_assoc, append-nil, length-append}
 use Rattle.journal.specs.Queues.{InOrder, texts_from}
 use Rattle.journal.specs.Records.{text_with_version}
 use Rattle.journal.specs.declared.marks.Mark.{Mark}

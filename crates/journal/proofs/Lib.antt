@@ -14,4 +14,5 @@ pub mod QueueOrder
 pub mod MarkSteps
 pub mod FileSteps
 pub mod ShownRecords
+pub mod DraftTexts
 pub mod SessionNames

@@ -1,5 +1,5 @@
 -- Records that are shown one before the other.
-use Rattle.std.proofs.Common.{ℕ, ◌≡◌, ◌+◌, List, [], ◌∷◌, ◌++◌, length, Option, position, refl, sym, ap, ap₂, ◌∙◌, arith}
+use Rattle.std.proofs.Common.{ℕ, ◌≡◌, ◌+◌, List, [], ◌∷◌, ◌++◌, length, Option, position, sym, ap, ap₂, ◌∙◌, arith}
 use Rattle.journal.specs.declared.queue.Unwritten.{Unwritten}
 use Rattle.journal.specs.Queues.{Shown, is_at, shown_at, all_shown}
 

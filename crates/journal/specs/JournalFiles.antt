@@ -1,5 +1,5 @@
 -- The file of a journal (ours): what it was asked, step by step, and whether it did so; and what it has kept by these steps.
-use Rattle.std.specs.Prelude.{ℕ, ◌≡◌, ◌≢◌, ◌+◌, ◌≤◌, ◌<◌, ◌⊎◌, List, [], ◌∷◌, ◌++◌, length, Bool, true, false}
+use Rattle.std.specs.Prelude.{ℕ, ◌≡◌, ◌≢◌, ◌+◌, ◌≤◌, ◌<◌, List, [], ◌∷◌, ◌++◌, length, Bool, true, false}
 use Rattle.journal.specs.declared.marks.Mark.{Mark}
 use Rattle.journal.specs.Marks.{mark_behind}
 use Rattle.journal.specs.Queues.{texts_from}

@@ -6,11 +6,13 @@ ghost use Rattle.session_line.specs.Refusing.{RefusesCommand};
 ghost use Rattle.session_line.specs.Serving.{Sides};
 ghost use Rattle.session_line.specs.declared.rights.Rights.{Rights};
 ghost use Rattle.journal.specs.KeptDesks.{awaits_kept, greets_kept, makes_kept};
+ghost use Rattle.journal.specs.declared.changes.Change.{Change as Asked};
+ghost use Rattle.journal.specs.declared.records.Entry.TheVariants.{Made};
 ghost use Rattle.journal.specs.declared.records.Record.{Record};
 ghost use Rattle.journal.specs.declared.places.Ending.TheVariants.{Whole, Cut};
 ghost use Rattle.journal.specs.Lawful.{IsLawful};
 ghost use Rattle.journal.specs.Places.{capped};
-ghost use Rattle.journal.specs.Records.{text_of_record, text_of_records};
+ghost use Rattle.journal.specs.Records.{text_behind_version, text_of_record, text_of_records, text_with_version};
 ghost use Rattle.journal.specs.Journals.{journal_of};
 
 use crate::keeping::Keep;
@@ -21,6 +23,13 @@ use deck_files::Shelf;
 pub fn records_read_back()
     ensures { (records : List Record) → All IsLawful records →
         journal_of (text_of_records records) ≡ record { records = records; ending = Whole } }
+{}
+
+/// What goes into the file for a change, its text with a version in front, is the text of the record that tells
+/// this change with this version: so it reads back.
+pub fn drafts_are_records()
+    ensures { (version : ℕ) (moment by : List ℕ) (change : Asked) →
+        text_with_version version (text_behind_version moment by change) ≡ text_of_record (record { version = version; moment = moment; by = by; entry = Made change }) }
 {}
 
 /// A journal that is cut at any byte inside its last record reads as the records before it, and tells

@@ -57,7 +57,9 @@ pub use drafts::{Draft, Stamp, draft_change};
 pub use journal_file::JournalFile;
 pub use keeping::{Keep, Keeping};
 pub use kept_records::{KeptBatch, KeptRecords};
-pub use laws::{cut_records_are_left_out, records_read_back, refusals_change_nothing};
+pub use laws::{
+    cut_records_are_left_out, drafts_are_records, records_read_back, refusals_change_nothing,
+};
 pub use marks::{Mark, kept_length, mark_of_front};
 pub use names::session_name;
 pub use places::{Ending, Place};
