@@ -1,6 +1,7 @@
 //! The card that first defines each symbol of a deck.
 ghost use Rattle.std.specs.Prelude.{◌≤◌, length};
 
+use crate::symbol_keys::key_of;
 use cards::{Card, StatementRoom};
 use deck_assembler::{SizedDeck, SizedStatement};
 use expr_forms::LinkedNames;
@@ -9,23 +10,10 @@ use std::alloc::{AllocError, Global};
 use std::collections::BTreeMap;
 use std::collections::btree_map::Entry;
 
-/// How many characters a symbol has at most.
-const MOST_CHARACTERS: usize = 8;
-
 /// The numbers of the cards that first define symbols, by name.
 #[derive(Drop)]
 pub(crate) struct FirstCards {
     cards: BTreeMap<u64, u32>,
-}
-
-/// A name as a number, if it is short enough for a symbol.
-fn key_of(name: &[u8]) -> Option<u64> {
-    if name.len() > MOST_CHARACTERS {
-        return None;
-    }
-    let mut characters = [b' '; MOST_CHARACTERS];
-    characters.split_at_mut(name.len()).0.copy_from_slice(name);
-    Some(u64::from_be_bytes(characters))
 }
 
 /// The cards of a statement that has so many, of which no statement has more than ten.

@@ -9,6 +9,7 @@ use crossbeam_channel::Receiver;
 use deck_files::Shelf;
 use session_line::{Calls, Rights};
 use std::alloc::Global;
+use std::hash::RandomState;
 use std::io::{BufReader, BufWriter};
 use std::net::{Shutdown, TcpStream};
 use std::sync::Wait;
@@ -38,6 +39,7 @@ fn close_unwritten(stream: &TcpStream, ending: Ending) {
 fn serve_connection<R: Clock, C: Calls, S: Shelf>(
     rt: &R,
     alloc: Global,
+    keys: RandomState,
     stream: &TcpStream,
     idle: Duration,
     rights: Rights,
@@ -54,13 +56,15 @@ fn serve_connection<R: Clock, C: Calls, S: Shelf>(
         return;
     };
     let (mut input, mut output) = (Counted::new(reader), Counted::new(writer));
-    let ending = serve_session(alloc, rights, &mut input, &mut output, desk, shelf);
+    let ending = serve_session(alloc, keys, rights, &mut input, &mut output, desk, shelf);
     close_unwritten(stream, ending);
 }
 
 /// How a session serves connections.
 #[derive(Clone, Copy)]
 pub(crate) struct Serving<'a> {
+    /// The keys of its tables.
+    pub(crate) keys: RandomState,
     /// The number of its place.
     pub(crate) session: usize,
     /// What its clients may do.
@@ -84,6 +88,7 @@ fn serve_arrival<R: Wait + Clock, C: Calls, S: Shelf>(
     ensures { ServesConnection serving.entry.rights C.makes C.awaits C.greets C.begins S.loads S.refuses_to_load S.saves S.refuses_to_save S.lists S.notes S.tells_saved desk.old shelf.old desk.new shelf.new }
 {
     let Serving {
+        keys,
         session,
         rights,
         idle,
@@ -91,7 +96,7 @@ fn serve_arrival<R: Wait + Clock, C: Calls, S: Shelf>(
         ..
     } = serving;
     if end.enter(rt, session, stream) {
-        serve_connection(rt, alloc, stream, idle, rights, desk, shelf);
+        serve_connection(rt, alloc, keys, stream, idle, rights, desk, shelf);
         end.leave(rt, session);
     }
 }

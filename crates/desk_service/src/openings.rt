@@ -10,6 +10,7 @@ use crate::sessions::{Ending, ending_after, send_on};
 use deck_files::Shelf;
 use session_line::{Calls, Rights, is_command, is_request_of_http, serve_taken};
 use std::alloc::Global;
+use std::hash::RandomState;
 use std::io::{Read, Write};
 use text_ports::{Counted, LineBuf, LineIs, next_line};
 
@@ -59,6 +60,7 @@ fn is_turned_away(is_first: bool, line: &[u8]) -> bool
 /// Serves a line that was taken already, and sends on what the writer keeps back.
 fn serve_taken_line<R: Read, W: Write, C: Calls, S: Shelf>(
     alloc: Global,
+    keys: RandomState,
     rights: Rights,
     line: &[u8],
     input: &mut Counted<R>,
@@ -72,7 +74,7 @@ fn serve_taken_line<R: Read, W: Write, C: Calls, S: Shelf>(
     ensures read_faults { input.new.1 ≡ read_faults_at result input.old.1 }
     ensures write_faults { output.new.1 ≡ write_faults_at result output.old.1 }
 {
-    let outcome = serve_taken(alloc, rights, line, input, output, desk, shelf);
+    let outcome = serve_taken(alloc, keys, rights, line, input, output, desk, shelf);
     let flushed = send_on(output, outcome);
     ending_after(outcome, flushed)
 }
@@ -80,6 +82,7 @@ fn serve_taken_line<R: Read, W: Write, C: Calls, S: Shelf>(
 /// Takes one of the first lines, and serves it where the session does not end there.
 fn open_line<R: Read, W: Write, C: Calls, S: Shelf>(
     alloc: Global,
+    keys: RandomState,
     rights: Rights,
     is_first: bool,
     input: &mut Counted<R>,
@@ -102,7 +105,7 @@ fn open_line<R: Read, W: Write, C: Calls, S: Shelf>(
     if is_turned_away(is_first, line) {
         return Opening::Ended(Ending::Request);
     }
-    let told = serve_taken_line(alloc, rights, line, input, output, desk, shelf);
+    let told = serve_taken_line(alloc, keys, rights, line, input, output, desk, shelf);
     opening_of(told, is_command(line))
 }
 
@@ -111,6 +114,7 @@ fn open_line<R: Read, W: Write, C: Calls, S: Shelf>(
 /// behind the sixteenth line that is no command.
 pub(crate) fn open_session<R: Read, W: Write, C: Calls, S: Shelf>(
     alloc: Global,
+    keys: RandomState,
     rights: Rights,
     input: &mut Counted<R>,
     output: &mut Counted<W>,
@@ -124,7 +128,7 @@ pub(crate) fn open_session<R: Read, W: Write, C: Calls, S: Shelf>(
     ensures write_faults { output.new.1 ≡ write_faults_at result output.old.1 }
 {
     for number in 0..MOST_STRANGE {
-        match open_line(alloc, rights, number == 0, input, output, desk, shelf) {
+        match open_line(alloc, keys, rights, number == 0, input, output, desk, shelf) {
             Opening::Ended(ending) => return Some(ending),
             Opening::Met => return None,
             Opening::Strange => {}

@@ -7,6 +7,7 @@ use deck_files::Shelf;
 use page::{Replies, ServeLines, Served};
 use session_line::{Calls, Rights};
 use std::alloc::Global;
+use std::hash::RandomState;
 use std::marker::Model;
 use text_ports::Counted;
 
@@ -25,6 +26,8 @@ fn is_whole(ending: Ending) -> bool
 #[derive(Drop)]
 pub struct DeskLines<C, S> {
     alloc: Global,
+    /// The keys of its tables.
+    keys: RandomState,
     desk: C,
     shelf: S,
 }
@@ -36,10 +39,15 @@ impl<C, S> Model for DeskLines<C, S> {
 }
 
 impl<C, S> DeskLines<C, S> {
-    pub fn new(alloc: Global, desk: C, shelf: S) -> DeskLines<C, S>
+    pub fn new(alloc: Global, keys: RandomState, desk: C, shelf: S) -> DeskLines<C, S>
         ensures { result ≡ (desk, shelf) }
     {
-        DeskLines { alloc, desk, shelf }
+        DeskLines {
+            alloc,
+            keys,
+            desk,
+            shelf,
+        }
     }
 }
 
@@ -53,6 +61,7 @@ impl<C: Calls, S: Shelf> ServeLines for DeskLines<C, S> {
         let (desk, shelf) = (&mut self.desk, &mut self.shelf);
         let ending = serve_session(
             self.alloc,
+            self.keys,
             Rights::Edits,
             &mut input,
             &mut output,

@@ -260,7 +260,7 @@ pub(crate) fn page_places<'a, R, F: RecordsFile>(
         let keeping = Keeping::new(ringing, keeper);
         let desk = Attending::new(keeping, CompanyEnd::new(rt, end, session));
         let shelf = FolderShelf::new(rt, alloc, settings.root, session, known);
-        let lines = DeskLines::new(alloc, desk, shelf);
+        let lines = DeskLines::new(alloc, entrance.keys, desk, shelf);
         let page = PageService::new(alloc, entrance.port, lines);
         places.push(PagePlace {
             rt,

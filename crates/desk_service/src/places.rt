@@ -209,6 +209,7 @@ fn arrivals_for<'a>(
 pub(crate) fn session_places<'a, R, F: RecordsFile>(
     rt: &'a R,
     alloc: Global,
+    keys: RandomState,
     office: &'a Office<Desk>,
     seats: &mut SeatList<Desk>,
     settings: &Settings<'a>,
@@ -252,6 +253,7 @@ pub(crate) fn session_places<'a, R, F: RecordsFile>(
             alloc,
             arrivals: arrivals_for(rights, to_edit, to_read).clone()?,
             serving: Serving {
+                keys,
                 session: number,
                 rights,
                 idle: Duration::from_secs(settings.idle),

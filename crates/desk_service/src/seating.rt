@@ -109,6 +109,7 @@ pub(crate) fn seat_all<'a, R, F: RecordsFile>(
     let sessions = session_places(
         rt,
         alloc,
+        keys,
         office,
         &mut left,
         settings,

@@ -9,6 +9,7 @@ use crate::openings::open_session;
 use deck_files::Shelf;
 use session_line::{Calls, Outcome, Rights, serve_one};
 use std::alloc::Global;
+use std::hash::RandomState;
 use std::io::{Read, Write};
 use text_ports::Counted;
 
@@ -61,6 +62,7 @@ pub(crate) fn send_on<W: Write>(output: &mut Counted<W>, outcome: Outcome) -> bo
 /// told only where its count rose.
 fn serve_line<R: Read, W: Write, C: Calls, S: Shelf>(
     alloc: Global,
+    keys: RandomState,
     rights: Rights,
     input: &mut Counted<R>,
     output: &mut Counted<W>,
@@ -73,7 +75,7 @@ fn serve_line<R: Read, W: Write, C: Calls, S: Shelf>(
     ensures read_faults { input.new.1 ≡ read_faults_at result input.old.1 }
     ensures write_faults { output.new.1 ≡ write_faults_at result output.old.1 }
 {
-    let outcome = serve_one(alloc, rights, input, output, desk, shelf);
+    let outcome = serve_one(alloc, keys, rights, input, output, desk, shelf);
     let flushed = send_on(output, outcome);
     ending_after(outcome, flushed)
 }
@@ -83,6 +85,7 @@ fn serve_line<R: Read, W: Write, C: Calls, S: Shelf>(
 /// the reader or the writer only where that one's count rose.
 fn serve_lines<R: Read, W: Write, C: Calls, S: Shelf>(
     alloc: Global,
+    keys: RandomState,
     rights: Rights,
     input: &mut Counted<R>,
     output: &mut Counted<W>,
@@ -96,7 +99,7 @@ fn serve_lines<R: Read, W: Write, C: Calls, S: Shelf>(
     ensures write_faults { output.new.1 ≡ write_faults_at (Some result) output.old.1 }
 {
     for _ in 0..MOST_COMMANDS {
-        if let Some(ending) = serve_line(alloc, rights, input, output, desk, shelf) {
+        if let Some(ending) = serve_line(alloc, keys, rights, input, output, desk, shelf) {
             return ending;
         }
     }
@@ -110,6 +113,7 @@ fn serve_lines<R: Read, W: Write, C: Calls, S: Shelf>(
 /// of the reader or the writer only where that one's count rose.
 pub fn serve_session<R: Read, W: Write, C: Calls, S: Shelf>(
     alloc: Global,
+    keys: RandomState,
     rights: Rights,
     input: &mut Counted<R>,
     output: &mut Counted<W>,
@@ -123,8 +127,8 @@ pub fn serve_session<R: Read, W: Write, C: Calls, S: Shelf>(
     ensures write_faults { output.new.1 ≡ write_faults_at (Some result) output.old.1 }
 {
     desk.begin_session();
-    match open_session(alloc, rights, input, output, desk, shelf) {
+    match open_session(alloc, keys, rights, input, output, desk, shelf) {
         Some(ending) => ending,
-        None => serve_lines(alloc, rights, input, output, desk, shelf),
+        None => serve_lines(alloc, keys, rights, input, output, desk, shelf),
     }
 }

@@ -13,6 +13,7 @@ use crate::breaking::BreakingShelf;
 use crate::inputs::{cut_number, name_of};
 use crate::jobs::Jobs;
 use crate::outputs::Answer;
+use crate::table_keys::fixed_keys;
 use deck_files::{MemoryShelf, Shelf};
 use desk_core::Desk;
 use session_line::{Calls, Outcome, Rights, serve_one};
@@ -28,6 +29,7 @@ const MOST_COMMANDS: u64 = 20;
 #[derive(Drop)]
 pub struct Place {
     alloc: Global,
+    keys: RandomState,
     desk: Desk,
     shelf: MemoryShelf,
     jobs: Jobs,
@@ -39,6 +41,7 @@ impl Place {
     pub fn new(alloc: Global, keys: RandomState) -> Place {
         Place {
             alloc,
+            keys,
             desk: Desk::new(alloc, keys),
             shelf: MemoryShelf::new(alloc),
             jobs: Jobs::new(alloc, keys),
@@ -81,6 +84,7 @@ impl Place {
                 let (desk, shelf) = (&mut self.desk, &mut self.shelf);
                 serve_one(
                     self.alloc,
+                    self.keys,
                     Rights::Reads,
                     &mut input,
                     &mut output,
@@ -222,8 +226,8 @@ fn file_of<'a>(shelf: &'a MemoryShelf, of: &str) -> Option<&'a [u8]> {
     shelf.file(&name)
 }
 
-/// Serves one command. What it makes of all is looked at and no contract of it, and so who calls has no
-/// facts of it.
+/// Serves one command, with the keys of tests. What it makes of all is looked at and no contract of it, and so who
+/// calls has no facts of it.
 pub fn serve<R: Read, W: Write, C: Calls, S: Shelf>(
     alloc: Global,
     input: &mut Counted<R>,
@@ -231,7 +235,10 @@ pub fn serve<R: Read, W: Write, C: Calls, S: Shelf>(
     desk: &mut C,
     shelf: &mut S,
 ) -> Outcome {
-    serve_one(alloc, Rights::Edits, input, output, desk, shelf)
+    match fixed_keys() {
+        Ok(keys) => serve_one(alloc, keys, Rights::Edits, input, output, desk, shelf),
+        Err(_) => Outcome::ReadFault,
+    }
 }
 
 /// Serves one command: what goes out, how it ends where it is not served, and how many faults the ports

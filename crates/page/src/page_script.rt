@@ -64,9 +64,9 @@ function listing_of(rows) {
     if (/^\d{5} ?/.test(row)) {
       const text = row.slice(6);
       const follows = text.startsWith(",") && first !== null && !base.startsWith("*") && behind < 9;
-      cards.push({ text, code: [], letters: "" });
+      if (!follows) first = cards.length;
+      cards.push({ text, code: [], letters: "", said: "", first });
       if (!text.startsWith(",")) { base = text; behind = 0; } else behind++;
-      if (!follows) first = cards.length - 1;
     } else if (row.startsWith("  ERR ")) {
       for (const card of cards.slice(first)) card.letters = row.slice(6);
     } else if (row.startsWith("  ") && cards.length) {
@@ -75,6 +75,16 @@ function listing_of(rows) {
   }
   const head = rows.length ? rows[0].split(" ") : [];
   return { kind: head[2] || "", cards, blocks: rows.filter(row => row.startsWith("BLOCK ")) };
+}
+
+// Puts what ERRORS name WORDS says of each flagged statement to its cards, a line for each letter.
+function put_said(cards, rows) {
+  for (const row of rows) {
+    const [, number, column, letter, words] = /^WORDS \S+ (\d+) (\d+) (.) (.*)$/.exec(row) || [], card = cards[number - 1];
+    if (!card) continue;
+    const text = `${letter}: ${words} (card ${number}, column ${column})`;
+    for (let n = card.first; cards[n] && cards[n].first === card.first; n++) cards[n].said += (cards[n].said && "\n") + text;
+  }
 }
 
 // How many statements of each deck are flagged, of what ERRORS tells.
@@ -231,8 +241,11 @@ function text_with_links(card, symbols) {
 // What the letters of a flagged statement mean, a line each.
 const meaning_of = letters => [...letters].map(letter => `${letter}: ${LETTERS[letter] || "?"}`).join("\n");
 
+// What is said of it; what its letters mean where nothing is.
+const said_of = card => card.said || meaning_of(card.letters);
+
 function fill_card(item, card, symbols) {
-  const letters = made("span", "letters", card.letters), meaning = meaning_of(card.letters);
+  const letters = made("span", "letters", card.letters), meaning = said_of(card);
   item.classList.toggle("flagged", meaning !== "");
   item.title = meaning;
   if (meaning) letters.setAttribute("aria-label", `flagged ${meaning}`);
@@ -304,7 +317,7 @@ function show_changes(cards, symbols) {
   shown.items = cards.map((card, n) => {
     const was = old[from[n]], item = was ? items[from[n]] : made("li");
     const same = mark_card(item, card, was, Boolean(was) && from[n] > next && (n === 0 || from[n - 1] >= 0));
-    if (!same || has_links_changed(card)) fill_card(item, card, symbols);
+    if (!same || card.said !== was.said || has_links_changed(card)) fill_card(item, card, symbols);
     if (was) next = from[n] + 1; else item.tabIndex = -1;
     return item;
   });
@@ -344,10 +357,10 @@ function show_cards(cards, is_same) {
   if (entered && entered.isConnected) enter_at(entered); else if (shown.items.length) enter_at(shown.items[0]);
 }
 
-// Tells what the letters of the card mean that one stands on.
+// Tells what is said of the card that one stands on.
 function show_meaning() {
   const card = shown.cards[standing()];
-  const text = card && card.letters ? meaning_of(card.letters) : "";
+  const text = card && card.letters ? said_of(card) : "";
   if ($("meaning").textContent !== text) $("meaning").textContent = text;
 }
 
@@ -376,9 +389,10 @@ function dress_link(line) {
 }
 
 // Shows what was published of the chosen deck: all of one version.
-function show_publication(published, version, list, image, map, counts) {
+function show_publication(published, version, list, image, map, counts, said) {
   const is_same = shown.deck === chosen && shown.published !== null;
   const listing = listing_of(list ? list.rows : []);
+  put_said(listing.cards, said);
   show_cards(listing.cards, is_same);
   const words = image ? image.rows : [];
   show_lines($("image"), words.length ? words : ["nothing of it is in the image"], is_same ? shown.image : null);
@@ -412,16 +426,16 @@ const dress_flagged = line => line.slice(0, 4).trim() ? made("b", "", line) : nu
 async function take_publication() {
   for (let turn = 0; turn < TRIES; turn++) {
     const deck = chosen;
-    const lines = ["STATUS FILES", "MAP", "ERRORS"].concat(deck ? [`LIST ${deck}`, `IMAGE ${deck}`] : []);
-    const [status, map, errors, list, image] = await ask(...lines);
+    const lines = ["STATUS FILES", "MAP", "ERRORS"].concat(deck ? [`LIST ${deck}`, `IMAGE ${deck}`, `ERRORS ${deck} WORDS`] : []);
+    const [status, map, errors, list, image, said] = await ask(...lines);
     const now = status_of(status);
     system = now;
     if (!map.ok || deck !== chosen) continue;
-    if ([errors, list, image].some(part => part && part.ok && part.version !== map.version) || now.published !== map.version) continue;
+    if ([errors, list, image, said].some(part => part && part.ok && part.version !== map.version) || now.published !== map.version) continue;
     const row = now.decks.find(row => row.name === deck);
     const version = row && row.version <= map.version ? row.version : null;
     if (shown.deck === deck && shown.published === map.version) { shown.version = version; return; }
-    show_publication(map.version, version, list && list.ok ? list : null, image && image.ok ? image : null, map, counts_of(errors.rows));
+    show_publication(map.version, version, list && list.ok ? list : null, image && image.ok ? image : null, map, counts_of(errors.rows), said && said.ok ? said.rows : []);
     return;
   }
 }

@@ -12,6 +12,8 @@ pub mod ChangeSteps
 pub mod SentSoFar
 pub mod FlagSteps
 pub mod LinkSteps
+pub mod MessageSteps
+pub mod DeckMessages
 pub mod RowSteps
 pub mod CutSteps
 pub mod AddSteps

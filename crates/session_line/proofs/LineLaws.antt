@@ -23,7 +23,7 @@ use Rattle.session_line.specs.declared.refusals.Refusal.TheVariants.{BadName}
 use Rattle.session_line.specs.Views.{is_sought_size}
 use Rattle.session_line.specs.Words.{first_word, behind_word, number_in, first_number, first_seen, greatest_number}
 use Rattle.session_line.specs.Edits.{needs, only_if, made_of, is_end, card_or_fault, fits_edit, edit_at, edit_in_batch}
-use Rattle.session_line.specs.Commands.{name_in, only_name, save_over_in, save_in, view_from, view_in, at_in, cards_by, cards_in, sought_of, sought_in, find_in, named_version, of_version, edit_of, edit_in, head_in, batch_by, put_by, is_batch_size, is_put_size, command_of}
+use Rattle.session_line.specs.Commands.{name_in, only_name, save_over_in, save_in, view_from, view_in, at_in, cards_by, cards_in, sought_of, sought_in, find_in, errors_of, errors_in, named_version, of_version, edit_of, edit_in, head_in, batch_by, put_by, is_batch_size, is_put_size, command_of}
 use Rattle.session_line.specs.Lines.{name_and_number, name_and_seen, seen_text, line_of_edit, line_in_batch, line_of_head, line_of_command, IsLawfulEdit, IsLawfulSeen, IsLawfulName, IsLawful}
 use Rattle.session_line.proofs.ReadBack.{IsRest, IsWord, word-name, word-decimal, word-seen, first-word, behind-word, first-number, first-seen}
 
@@ -149,7 +149,15 @@ find-back name text is card size =
     ∙ ap (λ (b : Bool). needs (if b then Some text else None) (λ t. made_of (λ m. command.Cards m (With t)) (name_in name))) size
     ∙ ap (λ (r : Result (List ℕ) Refusal). made_of (λ m. command.Cards m (With text)) r) (name-is name is)
 
--- IMAGE, LIST and ERRORS with a name
+-- ERRORS with a name
+errors-back : (name rest : List ℕ) → is_deck_name name ≡ true → IsRest rest → errors_in (32 ∷ (name ++ rest)) ≡ errors_of name rest
+errors-back name rest is none =
+    let line = 32 ∷ (name ++ rest) in
+    ap (λ (t : Bool). if t then Ok (command.Errors Every) else needs (first_word line) (λ n. errors_of n (behind_word line))) (no-end 32 (name ++ rest))
+    ∙ ap (λ (o : Option (List ℕ)). needs o (λ n. errors_of n (behind_word line))) (first-word name rest (word-name name is) none)
+    ∙ ap (λ (l : List ℕ). errors_of name l) (behind-word name rest (word-name name is) none)
+
+-- IMAGE, LIST and SYMBOLS with a name
 part-back : (all : Command) (part : List ℕ → Command) (name : List ℕ) → is_deck_name name ≡ true →
     (if is_end (32 ∷ (name ++ [])) then Ok all else made_of part (only_name (32 ∷ (name ++ [])))) ≡ Ok (part name)
 part-back all part name is =
@@ -242,7 +250,10 @@ line-back command.Map _ = refl
 line-back (command.ImageOf name) is = part-back command.Image command.ImageOf name is
 line-back (command.ListOf name) is = part-back command.List command.ListOf name is
 line-back (command.Errors Every) _ = refl
-line-back (command.Errors (Of name)) is = part-back (command.Errors Every) (λ n. command.Errors (Of n)) name is
+line-back (command.Errors (Of name)) is = errors-back name [] is refl ∙ ap (λ (r : Result (List ℕ) Refusal). made_of (λ n. command.Errors (Of n)) r) (name-is name is)
+line-back (command.Words name) is = errors-back name (codes " WORDS") is refl ∙ ap (λ (r : Result (List ℕ) Refusal). made_of command.Words r) (name-is name is)
+line-back command.Names _ = refl
+line-back (command.Symbols name) is = part-back command.Names command.Symbols name is
 line-back command.Status _ = refl
 line-back command.FileStatus _ = refl
 line-back command.Files _ = refl

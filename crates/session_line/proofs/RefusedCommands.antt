@@ -17,7 +17,7 @@ use Rattle.session_line.specs.declared.greetings.Greeting.{Greeting}
 use Rattle.session_line.specs.declared.refusals.Refusal.{Refusal}
 use Rattle.session_line.specs.declared.told_decks.ToldDeck.{ToldDeck}
 use Rattle.session_line.specs.declared.tasks.Task.{Task}
-use Rattle.session_line.specs.declared.tasks.Task.TheVariants.{Ask, AwaitVersion, ShowCards, ShowCardsAt, ShowText, ShowPart, ShowErrors, LoadDeck, LoadAll, ReloadDeck, SaveDeck, SaveAll, ShowFiles, ShowFileStatus, Greet, ShowHelp, Leave, Refuse}
+use Rattle.session_line.specs.declared.tasks.Task.TheVariants.{Ask, AwaitVersion, ShowCards, ShowCardsAt, ShowText, ShowPart, ShowErrors, ShowWords, ShowNames, ShowSymbols, LoadDeck, LoadAll, ReloadDeck, SaveDeck, SaveAll, ShowFiles, ShowFileStatus, Greet, ShowHelp, Leave, Refuse}
 use Rattle.session_line.specs.Answers.{told_of_call, called}
 use Rattle.session_line.specs.Asking.{Asks}
 use Rattle.session_line.specs.Executing.{AddsLoaded, Executes}
@@ -114,6 +114,7 @@ module _ {C S : Type 0} (makes : C → Call → Reply → C → Type 0) (awaits 
   all-same (told.Published publication text) desk next shelf after answer saves = uncalled-same desk next saves.0
   all-same (told.Part publication text name) desk next shelf after answer saves = uncalled-same desk next saves.0
   all-same (told.Errors publication view) desk next shelf after answer saves = uncalled-same desk next saves.0
+  all-same (told.Lines version lines) desk next shelf after answer saves = uncalled-same desk next saves.0
   all-same (told.FileStatus version published decks) desk next shelf after answer saves = uncalled-same desk next saves.0
   all-same (told.Standing version published) desk next shelf after answer saves = uncalled-same desk next saves.0
   all-same (told.Decks version decks) desk next shelf after answer saves = uncalled-same desk next saves.0
@@ -138,6 +139,7 @@ module _ {C S : Type 0} (makes : C → Call → Reply → C → Type 0) (awaits 
   adds-all-same (told.Published publication text) decks desk next answer adds refused = uncalled-same desk next adds.0
   adds-all-same (told.Part publication text name) decks desk next answer adds refused = uncalled-same desk next adds.0
   adds-all-same (told.Errors publication view) decks desk next answer adds refused = uncalled-same desk next adds.0
+  adds-all-same (told.Lines version lines) decks desk next answer adds refused = uncalled-same desk next adds.0
   adds-all-same (told.FileStatus version published marks) decks desk next answer adds refused = uncalled-same desk next adds.0
   adds-all-same (told.Standing version published) decks desk next answer adds refused = uncalled-same desk next adds.0
   adds-all-same (told.Decks version lines) decks desk next answer adds refused = uncalled-same desk next adds.0
@@ -169,6 +171,9 @@ module _ {C S : Type 0} (makes : C → Call → Reply → C → Type 0) (awaits 
   refused-same (ShowText text) desk next shelf after answer session is refused = steady.asked desk next Show is.0.reply refl is.0.made
   refused-same (ShowPart text name) desk next shelf after answer session is refused = steady.asked desk next Show is.0.reply refl is.0.made
   refused-same (ShowErrors view) desk next shelf after answer session is refused = steady.asked desk next Show is.0.reply refl is.0.made
+  refused-same (ShowWords name) desk next shelf after answer session is refused = steady.asked desk next Show is.0.reply refl is.0.made
+  refused-same ShowNames desk next shelf after answer session is refused = steady.asked desk next Show is.0.reply refl is.0.made
+  refused-same (ShowSymbols name) desk next shelf after answer session is refused = steady.asked desk next Show is.0.reply refl is.0.made
   refused-same (LoadDeck name) desk next shelf after answer session is refused = adds-same name is.loaded desk next answer is.added refused
   refused-same (LoadAll name) desk next shelf after answer session is refused = loaded-same is.loaded desk next answer is.added refused
   refused-same (ReloadDeck name) desk next shelf after answer session is refused = puts-same name is.loaded desk next answer is.put refused
@@ -218,6 +223,9 @@ command-session command.Map lines = refl
 command-session (command.ImageOf name) lines = refl
 command-session (command.ListOf name) lines = refl
 command-session (command.Errors view) lines = refl
+command-session (command.Words name) lines = refl
+command-session command.Names lines = refl
+command-session (command.Symbols name) lines = refl
 command-session command.Status lines = refl
 command-session command.FileStatus lines = refl
 command-session command.Files lines = refl

@@ -221,6 +221,15 @@ map_of_one = refl
 pub errors : command_of (codes "ERRORS") ≡ Ok (command.Errors Every)
 errors = refl
 
+pub symbols : command_of (codes "SYMBOLS") ≡ Ok command.Names
+symbols = refl
+
+pub symbols_of : command_of (codes "SYMBOLS M") ≡ Ok (command.Symbols (codes "M"))
+symbols_of = refl
+
+pub errors_words : command_of (codes "ERRORS M WORDS") ≡ Ok (command.Words (codes "M"))
+errors_words = refl
+
 pub errors_of : command_of (codes "ERRORS M") ≡ Ok (command.Errors (Of (codes "M")))
 errors_of = refl
 

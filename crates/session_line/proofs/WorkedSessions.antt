@@ -18,7 +18,7 @@ use Rattle.session_line.specs.declared.errors.ErrorsView.TheVariants.{Every, Of}
 use Rattle.session_line.specs.declared.views.CardsView.TheVariants.{All, From, With}
 use Rattle.session_line.specs.declared.published_texts.DeckText.TheVariants as part
 use Rattle.session_line.specs.declared.published_texts.PublishedText.TheVariants.{Image, Listing, Map}
-use Rattle.session_line.specs.declared.tasks.Task.TheVariants.{Ask, AwaitVersion, ShowCards, ShowCardsAt, ShowText, ShowPart, ShowErrors, LoadDeck, LoadAll, ReloadDeck, SaveDeck, SaveAll, ShowFiles, ShowFileStatus, Greet, ShowHelp, Leave, Refuse}
+use Rattle.session_line.specs.declared.tasks.Task.TheVariants.{Ask, AwaitVersion, ShowCards, ShowCardsAt, ShowText, ShowPart, ShowErrors, ShowWords, ShowNames, ShowSymbols, LoadDeck, LoadAll, ReloadDeck, SaveDeck, SaveAll, ShowFiles, ShowFileStatus, Greet, ShowHelp, Leave, Refuse}
 use Rattle.session_line.specs.Tasks.{lines_due, nobody, task_of}
 use Rattle.session_line.specs.Answers.{told_of_call, told_of_wait, told_of_greeting, told_of_cards, told_of_cards_at, told_of_publication, told_of_part, told_of_errors, told_text}
 use Rattle.session_line.specs.FileStatus.{marked}
@@ -83,6 +83,9 @@ list_of = refl
 
 pub errors : task_of (codes "ERRORS") [] ≡ ShowErrors Every
 errors = refl
+
+pub errors_words : task_of (codes "ERRORS M WORDS") [] ≡ ShowWords (codes "M")
+errors_words = refl
 
 pub errors_of : task_of (codes "ERRORS M") [] ≡ ShowErrors (Of (codes "M"))
 errors_of = refl

@@ -177,6 +177,7 @@ told_text (told.Changes version kept) = with_body (counted_text version (length 
 told_text (told.Published publication text) = lines_text publication.version (shown_text text publication.decks)
 told_text (told.Part publication text name) = part_text publication.version (shown_part text name publication.decks)
 told_text (told.Errors publication view) = errors_text publication.version view publication.decks (map_of publication.decks)
+told_text (told.Lines version lines) = lines_text version lines
 told_text (told.Status version published rows) = status_text version published rows
 told_text (told.FileStatus version published decks) = with_body (counted_text version (length decks + 1)) (line_of (published_text published) ++ marks_text decks)
 told_text (told.Standing version published) = status_text version published []

@@ -96,9 +96,20 @@ image_in rest = if is_end rest then Ok command.Image else made_of command.ImageO
 abbrev pub list_in : List ℕ → Result Command Refusal
 list_in rest = if is_end rest then Ok command.List else made_of command.ListOf (only_name rest)
 
--- nothing, or name, behind ERRORS
+-- behind ERRORS name nothing, or WORDS
+abbrev pub errors_of : List ℕ → List ℕ → Result Command Refusal
+errors_of name rest =
+    if is_end rest then made_of (λ name. command.Errors (Of name)) (name_in name)
+    else if same_text rest (codes " WORDS") then made_of command.Words (name_in name)
+    else Err BadCommand
+
+-- nothing, name, or name WORDS, behind ERRORS
 abbrev pub errors_in : List ℕ → Result Command Refusal
-errors_in rest = if is_end rest then Ok (command.Errors Every) else made_of (λ name. command.Errors (Of name)) (only_name rest)
+errors_in rest = if is_end rest then Ok (command.Errors Every) else needs (first_word rest) (λ name. errors_of name (behind_word rest))
+
+-- nothing, or name, behind SYMBOLS
+abbrev pub symbols_in : List ℕ → Result Command Refusal
+symbols_in rest = if is_end rest then Ok command.Names else made_of command.Symbols (only_name rest)
 
 -- nothing, or FILES, behind STATUS
 abbrev pub status_in : List ℕ → Result Command Refusal
@@ -190,6 +201,7 @@ command_by verb.Image rest = image_in rest
 command_by verb.List rest = list_in rest
 command_by verb.Map rest = alone command.Map rest
 command_by verb.Errors rest = errors_in rest
+command_by verb.Symbols rest = symbols_in rest
 command_by verb.Status rest = status_in rest
 command_by verb.Files rest = alone command.Files rest
 command_by verb.Wait rest = wait_in rest

@@ -1,5 +1,5 @@
 -- What ERRORS shows of a publication: the flagged statements of its decks, with those behind END that begin another deck, and the LINK lines of its map (ours).
-use Rattle.std.specs.Prelude.{ℕ, ◌+◌, ◌==◌, Bool, true, false, ◌&&◌, ◌||◌, is_none, List, [], ◌∷◌, ◌++◌, codes, decimal, drop, filter, flat_map, map, reverse, if◌then◌else◌}
+use Rattle.std.specs.Prelude.{ℕ, ◌+◌, ◌==◌, Bool, true, false, ◌&&◌, ◌||◌, is_none, Option, None, Some, List, [], ◌∷◌, ◌++◌, codes, decimal, drop, filter, flat_map, map, reverse, if◌then◌else◌}
 use Rattle.definitions.specs.Characters.{line_feed, same_text}
 use Rattle.definitions.specs.Cards.{Card}
 use Rattle.definitions.specs.DeckInput.{Deck}
@@ -81,6 +81,11 @@ shows_line (Of name) line = is_link line && same_text (link_deck line) name
 -- the lines that are shown of decks and of the map of their link
 abbrev pub error_lines : ErrorsView → List Deck → List ℕ → List (List ℕ)
 error_lines view decks map = flat_map (errors_where view) decks ++ filter (shows_line view) (lines_in map)
+
+-- the first deck of this name among these
+abbrev pub deck_named : List ℕ → List Deck → Option Deck
+deck_named name [] = None
+deck_named name (deck ∷ decks) = if same_text deck.name name then Some deck else deck_named name decks
 
 -- whether a deck of this name is among these
 abbrev pub has_deck : List ℕ → List Deck → Bool

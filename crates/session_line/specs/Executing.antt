@@ -9,13 +9,14 @@ use Rattle.desk_core.specs.declared.calls.Call.{Call}
 use Rattle.desk_core.specs.declared.replies.Reply.{Reply}
 use Rattle.desk_core.specs.declared.calls.Call.TheVariants.{AddDeck, Cards, CardsAt, Show, Status}
 use Rattle.session_line.specs.declared.tasks.Task.{Task}
-use Rattle.session_line.specs.declared.tasks.Task.TheVariants.{Ask, AwaitVersion, ShowCards, ShowCardsAt, ShowText, ShowPart, ShowErrors, LoadDeck, LoadAll, ReloadDeck, SaveDeck, SaveAll, ShowFiles, ShowFileStatus, Greet, ShowHelp, Leave, Refuse}
+use Rattle.session_line.specs.declared.tasks.Task.TheVariants.{Ask, AwaitVersion, ShowCards, ShowCardsAt, ShowText, ShowPart, ShowErrors, ShowWords, ShowNames, ShowSymbols, LoadDeck, LoadAll, ReloadDeck, SaveDeck, SaveAll, ShowFiles, ShowFileStatus, Greet, ShowHelp, Leave, Refuse}
 use Rattle.session_line.specs.declared.answers.Told.{Told}
 use Rattle.session_line.specs.declared.answers.Told.TheVariants as told
 use Rattle.session_line.specs.declared.answers.Answer.{Answer}
 use Rattle.session_line.specs.Reasons.{load_reason}
 use Rattle.session_line.specs.declared.greetings.Greeting.{Greeting}
 use Rattle.session_line.specs.FileTasks.{ShowsFiles}
+use Rattle.session_line.specs.Messages.{IsToldNames, IsToldSymbols, IsToldWords}
 use Rattle.session_line.specs.FileStatus.{ShowsFileStatus}
 use Rattle.session_line.specs.SavingDecks.{SavesDeck}
 use Rattle.session_line.specs.SavingAll.{SavesAll}
@@ -31,6 +32,14 @@ module _ {C : Type 0} (makes : C → Call → Reply → C → Type 0) where
     pub made : makes desk (CardsAt name version) reply next
     pub what : Told
     pub told : IsToldAt reply what
+    pub answered : answer ≡ called what
+
+  -- ERRORS WORDS and SYMBOLS: one call of the desk for the publication, and what is told of that
+  pub record AsksShown (telling : Reply → Told → Type 0) (desk next : C) (answer : Answer) : Type 0 where
+    pub reply : Reply
+    pub made : makes desk Show reply next
+    pub what : Told
+    pub told : telling reply what
     pub answered : answer ≡ called what
 
   -- the deck that the shelf gave is added; or its fault is told, and the desk is not called
@@ -80,6 +89,9 @@ module _ {C S : Type 0} (makes : C → Call → Reply → C → Type 0) (awaits 
   Executes (ShowText text) desk next shelf after answer = Asks makes Show (told_of_publication text) desk next answer × (after ≡ shelf)
   Executes (ShowPart text name) desk next shelf after answer = Asks makes Show (told_of_part text name) desk next answer × (after ≡ shelf)
   Executes (ShowErrors view) desk next shelf after answer = Asks makes Show (told_of_errors view) desk next answer × (after ≡ shelf)
+  Executes (ShowWords name) desk next shelf after answer = AsksShown makes (IsToldWords name) desk next answer × (after ≡ shelf)
+  Executes ShowNames desk next shelf after answer = AsksShown makes IsToldNames desk next answer × (after ≡ shelf)
+  Executes (ShowSymbols name) desk next shelf after answer = AsksShown makes (IsToldSymbols name) desk next answer × (after ≡ shelf)
   Executes (LoadDeck name) desk next shelf after answer = LoadsDeck makes loads refuses_to_load notes name desk next shelf after answer
   Executes (LoadAll name) desk next shelf after answer = LoadsAll makes loads refuses_to_load name desk next shelf after answer
   Executes (ReloadDeck name) desk next shelf after answer = ReloadsDeck makes loads refuses_to_load notes name desk next shelf after answer

@@ -18,6 +18,7 @@ pub mod Tasks
 pub mod Rights
 pub mod Taking
 pub mod Reasons
+pub mod Messages
 pub mod Answers
 pub mod Asking
 pub mod ToldDecks

@@ -14,7 +14,7 @@ use Rattle.session_line.specs.Commands.{command_of}
 use Rattle.session_line.specs.declared.published_texts.DeckText.TheVariants as part
 use Rattle.session_line.specs.declared.published_texts.PublishedText.TheVariants.{Image, Listing, Map}
 use Rattle.session_line.specs.declared.tasks.Task.{Task}
-use Rattle.session_line.specs.declared.tasks.Task.TheVariants.{Ask, AwaitVersion, ShowCards, ShowCardsAt, ShowText, ShowPart, ShowErrors, LoadDeck, LoadAll, ReloadDeck, SaveDeck, SaveAll, ShowFiles, ShowFileStatus, Greet, ShowHelp, Leave, Refuse}
+use Rattle.session_line.specs.declared.tasks.Task.TheVariants.{Ask, AwaitVersion, ShowCards, ShowCardsAt, ShowText, ShowPart, ShowErrors, ShowWords, ShowNames, ShowSymbols, LoadDeck, LoadAll, ReloadDeck, SaveDeck, SaveAll, ShowFiles, ShowFileStatus, Greet, ShowHelp, Leave, Refuse}
 
 -- how many lines belong to a command behind its first
 abbrev pub lines_behind : Command → ℕ
@@ -104,6 +104,9 @@ task_of_command command.Map lines = ShowText Map
 task_of_command (command.ImageOf name) lines = ShowPart part.Section name
 task_of_command (command.ListOf name) lines = ShowPart part.Listing name
 task_of_command (command.Errors view) lines = ShowErrors view
+task_of_command (command.Words name) lines = ShowWords name
+task_of_command command.Names lines = ShowNames
+task_of_command (command.Symbols name) lines = ShowSymbols name
 task_of_command command.Status lines = Ask Status
 task_of_command command.FileStatus lines = ShowFileStatus
 task_of_command command.Files lines = ShowFiles

@@ -37,6 +37,7 @@ other_verb_of word =
     else if same_text word (codes "LIST") then Some verb.List
     else if same_text word (codes "MAP") then Some verb.Map
     else if same_text word (codes "ERRORS") then Some verb.Errors
+    else if same_text word (codes "SYMBOLS") then Some verb.Symbols
     else if same_text word (codes "STATUS") then Some verb.Status
     else if same_text word (codes "WAIT") then Some verb.Wait
     else if same_text word (codes "BATCH") then Some verb.Batch

@@ -4,6 +4,8 @@ ghost use Rattle.session_line.specs.Replies.{text_of_reply, IsWithinLimits};
 ghost use Rattle.deck_linker.specs.Publishing.{map_of};
 ghost use Rattle.desk_core.specs.declared.replies.Reply.TheVariants.{CardsAre};
 ghost use Rattle.session_line.specs.Answers.{foreign, told_of_call, told_of_wait, told_of_greeting, told_of_help, told_of_sessions, told_of_cards, told_of_backs, told_of_part, told_of_errors, told_of_publication, part_text, errors_text, status_text, view_text, told_text, is_bye, IsTellable, IsToldAt};
+ghost use Rattle.session_line.specs.Errors.{deck_named};
+ghost use Rattle.session_line.specs.Messages.{IsLinesOf, IsSaidOf, IsToldNames, IsToldSymbols, IsToldWords};
 ghost use Rattle.session_line.specs.PublishedTexts.{shown_part};
 
 use crate::Refusal;
@@ -11,7 +13,9 @@ use crate::errors::{ErrorsView, shows_any};
 use crate::greetings::{Connected, Greeting};
 use crate::help::help_text;
 use crate::marked_rows::MarkedRow;
+use crate::messages::{object_named, told_of_messages};
 use crate::published_texts::{DeckText, PublishedText, shown_part};
+use crate::symbol_lines::{told_of_deck_symbols, told_of_entered};
 use crate::told_decks::ToldDeck;
 use crate::views::{CardsView, cards_from};
 use cards::{Card, DeckName, Edit, MOST_CARDS, edited_copy, first_fault};
@@ -19,6 +23,8 @@ use deck_files::FileRow;
 use deck_linker::ListedPublication;
 use desk_core::{KeptEdit, Listed, Reply, Row, SharedPublication};
 use std::alloc::Global;
+use std::hash::RandomState;
+use text_ports::Text;
 
 /// How many edits of a deck are kept at most.
 const MOST_KEPT: usize = 2_000;
@@ -46,6 +52,8 @@ pub(crate) enum Told {
     Part(SharedPublication, DeckText, DeckName),
     /// Of the publication, the flagged statements and LINK lines, those of all decks or of one.
     Errors(SharedPublication, ErrorsView),
+    /// A version, and the lines of a text.
+    Lines(u64, Text),
     /// The desk's version, the published one, and a row for each deck.
     Status(u64, Option<u64>, Listed<Row>),
     /// The desk's version, the published one, and a row for each deck, with whether its file has its cards.
@@ -256,6 +264,95 @@ pub(crate) fn told_of_errors(view: ErrorsView, reply: Reply) -> Told
     }
 }
 
+/// What is told of what is said of the deck of a name in a publication.
+fn told_of_words_in(
+    alloc: Global,
+    keys: RandomState,
+    publication: &ListedPublication,
+    name: &DeckName,
+) -> Told
+    ensures told { IsSaidOf publication.now.version (deck_named name.now publication.now.decks) result }
+    ensures fits { IsTellable result }
+{
+    match object_named(publication.objects(), name) {
+        Some(shared) => told_of_messages(alloc, keys, publication.version(), shared.object()),
+        None => Told::Refused(Refusal::NoDeck),
+    }
+}
+
+/// What is told of the reply to a call for the publication, of whose deck of this name it is shown what is said
+/// of each flagged statement, where there is memory for that.
+pub(crate) fn told_of_words(alloc: Global, keys: RandomState, name: &DeckName, reply: Reply) -> Told
+    ensures told { IsToldWords name.now reply result }
+    ensures fits { IsTellable result }
+{
+    match reply {
+        Reply::Shown(publication) => told_of_words_in(alloc, keys, publication.publication(), name),
+        Reply::Refused(refusal) => Told::Refused(Refusal::from(refusal)),
+        _ => foreign(),
+    }
+}
+
+/// What is told of the symbols of the deck of a name in a publication.
+fn told_of_symbols_in(
+    alloc: Global,
+    keys: RandomState,
+    publication: &ListedPublication,
+    name: &DeckName,
+) -> Told
+    ensures told { IsLinesOf publication.now.version (deck_named name.now publication.now.decks) result }
+    ensures fits { IsTellable result }
+{
+    match object_named(publication.objects(), name) {
+        Some(shared) => told_of_deck_symbols(
+            alloc,
+            keys,
+            publication.version(),
+            shared.object().cards(),
+        ),
+        None => Told::Refused(Refusal::NoDeck),
+    }
+}
+
+/// What is told of the reply to a call for the publication, of whose deck of this name the symbols are shown,
+/// where there is memory for them.
+pub(crate) fn told_of_symbols(
+    alloc: Global,
+    keys: RandomState,
+    name: &DeckName,
+    reply: Reply,
+) -> Told
+    ensures told { IsToldSymbols name.now reply result }
+    ensures fits { IsTellable result }
+{
+    match reply {
+        Reply::Shown(publication) => told_of_symbols_in(
+            alloc,
+            keys,
+            publication.publication(),
+            name,
+        ),
+        Reply::Refused(refusal) => Told::Refused(Refusal::from(refusal)),
+        _ => foreign(),
+    }
+}
+
+/// What is told of the reply to a call for the publication, of which the names are shown that decks enter or have
+/// as externals, where there is memory for them.
+pub(crate) fn told_of_names(alloc: Global, reply: Reply) -> Told
+    ensures told { IsToldNames reply result }
+    ensures fits { IsTellable result }
+{
+    match reply {
+        Reply::Shown(shared) => {
+            let publication = shared.publication();
+            told_of_entered(alloc, publication.version(), publication.objects())
+        }
+        Reply::Refused(refusal) => Told::Refused(Refusal::from(refusal)),
+        _ => foreign(),
+    }
+}
+
 /// The reply with this text of the deck of a name, as a publication has it. Without one there is no such deck.
 fn part_reply<'a>(
     publication: &'a ListedPublication,
@@ -344,6 +441,10 @@ impl Told {
             Told::Published(shared, text) => crate::Reply::Published(shared.publication(), *text),
             Told::Part(shared, text, name) => part_reply(shared.publication(), *text, name),
             Told::Errors(shared, view) => errors_reply(shared.publication(), view),
+            Told::Lines(version, lines) => crate::Reply::Text {
+                version: *version,
+                text: lines.as_slice(),
+            },
             Told::Status(version, published, rows) => {
                 status_reply(*version, *published, rows.as_slice())
             }

@@ -1,7 +1,7 @@
 //! The commands of a session.
 ghost use Rattle.std.specs.Prelude.{◌≡◌};
 ghost use Rattle.session_line.specs.declared.commands.Command.TheVariants as command;
-ghost use Rattle.session_line.specs.Commands.{name_in, alone, only_name, save_over_in, save_in, view_in, at_in, cards_by, cards_in, sought_in, find_in, image_in, list_in, errors_in, status_in, wait_in, named_version, of_version, edit_in, head_in, batch_by, put_of, put_by, command_by, refusal_of_word, command_of, is_batch_size, is_put_size};
+ghost use Rattle.session_line.specs.Commands.{name_in, alone, only_name, save_over_in, save_in, view_in, at_in, cards_by, cards_in, sought_in, find_in, image_in, list_in, errors_of, errors_in, symbols_in, status_in, wait_in, named_version, of_version, edit_in, head_in, batch_by, put_of, put_by, command_by, refusal_of_word, command_of, is_batch_size, is_put_size};
 
 use crate::edits::{edit_at, fits_edit};
 use crate::errors::ErrorsView;
@@ -90,6 +90,16 @@ pub enum Command {
     },
     /// The flagged statements and the LINK lines of the publication, those of all decks or of one.
     Errors(ErrorsView),
+    /// What is said of each flagged statement of this deck, as the publication has it.
+    Words {
+        name: DeckName,
+    },
+    /// The names that decks enter or have as externals, as the publication has them.
+    Names,
+    /// The symbols of this deck, as the publication has it.
+    Symbols {
+        name: DeckName,
+    },
     /// The versions and states of all decks.
     Status,
     /// The same, with whether the file of each deck has its cards.
@@ -310,15 +320,44 @@ fn list_in(rest: &[u8]) -> Result<Command, Refusal>
     })
 }
 
-/// Nothing, or `name`, behind `ERRORS`.
+/// Behind `ERRORS name` nothing, or `WORDS`.
+fn errors_of(name: &[u8], rest: &[u8]) -> Result<Command, Refusal>
+    ensures { result ≡ errors_of name.now rest.now }
+{
+    if rest.is_empty() {
+        return Ok(Command::Errors(ErrorsView::Of(name_in(name)?)));
+    }
+    if is_same_text(rest, b" WORDS") {
+        return Ok(Command::Words {
+            name: name_in(name)?,
+        });
+    }
+    Err(Refusal::BadCommand)
+}
+
+/// Nothing, `name`, or `name WORDS`, behind `ERRORS`.
 fn errors_in(rest: &[u8]) -> Result<Command, Refusal>
     ensures { result ≡ errors_in rest.now }
 {
     if rest.is_empty() {
         return Ok(Command::Errors(ErrorsView::Every));
     }
-    let name = only_name(rest)?;
-    Ok(Command::Errors(ErrorsView::Of(name)))
+    match first_word(rest) {
+        Some(name) => errors_of(name, behind_word(rest)),
+        None => Err(Refusal::BadCommand),
+    }
+}
+
+/// Nothing, or `name`, behind `SYMBOLS`.
+fn symbols_in(rest: &[u8]) -> Result<Command, Refusal>
+    ensures { result ≡ symbols_in rest.now }
+{
+    if rest.is_empty() {
+        return Ok(Command::Names);
+    }
+    Ok(Command::Symbols {
+        name: only_name(rest)?,
+    })
 }
 
 /// Nothing, or `FILES`, behind `STATUS`.
@@ -535,6 +574,7 @@ fn command_by(verb: Verb, rest: &[u8]) -> Result<Command, Refusal>
         Verb::List => list_in(rest),
         Verb::Map => alone(Command::Map, rest),
         Verb::Errors => errors_in(rest),
+        Verb::Symbols => symbols_in(rest),
         Verb::Status => status_in(rest),
         Verb::Files => alone(Command::Files, rest),
         Verb::Wait => wait_in(rest),

@@ -2,14 +2,16 @@
 ghost use Rattle.std.specs.Prelude.{◌≡◌, ◌≤◌, length};
 ghost use Rattle.session_line.specs.Answers.{IsTellable, called, most_cards, told_of_call, told_of_cards, told_of_errors, told_of_greeting, told_of_help, told_of_part, told_of_publication, told_of_wait, uncalled};
 ghost use Rattle.session_line.specs.Asking.{Asks, NotesTold};
-ghost use Rattle.session_line.specs.Executing.{AsksAt, AwaitsVersion, Executes, Greets, LoadsDeck};
+ghost use Rattle.session_line.specs.Executing.{AsksAt, AsksShown, AwaitsVersion, Executes, Greets, LoadsDeck};
+ghost use Rattle.session_line.specs.Messages.{IsToldNames, IsToldSymbols, IsToldWords};
 ghost use Rattle.session_line.specs.SavingDecks.{SavesCards, SavesDeck};
 ghost use Rattle.desk_core.specs.declared.calls.Call.TheVariants.{Cards, Show, Status};
 
 use crate::Refusal;
 use crate::answers::{
     Answer, Told, told_of_call, told_of_cards, told_of_cards_at, told_of_errors, told_of_greeting,
-    told_of_help, told_of_part, told_of_publication, told_of_wait,
+    told_of_help, told_of_names, told_of_part, told_of_publication, told_of_symbols, told_of_wait,
+    told_of_words,
 };
 use crate::calls::Calls;
 use crate::errors::ErrorsView;
@@ -25,6 +27,7 @@ use cards::{Card, DeckName};
 use deck_files::{SaveOver, Shelf};
 use desk_core::{Call, NewDeck};
 use std::alloc::Global;
+use std::hash::RandomState;
 
 /// The answer after a call of the desk.
 pub(crate) fn called(told: Told) -> Answer
@@ -119,6 +122,30 @@ fn show_errors<C: Calls>(desk: &mut C, view: ErrorsView) -> Answer
     called(told_of_errors(view, desk.call(Call::Show)))
 }
 
+/// The desk is asked for the publication, and what is said of what is flagged in one deck is shown.
+fn show_words<C: Calls>(alloc: Global, keys: RandomState, desk: &mut C, name: &DeckName) -> Answer
+    ensures asks { AsksShown C.makes (IsToldWords name.now) desk.old desk.new result }
+    ensures fits { IsTellable result.told }
+{
+    called(told_of_words(alloc, keys, name, desk.call(Call::Show)))
+}
+
+/// The desk is asked for the publication, and the names are shown that decks enter or have as externals.
+fn show_names<C: Calls>(alloc: Global, desk: &mut C) -> Answer
+    ensures asks { AsksShown C.makes IsToldNames desk.old desk.new result }
+    ensures fits { IsTellable result.told }
+{
+    called(told_of_names(alloc, desk.call(Call::Show)))
+}
+
+/// The desk is asked for the publication, and the symbols of one deck are shown.
+fn show_symbols<C: Calls>(alloc: Global, keys: RandomState, desk: &mut C, name: &DeckName) -> Answer
+    ensures asks { AsksShown C.makes (IsToldSymbols name.now) desk.old desk.new result }
+    ensures fits { IsTellable result.told }
+{
+    called(told_of_symbols(alloc, keys, name, desk.call(Call::Show)))
+}
+
 /// The shelf notes the version that is told of the deck, if one is.
 pub(crate) fn note_told<S: Shelf>(shelf: &mut S, name: &DeckName, told: &Told)
     ensures { NotesTold S.notes name.now told.now shelf.old shelf.new }
@@ -184,6 +211,7 @@ pub(crate) fn save_deck<C: Calls, S: Shelf>(
 /// and for each deck that SAVEALL saves or LOADALL adds one more.
 pub(crate) fn execute<C: Calls, S: Shelf>(
     alloc: Global,
+    keys: RandomState,
     desk: &mut C,
     shelf: &mut S,
     task: Task,
@@ -199,6 +227,9 @@ pub(crate) fn execute<C: Calls, S: Shelf>(
         Task::ShowText(text) => show_text(desk, text),
         Task::ShowPart(text, name) => show_part(desk, text, name),
         Task::ShowErrors(view) => show_errors(desk, view),
+        Task::ShowWords(name) => show_words(alloc, keys, desk, &name),
+        Task::ShowNames => show_names(alloc, desk),
+        Task::ShowSymbols(name) => show_symbols(alloc, keys, desk, &name),
         Task::LoadDeck(name) => load_deck(desk, shelf, name),
         Task::LoadAll(name) => load_all(alloc, desk, shelf, &name),
         Task::ReloadDeck(name) => reload_deck(desk, shelf, &name),

@@ -31,6 +31,9 @@ LIST name                 the part of the published listing that is the deck's
 MAP                       the published link map alone, from its line MAP on
 ERRORS                    the flagged statements, the decks behind an END, and the LINK lines of the publication
 ERRORS name               those of one deck
+ERRORS name WORDS         what is said of its flagged statements
+SYMBOLS                   the names that decks enter or have as externals
+SYMBOLS name              the symbols of the deck
 STATUS                    how things stand
 STATUS FILES              the same, and of each deck whether its file has its cards
 FILES                     the deck files of the folder

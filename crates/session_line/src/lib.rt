@@ -31,12 +31,14 @@ mod error_writing;
 mod file_texts;
 mod line_writing;
 mod marked_rows;
+mod messages;
 mod published_texts;
 mod refusal_texts;
 mod replies;
 mod reply_line;
 mod reply_texts;
 mod session_writing;
+mod symbol_lines;
 mod told_decks;
 mod writing;
 

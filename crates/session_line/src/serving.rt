@@ -11,6 +11,7 @@ use crate::rights::{Rights, allowed};
 use crate::write_reply;
 use deck_files::Shelf;
 use std::alloc::Global;
+use std::hash::RandomState;
 use std::io::{Read, Write};
 use text_ports::Counted;
 
@@ -51,9 +52,11 @@ pub(crate) fn send<W: Write>(output: &mut Counted<W>, answer: &Answer) -> Outcom
 /// belong to it, LOAD's before that of the desk, all others behind it; SAVEALL makes one call more for each
 /// deck that it saves; and its reply is written. Of a session that may only ask, one that changes a deck or a file is `NO ReadOnly`, and
 /// nothing is called. Where the input ends or fails before that, or a line is too long, nothing is called
-/// and nothing is written. Want of memory is told as `NO OutOfMemory`.
+/// and nothing is written. Want of memory is told as `NO OutOfMemory`. Tables that are made for it hash by
+/// these keys.
 pub fn serve_one<R: Read, W: Write, C: Calls, S: Shelf>(
     alloc: Global,
+    keys: RandomState,
     rights: Rights,
     input: &mut Counted<R>,
     output: &mut Counted<W>,
@@ -68,7 +71,7 @@ pub fn serve_one<R: Read, W: Write, C: Calls, S: Shelf>(
 {
     match read_task(alloc, input) {
         Ok(task) => {
-            let answer = execute(alloc, desk, shelf, allowed(rights, task));
+            let answer = execute(alloc, keys, desk, shelf, allowed(rights, task));
             send(output, &answer)
         }
         Err(Stop::InputEnded) => Outcome::Ended,

@@ -9,6 +9,7 @@ use crate::rights::{Rights, allowed};
 use crate::serving::{Outcome, send};
 use deck_files::Shelf;
 use std::alloc::Global;
+use std::hash::RandomState;
 use std::io::{Read, Write};
 use text_ports::Counted;
 
@@ -16,6 +17,7 @@ use text_ports::Counted;
 /// those that belong to it were not.
 pub fn serve_taken<R: Read, W: Write, C: Calls, S: Shelf>(
     alloc: Global,
+    keys: RandomState,
     rights: Rights,
     first: &[u8],
     input: &mut Counted<R>,
@@ -31,7 +33,7 @@ pub fn serve_taken<R: Read, W: Write, C: Calls, S: Shelf>(
 {
     match read_behind(alloc, first, input) {
         Ok(task) => {
-            let answer = execute(alloc, desk, shelf, allowed(rights, task));
+            let answer = execute(alloc, keys, desk, shelf, allowed(rights, task));
             send(output, &answer)
         }
         Err(Stop::InputEnded) => Outcome::Ended,

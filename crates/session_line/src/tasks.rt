@@ -34,6 +34,12 @@ pub(crate) enum Task {
     ShowPart(DeckText, DeckName),
     /// The flagged statements and LINK lines of the publication are shown, those of all decks or of one.
     ShowErrors(ErrorsView),
+    /// What is said of each flagged statement of the deck of this name is shown, as the publication has it.
+    ShowWords(DeckName),
+    /// The names that decks enter or have as externals are shown, as the publication has them.
+    ShowNames,
+    /// The symbols of the deck of this name are shown, as the publication has it.
+    ShowSymbols(DeckName),
     /// The shelf's deck of this name is added.
     LoadDeck(DeckName),
     /// The decks of the shelf's file of this name are added.
@@ -71,6 +77,7 @@ fn lines_behind(command: &Command) -> u64
         Command::CardsAt { .. } | Command::Changes { .. } | Command::Undo { .. } => 0,
         Command::SaveAll | Command::Image | Command::List | Command::Map => 0,
         Command::ImageOf { .. } | Command::ListOf { .. } | Command::Errors(_) => 0,
+        Command::Words { .. } | Command::Names | Command::Symbols { .. } => 0,
         Command::Status | Command::FileStatus | Command::Files => 0,
         Command::Wait { .. } => 0,
         Command::Hello { .. } | Command::Help | Command::Bye => 0,
@@ -225,6 +232,9 @@ fn task_of_command(alloc: Global, command: Command, edits: ItemsRead<Edit>) -> T
         Command::ImageOf { name } => Task::ShowPart(DeckText::Section, name),
         Command::ListOf { name } => Task::ShowPart(DeckText::Listing, name),
         Command::Errors(view) => Task::ShowErrors(view),
+        Command::Words { name } => Task::ShowWords(name),
+        Command::Names => Task::ShowNames,
+        Command::Symbols { name } => Task::ShowSymbols(name),
         Command::Status => Task::Ask(Call::Status),
         Command::FileStatus => Task::ShowFileStatus,
         Command::Files => Task::ShowFiles,

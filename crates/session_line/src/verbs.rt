@@ -31,6 +31,7 @@ pub(crate) enum Verb {
     List,
     Map,
     Errors,
+    Symbols,
     Status,
     Files,
     Wait,
@@ -100,6 +101,8 @@ fn other_verb_of(word: &[u8]) -> Option<Verb>
         Some(Verb::Map)
     } else if is_same_text(word, b"ERRORS") {
         Some(Verb::Errors)
+    } else if is_same_text(word, b"SYMBOLS") {
+        Some(Verb::Symbols)
     } else if is_same_text(word, b"STATUS") {
         Some(Verb::Status)
     } else if is_same_text(word, b"WAIT") {
