@@ -426,16 +426,18 @@ const dress_flagged = line => line.slice(0, 4).trim() ? made("b", "", line) : nu
 async function take_publication() {
   for (let turn = 0; turn < TRIES; turn++) {
     const deck = chosen;
-    const lines = ["STATUS FILES", "MAP", "ERRORS"].concat(deck ? [`LIST ${deck}`, `IMAGE ${deck}`, `ERRORS ${deck} WORDS`] : []);
-    const [status, map, errors, list, image, said] = await ask(...lines);
+    const lines = ["STATUS FILES", "MAP", "ERRORS"].concat(deck ? [`LIST ${deck}`, `IMAGE ${deck}`] : []);
+    const [status, map, errors, list, image] = await ask(...lines);
     const now = status_of(status);
     system = now;
     if (!map.ok || deck !== chosen) continue;
-    if ([errors, list, image, said].some(part => part && part.ok && part.version !== map.version) || now.published !== map.version) continue;
+    if ([errors, list, image].some(part => part && part.ok && part.version !== map.version) || now.published !== map.version) continue;
     const row = now.decks.find(row => row.name === deck);
     const version = row && row.version <= map.version ? row.version : null;
     if (shown.deck === deck && shown.published === map.version) { shown.version = version; return; }
-    show_publication(map.version, version, list && list.ok ? list : null, image && image.ok ? image : null, map, counts_of(errors.rows), said && said.ok ? said.rows : []);
+    const counts = counts_of(errors.rows), said = counts.get(deck) ? (await ask(`ERRORS ${deck} WORDS`))[0] : null;
+    if (deck !== chosen || (said && said.ok && said.version !== map.version)) continue;
+    show_publication(map.version, version, list && list.ok ? list : null, image && image.ok ? image : null, map, counts, said && said.ok ? said.rows : []);
     return;
   }
 }
