@@ -7,12 +7,14 @@ _compass() {
   esac
   case ${COMP_WORDS[1]} in
     asm) options='--fold-case --tabs --last-line --journal --version --listing --map -o --image --symbols --quiet --check --explain --name -h --help' ;;
+    dump) options='-h --help' ;;
+    diff) options='-h --help' ;;
     log) options='--deck -h --help' ;;
     serve) options='--root --port --page --workers --sessions --readers --idle --journal --compact --once -h --help' ;;
     stop) options='--root -h --help' ;;
   esac
   if [ "$COMP_CWORD" = 1 ]; then
-    mapfile -t COMPREPLY < <(compgen -W 'asm log serve stop help -h --help -V --version' -- "$word")
+    mapfile -t COMPREPLY < <(compgen -W 'asm dump diff log serve stop help -h --help -V --version' -- "$word")
   elif [[ $word == -* ]]; then
     mapfile -t COMPREPLY < <(compgen -W "$options" -- "$word")
   else

@@ -13,6 +13,9 @@ use thiserror::Error;
 /// The name that stands for standard input.
 pub(crate) const STANDARD_INPUT: &str = "-";
 
+/// How many bytes of a file are taken at once at most.
+const MOST_BYTES: u64 = 1 << 30;
+
 /// What a name of the command line stands for.
 #[derive(Drop)]
 pub(crate) enum InputFile<F, S> {
@@ -149,6 +152,22 @@ pub(crate) fn input_of<'a, R: Files + Input + Eprint>(
         }
     }
     Ok(Chained::new(parts))
+}
+
+/// All bytes of what a name stands for. More than a gigabyte is a fault, so what never ends does not take all
+/// memory.
+pub(crate) fn bytes_of<R: Files + Input + Eprint>(
+    rt: &R,
+    alloc: Global,
+    name: &str,
+) -> io::Result<Vec<u8>> {
+    let mut file = open(rt, alloc, name, None)?.take(MOST_BYTES + 1);
+    let mut bytes = Vec::new(alloc);
+    file.read_to_end(&mut bytes)?;
+    if bytes.len() as u64 > MOST_BYTES {
+        return Err(io::Error::from(io::ErrorKind::FileTooLarge));
+    }
+    Ok(bytes)
 }
 
 /// The names of files as messages show them: standard input has another name where one is said.

@@ -12,6 +12,15 @@ pub fn valued_word<'a>(alloc: Global, name: &'a str, value: &'a str, help: &'a s
         .action(ArgAction::Set)
 }
 
+/// A word without a name, which has to be there.
+pub(crate) fn file_word<'a>(alloc: Global, value: &'a str, help: &'a str) -> Arg<'a> {
+    Arg::new(alloc, value)
+        .value_name(value)
+        .help(help)
+        .required(true)
+        .action(ArgAction::Set)
+}
+
 /// A word that is said or not.
 pub fn plain_word<'a>(alloc: Global, name: &'a str, help: &'a str) -> Arg<'a> {
     Arg::new(alloc, name)

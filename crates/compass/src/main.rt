@@ -11,7 +11,7 @@ ghost use Rattle.std.specs.Prelude.{◌≡◌, ℕ, ◌<◌, pos};
 
 use asm_main::AsmFault;
 use clap::{ArgMatches, Command, Error};
-use command_line::{asm_words, assemble, log, log_words, tell};
+use command_line::{asm_words, assemble, diff, diff_words, dump, dump_words, log, log_words, tell};
 use desk_service::VERSION;
 use serving::{MEMORY_STATUS, run_service, serve_words, settings_of};
 use std::alloc::{AllocError, Global};
@@ -39,13 +39,15 @@ fn with_command<'a>(
     line.subcommand(command?)
 }
 
-/// The command line: its commands are `asm`, `log`, `serve` and `stop`.
+/// The command line: its commands are `asm`, `dump`, `diff`, `log`, `serve` and `stop`.
 fn line_of_commands<'a>(alloc: Global) -> Result<Command<'a>, AllocError> {
     let line = Command::new(alloc, "compass")
         .version(VERSION)
         .about("COMPASS for the Control Data 6000 series, proved")
         .subcommand_required(true);
     let line = with_command(line, asm_words(alloc))?;
+    let line = with_command(line, dump_words(alloc))?;
+    let line = with_command(line, diff_words(alloc))?;
     let line = with_command(line, log_words(alloc))?;
     let line = with_command(line, serve_words(alloc))?;
     with_command(line, stop_words(alloc))
@@ -81,6 +83,12 @@ where
     };
     if let Some(words) = matches.subcommand_matches("asm") {
         return assemble(rt, words, at_terminal);
+    }
+    if let Some(words) = matches.subcommand_matches("dump") {
+        return dump(rt, words);
+    }
+    if let Some(words) = matches.subcommand_matches("diff") {
+        return diff(rt, words);
     }
     if let Some(words) = matches.subcommand_matches("log") {
         return log(rt, words);
