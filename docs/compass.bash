@@ -3,10 +3,10 @@ _compass() {
   local word=${COMP_WORDS[COMP_CWORD]} before=${COMP_WORDS[COMP_CWORD - 1]} options=
   case $before in
     --root) mapfile -t COMPREPLY < <(compgen -d -- "$word"); return ;;
-    --image|--journal|--listing|--map|--name|-o) mapfile -t COMPREPLY < <(compgen -f -- "$word"); return ;;
+    --binary|--image|--journal|--listing|--map|--name|-o) mapfile -t COMPREPLY < <(compgen -f -- "$word"); return ;;
   esac
   case ${COMP_WORDS[1]} in
-    asm) options='--fold-case --tabs --last-line --journal --version --listing --map -o --image --symbols --quiet --check --explain --name -h --help' ;;
+    asm) options='--fold-case --tabs --last-line --journal --version --listing --map -o --image --binary --symbols --quiet --check --explain --name -h --help' ;;
     dump) options='-h --help' ;;
     diff) options='-h --help' ;;
     log) options='--deck -h --help' ;;

@@ -1,11 +1,12 @@
 //! `compass asm`: its words, its run and its faults.
 
+use crate::binaries::{may_hold_words, write_binary};
 use crate::flagged::{Telling, tell_flagged, tell_summary};
 use crate::input_files::{STANDARD_INPUT, input_of, shown_names, standard_input};
 use crate::input_lines::tell_lines;
 use crate::journal_files::{DecksFault, decks_at};
-use crate::outputs::{Clash, file_named, first_clash};
-use crate::run_faults::{RunFault, tell_clash, tell_run};
+use crate::outputs::{Clash, OutputNames, file_named, first_clash};
+use crate::run_faults::{RunFault, tell_clash, tell_no_file, tell_run};
 use crate::standard_output::standard_output;
 use crate::symbols::symbol_tables;
 use crate::tab_places::FileColumns;
@@ -69,6 +70,8 @@ struct Named<'w, 'a> {
     listing: Option<&'a str>,
     map: Option<&'a str>,
     image: Option<&'a str>,
+    /// The file of the packed words of the image, which goes to its own place too.
+    binary: Option<&'a str>,
     symbols: bool,
     quiet: bool,
     /// Whether nothing is written, and only what is flagged is told.
@@ -130,7 +133,8 @@ fn with_messages<'a>(alloc: Global, command: Command<'a>) -> Result<Command<'a>,
         .conflicts_with("symbols")?
         .conflicts_with("listing")?
         .conflicts_with("map")?
-        .conflicts_with("image")?;
+        .conflicts_with("image")?
+        .conflicts_with("binary")?;
     command
         .arg(plain_word(alloc, "quiet", quiet))?
         .arg(check)?
@@ -141,10 +145,12 @@ fn with_messages<'a>(alloc: Global, command: Command<'a>) -> Result<Command<'a>,
 /// The command with the words of where the output goes.
 fn with_outputs<'a>(alloc: Global, command: Command<'a>) -> Result<Command<'a>, AllocError> {
     let symbols = "Puts a table of the symbols of each deck behind the listings";
+    let binary = "Where the words of the image go, packed; FILE.sections gets where they stand";
     command
         .arg(valued_word(alloc, "listing", "FILE", "Where the listings go"))?
         .arg(valued_word(alloc, "map", "FILE", "Where the link map goes"))?
         .arg(valued_word(alloc, "image", "FILE", "Where the octal image goes").short('o'))?
+        .arg(valued_word(alloc, "binary", "FILE", binary))?
         .arg(plain_word(alloc, "symbols", symbols))
 }
 
@@ -185,12 +191,21 @@ fn filter_of(words: &ArgMatches<'_>) -> Option<Filter> {
 impl<'w, 'a> Named<'w, 'a> {
     /// Whether a part of the output has a file of its own.
     fn has_outputs(&self) -> bool {
-        self.listing.is_some() || self.map.is_some() || self.image.is_some()
+        let has_parts = self.listing.is_some() || self.map.is_some() || self.image.is_some();
+        has_parts || self.binary.is_some()
+    }
+
+    /// The files that the output goes to.
+    fn output_names(&self) -> OutputNames<'a> {
+        OutputNames {
+            parts: [self.listing, self.map, self.image],
+            binary: self.binary,
+        }
     }
 
     /// The first file of the output that is one of the input too, or that of another part.
     fn first_clash<R: Files>(&self, rt: &R, alloc: Global) -> Option<Clash<'a>> {
-        let outputs = [self.listing, self.map, self.image];
+        let outputs = self.output_names();
         match self.journal {
             Some(journal) => first_clash(rt, alloc, outputs, &[journal]),
             None if self.inputs.is_empty() => first_clash(rt, alloc, outputs, &["-"]),
@@ -243,6 +258,7 @@ where
         listing: file_named(words.get_str("listing")),
         map: file_named(words.get_str("map")),
         image: file_named(words.get_str("image")),
+        binary: words.get_str("binary"),
         symbols: words.get_flag("symbols"),
         quiet: words.get_flag("quiet"),
         check: words.get_flag("check"),
@@ -250,13 +266,27 @@ where
         at_terminal,
         name: words.get_str("name"),
     };
+    assemble_named(rt, &named)
+}
+
+/// `compass asm` of what the words name. What can't be written as they say is refused before anything is read.
+fn assemble_named<R>(rt: &R, named: &Named<'_, '_>) -> ExitCode
+where
+    R: AllocGlobal + Input + Print + Eprint + Files + RandomSource,
+    R::File: AsFd,
+{
+    if let Some(name) = named.binary {
+        if !may_hold_words(rt, name) {
+            return tell_no_file(rt, name);
+        }
+    }
     if let Some(clash) = named.first_clash(rt, rt.alloc()) {
         return tell_clash(rt, clash);
     }
     let outcome = match named.journal {
-        Some(journal) => from_journal(rt, &named, journal),
-        None if named.inputs.is_empty() => from_input(rt, &named),
-        None => from_files(rt, &named),
+        Some(journal) => from_journal(rt, named, journal),
+        None if named.inputs.is_empty() => from_input(rt, named),
+        None => from_files(rt, named),
     };
     tell_run(rt, &outcome)
 }
@@ -454,7 +484,11 @@ where
 {
     write_file(rt, named.listing, built, LISTING, tables)?;
     write_file(rt, named.map, built, MAP, tables)?;
-    write_file(rt, named.image, built, IMAGE, tables)
+    write_file(rt, named.image, built, IMAGE, tables)?;
+    match named.binary {
+        Some(name) => write_binary(rt, rt.alloc(), name, built),
+        None => Ok(()),
+    }
 }
 
 /// Writes the parts of a build that have no file to standard output.

@@ -1,6 +1,7 @@
 //! `compass dump` and `compass diff`: the images that they read, what they print of them, and their faults.
 
 use crate::input_files::{STANDARD_INPUT, bytes_of};
+use crate::outputs::FileName;
 use crate::standard_output::standard_output;
 use crate::words::file_word;
 use asm_main::{AsmFault, Remembering, asm_status};
@@ -84,8 +85,11 @@ pub fn diff_words<'a>(alloc: Global) -> Result<Command<'a>, AllocError> {
 }
 
 /// The name of the text beside packed words.
-pub(crate) fn sections_name(alloc: Global, name: &str) -> Result<String, AllocError> {
-    format!(in alloc; "{name}.sections")
+pub(crate) fn sections_beside(word: &str) -> FileName<'_> {
+    FileName {
+        word,
+        behind: ".sections",
+    }
 }
 
 /// A fault of the system at a file; want of memory is one of its own.
@@ -106,7 +110,8 @@ fn places_of<'a, R: Files + Input + Eprint>(
     if name == STANDARD_INPUT {
         return Ok(None);
     }
-    let beside = sections_name(alloc, name)?;
+    let sections = sections_beside(name);
+    let beside = format!(in alloc; "{sections}")?;
     let beside = beside.as_str();
     match fs::metadata(rt, beside) {
         Err(error) if error.kind() == ErrorKind::NotFound => return Ok(None),

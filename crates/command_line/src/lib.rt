@@ -17,6 +17,7 @@ mod tab_places;
 
 // A run of `compass asm`, and what it tells.
 mod assembling;
+mod binaries;
 mod flagged;
 mod input_lines;
 mod outputs;

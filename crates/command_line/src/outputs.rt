@@ -2,12 +2,13 @@
 //! the input, or that of another part.
 ghost use Rattle.std.specs.Prelude.{◌≡◌, ◌↔◌, IsTrue};
 
+use crate::image_files::sections_beside;
 use deck_files::target_of;
 use std::alloc::Global;
-use std::fs;
 use std::io::ErrorKind;
 use std::os::unix::fs::MetadataExt;
 use std::rt::Files;
+use std::{fmt, fs};
 
 /// The path by which the system knows standard input.
 const STANDARD_INPUT: &str = "/dev/stdin";
@@ -24,11 +25,25 @@ pub(crate) fn file_named(word: Option<&str>) -> Option<&str> {
     }
 }
 
-/// Two words that name one file.
+/// The name of a file: a word, and what is put behind it.
+#[derive(Clone, Copy, Debug)]
+pub(crate) struct FileName<'a> {
+    pub word: &'a str,
+    pub behind: &'static str,
+}
+
+impl fmt::Display for FileName<'_> {
+    fn fmt<W: fmt::Write>(&self, f: &mut fmt::Formatter<W>) -> fmt::Result {
+        let FileName { word, behind } = *self;
+        write!(f, "{word}{behind}")
+    }
+}
+
+/// Two names of one file.
 #[derive(Clone, Copy)]
 pub(crate) struct Clash<'a> {
-    pub output: &'a str,
-    pub other: &'a str,
+    pub output: FileName<'a>,
+    pub other: FileName<'a>,
 }
 
 /// A plain file, as the system tells it from others.
@@ -71,6 +86,22 @@ fn found_at<R: Files>(rt: &R, alloc: Global, path: &str) -> Found {
     }
 }
 
+/// Which file a name names. Want of memory for it is told by the run.
+fn found_named<R: Files>(rt: &R, alloc: Global, name: FileName<'_>) -> Found {
+    if name.behind.is_empty() {
+        return found_at(rt, alloc, name.word);
+    }
+    match format!(in alloc; "{name}") {
+        Ok(path) => found_at(rt, alloc, path.as_str()),
+        Err(_) => Found::Other,
+    }
+}
+
+/// A word that names a file.
+fn named(word: &str) -> FileName<'_> {
+    FileName { word, behind: "" }
+}
+
 /// Whether two paths name one file.
 fn are_one(found: &Found, other: &Found) -> bool {
     match (found, other) {
@@ -86,12 +117,12 @@ fn same_among<'a, R: Files>(
     alloc: Global,
     found: &Found,
     names: &[&'a str],
-) -> Option<&'a str> {
+) -> Option<FileName<'a>> {
     for name in names {
         let name = *name;
         let path = if name == "-" { STANDARD_INPUT } else { name };
         if are_one(found, &found_at(rt, alloc, path)) {
-            return Some(name);
+            return Some(named(name));
         }
     }
     None
@@ -102,11 +133,11 @@ fn same_output<'a, R: Files>(
     rt: &R,
     alloc: Global,
     found: &Found,
-    outputs: &[Option<&'a str>],
-) -> Option<&'a str> {
+    outputs: &[Option<FileName<'a>>],
+) -> Option<FileName<'a>> {
     for output in outputs {
         if let Some(name) = *output {
-            if are_one(found, &found_at(rt, alloc, name)) {
+            if are_one(found, &found_named(rt, alloc, name)) {
                 return Some(name);
             }
         }
@@ -114,18 +145,41 @@ fn same_output<'a, R: Files>(
     None
 }
 
-/// The first file of the output that is one of the input, or that of a part before it. Of the outputs, those
-/// that are none go to standard output.
+/// The files that the output goes to.
+#[derive(Clone, Copy)]
+pub(crate) struct OutputNames<'a> {
+    /// The parts of the output: those that have none go to standard output.
+    pub parts: [Option<&'a str>; 3],
+    /// The packed words of the image, which go to a file or nowhere, with a text beside them.
+    pub binary: Option<&'a str>,
+}
+
+impl<'a> OutputNames<'a> {
+    /// The files that it goes to, if it does.
+    fn files(&self) -> [Option<FileName<'a>>; 5] {
+        let [listing, map, image] = self.parts;
+        [
+            listing.map(named),
+            map.map(named),
+            image.map(named),
+            self.binary.map(named),
+            self.binary.map(sections_beside),
+        ]
+    }
+}
+
+/// The first file of the output that is one of the input, or that of a part before it.
 pub(crate) fn first_clash<'a, R: Files>(
     rt: &R,
     alloc: Global,
-    outputs: [Option<&'a str>; 3],
+    names: OutputNames<'a>,
     inputs: &[&'a str],
 ) -> Option<Clash<'a>> {
-    let has_standard = outputs.iter().any(|output| output.is_none());
+    let has_standard = names.parts.iter().any(|output| output.is_none());
+    let outputs = names.files();
     for (place, output) in outputs.iter().enumerate() {
         let Some(output) = *output else { continue };
-        let found = found_at(rt, alloc, output);
+        let found = found_named(rt, alloc, output);
         let before = outputs.split_at(place).0;
         if let Some(other) = same_output(rt, alloc, &found, before) {
             return Some(Clash { output, other });
@@ -134,7 +188,7 @@ pub(crate) fn first_clash<'a, R: Files>(
             return Some(Clash { output, other });
         }
         if has_standard && are_one(&found, &found_at(rt, alloc, STANDARD_OUTPUT)) {
-            let other = "standard output";
+            let other = named("standard output");
             return Some(Clash { output, other });
         }
     }

@@ -6,7 +6,7 @@ ghost use Rattle.asm_main.specs.Runs.{run_status};
 use crate::input_files::InputFault;
 use crate::input_lines::character_of;
 use crate::journal_files::{JOURNAL_STATUS, JournalError};
-use crate::outputs::Clash;
+use crate::outputs::{Clash, FileName};
 use crate::tab_places::{FileColumns, column_at};
 use asm_main::{AsmFault, Chained, LinePlace, Tally, asm_status, column_of, line_of, words_of};
 use std::process::ExitCode;
@@ -85,13 +85,28 @@ pub(crate) enum RunFault<'a> {
     Told(AsmFault),
     /// The journal has not what is asked for.
     #[error("{name}: {error}")]
-    Journal { name: &'a str, error: JournalError },
+    Journal {
+        name: &'a str,
+        error: JournalError,
+    },
     /// A file of the output can't be written.
     #[error("{name}: {error}")]
-    Output { name: &'a str, error: io::Error },
+    Output {
+        name: &'a str,
+        error: io::Error,
+    },
+    /// The text beside packed words can't be written.
+    #[error("{name}: {error}")]
+    Beside {
+        name: FileName<'a>,
+        error: io::Error,
+    },
     /// Standard output can't be written, by what the system says.
     #[error("standard output: {error} [{fault}]")]
-    Standard { fault: AsmFault, error: io::Error },
+    Standard {
+        fault: AsmFault,
+        error: io::Error,
+    },
 }
 
 /// The column of the file that a fault of a line at this place is about, where one is known.
@@ -161,7 +176,9 @@ fn status_of(fault: &RunFault<'_>) -> u8 {
             asm_status(&Err(*fault))
         }
         RunFault::Journal { .. } => JOURNAL_STATUS,
-        RunFault::Output { .. } => asm_status(&Err(AsmFault::WriteFault { sent: 0 })),
+        RunFault::Output { .. } | RunFault::Beside { .. } => asm_status(&Err(AsmFault::WriteFault {
+            sent: 0,
+        })),
         RunFault::Standard { fault, .. } => asm_status(&Err(*fault)),
     }
 }
@@ -187,6 +204,12 @@ pub(crate) fn tell_clash<R: Eprint>(rt: &R, clash: Clash<'_>) -> ExitCode {
     let _ = eprintln!(rt;
         "compass: {output} would be written over {other}, the same file; nothing was read or written"
     );
+    ExitCode::from(COMMAND_LINE_STATUS)
+}
+
+/// The line of a word that wants a plain file and names none, and the status of faults of the command line.
+pub(crate) fn tell_no_file<R: Eprint>(rt: &R, name: &str) -> ExitCode {
+    let _ = eprintln!(rt; "compass: --binary {name} is no plain file; nothing was read or written");
     ExitCode::from(COMMAND_LINE_STATUS)
 }
 
