@@ -6,7 +6,7 @@ _compass() {
     --binary|--image|--journal|--listing|--map|--name|-o) mapfile -t COMPREPLY < <(compgen -f -- "$word"); return ;;
   esac
   case ${COMP_WORDS[1]} in
-    asm) options='--fold-case --tabs --last-line --journal --version --listing --map -o --image --binary --symbols --quiet --check --explain --name -h --help' ;;
+    asm) options='--fold-case --tabs --last-line --journal --version --listing --map -o --image --binary --layout --symbols --quiet --check --explain --name -h --help' ;;
     dump) options='-h --help' ;;
     diff) options='-h --help' ;;
     log) options='--deck -h --help' ;;

@@ -1,10 +1,11 @@
 //! `compass asm`: its words, its run and its faults.
 
-use crate::binaries::{may_hold_words, write_binary};
+use crate::binaries::{may_hold_words, text_of, write_binary};
 use crate::flagged::{Telling, tell_flagged, tell_summary};
 use crate::input_files::{STANDARD_INPUT, input_of, shown_names, standard_input};
 use crate::input_lines::tell_lines;
 use crate::journal_files::{DecksFault, decks_at};
+use crate::manual_layout::manual_listings;
 use crate::outputs::{Clash, OutputNames, file_named, first_clash};
 use crate::run_faults::{RunFault, tell_clash, tell_no_file, tell_run};
 use crate::standard_output::standard_output;
@@ -50,6 +51,9 @@ const IMAGE: Chosen = Chosen {
     image: true,
 };
 
+/// How listings may be laid out.
+const LAYOUTS: [&str; 2] = ["usual", "manual"];
+
 /// What stands below the help.
 const EXAMPLE: &str = "What has no file of its own goes to standard output.
 
@@ -73,6 +77,8 @@ struct Named<'w, 'a> {
     /// The file of the packed words of the image, which goes to its own place too.
     binary: Option<&'a str>,
     symbols: bool,
+    /// Whether the listings have code at the left of its card.
+    manual: bool,
     quiet: bool,
     /// Whether nothing is written, and only what is flagged is told.
     check: bool,
@@ -134,12 +140,19 @@ fn with_messages<'a>(alloc: Global, command: Command<'a>) -> Result<Command<'a>,
         .conflicts_with("listing")?
         .conflicts_with("map")?
         .conflicts_with("image")?
-        .conflicts_with("binary")?;
+        .conflicts_with("binary")?
+        .conflicts_with("layout")?;
     command
         .arg(plain_word(alloc, "quiet", quiet))?
         .arg(check)?
         .arg(plain_word(alloc, "explain", explain))?
         .arg(valued_word(alloc, "name", "FILE", name).conflicts_with("journal")?)
+}
+
+/// The word of how listings are laid out.
+fn layout_word<'a>(alloc: Global) -> Arg<'a> {
+    let help = "How listings are laid out: usual, or manual, with code at the left of its card";
+    valued_word(alloc, "layout", "L", help).value_parser(LAYOUTS.as_slice())
 }
 
 /// The command with the words of where the output goes.
@@ -151,6 +164,7 @@ fn with_outputs<'a>(alloc: Global, command: Command<'a>) -> Result<Command<'a>, 
         .arg(valued_word(alloc, "map", "FILE", "Where the link map goes"))?
         .arg(valued_word(alloc, "image", "FILE", "Where the octal image goes").short('o'))?
         .arg(valued_word(alloc, "binary", "FILE", binary))?
+        .arg(layout_word(alloc))?
         .arg(plain_word(alloc, "symbols", symbols))
 }
 
@@ -260,6 +274,7 @@ where
         image: file_named(words.get_str("image")),
         binary: words.get_str("binary"),
         symbols: words.get_flag("symbols"),
+        manual: words.get_str("layout") == Some("manual"),
         quiet: words.get_flag("quiet"),
         check: words.get_flag("check"),
         explain: at_terminal || words.get_flag("explain"),
@@ -317,7 +332,7 @@ where
     R::File: AsFd,
     I: BufRead,
 {
-    if !named.has_outputs() && !named.symbols {
+    if !named.has_outputs() && !named.symbols && !named.manual {
         let mut output = Counted::new(standard_output(rt));
         return Ok(asm_run(rt.alloc(), named.keys, input, &mut output)?);
     }
@@ -445,6 +460,27 @@ where
     Ok(tally)
 }
 
+/// What is written of a build beside its own texts, or in the place of one.
+#[derive(Drop)]
+struct Texts {
+    /// The tables of symbols, where they are asked for, and else no text.
+    tables: Text,
+    /// The listings in another layout, where one is asked for.
+    listings: Option<Text>,
+}
+
+/// The texts that are asked for.
+fn texts_of(alloc: Global, named: &Named<'_, '_>, built: &mut Built) -> Result<Texts, AllocError> {
+    let tables = tables_of(alloc, named, built)?;
+    let listings = if named.manual {
+        let listings = text_of(alloc, built, LISTING)?;
+        Some(manual_listings(alloc, listings.as_slice())?)
+    } else {
+        None
+    };
+    Ok(Texts { tables, listings })
+}
+
 /// The tables of symbols, where they are asked for, and else no text.
 fn tables_of(alloc: Global, named: &Named<'_, '_>, built: &Built) -> Result<Text, AllocError> {
     if named.symbols {
@@ -464,11 +500,11 @@ where
     R: AllocGlobal + Print + Files,
     R::File: AsFd,
 {
-    let Ok(tables) = tables_of(rt.alloc(), named, built) else {
+    let Ok(texts) = texts_of(rt.alloc(), named, built) else {
         return Err(RunFault::Asm(AsmFault::OutOfMemory));
     };
-    write_files(rt, named, built, tables.as_slice())?;
-    write_others(rt, named, built, tables.as_slice())
+    write_files(rt, named, built, &texts)?;
+    write_others(rt, named, built, &texts)
 }
 
 /// Writes the parts of a build to the files that are named.
@@ -476,15 +512,15 @@ fn write_files<'a, R>(
     rt: &R,
     named: &Named<'_, 'a>,
     built: &mut Built,
-    tables: &[u8],
+    texts: &Texts,
 ) -> Result<(), RunFault<'a>>
 where
     R: AllocGlobal + Files,
     R::File: AsFd,
 {
-    write_file(rt, named.listing, built, LISTING, tables)?;
-    write_file(rt, named.map, built, MAP, tables)?;
-    write_file(rt, named.image, built, IMAGE, tables)?;
+    write_file(rt, named.listing, built, LISTING, texts)?;
+    write_file(rt, named.map, built, MAP, texts)?;
+    write_file(rt, named.image, built, IMAGE, texts)?;
     match named.binary {
         Some(name) => write_binary(rt, rt.alloc(), name, built),
         None => Ok(()),
@@ -496,13 +532,13 @@ fn write_others<'a, R>(
     rt: &R,
     named: &Named<'_, 'a>,
     built: &mut Built,
-    tables: &[u8],
+    texts: &Texts,
 ) -> Result<Tally, RunFault<'a>>
 where
     R: AllocGlobal + Print + Files,
 {
     let mut output = Counted::new(Remembering::new(standard_output(rt)));
-    match write_texts(&mut output, built, named.others(), tables) {
+    match write_texts(&mut output, built, named.others(), texts) {
         Ok(()) => Ok(built.tally()),
         Err(broken) => {
             let fault = AsmFault::WriteFault { sent: broken.sent };
@@ -519,19 +555,35 @@ fn write_texts<W: Write>(
     output: &mut Counted<W>,
     built: &mut Built,
     chosen: Chosen,
-    tables: &[u8],
+    texts: &Texts,
 ) -> Result<(), Broken> {
-    if tables.is_empty() || !chosen.listing {
+    let is_usual = texts.tables.len() == 0 && texts.listings.is_none();
+    if is_usual || !chosen.listing {
         return write_chosen(output, built, chosen);
     }
-    let listed = built.write_listings(output)?;
-    put_behind(output, listed, tables)?;
-    let front = listed.saturating_add(tables.len());
+    let listed = write_listings(output, built, texts)?;
+    put_behind(output, listed, texts.tables.as_slice())?;
+    let front = listed.saturating_add(texts.tables.len());
     let behind = Chosen {
         listing: false,
         ..chosen
     };
     write_chosen(output, built, behind).map_err(|broken| sent_behind(front, broken))
+}
+
+/// Writes the listings in the layout that is asked for; how many bytes they have.
+fn write_listings<W: Write>(
+    output: &mut Counted<W>,
+    built: &mut Built,
+    texts: &Texts,
+) -> Result<usize, Broken> {
+    match &texts.listings {
+        Some(listings) => {
+            put_all(output, listings.as_slice())?;
+            Ok(listings.len())
+        }
+        None => built.write_listings(output),
+    }
 }
 
 /// A fault behind so many bytes that went out.
@@ -552,7 +604,7 @@ fn write_file<'a, R>(
     name: Option<&'a str>,
     built: &mut Built,
     chosen: Chosen,
-    tables: &[u8],
+    texts: &Texts,
 ) -> Result<(), RunFault<'a>>
 where
     R: AllocGlobal + Files,
@@ -561,7 +613,7 @@ where
     let Some(name) = name else {
         return Ok(());
     };
-    make_file(rt, name, built, chosen, tables).map_err(|error| RunFault::Output { name, error })
+    make_file(rt, name, built, chosen, texts).map_err(|error| RunFault::Output { name, error })
 }
 
 /// Makes a file of the chosen texts.
@@ -570,14 +622,14 @@ fn make_file<R>(
     name: &str,
     built: &mut Built,
     chosen: Chosen,
-    tables: &[u8],
+    texts: &Texts,
 ) -> io::Result<()>
 where
     R: AllocGlobal + Files,
     R::File: AsFd,
 {
     let mut begun = begin_whole(rt, rt.alloc(), name)?;
-    let filled = fill(begun.file(), built, chosen, tables);
+    let filled = fill(begun.file(), built, chosen, texts);
     end_whole(rt, begun, filled)
 }
 
@@ -586,10 +638,10 @@ fn fill<F: Write>(
     file: &mut F,
     built: &mut Built,
     chosen: Chosen,
-    tables: &[u8],
+    texts: &Texts,
 ) -> io::Result<()> {
     let mut output = Counted::new(Remembering::new(file));
-    match write_texts(&mut output, built, chosen, tables) {
+    match write_texts(&mut output, built, chosen, texts) {
         Ok(()) => Ok(()),
         Err(_) => Err(match output.into_inner().fault() {
             Some(error) => error,

@@ -20,6 +20,7 @@ mod assembling;
 mod binaries;
 mod flagged;
 mod input_lines;
+mod manual_layout;
 mod outputs;
 mod run_faults;
 mod standard_output;
