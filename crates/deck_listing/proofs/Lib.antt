@@ -19,6 +19,7 @@ mod WordLaws
 mod FieldTexts
 mod ListableLaws
 pub mod ListingLaws
+pub mod BehindLaws
 mod PutSteps
 mod FieldSteps
 mod LiteralSteps

@@ -95,24 +95,24 @@ flagged-same kind rows items stood cards (shown ∷ lines) (statement ∷ others
     ∙ one_more (is_flagged statement) shown (filter has_letters lines) statement (filter is_flagged others)
     (flagged-same kind rows items (stood + shown.cards) (drop shown.cards cards) lines others are.1)
 
-single : (b : Bool) (x : Shown) (xs : List Shown) → length (filter is_flagged xs) + length (if b then x ∷ [] else []) ≡ length (if b then x ∷ filter is_flagged xs else filter is_flagged xs)
-single true x xs = omega arith
-single false x xs = omega arith
+single : (test : Shown → Bool) (b : Bool) (x : Shown) (xs : List Shown) → length (filter test xs) + length (if b then x ∷ [] else []) ≡ length (if b then x ∷ filter test xs else filter test xs)
+single test true x xs = omega arith
+single test false x xs = omega arith
 
 -- the order does not matter
-filter-reverse : (all : List Shown) → length (filter is_flagged (reverse all)) ≡ length (filter is_flagged all)
-filter-reverse [] = refl
-filter-reverse (x ∷ xs) =
-    ap (λ l. length (filter is_flagged l)) (reverse-append (x ∷ []) xs)
-    ∙ ap length (filter-append is_flagged (reverse xs) (x ∷ []))
-    ∙ length-append (filter is_flagged (reverse xs)) (filter is_flagged (x ∷ []))
-    ∙ ap (λ n. n + length (filter is_flagged (x ∷ []))) (filter-reverse xs)
-    ∙ single (is_flagged x) x xs
+pub filter-reverse : (test : Shown → Bool) (all : List Shown) → length (filter test (reverse all)) ≡ length (filter test all)
+filter-reverse test [] = refl
+filter-reverse test (x ∷ xs) =
+    ap (λ l. length (filter test l)) (reverse-append (x ∷ []) xs)
+    ∙ ap length (filter-append test (reverse xs) (x ∷ []))
+    ∙ length-append (filter test (reverse xs)) (filter test (x ∷ []))
+    ∙ ap (λ n. n + length (filter test (x ∷ []))) (filter-reverse test xs)
+    ∙ single test (test x) x xs
 
 -- the errors of a deck are the lines with letters
 pub errors-same : (cards : List Card) (parts : ObjectParts) (object : Object) → ArePartsOf cards parts object → flagged_lines parts.lines.items ≡ errors_of object
 errors-same cards parts object are =
-    flagged-same parts.kind parts.bases parts.items.items 0 cards parts.lines.items (reverse object.shown) are.shown ∙ filter-reverse object.shown
+    flagged-same parts.kind parts.bases parts.items.items 0 cards parts.lines.items (reverse object.shown) are.shown ∙ filter-reverse is_flagged object.shown
 
 -- the text of the parts of an object is its listing
 pub listing-same : (cards : List Card) (parts : ObjectParts) (object : Object) → ArePartsOf cards parts object → parts_text object.name cards parts ≡ deck_listing object

@@ -6,8 +6,9 @@ pub mod Filling
 pub mod Joining
 -- The lines of the words that fields fill.
 pub mod WordLines
--- The text of what an object keeps.
+-- The text of what an object keeps, and the decks behind its END.
 pub mod ListedParts
+pub mod LinesBehind
 -- Fields that are put, and the runs of the statements so far.
 pub mod Putting
 pub mod Walking

@@ -10,6 +10,7 @@ use Rattle.definitions.specs.Listing.{deck_listing}
 use Rattle.definitions.specs.Objects.{Object, object_of}
 use Rattle.definitions.specs.StatementItems.{Content, Known, Linked}
 use Rattle.statement_coder.specs.Joins.Items.{content_as}
+use Rattle.deck_listing.specs.DecksBehind.{decks_behind}
 use Rattle.statement_coder.specs.declared.items.Item as code
 
 -- what a block or an external of a deck is worth in a link
@@ -67,7 +68,8 @@ pub record IsSectionOf (deck : Deck) (kept : KeptSection) : Type 0 where
   pub text_is : IfSome kept.text (IsSection (object_of deck) kept.base kept.values)
   pub all_fit : kept.fits ≡ true → DoAllFitAt (object_of deck) kept.base kept.values
 
--- a text is the listing of a deck, and what is kept as its section is a section of it
-pub record IsListed (deck : Deck) (text : List ℕ) (kept : Option KeptSection) : Type 0 where
+-- a text is the listing of a deck, behind whose END so many decks begin, and what is kept as its section is a section of it
+pub record IsListed (deck : Deck) (text : List ℕ) (behind : ℕ) (kept : Option KeptSection) : Type 0 where
   pub text_is : text ≡ deck_listing (object_of deck)
+  pub behind_is : behind ≡ decks_behind deck
   pub section_is : IfSome kept (IsSectionOf deck)

@@ -2,8 +2,10 @@
 ghost use Rattle.std.specs.Prelude.{◌≡◌, option_map, IfOk, IfSome};
 ghost use Rattle.definitions.specs.Listing.{deck_listing};
 ghost use Rattle.definitions.specs.Objects.{object_of};
+ghost use Rattle.deck_listing.specs.DecksBehind.{decks_behind};
 ghost use Rattle.deck_listing.specs.KeptSections.{IsSectionOf};
 
+use crate::decks_behind::decks_behind;
 use crate::placed_section::PlacedSection;
 use crate::shared_text::SharedText;
 use crate::whole::listing;
@@ -12,13 +14,15 @@ use std::alloc::{AllocError, Global};
 use std::marker::Model;
 use std::sync::Arc;
 
-/// An object with its listing, which several hold, each as its own; and the section that it has had in an
-/// image, where one is kept. Contracts see the deck: that the listing is that of this deck, and the section
-/// too wherever it stands at the same base with the same values, is the invariant of the type.
+/// An object with its listing, which several hold, each as its own; how many decks begin behind its END; and
+/// the section that it has had in an image, where one is kept. Contracts see the deck: that the listing and this
+/// number are that deck's, and the section too wherever it stands at the same base with the same values, is the
+/// invariant of the type.
 #[derive(Drop)]
 pub struct ListedObject {
     object: SharedObject,
     text: SharedText,
+    behind: usize,
     section: Option<Arc<PlacedSection>>,
 }
 
@@ -31,7 +35,7 @@ impl Model for ListedObject {
 
     ghost view = { λ l. l.object };
 
-    ghost invariant = { λ l. IsListed l.object l.text (option_map (λ s. s.value) l.section) };
+    ghost invariant = { λ l. IsListed l.object l.text l.behind (option_map (λ s. s.value) l.section) };
 }
 
 impl ListedObject {
@@ -40,9 +44,11 @@ impl ListedObject {
         ensures { IfOk result (λ listed. listed ≡ object) }
     {
         let text = listing(alloc, object.object())?;
+        let behind = decks_behind(object.object());
         Ok(ListedObject {
             object,
             text: SharedText::new(alloc, text)?,
+            behind,
             section: None,
         })
     }
@@ -54,6 +60,7 @@ impl ListedObject {
         Ok(ListedObject {
             object: self.object.share()?,
             text: self.text.share()?,
+            behind: self.behind,
             section: shared_section(&self.section)?,
         })
     }
@@ -76,6 +83,13 @@ impl ListedObject {
         ensures { result.now ≡ deck_listing (object_of self.now) }
     {
         self.text.as_slice()
+    }
+
+    /// How many decks begin behind its END.
+    pub fn decks_behind(&self) -> usize
+        ensures { result ≡ decks_behind self.now }
+    {
+        self.behind
     }
 
     /// The section that is kept, if one is.

@@ -102,9 +102,10 @@ fn push_statement(
 }
 
 /// The first cards of some, at most so many, and those behind them.
-fn split_cards(cards: &[Card], count: u32) -> (&[Card], &[Card])
+pub(crate) fn split_cards(cards: &[Card], count: u32) -> (&[Card], &[Card])
     ensures first { result.0.now ≡ take count cards.now }
     ensures behind { result.1.now ≡ drop count cards.now }
+    ensures all { length result.0.now + length result.1.now ≡ length cards.now }
 {
     cards.split_at(cards.len().min(count as usize))
 }

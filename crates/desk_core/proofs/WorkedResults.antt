@@ -81,7 +81,7 @@ empty_image = refl
 
 -- the status of a deck that is behind, given out, stored
 pub states : replies_to (AddDeck (deck_m []) ∷ Status ∷ Claim ∷ Status ∷ Claim ∷ result 1 1 1 [] ∷ Status ∷ []) new_desk
-    ≡ Changed 1 ∷ StatusIs 1 None (record { name = M; version = 1; cards = 0; state = Behind } ∷ []) ∷ job 1 1 1 (FromCards []) []
-    ∷ StatusIs 1 None (record { name = M; version = 1; cards = 0; state = Out } ∷ []) ∷ AllOut ∷ Stored
-    ∷ StatusIs 1 None (record { name = M; version = 1; cards = 0; state = Ready } ∷ []) ∷ []
+    ≡ Changed 1 ∷ StatusIs 1 None (record { name = M; version = 1; cards = 0; state = Behind; decks_behind = 0 } ∷ []) ∷ job 1 1 1 (FromCards []) []
+    ∷ StatusIs 1 None (record { name = M; version = 1; cards = 0; state = Out; decks_behind = 0 } ∷ []) ∷ AllOut ∷ Stored
+    ∷ StatusIs 1 None (record { name = M; version = 1; cards = 0; state = Ready; decks_behind = 0 } ∷ []) ∷ []
 states = refl

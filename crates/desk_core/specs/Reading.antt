@@ -1,6 +1,7 @@
 -- Calls that read a desk: Cards, Show, Status (ours).
 use Rattle.std.specs.Prelude.{ℕ, List, map, length, is_some, Option, Some, None, option_map, if◌then◌else◌}
-use Rattle.desk_core.specs.Desks.{Desk, DeskDeck, Publication, deck_named}
+use Rattle.deck_listing.specs.DecksBehind.{decks_behind}
+use Rattle.desk_core.specs.Desks.{Desk, DeskDeck, Publication, deck_named, deck_of}
 use Rattle.desk_core.specs.Joins.Calls.{Reply, CardsAre, Shown, StatusIs, Refused, NoDeck, NoPublication, Row, State, Out, Behind, Ready}
 use Rattle.desk_core.specs.Answers.{Answer, answers}
 
@@ -26,9 +27,13 @@ show desk = answers (show_reply desk.publication) desk
 abbrev pub state_of : DeskDeck → State
 state_of deck = if is_some deck.lease then Out else if deck.built then Ready else Behind
 
+-- how many decks begin behind the END of a deck, where it has an object
+abbrev pub decks_behind_of : DeskDeck → ℕ
+decks_behind_of deck = if deck.built then decks_behind (deck_of deck) else 0
+
 -- a deck's row
 abbrev pub row_of : DeskDeck → Row
-row_of deck = record { name = deck.name; version = deck.version; cards = length deck.cards; state = state_of deck }
+row_of deck = record { name = deck.name; version = deck.version; cards = length deck.cards; state = state_of deck; decks_behind = decks_behind_of deck }
 
 -- the version of the publication
 abbrev pub published_version : Desk → Option ℕ

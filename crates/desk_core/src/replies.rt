@@ -27,6 +27,8 @@ pub struct Row {
     /// How many cards it has.
     pub cards: usize,
     pub state: State,
+    /// How many decks begin behind its END, which are listed there and not assembled; none while it has no object.
+    pub decks_behind: usize,
 }
 
 /// Why a call is refused. No refusal changes a card, a version or the publication.

@@ -11,7 +11,7 @@ ghost use Rattle.desk_core.specs.Earlier.{edits_behind};
 ghost use Rattle.desk_core.specs.Carrying.{cards_of, carried_since, bad_edit, against_carried};
 ghost use Rattle.desk_core.specs.Undoing.{backs_at};
 ghost use Rattle.desk_core.specs.Joins.Stored.{backs_from};
-ghost use Rattle.desk_core.specs.Reading.{row_of, state_of};
+ghost use Rattle.desk_core.specs.Reading.{decks_behind_of, row_of, state_of};
 
 use crate::calls::Done;
 use crate::card_pieces::CardPieces;
@@ -259,6 +259,16 @@ impl StoredDeck {
             version: self.version,
             cards: self.card_count(),
             state: self.state(),
+            decks_behind: self.decks_behind(),
+        }
+    }
+
+    fn decks_behind(&self) -> usize
+        ensures { result ≡ decks_behind_of self.now }
+    {
+        match &self.object {
+            Some(object) => object.decks_behind(),
+            None => 0,
         }
     }
 

@@ -154,6 +154,7 @@ fn behind() -> Result<Row, AllocError> {
         version: 1,
         cards: 0,
         state: State::Behind,
+        decks_behind: 0,
     })
 }
 
@@ -164,6 +165,7 @@ fn full() -> Result<Row, AllocError> {
         version: 12,
         cards: 20_000,
         state: State::Ready,
+        decks_behind: 3,
     })
 }
 

@@ -11,7 +11,7 @@ use Rattle.definitions.specs.Fields.{fields_of}
 use Rattle.session_line.specs.declared.refusals.Refusal.{Refusal}
 use Rattle.session_line.specs.declared.refusals.Refusal.TheVariants.{OutOfMemory}
 use Rattle.session_line.specs.DeckCuts.{decks_in, decks_or_reason, input_of_cards, input_reason, input_with}
-use Rattle.session_line.specs.Errors.{begins_deck}
+use Rattle.deck_listing.specs.DecksBehind.{begins_deck}
 use Rattle.session_line.specs.Joins.DeckOrders.{IsReasonOf, newest_first}
 
 -- ---- decks newest first

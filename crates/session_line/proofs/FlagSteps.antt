@@ -23,8 +23,10 @@ use Rattle.deck_objects.specs.Joins.PartsOf.{ArePartsOf}
 use Rattle.deck_objects.specs.declared.lines.CodedLine.{CodedLine}
 use Rattle.deck_objects.specs.declared.lines.Line.{Line}
 use Rattle.deck_objects.specs.declared.object.ObjectParts.{ObjectParts}
+use Rattle.deck_listing.specs.DecksBehind.{begins_deck}
+use Rattle.deck_listing.proofs.BehindLaws.{behind-same}
 use Rattle.deck_listing.proofs.ListingLaws.{behind-cards, take-none}
-use Rattle.session_line.specs.Errors.{Begins, Flag, begins_deck, deck_errors, errors_where, flag_of, flags_of, flag_text, shown_flag, shows_deck}
+use Rattle.session_line.specs.Errors.{Begins, Flag, deck_errors, errors_where, flag_of, flags_of, flag_text, shown_flag, shows_deck}
 use Rattle.session_line.specs.Joins.FlagWalks.{flags_in, flags_text}
 use Rattle.session_line.specs.Replies.{line_of, text_of_lines}
 use Rattle.session_line.specs.declared.errors.ErrorsView.{ErrorsView}
@@ -98,13 +100,6 @@ flag-same before stood cards letters behind which =
     ⊎_elim (λ (none : cards ≡ []). ap (λ (c : List Card). flag_of before c letters behind) none ∙ sym (ap (λ (c : List Card). flag_of stood c letters behind) none))
     (λ (same : before ≡ stood). ap (λ (n : ℕ). flag_of n cards letters behind) same) which
 
--- a line stores nothing where its statement stands behind END
-behind-same : (parts : ObjectParts) (line : Option CodedLine) (shown : Option Coded) → IsStored parts.kind parts.bases parts.items.items line shown → is_none line ≡ is_none shown
-behind-same parts None None stored = refl
-behind-same parts None (Some coded) stored = absurd stored
-behind-same parts (Some line) None stored = absurd stored
-behind-same parts (Some line) (Some coded) stored = refl
-
 -- what is told of lines is what is told of the statements that they show
 flags-same : (parts : ObjectParts) (before stood : ℕ) (cards : List Card) (lines : List Line) (all : List Shown) →
     AreShown parts.kind parts.bases parts.items.items stood cards lines all → (cards ≡ []) ⊎ (before ≡ stood) →
@@ -118,7 +113,7 @@ flags-same parts before stood cards (shown ∷ lines) (statement ∷ others) are
     (flag-same before stood own shown.letters (is_none shown.coded) (⊎_elim (λ none. inl (take-none shown.cards cards none)) (λ same. inr same) which)
     ∙ ap (λ (n : ℕ). flag_of n own shown.letters (is_none shown.coded)) are.0.before
     ∙ ap₂ (λ (c : List Card) (l : List ℕ). flag_of statement.statement.before c l (is_none shown.coded)) are.0.cards are.0.letters
-    ∙ ap (λ (b : Bool). flag_of statement.statement.before statement.statement.cards statement.letters b) (behind-same parts shown.coded statement.coded are.0.stored))
+    ∙ ap (λ (b : Bool). flag_of statement.statement.before statement.statement.cards statement.letters b) (behind-same parts.kind parts.bases parts.items.items shown.coded statement.coded are.0.stored))
     (flags-same parts (before + length own) (stood + shown.cards) (drop shown.cards cards) lines others are.1 (behind-cards shown.cards before stood cards which))
 
 -- those of a deck

@@ -6,10 +6,10 @@ use Rattle.cards.specs.declared.edits.EditFault.TheVariants as fault
 use Rattle.session_line.specs.declared.refusals.Refusal.TheVariants as refusal
 use Rattle.session_line.specs.declared.told_decks.DeckOutcome.TheVariants as outcome
 use Rattle.session_line.specs.declared.replies.Reply.TheVariants as reply
-use Rattle.desk_core.specs.declared.replies.State.TheVariants.{Behind}
+use Rattle.desk_core.specs.declared.replies.State.TheVariants.{Behind, Ready}
 use Rattle.session_line.specs.UnknownWords.{told_word}
 use Rattle.session_line.specs.PublishedTexts.{line_count}
-use Rattle.session_line.specs.Replies.{text_of_reply, row_text, marked_text, told_deck_text, published_text, counted_text, numbers_text}
+use Rattle.session_line.specs.Replies.{text_of_reply, marked_text, status_text, told_deck_text, published_text, counted_text, numbers_text}
 use Rattle.session_line.specs.FileLines.{file_line}
 use Rattle.session_line.specs.declared.rights.Rights.TheVariants.{Edits, Reads}
 use Rattle.session_line.specs.Greetings.{connected_text, service_text}
@@ -54,8 +54,12 @@ pub numbers : numbers_text (numbers_from 9 (codes "SB1") (codes "A SB1" ∷ code
 numbers = unfold digits in refl
 
 -- the lines of a status
-pub row : row_text (record { name = codes "M"; version = 1; cards = 0; state = Behind }) ≡ codes "M 1 0 BEHIND"
+pub row : status_text (record { name = codes "M"; version = 1; cards = 0; state = Behind; decks_behind = 0 }) ≡ codes "M 1 0 BEHIND"
 row = unfold digits in refl
+
+-- behind whose END two decks begin
+pub row_of_more : status_text (record { name = codes "M"; version = 1; cards = 9; state = Ready; decks_behind = 2 }) ≡ codes "M 1 9 READY MORE 2"
+row_of_more = unfold digits in refl
 
 pub published : published_text (Some 7) ≡ codes "PUBLISHED 7"
 published = unfold digits in refl
@@ -64,10 +68,13 @@ pub none_published : published_text None ≡ codes "PUBLISHED NONE"
 none_published = refl
 
 -- the lines of decks, with whether the file of each has its cards
-pub saved_row : marked_text (record { row = record { name = codes "M"; version = 7; cards = 0; state = Behind }; saved = true }) ≡ codes "M 7 0 BEHIND SAVED"
+pub saved_row : marked_text (record { row = record { name = codes "M"; version = 7; cards = 0; state = Behind; decks_behind = 0 }; saved = true }) ≡ codes "M 7 0 BEHIND SAVED"
 saved_row = unfold digits in refl
 
-pub unsaved_row : marked_text (record { row = record { name = codes "M"; version = 7; cards = 0; state = Behind }; saved = false }) ≡ codes "M 7 0 BEHIND UNSAVED"
+pub marked_row_of_more : marked_text (record { row = record { name = codes "M"; version = 7; cards = 9; state = Ready; decks_behind = 1 }; saved = true }) ≡ codes "M 7 9 READY SAVED MORE 1"
+marked_row_of_more = unfold digits in refl
+
+pub unsaved_row : marked_text (record { row = record { name = codes "M"; version = 7; cards = 0; state = Behind; decks_behind = 0 }; saved = false }) ≡ codes "M 7 0 BEHIND UNSAVED"
 unsaved_row = unfold digits in refl
 
 -- the lines of decks that were to be saved

@@ -261,11 +261,11 @@ no_errors = unfold digits in refl
 pub errors_of_none : told_text (told_of_errors (Of (codes "V")) (reply.Shown (record { version = 2; decks = two_decks }))) ≡ codes "NO NoDeck\n"
 errors_of_none = refl
 
-pub status : told_text (told_of_call (reply.StatusIs 1 None (record { name = codes "M"; version = 1; cards = 0; state = Behind } ∷ []))) ≡ codes "OK 1 2\nPUBLISHED NONE\nM 1 0 BEHIND\n"
+pub status : told_text (told_of_call (reply.StatusIs 1 None (record { name = codes "M"; version = 1; cards = 0; state = Behind; decks_behind = 0 } ∷ []))) ≡ codes "OK 1 2\nPUBLISHED NONE\nM 1 0 BEHIND\n"
 status = unfold digits in refl
 
 -- who waited is told the status without its decks: here once version 7 is published, and where nothing is
-pub status_of_files : told_text (told.FileStatus 2 None (marked (record { name = codes "M"; version = 1; cards = 0; state = Behind }) true ∷ marked (record { name = codes "N"; version = 2; cards = 0; state = Behind }) false ∷ []))
+pub status_of_files : told_text (told.FileStatus 2 None (marked (record { name = codes "M"; version = 1; cards = 0; state = Behind; decks_behind = 0 }) true ∷ marked (record { name = codes "N"; version = 2; cards = 0; state = Behind; decks_behind = 0 }) false ∷ []))
     ≡ codes "OK 2 3\nPUBLISHED NONE\nM 1 0 BEHIND SAVED\nN 2 0 BEHIND UNSAVED\n"
 status_of_files = unfold digits in refl
 
@@ -288,7 +288,7 @@ decks_behind_a_comment = refl
 pub loads_of_decks : told_text (told.Decks 3 (told_deck (codes "T") (told.Done 4) ∷ told_deck (codes "U") (told.Unkept 5) ∷ told_deck (codes "V") (told.Refused NameTaken) ∷ [])) ≡ codes "OK 3 3\nT 4\nU UNKEPT 5\nV NO NameTaken\n"
 loads_of_decks = unfold digits in refl
 
-pub awaited : told_text (told_of_wait (reply.StatusIs 9 (Some 7) (record { name = codes "M"; version = 9; cards = 0; state = Behind } ∷ []))) ≡ codes "OK 9 1\nPUBLISHED 7\n"
+pub awaited : told_text (told_of_wait (reply.StatusIs 9 (Some 7) (record { name = codes "M"; version = 9; cards = 0; state = Behind; decks_behind = 0 } ∷ []))) ≡ codes "OK 9 1\nPUBLISHED 7\n"
 awaited = unfold digits in refl
 
 pub awaited_in_vain : told_text (told_of_wait (reply.StatusIs 0 None [])) ≡ codes "OK 0 1\nPUBLISHED NONE\n"

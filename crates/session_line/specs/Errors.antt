@@ -3,8 +3,9 @@ use Rattle.std.specs.Prelude.{ℕ, ◌+◌, ◌==◌, Bool, true, false, ◌&&�
 use Rattle.definitions.specs.Characters.{line_feed, same_text}
 use Rattle.definitions.specs.Cards.{Card}
 use Rattle.definitions.specs.DeckInput.{Deck}
-use Rattle.definitions.specs.Fields.{fields_of, unbroken_front}
+use Rattle.definitions.specs.Fields.{unbroken_front}
 use Rattle.definitions.specs.Objects.{Shown, object_of}
+use Rattle.deck_listing.specs.DecksBehind.{begins_deck}
 use Rattle.session_line.specs.Views.{begins_with}
 use Rattle.session_line.specs.Words.{from_blank, behind_word}
 use Rattle.session_line.specs.declared.errors.ErrorsView.{ErrorsView}
@@ -14,10 +15,6 @@ use Rattle.session_line.specs.declared.errors.ErrorsView.TheVariants.{Every, Of}
 pub data Flag : Type 0 where
   Flagged : ℕ → List ℕ → Card → Flag
   Begins : ℕ → Card → Flag
-
--- whether a card begins a deck of a file, which is told by that card alone
-abbrev pub begins_deck : Card → Bool
-begins_deck card = same_text (fields_of (card ∷ [])).operation (codes "IDENT")
 
 -- a statement without letters, of whose cards so many stand before: it is told where it stands behind END and begins another deck
 abbrev pub deck_begun : ℕ → Card → Bool → List Flag

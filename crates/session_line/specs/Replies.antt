@@ -1,5 +1,5 @@
 -- The texts of replies (ours): a first line, and for some commands as many lines more as it tells.
-use Rattle.std.specs.Prelude.{ℕ, ◌+◌, ◌≤◌, ⊤, Bool, true, false, List, [], ◌∷◌, ◌++◌, Option, Some, None, length, flat_map, codes, decimal}
+use Rattle.std.specs.Prelude.{ℕ, ◌+◌, ◌≤◌, ⊤, Bool, true, false, List, [], ◌∷◌, ◌++◌, Option, Some, None, length, flat_map, codes, decimal, nat_lt, if◌then◌else◌}
 use Rattle.definitions.specs.Characters.{line_feed}
 use Rattle.deck_files.specs.DeckFiles.{file_of}
 use Rattle.deck_files.specs.FileRows.{most_files}
@@ -35,6 +35,14 @@ state_text Ready = codes "READY"
 abbrev pub row_text : Row → List ℕ
 row_text row = row.name ++ (codes " " ++ (decimal row.version ++ (codes " " ++ (decimal row.cards ++ (codes " " ++ state_text row.state)))))
 
+-- how many decks begin behind the END of one, where any do
+abbrev pub behind_text : ℕ → List ℕ
+behind_text count = if nat_lt 0 count then codes " MORE " ++ decimal count else []
+
+-- the row of a deck
+abbrev pub status_text : Row → List ℕ
+status_text row = row_text row ++ behind_text row.decks_behind
+
 -- whether a file has a deck's cards
 abbrev pub saved_word : Bool → List ℕ
 saved_word true = codes " SAVED"
@@ -42,7 +50,7 @@ saved_word false = codes " UNSAVED"
 
 -- the row of a deck, and whether its file has its cards
 abbrev pub marked_text : MarkedRow → List ℕ
-marked_text deck = row_text deck.row ++ saved_word deck.saved
+marked_text deck = row_text deck.row ++ (saved_word deck.saved ++ behind_text deck.row.decks_behind)
 
 -- the version of a deck, or why nothing was done
 abbrev pub outcome_text : DeckOutcome → List ℕ
@@ -91,7 +99,7 @@ head_text (reply.Refused refusal) = codes "NO " ++ refusal_text refusal
 
 -- the lines of some decks in a status
 abbrev pub rows_text : List Row → List ℕ
-rows_text rows = flat_map (λ row. line_of (row_text row)) rows
+rows_text rows = flat_map (λ row. line_of (status_text row)) rows
 
 -- the lines of decks that are marked
 abbrev pub marks_text : List MarkedRow → List ℕ

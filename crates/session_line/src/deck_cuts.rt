@@ -9,9 +9,9 @@ ghost use Rattle.session_line.specs.DeckCuts.{decks_in};
 ghost use Rattle.session_line.specs.Joins.DeckOrders.{IsReasonOf, newest_first};
 
 use crate::answers::MOST_DECKS;
-use crate::errors::begins_deck;
 use crate::refusals::Refusal;
 use cards::{Card, DeckName, Fields, MOST_CARDS};
+use deck_listing::begins_deck;
 use definitions::is_same_text;
 use desk_core::NewDeck;
 use std::alloc::{AllocError, Global};

@@ -2,13 +2,13 @@
 //! begin another deck, and LINK lines of its map.
 ghost use Rattle.std.specs.Prelude.{◌≡◌, ◌≤◌, ◌+◌, ◌*◌, ◌∷◌, cond, filter, flat_map, is_none, length, take, drop};
 ghost use Rattle.definitions.specs.DeckInput.{Deck};
-ghost use Rattle.session_line.specs.Errors.{begins_deck, deck_errors, error_lines, errors_where, flag_of, has_deck, is_link, lines_in, link_deck, shows_any, shows_deck, shows_line};
+ghost use Rattle.session_line.specs.Errors.{deck_errors, error_lines, errors_where, flag_of, has_deck, is_link, lines_in, link_deck, shows_any, shows_deck, shows_line};
 ghost use Rattle.session_line.specs.Joins.FlagWalks.{flags_in, line_len};
 
 use crate::views::begins_with;
 use crate::words::{behind_blank, behind_word, from_blank, to_blank};
-use cards::{Card, DeckName, Fields};
-use deck_listing::ListedObject;
+use cards::{Card, DeckName};
+use deck_listing::{ListedObject, begins_deck};
 use deck_objects::{Line, Object};
 use definitions::is_same_text;
 
@@ -62,13 +62,6 @@ pub(crate) fn split_cards(cards: &[Card], count: u32) -> (&[Card], &[Card])
     ensures all { length result.0.now + length result.1.now ≡ length cards.now }
 {
     cards.split_at(cards.len().min(count as usize))
-}
-
-/// Whether a card begins a deck of a file.
-pub(crate) fn begins_deck(card: &Card) -> bool
-    ensures { result ≡ begins_deck card.now }
-{
-    is_same_text(Fields::operation_of_card(card), b"IDENT")
 }
 
 /// How many lines one with these cards has: one where it is flagged, or stands behind END and begins

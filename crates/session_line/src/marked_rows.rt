@@ -5,7 +5,7 @@ ghost use Rattle.session_line.specs.Replies.{line_of, marked_text, saved_word};
 
 use crate::line_writing::ReplyRow;
 use crate::reply_line::ReplyLine;
-use crate::reply_texts::row_start;
+use crate::reply_texts::{put_decks_behind, row_start};
 use desk_core::Row;
 
 /// A deck in the status of a desk, and whether its file has its cards.
@@ -25,6 +25,7 @@ pub(crate) fn marked(row: &Row, saved: bool) -> MarkedRow
             version: row.version,
             cards: row.cards,
             state: row.state,
+            decks_behind: row.decks_behind,
         },
         saved,
     }
@@ -44,6 +45,7 @@ fn marked_line(deck: &MarkedRow) -> ReplyLine
 {
     let mut line = row_start(&deck.row);
     line.put(saved_word(deck.saved));
+    put_decks_behind(&mut line, deck.row.decks_behind);
     line.end();
     line
 }

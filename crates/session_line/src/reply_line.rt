@@ -63,7 +63,7 @@ impl ReplyLine {
     }
 
     pub(crate) fn put_number(&mut self, number: u64)
-        requires { length self.old ≤ 60 }
+        requires { length self.old ≤ 100 }
         ensures text { self.new ≡ self.old ++ decimal number }
         ensures len { length self.new ≤ length self.old + 20 }
     {

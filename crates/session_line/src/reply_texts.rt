@@ -2,7 +2,7 @@
 ghost use Rattle.std.specs.Prelude.{◌≡◌, ◌+◌, ◌≤◌, ◌++◌, length};
 ghost use Rattle.session_line.specs.Greetings.{connected_text, service_text, session_word};
 ghost use Rattle.session_line.specs.PublishedTexts.{line_count, shown_text};
-ghost use Rattle.session_line.specs.Replies.{IsWithinLimits, line_of, counted_text, ok_text, unkept_text, head_text, numbers_text, published_text, row_text, state_text};
+ghost use Rattle.session_line.specs.Replies.{IsWithinLimits, behind_text, line_of, counted_text, ok_text, unkept_text, head_text, numbers_text, published_text, row_text, state_text, status_text};
 ghost use Rattle.session_line.specs.Views.{has_text, number_where};
 
 use crate::change_lines::change_line_count;
@@ -203,11 +203,24 @@ pub(crate) fn row_start(row: &Row) -> ReplyLine
     line
 }
 
+/// Puts how many decks begin behind the END of one, where any do.
+pub(crate) fn put_decks_behind(line: &mut ReplyLine, count: usize)
+    requires { length line.old ≤ 64 }
+    ensures text { line.new ≡ line.old ++ behind_text count }
+    ensures short { length line.new ≤ length line.old + 26 }
+{
+    if count > 0 {
+        line.put(b" MORE ");
+        line.put_number(count as u64);
+    }
+}
+
 /// The line of a deck in a status.
 pub(crate) fn row_line(row: &Row) -> ReplyLine
-    ensures { result ≡ line_of (row_text row.now) }
+    ensures { result ≡ line_of (status_text row.now) }
 {
     let mut line = row_start(row);
+    put_decks_behind(&mut line, row.decks_behind);
     line.end();
     line
 }

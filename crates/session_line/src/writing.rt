@@ -20,9 +20,9 @@ use std::io::Write;
 use text_ports::{Broken, Counted, put_all};
 
 impl ReplyRow for Row {
-    ghost use Rattle.session_line.specs.Replies.{line_of, row_text};
+    ghost use Rattle.session_line.specs.Replies.{line_of, status_text};
 
-    ghost line_text = { λ row. line_of (row_text row) };
+    ghost line_text = { λ row. line_of (status_text row) };
 
     fn line(&self) -> ReplyLine {
         row_line(self)

@@ -90,6 +90,7 @@ fn row_of(name: &str, cards: usize, state: State) -> Result<Row, AllocError> {
         version: 5,
         cards,
         state,
+        decks_behind: 2,
     })
 }
 
