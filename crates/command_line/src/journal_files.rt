@@ -3,11 +3,12 @@
 use crate::standard_output::standard_output;
 use crate::words::valued_word;
 use asm_main::{AsmFault, Deck, asm_status};
+use cards::DeckName;
 use clap::{Arg, ArgAction, ArgMatches, Command};
 use desk_core::{Desk, NewDeck, StoredDeck};
 use journal::{
-    Change, DeckName, Ending, Entry, JournalFault, Next, Place, Record, ReplayFault, Replayed,
-    log_line, next_record, record_text, replay,
+    Change, Ending, Entry, JournalFault, Next, Place, Record, ReplayFault, Replayed, log_line,
+    next_record, record_text, replay,
 };
 use std::alloc::{AllocError, Global};
 use std::fs;

@@ -12,7 +12,7 @@ use Rattle.journal.specs.declared.drafts.Stamp.{Stamp}
 use Rattle.journal.specs.Asking.{call_of_carry, carried_deck}
 use Rattle.journal.specs.Drafts.{carried_text}
 use Rattle.journal.specs.JournalFiles.{Step, IsKeptAs}
-use Rattle.journal.specs.Keeping.{TellsKept, TellsCarried, MakesKept, refused, called, not_opened, opened, told_of, version_told}
+use Rattle.kept_desk.specs.Keeping.{TellsKept, TellsCarried, MakesKept, refused, called, not_opened, opened, told_of, version_told}
 use Rattle.journal.specs.Records.{text_behind_version}
 use Rattle.journal.specs.Replaying.{call_of}
 use Rattle.desk_service.specs.SessionKeepers.{SessionKeeper, BeginsRecord, IsCarriedAndKept, IsMadeAndKept, KeepsRecord, OpensRecord, keeper_name}

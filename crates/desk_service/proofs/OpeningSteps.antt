@@ -17,7 +17,7 @@ use Rattle.desk_service.specs.declared.openings.Opening.{Opening}
 use Rattle.desk_service.specs.declared.openings.Opening.TheVariants as opening
 use Rattle.desk_service.specs.declared.sessions.Ending.{Ending}
 use Rattle.desk_service.specs.declared.sessions.Ending.TheVariants as ending
-use Rattle.session_line.specs.Strangers.{is_command}
+use Rattle.session_commands.specs.Strangers.{is_command}
 use Rattle.desk_service.specs.Sessions.{ending_without, ending_in, opening_of, is_turned_away, read_faults_at, write_faults_at, Standing, TakesLine, ServesTaken, OpensLine, OpensLines, OpensSession, turned_away, first_line, next_stranger, ended_early, met, most_strange}
 
 -- a line came where the session does not end without one

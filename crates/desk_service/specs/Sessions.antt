@@ -17,7 +17,7 @@ use Rattle.desk_core.specs.declared.replies.Reply.{Reply}
 use Rattle.session_line.specs.declared.serving.Outcome.{Outcome}
 use Rattle.session_line.specs.declared.serving.Outcome.TheVariants.{Served, Ended, ReadFault, WriteFault}
 use Rattle.session_line.specs.Serving.{Sides, Serves, ServesBehind, read_faults_after, write_faults_after}
-use Rattle.session_line.specs.Strangers.{is_command, is_request_of_http}
+use Rattle.session_commands.specs.Strangers.{is_command, is_request_of_http}
 use Rattle.desk_service.specs.declared.openings.Opening.{Opening}
 use Rattle.desk_service.specs.declared.openings.Opening.TheVariants as opening
 use Rattle.desk_service.specs.declared.sessions.Ending.{Ending}

@@ -7,7 +7,8 @@
 use crate::lobby::{Guest, Lobby};
 use crate::service_end::ServiceEnd;
 use crossbeam_channel::{SendTimeoutError, Sender, TrySendError};
-use session_line::{Refusal, Reply, write_reply};
+use session_commands::Refusal;
+use session_line::{Reply, write_reply};
 use std::alloc::Global;
 use std::io::ErrorKind;
 use std::net::{Shutdown, TcpListener, TcpStream};

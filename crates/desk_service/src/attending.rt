@@ -4,8 +4,8 @@ ghost use Rattle.desk_service.specs.Company.{GreetsAmong};
 ghost use Rattle.session_line.specs.Greetings.{WhereMet};
 
 use crate::service_end::ServiceEnd;
+use cards::DeckName;
 use desk_core::{Call, Listed, Refusal, Reply};
-use journal::DeckName;
 use session_line::{Calls, Connected, Greeting};
 use std::alloc::{AllocError, Global};
 use std::marker::Model;

@@ -2,10 +2,10 @@
 ghost use Rattle.std.specs.Prelude.{◌≡◌};
 ghost use Rattle.desk_service.specs.Bells.{RingsAfter};
 
+use cards::DeckName;
 use crossbeam_channel::Sender;
 use deck_workers::Bell;
 use desk_core::{Call, Reply};
-use journal::DeckName;
 use session_line::{Calls, Greeting};
 use std::alloc::Global;
 use std::marker::{Model, PhantomData};

@@ -3,7 +3,8 @@ ghost use Rattle.std.specs.Prelude.{◌≡◌, ◌++◌, All, IfOk, OnOk, None, 
 ghost use Rattle.desk_service.specs.Company.{listed_at, listed_from, rights_at, seated};
 ghost use Rattle.journal.specs.Names.{session_name};
 
-use journal::{DeckName, session_name};
+use cards::DeckName;
+use journal::session_name;
 use session_line::{Connected, Rights};
 use std::alloc::{AllocError, Global};
 use std::marker::Model;

@@ -14,11 +14,14 @@ ghost use Rattle.journal.specs.JournalFiles.{IsKeptAs};
 ghost use Rattle.desk_service.specs.SessionKeepers.{IsMadeUp, news_of};
 ghost use Rattle.journal.specs.Names.{session_name};
 
+use cards::DeckName;
+use deck_files::Moment;
 use desk_core::Refusal;
 use journal::{
-    Batch, Change, DeckName, Draft, JournalFile, Keep, KeptBatch, Moment, Queue, RecordsFile,
-    SharedText, Stamp, draft_change, session_name,
+    Batch, Change, Draft, JournalFile, KeptBatch, Queue, RecordsFile, SharedText, Stamp,
+    draft_change, session_name,
 };
+use kept_desk::Keep;
 use std::alloc::{AllocError, Global};
 use std::marker::Model;
 use std::sync::{Condvar, Mutex, MutexGuard, Wait};

@@ -2,7 +2,7 @@
 ghost use Rattle.std.specs.Prelude.{ℕ, ◌≡◌, Some, true};
 ghost use Rattle.desk_core.specs.declared.replies.Reply.{Reply};
 ghost use Rattle.desk_service.specs.SessionKeepers.{BeginsRecord, IsCarriedAndKept, IsMadeAndKept, KeepsRecord, OpensRecord, SessionKeeper, keeper_name};
-ghost use Rattle.journal.specs.Keeping.{MakesKept, version_told};
+ghost use Rattle.kept_desk.specs.Keeping.{MakesKept, version_told};
 ghost use Rattle.journal.specs.declared.changes.Asked.TheVariants as asked;
 ghost use Rattle.journal.specs.declared.changes.Carry.{Carry};
 ghost use Rattle.journal.specs.declared.changes.Change.{Change};

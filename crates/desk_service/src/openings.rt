@@ -3,12 +3,13 @@
 ghost use Rattle.std.specs.Prelude.{◌≡◌, Some, true, false};
 ghost use Rattle.text_ports.specs.Faults.{count_after_line};
 ghost use Rattle.session_line.specs.Serving.{sides};
-ghost use Rattle.session_line.specs.Strangers.{is_command, is_request_of_http};
+ghost use Rattle.session_commands.specs.Strangers.{is_command, is_request_of_http};
 ghost use Rattle.desk_service.specs.Sessions.{OpensLine, OpensSession, ServesTaken, ending_in, ending_without, is_turned_away, opening_of, read_faults_at, standing, write_faults_at};
 
 use crate::sessions::{Ending, ending_after, send_on};
 use deck_files::Shelf;
-use session_line::{Calls, Rights, is_command, is_request_of_http, serve_taken};
+use session_commands::{is_command, is_request_of_http};
+use session_line::{Calls, Rights, serve_taken};
 use std::alloc::Global;
 use std::hash::RandomState;
 use std::io::{Read, Write};

@@ -6,7 +6,7 @@ ghost use Rattle.desk_service.specs.Company.{AreListed};
 
 use crate::company::Company;
 use crate::publications::Publications;
-use journal::DeckName;
+use cards::DeckName;
 use session_line::Connected;
 use std::alloc::{AllocError, Global};
 use std::net::{Shutdown, TcpStream};

@@ -2,8 +2,8 @@
 ghost use Rattle.std.specs.Prelude.{◌≡◌};
 ghost use Rattle.desk_service.specs.Waiting.{AwaitsPublication, is_reached, is_shown};
 
+use cards::DeckName;
 use desk_core::{Call, Reply};
-use journal::DeckName;
 use session_line::{Calls, Greeting};
 use std::alloc::Global;
 use std::marker::Model;

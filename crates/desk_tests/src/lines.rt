@@ -4,7 +4,9 @@
 
 use crate::outputs::Answer;
 use cards::{DeckName, Edit};
-use session_line::{CardsView, Command, ErrorsView, Refusal, Seen, read_batch_line, read_command};
+use session_commands::{
+    CardsView, Command, ErrorsView, Refusal, Seen, read_batch_line, read_command,
+};
 
 /// Makes a step of this word, if it is one of lines, and answers whether it is.
 pub fn make(word: &str, rest: &str, answer: &mut Answer) -> bool {

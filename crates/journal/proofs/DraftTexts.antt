@@ -1,7 +1,7 @@
 -- The text of a draft with its version, as the lines of a record.
 use Rattle.std.proofs.Common.{ℕ, ◌≡◌, List, [], ◌∷◌, ◌++◌, codes, sym, ap, ◌∙◌, append_assoc}
 use Rattle.definitions.specs.Characters.{line_feed}
-use Rattle.session_line.specs.Lines.{behind_a_blank}
+use Rattle.session_commands.specs.Lines.{behind_a_blank}
 use Rattle.journal.specs.Records.{ended}
 
 -- one part behind the other, as a first line and what stands behind it

@@ -6,8 +6,6 @@ pub mod PlainTexts
 pub mod LineSizes
 pub mod RecordChains
 pub mod RecordLaws
-pub mod RefusedChanges
-pub mod RefusedCommands
 pub mod ReplaySteps
 pub mod QueueSteps
 pub mod QueueOrder

@@ -5,10 +5,10 @@ use Rattle.definitions.specs.Cards.{Card, IsCard, card_of}
 use Rattle.definitions.specs.DeckInput.{is_deck_name}
 use Rattle.cards.specs.declared.edits.Edit.{Edit}
 use Rattle.cards.specs.declared.edits.Edit.TheVariants.{Insert, Replace, Remove}
-use Rattle.session_line.specs.Words.{greatest_number}
-use Rattle.session_line.specs.Commands.{is_batch_size, is_put_size}
-use Rattle.session_line.specs.declared.words.Seen.TheVariants.{Exactly}
-use Rattle.session_line.specs.Lines.{behind_a_blank, name_and_number, line_of_edit, line_in_batch, IsLawfulEdit}
+use Rattle.session_commands.specs.Words.{greatest_number}
+use Rattle.session_commands.specs.Commands.{is_batch_size, is_put_size}
+use Rattle.session_commands.specs.declared.words.Seen.TheVariants.{Exactly}
+use Rattle.session_commands.specs.Lines.{behind_a_blank, name_and_number, line_of_edit, line_in_batch, IsLawfulEdit}
 use Rattle.std.proofs.lemmas.Bool.{and_parts, leb-true}
 use Rattle.std.specs.Prelude.{nat_le}
 use Rattle.journal.specs.declared.changes.Change.{Change}

@@ -13,8 +13,8 @@ use Rattle.definitions.specs.Characters.{blank, is_digit, is_letter, characters,
 use Rattle.definitions.specs.Cards.{Card, CardRead, IsCard, TooWide, BadCharacter, card_of, checked, trimmed}
 use Rattle.definitions.specs.DeckInput.{is_deck_name}
 use Rattle.text_ports.specs.Lines.{line_feed, IsUnbroken}
-use Rattle.session_line.specs.Words.{greatest_number}
-use Rattle.session_line.proofs.ReadBack.{all-by, digit-no_blank, no_blank, spells-decimal, IsWord}
+use Rattle.session_commands.specs.Words.{greatest_number}
+use Rattle.session_commands.proofs.ReadBack.{all-by, digit-no_blank, no_blank, spells-decimal, IsWord}
 use Rattle.deck_files.specs.Moments.{moment_form, fits_one, fits, is_moment}
 
 -- a character from the blank on

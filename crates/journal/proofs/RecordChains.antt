@@ -10,14 +10,14 @@ use Rattle.definitions.specs.Cards.{Card, CardRead, IsCard, card_of}
 use Rattle.definitions.specs.DeckInput.{Deck, is_deck_name}
 use Rattle.cards.specs.declared.edits.Edit.{Edit}
 use Rattle.cards.specs.declared.edits.Edit.TheVariants.{Insert, Replace, Remove}
-use Rattle.session_line.specs.declared.commands.Command.TheVariants as command
-use Rattle.session_line.specs.declared.refusals.Refusal.{Refusal}
-use Rattle.session_line.specs.Words.{first_word, first_number, behind_word, greatest_number}
-use Rattle.session_line.specs.Edits.{is_end}
-use Rattle.session_line.specs.declared.words.Seen.TheVariants.{Exactly}
-use Rattle.session_line.specs.Lines.{behind_a_blank, line_of_edit, line_in_batch, IsLawfulEdit}
-use Rattle.session_line.proofs.ReadBack.{word-decimal, word-name, first-word, behind-word, first-number}
-use Rattle.session_line.proofs.LineLaws.{line-back, batch_line-back}
+use Rattle.session_commands.specs.declared.commands.Command.TheVariants as command
+use Rattle.session_commands.specs.declared.refusals.Refusal.{Refusal}
+use Rattle.session_commands.specs.Words.{first_word, first_number, behind_word, greatest_number}
+use Rattle.session_commands.specs.Edits.{is_end}
+use Rattle.session_commands.specs.declared.words.Seen.TheVariants.{Exactly}
+use Rattle.session_commands.specs.Lines.{behind_a_blank, line_of_edit, line_in_batch, IsLawfulEdit}
+use Rattle.session_commands.proofs.ReadBack.{word-decimal, word-name, first-word, behind-word, first-number}
+use Rattle.session_commands.proofs.LineLaws.{line-back, batch_line-back}
 use Rattle.journal.specs.declared.changes.Change.TheVariants.{Added, Put, Dropped, Edited, Batch}
 use Rattle.journal.specs.declared.records.Entry.{Entry}
 use Rattle.journal.specs.declared.records.Entry.TheVariants as entry

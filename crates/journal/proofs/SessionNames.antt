@@ -6,7 +6,7 @@ use Rattle.std.proofs.lemmas.Bool.{and_from, le-leb, or_right}
 use Rattle.std.proofs.lemmas.Fmt.{decimal_nonempty, length-decimal-le}
 use Rattle.definitions.specs.Characters.{is_digit, is_letter}
 use Rattle.definitions.specs.DeckInput.{is_deck_name}
-use Rattle.session_line.proofs.ReadBack.{all-by, spells-decimal}
+use Rattle.session_commands.proofs.ReadBack.{all-by, spells-decimal}
 use Rattle.journal.specs.Names.{session_name}
 
 -- its digits

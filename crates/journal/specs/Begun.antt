@@ -3,14 +3,14 @@ use Rattle.std.specs.Prelude.{ℕ, List, [], Option, Some, None, Result, Ok, Err
 use Rattle.definitions.specs.Characters.{same_text}
 use Rattle.definitions.specs.DeckInput.{is_deck_name}
 use Rattle.definitions.specs.Fields.{unbroken_front}
-use Rattle.session_line.specs.declared.commands.Command.{Command}
-use Rattle.session_line.specs.declared.commands.Command.TheVariants as command
-use Rattle.session_line.specs.declared.refusals.Refusal.{Refusal}
+use Rattle.session_commands.specs.declared.commands.Command.{Command}
+use Rattle.session_commands.specs.declared.commands.Command.TheVariants as command
+use Rattle.session_commands.specs.declared.refusals.Refusal.{Refusal}
 use Rattle.cards.specs.declared.edits.Edit.{Edit}
-use Rattle.session_line.specs.declared.words.Seen.{Seen}
-use Rattle.session_line.specs.declared.words.Seen.TheVariants.{Exactly, Since}
-use Rattle.session_line.specs.Words.{from_blank, first_word, first_number, behind_word}
-use Rattle.session_line.specs.Commands.{command_of}
+use Rattle.session_commands.specs.declared.words.Seen.{Seen}
+use Rattle.session_commands.specs.declared.words.Seen.TheVariants.{Exactly, Since}
+use Rattle.session_commands.specs.Words.{from_blank, first_word, first_number, behind_word}
+use Rattle.session_commands.specs.Commands.{command_of}
 use Rattle.journal.specs.declared.changes.Change.TheVariants.{Added, Put, Dropped, Edited, Batch}
 use Rattle.journal.specs.declared.records.Entry.{Entry}
 use Rattle.journal.specs.declared.records.Entry.TheVariants as entry

@@ -2,9 +2,9 @@
 use Rattle.std.specs.Prelude.{◌≡◌, ◌≤◌, ⊤, IsTrue, length, All}
 use Rattle.definitions.specs.Cards.{Card, IsCard, card_of}
 use Rattle.definitions.specs.DeckInput.{Deck, is_deck_name}
-use Rattle.session_line.specs.Words.{greatest_number}
-use Rattle.session_line.specs.Commands.{is_batch_size, is_put_size}
-use Rattle.session_line.specs.Lines.{IsLawfulEdit}
+use Rattle.session_commands.specs.Words.{greatest_number}
+use Rattle.session_commands.specs.Commands.{is_batch_size, is_put_size}
+use Rattle.session_commands.specs.Lines.{IsLawfulEdit}
 use Rattle.journal.specs.declared.changes.Change.{Change}
 use Rattle.journal.specs.declared.changes.Change.TheVariants.{Added, Put, Dropped, Edited, Batch}
 use Rattle.journal.specs.declared.records.Entry.{Entry}

@@ -6,8 +6,6 @@ pub mod Drafts
 pub mod Asking
 pub mod Queues
 pub mod JournalFiles
-pub mod Keeping
-pub mod KeptDesks
 pub mod Places
 pub mod Begun
 pub mod Steps

@@ -1,8 +1,8 @@
 -- The text of a record (ours): a line that tells what was done, a line for each card or edit that belongs to it, behind a blank, and a line with the check sum of the lines before it.
 use Rattle.std.specs.Prelude.{ℕ, List, [], ◌∷◌, ◌++◌, length, map, flat_map, codes, decimal}
 use Rattle.definitions.specs.Characters.{line_feed}
-use Rattle.session_line.specs.declared.words.Seen.TheVariants.{Exactly}
-use Rattle.session_line.specs.Lines.{behind_a_blank, name_and_number, line_of_edit, line_in_batch}
+use Rattle.session_commands.specs.declared.words.Seen.TheVariants.{Exactly}
+use Rattle.session_commands.specs.Lines.{behind_a_blank, name_and_number, line_of_edit, line_in_batch}
 use Rattle.journal.specs.declared.changes.Change.{Change}
 use Rattle.journal.specs.declared.changes.Change.TheVariants.{Added, Put, Dropped, Edited, Batch}
 use Rattle.journal.specs.declared.records.Entry.{Entry}

@@ -5,9 +5,9 @@ use Rattle.definitions.specs.Cards.{CardRead, IsCard, TooWide, BadCharacter, car
 use Rattle.definitions.specs.DeckInput.{Deck}
 use Rattle.definitions.specs.Fields.{unbroken_front}
 use Rattle.cards.specs.declared.edits.Edit.{Edit}
-use Rattle.session_line.specs.declared.refusals.Refusal.{Refusal}
-use Rattle.session_line.specs.Words.{from_blank, first_number, behind_word}
-use Rattle.session_line.specs.Edits.{is_end, edit_in_batch}
+use Rattle.session_commands.specs.declared.refusals.Refusal.{Refusal}
+use Rattle.session_commands.specs.Words.{from_blank, first_number, behind_word}
+use Rattle.session_commands.specs.Edits.{is_end, edit_in_batch}
 use Rattle.journal.specs.declared.changes.Change.{Change}
 use Rattle.journal.specs.declared.changes.Change.TheVariants.{Added, Put, Dropped, Edited, Batch}
 use Rattle.journal.specs.declared.records.Entry.{Entry}

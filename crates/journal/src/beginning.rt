@@ -1,7 +1,7 @@
 //! How a record begins: its first line.
 ghost use Rattle.std.specs.Prelude.{◌≡◌, List, Result, option_map, option_and_then};
-ghost use Rattle.session_line.specs.Words.{first_word};
-ghost use Rattle.session_line.specs.declared.refusals.Refusal.{Refusal as Reason};
+ghost use Rattle.session_commands.specs.Words.{first_word};
+ghost use Rattle.session_commands.specs.declared.refusals.Refusal.{Refusal as Reason};
 ghost use Rattle.deck_files.specs.Moments.{moment_of};
 ghost use Rattle.journal.specs.Begun.{alone, begun_by, begun_of, batch_named, batch_seen, edit_seen, name_of, put_named, opened, opened_by};
 
@@ -12,7 +12,7 @@ use cards::{DeckName, Edit};
 use deck_files::Moment;
 use definitions::is_same_text;
 use desk_core::{Listed, NewDeck};
-use session_line::{
+use session_commands::{
     Command, Refusal, Seen, behind_blank, behind_word, first_number, first_word, from_blank,
     read_command, to_blank,
 };

@@ -59,7 +59,7 @@ pub enum Carry {
 
 impl Carry {
     /// The deck that is changed.
-    pub(crate) fn deck_name(&self) -> &DeckName
+    pub fn deck_name(&self) -> &DeckName
         ensures { result.now ≡ carried_deck self.now }
     {
         match self {

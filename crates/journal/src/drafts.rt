@@ -83,7 +83,7 @@ pub fn draft_change(
 
 /// The record of a change that was carried, by its edits as they were made. It takes no memory: its text is
 /// made when it is written.
-pub(crate) fn draft_carried(stamp: Stamp, name: DeckName, seen: u64, edits: Listed<Edit>) -> Draft
+pub fn draft_carried(stamp: Stamp, name: DeckName, seen: u64, edits: Listed<Edit>) -> Draft
     ensures { result ≡ carried_text stamp name seen edits }
 {
     Draft {

@@ -29,7 +29,6 @@ mod writing;
 
 // Changes that are kept: their records go out to a file.
 mod journal_file;
-mod keeping;
 mod kept_records;
 mod marks;
 mod queue;
@@ -48,18 +47,13 @@ mod replaying;
 // What a start may rest on.
 mod laws;
 
-pub use cards::DeckName;
 pub use changes::{Asked, Carry, Change, asked_of};
 pub use compacting::compacted_text;
-pub use deck_files::Moment;
 pub use deck_listing::SharedText;
-pub use drafts::{Draft, Stamp, draft_change};
+pub use drafts::{Draft, Stamp, draft_carried, draft_change};
 pub use journal_file::JournalFile;
-pub use keeping::{Keep, Keeping};
 pub use kept_records::{KeptBatch, KeptRecords};
-pub use laws::{
-    cut_records_are_left_out, drafts_are_records, records_read_back, refusals_change_nothing,
-};
+pub use laws::{cut_records_are_left_out, drafts_are_records, records_read_back};
 pub use marks::{Mark, kept_length, mark_of_front};
 pub use names::session_name;
 pub use places::{Ending, Place};

@@ -2,7 +2,7 @@
 ghost use Rattle.std.specs.Prelude.{◌≡◌, IfOk, drop};
 ghost use Rattle.definitions.specs.Characters.{blank};
 ghost use Rattle.definitions.specs.Cards.{begins_with};
-ghost use Rattle.session_line.specs.Edits.{edit_in_batch};
+ghost use Rattle.session_commands.specs.Edits.{edit_in_batch};
 ghost use Rattle.journal.specs.Steps.{change_with, deck_with, edits_with, end_step, entry_with, has_all, inner_step, line_step, open_behind, sum_in};
 
 use crate::beginning::{Open, opened};
@@ -12,7 +12,7 @@ use crate::records::{Entry, Record};
 use cards::{Card, Edit};
 use definitions::is_same_text;
 use desk_core::{Listed, NewDeck};
-use session_line::{
+use session_commands::{
     behind_blank, behind_word, first_number, from_blank, read_batch_line, to_blank,
 };
 use std::alloc::{AllocError, Global};

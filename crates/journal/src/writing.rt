@@ -1,7 +1,7 @@
 //! The text of a record.
 ghost use Rattle.std.specs.Prelude.{◌≡◌, ◌++◌, ◌∷◌, [], IfOk, OnOk, codes, decimal, map, flat_map};
-ghost use Rattle.session_line.specs.declared.words.Seen.TheVariants.{Exactly};
-ghost use Rattle.session_line.specs.Lines.{behind_a_blank, line_in_batch, line_of_edit, name_and_number};
+ghost use Rattle.session_commands.specs.declared.words.Seen.TheVariants.{Exactly};
+ghost use Rattle.session_commands.specs.Lines.{behind_a_blank, line_in_batch, line_of_edit, name_and_number};
 ghost use Rattle.journal.specs.CheckSums.{check_sum};
 ghost use Rattle.journal.specs.Records.{ended, first_line, line_of_change, line_of_entry, log_line, lines_behind, lines_behind_change, lines_of_record, sum_line, text_behind_version, text_of_lines, text_of_record, text_with_version};
 

@@ -4,10 +4,11 @@
 //! records are shown as they are written again; `replay VERSION`: its changes are made again up to a version;
 //! `compact`: it becomes the one that begins with its decks.
 
+use deck_files::Moment;
 use desk_core::Call;
 use desk_tests::{Answer, ask, fixed_keys, name_of, number, push_told};
 use journal::{
-    Ending, JournalFault, Moment, Next, Place, ReplayFault, Replayed, compacted_text, next_record,
+    Ending, JournalFault, Next, Place, ReplayFault, Replayed, compacted_text, next_record,
     record_text, replay,
 };
 use std::alloc::{AllocError, Global};

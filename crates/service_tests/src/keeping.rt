@@ -5,13 +5,12 @@
 //! a file whose calls all fail.
 
 use cards::Edit;
+use deck_files::Moment;
 use desk_core::{Call, Desk, NewDeck, Refusal, Reply};
 use desk_service::{Journal, SessionKeeper, SystemFile};
 use desk_tests::{Answer, card_of, fixed_keys, name_of, number};
-use journal::{
-    Batch, Change, Ending, JournalFile, Keeping, Mark, Moment, Queue, RecordsFile, draft_change,
-    replay,
-};
+use journal::{Batch, Change, Ending, JournalFile, Mark, Queue, RecordsFile, draft_change, replay};
+use kept_desk::Keeping;
 use session_line::Calls;
 use std::alloc::{AllocError, AllocGlobal, Global};
 use std::fs::{Metadata, OpenFile};

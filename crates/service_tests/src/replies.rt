@@ -7,12 +7,12 @@ ghost use Rattle.std.specs.Prelude.{◌≡◌, true};
 ghost use Rattle.session_line.specs.Replies.{IsWithinLimits};
 
 use cards::{Card, CardFault, EditFault, MOST_CARDS};
-use deck_files::{LoadFault, MOST_FILES};
+use deck_files::{LoadFault, MOST_FILES, Moment};
 use desk_core::{Row, State};
 use desk_service::ServeFault;
 use desk_tests::{Answer, cards_of, cut_line, name_of, number};
-use journal::Moment;
-use session_line::{DeckOutcome, MarkedRow, Refusal, Reply, ToldDeck, reply_text, write_reply};
+use session_commands::Refusal;
+use session_line::{DeckOutcome, MarkedRow, Reply, ToldDeck, reply_text, write_reply};
 use std::alloc::{AllocError, Global};
 use text_ports::{Counted, FaultyWriter};
 

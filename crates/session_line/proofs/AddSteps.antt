@@ -9,8 +9,8 @@ use Rattle.desk_core.specs.declared.replies.Reply.{Reply}
 use Rattle.session_line.specs.declared.told_decks.ToldDeck.{ToldDeck}
 use Rattle.session_line.specs.declared.answers.Answer.{Answer}
 use Rattle.session_line.specs.declared.answers.Told.TheVariants as told
-use Rattle.session_line.specs.declared.refusals.Refusal.{Refusal}
-use Rattle.session_line.specs.declared.refusals.Refusal.TheVariants.{OutOfMemory}
+use Rattle.session_commands.specs.declared.refusals.Refusal.{Refusal}
+use Rattle.session_commands.specs.declared.refusals.Refusal.TheVariants.{OutOfMemory}
 use Rattle.session_line.specs.Answers.{uncalled}
 use Rattle.session_line.specs.DeckCuts.{decks_in}
 use Rattle.session_line.specs.LoadingAll.{AddsAll, AddsCut, AddsDeck, AddsDecks, AddsFile, cut, no_deck, next_deck, uncut}

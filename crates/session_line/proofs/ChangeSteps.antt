@@ -7,7 +7,7 @@ use Rattle.std.proofs.lemmas.List.{length-map}
 use Rattle.desk_core.specs.declared.past.KeptEdit.{KeptEdit}
 use Rattle.session_line.specs.ChangeLines.{ShownChange, change_with, onto_change, changes_of, change_line, lines_of_change, change_lines}
 use Rattle.session_line.specs.Joins.ChangeWalks.{run_len, first_len, lines_of_one, edits_text}
-use Rattle.session_line.specs.Lines.{line_in_batch}
+use Rattle.session_commands.specs.Lines.{line_in_batch}
 use Rattle.session_line.specs.Replies.{line_of, text_of_lines}
 
 -- changes that begin with so many edits behind a first one

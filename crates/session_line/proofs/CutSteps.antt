@@ -8,8 +8,8 @@ use Rattle.definitions.specs.Cards.{Card}
 use Rattle.definitions.specs.Characters.{same_text}
 use Rattle.definitions.specs.DeckInput.{Deck, Input, Decks, Faulty, InputFault, BadName, NameTaken, TooManyDecks, DeckFull, most_decks, most_cards, begun, continued, in_card_order, in_input_order, is_deck_name, is_taken, name_on, with_card}
 use Rattle.definitions.specs.Fields.{fields_of}
-use Rattle.session_line.specs.declared.refusals.Refusal.{Refusal}
-use Rattle.session_line.specs.declared.refusals.Refusal.TheVariants.{OutOfMemory}
+use Rattle.session_commands.specs.declared.refusals.Refusal.{Refusal}
+use Rattle.session_commands.specs.declared.refusals.Refusal.TheVariants.{OutOfMemory}
 use Rattle.session_line.specs.DeckCuts.{decks_in, decks_or_reason, input_of_cards, input_reason, input_with}
 use Rattle.deck_listing.specs.DecksBehind.{begins_deck}
 use Rattle.session_line.specs.Joins.DeckOrders.{IsReasonOf, newest_first}

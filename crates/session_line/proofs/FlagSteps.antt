@@ -29,7 +29,7 @@ use Rattle.deck_listing.proofs.ListingLaws.{behind-cards, take-none}
 use Rattle.session_line.specs.Errors.{Begins, Flag, deck_errors, errors_where, flag_of, flags_of, flag_text, shown_flag, shows_deck}
 use Rattle.session_line.specs.Joins.FlagWalks.{flags_in, flags_text}
 use Rattle.session_line.specs.Replies.{line_of, text_of_lines}
-use Rattle.session_line.specs.declared.errors.ErrorsView.{ErrorsView}
+use Rattle.session_commands.specs.declared.views.ErrorsView.{ErrorsView}
 
 -- the lines of some, and of others behind them
 flags_text-append : (name : List ℕ) (flags others : List Flag) → flags_text name (flags ++ others) ≡ flags_text name flags ++ flags_text name others

@@ -8,7 +8,8 @@ use Rattle.std.proofs.lemmas.List.{take_more, drop_more}
 use Rattle.definitions.specs.Cards.{Card}
 use Rattle.text_ports.proofs.SendSteps.{IsPart, part-first, part-second}
 use Rattle.session_line.specs.Replies.{line_of, numbers_text}
-use Rattle.session_line.specs.Views.{has_text, number_where, numbers_from, numbers_of}
+use Rattle.session_line.specs.Views.{number_where, numbers_from, numbers_of}
+use Rattle.session_commands.specs.Sought.{has_text}
 
 -- cards, and others behind them
 numbers_from-append : (number : ℕ) (text : List ℕ) (cards others : List Card) →

@@ -1,8 +1,4 @@
-pub mod WorkedLines
 pub mod WorkedReplies
-pub mod ReadBack
-pub mod LineLaws
-pub mod UnknownWordLaws
 pub mod TakingSteps
 pub mod SessionKinds
 pub mod RefusedCommands

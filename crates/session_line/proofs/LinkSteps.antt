@@ -7,7 +7,7 @@ use Rattle.definitions.specs.Characters.{line_feed}
 use Rattle.session_line.specs.Errors.{lines_in, onto_line, shows_line}
 use Rattle.session_line.specs.Joins.FlagWalks.{line_len, shown_text}
 use Rattle.session_line.specs.Replies.{line_of, text_of_lines}
-use Rattle.session_line.specs.declared.errors.ErrorsView.{ErrorsView}
+use Rattle.session_commands.specs.declared.views.ErrorsView.{ErrorsView}
 
 -- the first line of a text with a character more in front
 abbrev split_at : ℕ → List ℕ → List (List ℕ)

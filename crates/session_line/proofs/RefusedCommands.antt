@@ -14,7 +14,7 @@ use Rattle.session_line.specs.declared.answers.Answer.{Answer}
 use Rattle.session_line.specs.declared.answers.Told.{Told}
 use Rattle.session_line.specs.declared.answers.Told.TheVariants as told
 use Rattle.session_line.specs.declared.greetings.Greeting.{Greeting}
-use Rattle.session_line.specs.declared.refusals.Refusal.{Refusal}
+use Rattle.session_commands.specs.declared.refusals.Refusal.{Refusal}
 use Rattle.session_line.specs.declared.told_decks.ToldDeck.{ToldDeck}
 use Rattle.session_line.specs.declared.tasks.Task.{Task}
 use Rattle.session_line.specs.declared.tasks.Task.TheVariants.{Ask, AwaitVersion, ShowCards, ShowCardsAt, ShowText, ShowPart, ShowErrors, ShowWords, ShowNames, ShowSymbols, LoadDeck, LoadAll, ReloadDeck, SaveDeck, SaveAll, ShowFiles, ShowFileStatus, Greet, ShowHelp, Leave, Refuse}
@@ -26,14 +26,14 @@ use Rattle.session_line.specs.Rights.{allowed, changes}
 use Rattle.session_line.specs.Joins.Kinds.{is_session_call}
 use Rattle.session_line.specs.Taking.{IsTaskFor, TakesTask}
 use Rattle.session_line.specs.Tasks.{task_by, task_of, task_of_command, batch_named, batch_of, batch_call, put_named, put_of, edit_call, edits_of, cards_of}
-use Rattle.session_line.specs.Commands.{command_of}
-use Rattle.session_line.specs.declared.commands.Command.{Command}
-use Rattle.session_line.specs.declared.commands.Command.TheVariants as command
+use Rattle.session_commands.specs.Commands.{command_of}
+use Rattle.session_commands.specs.declared.commands.Command.{Command}
+use Rattle.session_commands.specs.declared.commands.Command.TheVariants as command
 use Rattle.session_line.specs.declared.rights.Rights.{Rights}
 use Rattle.session_line.specs.declared.rights.Rights.TheVariants.{Edits, Reads}
-use Rattle.session_line.specs.declared.refusals.Refusal.TheVariants.{ReadOnly}
-use Rattle.session_line.specs.declared.words.Seen.{Seen}
-use Rattle.session_line.specs.declared.words.Seen.TheVariants.{Exactly, Since}
+use Rattle.session_commands.specs.declared.refusals.Refusal.TheVariants.{ReadOnly}
+use Rattle.session_commands.specs.declared.words.Seen.{Seen}
+use Rattle.session_commands.specs.declared.words.Seen.TheVariants.{Exactly, Since}
 use Rattle.cards.specs.declared.edits.Edit.{Edit}
 use Rattle.session_line.specs.Refusing.{is_refusal, tells_refusal, RefusesCommand}
 use Rattle.session_line.specs.SavingDecks.{SavesDeck}

@@ -7,9 +7,9 @@ use Rattle.definitions.specs.InputLines.{InputLine, Line, lines_of}
 use Rattle.text_ports.specs.Lines.{ReadsLine}
 use Rattle.text_ports.specs.declared.lines.LineIs.TheVariants as is
 use Rattle.text_ports.proofs.LineLaws.{lines_of-taken}
-use Rattle.session_line.specs.Commands.{command_of}
-use Rattle.session_line.specs.declared.commands.Command.{Command}
-use Rattle.session_line.specs.declared.refusals.Refusal.{Refusal}
+use Rattle.session_commands.specs.Commands.{command_of}
+use Rattle.session_commands.specs.declared.commands.Command.{Command}
+use Rattle.session_commands.specs.declared.refusals.Refusal.{Refusal}
 use Rattle.session_line.specs.declared.line_items.ItemsRead.{ItemsRead}
 use Rattle.session_line.specs.declared.reading.Stop.{Stop}
 use Rattle.session_line.specs.declared.tasks.Task.{Task}

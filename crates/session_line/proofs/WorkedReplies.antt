@@ -3,11 +3,11 @@ use Rattle.std.proofs.Common.{◌≡◌, true, false, [], ◌∷◌, None, Some,
 use Rattle.std.specs.Fmt.{digits}
 use Rattle.cards.specs.declared.card.CardFault.TheVariants as card
 use Rattle.cards.specs.declared.edits.EditFault.TheVariants as fault
-use Rattle.session_line.specs.declared.refusals.Refusal.TheVariants as refusal
+use Rattle.session_commands.specs.declared.refusals.Refusal.TheVariants as refusal
 use Rattle.session_line.specs.declared.told_decks.DeckOutcome.TheVariants as outcome
 use Rattle.session_line.specs.declared.replies.Reply.TheVariants as reply
 use Rattle.desk_core.specs.declared.replies.State.TheVariants.{Behind, Ready}
-use Rattle.session_line.specs.UnknownWords.{told_word}
+use Rattle.session_commands.specs.UnknownWords.{told_word}
 use Rattle.session_line.specs.PublishedTexts.{line_count}
 use Rattle.session_line.specs.Replies.{text_of_reply, marked_text, status_text, told_deck_text, published_text, counted_text, numbers_text}
 use Rattle.session_line.specs.FileLines.{file_line}

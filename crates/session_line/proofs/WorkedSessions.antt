@@ -9,13 +9,13 @@ use Rattle.desk_core.specs.declared.replies.Reply.TheVariants as reply
 use Rattle.desk_core.specs.declared.replies.State.TheVariants.{Behind}
 use Rattle.desk_core.specs.declared.replies.Refusal.TheVariants as desk
 use Rattle.deck_files.specs.declared.deck_shelf.SaveOver.TheVariants.{Known}
-use Rattle.session_line.specs.declared.refusals.Refusal.TheVariants.{BadCommand, UnknownCommand, BadName, BadCard, BadLine, FileExists, NameTaken, ReadOnly}
+use Rattle.session_commands.specs.declared.refusals.Refusal.TheVariants.{BadCommand, UnknownCommand, BadName, BadCard, BadLine, FileExists, NameTaken, ReadOnly}
 use Rattle.definitions.specs.Cards.{Card}
 use Rattle.definitions.specs.DeckInput.{Deck}
-use Rattle.session_line.specs.UnknownWords.{told_word}
-use Rattle.session_line.specs.Commands.{command_of}
-use Rattle.session_line.specs.declared.errors.ErrorsView.TheVariants.{Every, Of}
-use Rattle.session_line.specs.declared.views.CardsView.TheVariants.{All, From, With}
+use Rattle.session_commands.specs.UnknownWords.{told_word}
+use Rattle.session_commands.specs.Commands.{command_of}
+use Rattle.session_commands.specs.declared.views.ErrorsView.TheVariants.{Every, Of}
+use Rattle.session_commands.specs.declared.views.CardsView.TheVariants.{All, From, With}
 use Rattle.session_line.specs.declared.published_texts.DeckText.TheVariants as part
 use Rattle.session_line.specs.declared.published_texts.PublishedText.TheVariants.{Image, Listing, Map}
 use Rattle.session_line.specs.declared.tasks.Task.TheVariants.{Ask, AwaitVersion, ShowCards, ShowCardsAt, ShowText, ShowPart, ShowErrors, ShowWords, ShowNames, ShowSymbols, LoadDeck, LoadAll, ReloadDeck, SaveDeck, SaveAll, ShowFiles, ShowFileStatus, Greet, ShowHelp, Leave, Refuse}

@@ -8,9 +8,9 @@ use Rattle.desk_core.specs.declared.replies.Row.{Row}
 use Rattle.desk_core.specs.declared.replies.Reply.TheVariants.{Changed, Carried, Unkept, CardsAre, ChangesAre, CardsBefore, Shown, StatusIs, Refused}
 use Rattle.deck_files.specs.DeckFiles.{file_of}
 use Rattle.deck_files.specs.FileRows.{most_files}
-use Rattle.session_line.specs.declared.refusals.Refusal.{Refusal}
-use Rattle.session_line.specs.declared.refusals.Refusal.TheVariants as refusal
-use Rattle.session_line.specs.Refusals.{refusal_text}
+use Rattle.session_commands.specs.declared.refusals.Refusal.{Refusal}
+use Rattle.session_commands.specs.declared.refusals.Refusal.TheVariants as refusal
+use Rattle.session_commands.specs.Refusals.{refusal_text}
 use Rattle.session_line.specs.Replies.{line_of, ok_text, unkept_text, counted_text, published_text, rows_text, marks_text, told_decks_text, sessions_text, numbers_text, text_of_lines}
 use Rattle.session_line.specs.FileLines.{files_text}
 use Rattle.session_line.specs.Reasons.{desk_reason}
@@ -18,13 +18,13 @@ use Rattle.session_line.specs.Greetings.{service_text}
 use Rattle.session_line.specs.Help.{help_text}
 use Rattle.session_line.specs.declared.greetings.Connected.{Connected}
 use Rattle.session_line.specs.declared.greetings.Greeting.{Greeting}
-use Rattle.session_line.specs.declared.views.CardsView.{CardsView}
-use Rattle.session_line.specs.declared.views.CardsView.TheVariants.{All, From, With}
+use Rattle.session_commands.specs.declared.views.CardsView.{CardsView}
+use Rattle.session_commands.specs.declared.views.CardsView.TheVariants.{All, From, With}
 use Rattle.session_line.specs.Views.{cards_from, numbers_of}
 use Rattle.session_line.specs.ChangeLines.{change_lines}
 use Rattle.cards.specs.declared.edits.Edit.{Edit}
 use Rattle.cards.specs.Edits.{first_fault, edited_by}
-use Rattle.session_line.specs.declared.errors.ErrorsView.{ErrorsView}
+use Rattle.session_commands.specs.declared.views.ErrorsView.{ErrorsView}
 use Rattle.session_line.specs.Errors.{error_lines, shows_any}
 use Rattle.session_line.specs.PublishedTexts.{line_count, shown_part, shown_text}
 use Rattle.session_line.specs.declared.published_texts.DeckText.{DeckText}

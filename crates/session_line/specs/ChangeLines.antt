@@ -2,7 +2,7 @@
 use Rattle.std.specs.Prelude.{ℕ, ◌==◌, List, [], ◌∷◌, ◌++◌, length, map, flat_map, codes, decimal, if◌then◌else◌}
 use Rattle.cards.specs.declared.edits.Edit.{Edit}
 use Rattle.desk_core.specs.declared.past.KeptEdit.{KeptEdit}
-use Rattle.session_line.specs.Lines.{line_in_batch}
+use Rattle.session_commands.specs.Lines.{line_in_batch}
 
 -- a change: the version that it made, the name of who asked for it, and its edits
 pub record ShownChange : Type 0 where

@@ -3,8 +3,8 @@ use Rattle.std.specs.Prelude.{ℕ, ◌+◌, List, [], ◌∷◌, Result, Ok, Err
 use Rattle.definitions.specs.Cards.{Card}
 use Rattle.definitions.specs.DeckInput.{Deck, Input, Decks, Faulty, InputFault, BadLineTooWide, BadLineBadCharacter, LastLineCut, BadName, NameTaken, TooManyDecks, DeckFull, in_input_order, with_card}
 use Rattle.cards.specs.declared.card.CardFault.TheVariants as card
-use Rattle.session_line.specs.declared.refusals.Refusal.{Refusal}
-use Rattle.session_line.specs.declared.refusals.Refusal.TheVariants as refusal
+use Rattle.session_commands.specs.declared.refusals.Refusal.{Refusal}
+use Rattle.session_commands.specs.declared.refusals.Refusal.TheVariants as refusal
 
 -- an input with the card of one line more; a fault that is there stays
 abbrev pub input_with : ℕ → Card → Input → Input

@@ -6,10 +6,10 @@ use Rattle.definitions.specs.DeckInput.{Deck}
 use Rattle.definitions.specs.Fields.{unbroken_front}
 use Rattle.definitions.specs.Objects.{Shown, object_of}
 use Rattle.deck_listing.specs.DecksBehind.{begins_deck}
-use Rattle.session_line.specs.Views.{begins_with}
-use Rattle.session_line.specs.Words.{from_blank, behind_word}
-use Rattle.session_line.specs.declared.errors.ErrorsView.{ErrorsView}
-use Rattle.session_line.specs.declared.errors.ErrorsView.TheVariants.{Every, Of}
+use Rattle.session_commands.specs.Sought.{begins_with}
+use Rattle.session_commands.specs.Words.{from_blank, behind_word}
+use Rattle.session_commands.specs.declared.views.ErrorsView.{ErrorsView}
+use Rattle.session_commands.specs.declared.views.ErrorsView.TheVariants.{Every, Of}
 
 -- what is told of a statement: it is flagged, with the number of its first card in the deck, its letters, and that card; or it stands behind END and begins another deck, with the number of its first card, and that card
 pub data Flag : Type 0 where

@@ -5,7 +5,7 @@ use Rattle.desk_core.specs.declared.calls.Call.TheVariants.{Status}
 use Rattle.desk_core.specs.declared.replies.Reply.{Reply}
 use Rattle.desk_core.specs.declared.replies.Row.{Row}
 use Rattle.session_line.specs.declared.marked_rows.MarkedRow.{MarkedRow}
-use Rattle.session_line.specs.declared.refusals.Refusal.TheVariants.{OutOfMemory}
+use Rattle.session_commands.specs.declared.refusals.Refusal.TheVariants.{OutOfMemory}
 use Rattle.session_line.specs.declared.answers.Told.{Told}
 use Rattle.session_line.specs.declared.answers.Told.TheVariants as told
 use Rattle.session_line.specs.declared.answers.Answer.{Answer}

@@ -1,15 +1,7 @@
-pub mod Words
-pub mod UnknownWords
-pub mod Verbs
 pub mod Views
 pub mod PublishedTexts
 pub mod Errors
-pub mod Edits
-pub mod Commands
-pub mod Strangers
-pub mod Lines
 pub mod ChangeLines
-pub mod Refusals
 pub mod FileLines
 pub mod Greetings
 pub mod Help

@@ -9,7 +9,7 @@ use Rattle.session_line.specs.Reasons.{desk_reason}
 use Rattle.session_line.specs.Replies.{line_of}
 use Rattle.session_line.specs.declared.answers.Told.{Told}
 use Rattle.session_line.specs.declared.answers.Told.TheVariants as told
-use Rattle.session_line.specs.declared.refusals.Refusal.TheVariants as refusal
+use Rattle.session_commands.specs.declared.refusals.Refusal.TheVariants as refusal
 
 -- a letter of a flagged statement, with the number of that statement's first card
 pub record Lettered : Type 0 where

@@ -7,8 +7,8 @@ use Rattle.deck_files.specs.declared.deck_shelf.ShelfLoadFault.{ShelfLoadFault}
 use Rattle.deck_files.specs.declared.deck_shelf.ShelfLoadFault.TheVariants as shelf_load
 use Rattle.deck_files.specs.declared.deck_shelf.ShelfSaveFault.{ShelfSaveFault}
 use Rattle.deck_files.specs.declared.deck_shelf.ShelfSaveFault.TheVariants as shelf_save
-use Rattle.session_line.specs.declared.refusals.Refusal.{Refusal}
-use Rattle.session_line.specs.declared.refusals.Refusal.TheVariants as refusal
+use Rattle.session_commands.specs.declared.refusals.Refusal.{Refusal}
+use Rattle.session_commands.specs.declared.refusals.Refusal.TheVariants as refusal
 
 -- a refusal of the desk
 abbrev pub desk_reason : DeskRefusal → Refusal

@@ -4,7 +4,7 @@ use Rattle.definitions.specs.Characters.{line_feed}
 use Rattle.deck_files.specs.DeckFiles.{file_of}
 use Rattle.deck_files.specs.FileRows.{most_files}
 use Rattle.session_line.specs.PublishedTexts.{line_count, shown_text}
-use Rattle.session_line.specs.Refusals.{refusal_text}
+use Rattle.session_commands.specs.Refusals.{refusal_text}
 use Rattle.session_line.specs.FileLines.{files_text}
 use Rattle.session_line.specs.Greetings.{service_text, connected_text}
 use Rattle.session_line.specs.declared.greetings.Connected.{Connected}

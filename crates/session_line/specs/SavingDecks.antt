@@ -7,7 +7,7 @@ use Rattle.deck_files.specs.Savings.{Saving, saving}
 use Rattle.desk_core.specs.declared.calls.Call.{Call}
 use Rattle.desk_core.specs.declared.calls.Call.TheVariants.{Cards}
 use Rattle.desk_core.specs.declared.replies.Reply.{Reply}
-use Rattle.session_line.specs.declared.views.CardsView.TheVariants.{All}
+use Rattle.session_commands.specs.declared.views.CardsView.TheVariants.{All}
 use Rattle.session_line.specs.declared.answers.Told.{Told}
 use Rattle.session_line.specs.declared.answers.Told.TheVariants as told
 use Rattle.session_line.specs.declared.answers.Answer.{Answer}

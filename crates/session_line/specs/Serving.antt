@@ -17,7 +17,7 @@ use Rattle.session_line.specs.declared.serving.Outcome.{Outcome}
 use Rattle.session_line.specs.declared.serving.Outcome.TheVariants.{Served, Ended, ReadFault, WriteFault}
 use Rattle.session_line.specs.declared.greetings.Greeting.{Greeting}
 use Rattle.session_line.specs.Answers.{told_text, is_bye}
-use Rattle.session_line.specs.Commands.{command_of}
+use Rattle.session_commands.specs.Commands.{command_of}
 use Rattle.session_line.specs.Tasks.{lines_due}
 use Rattle.session_line.specs.Taking.{TakesTask, TakesBehind, Stops, StopsWithin}
 use Rattle.session_line.specs.Executing.{Executes}

@@ -7,8 +7,8 @@ use Rattle.text_ports.specs.Faults.{count_up}
 use Rattle.text_ports.specs.declared.lines.LineIs.{LineIs}
 use Rattle.text_ports.specs.declared.lines.LineIs.TheVariants as line
 use Rattle.desk_core.specs.declared.calls.Call.TheVariants.{Batch, BatchSince, PutDeck}
-use Rattle.session_line.specs.Commands.{command_of}
-use Rattle.session_line.specs.declared.refusals.Refusal.TheVariants.{OutOfMemory}
+use Rattle.session_commands.specs.Commands.{command_of}
+use Rattle.session_commands.specs.declared.refusals.Refusal.TheVariants.{OutOfMemory}
 use Rattle.session_line.specs.declared.tasks.Task.{Task}
 use Rattle.session_line.specs.declared.tasks.Task.TheVariants.{Ask, Refuse}
 use Rattle.session_line.specs.declared.reading.Stop.{Stop}

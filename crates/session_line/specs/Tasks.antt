@@ -4,13 +4,13 @@ use Rattle.definitions.specs.Cards.{Card}
 use Rattle.cards.specs.declared.edits.Edit.{Edit}
 use Rattle.desk_core.specs.declared.calls.Call.TheVariants.{AddDeck, PutDeck, DropDeck, EditDeck, Batch, EditSince, BatchSince, Undo, Changes, Status}
 use Rattle.desk_core.specs.declared.calls.Call.{Call}
-use Rattle.session_line.specs.declared.words.Seen.{Seen}
-use Rattle.session_line.specs.declared.words.Seen.TheVariants.{Exactly, Since}
-use Rattle.session_line.specs.declared.commands.Command.{Command}
-use Rattle.session_line.specs.declared.commands.Command.TheVariants as command
-use Rattle.session_line.specs.declared.refusals.Refusal.{Refusal}
-use Rattle.session_line.specs.Edits.{edit_in_batch, card_in_put}
-use Rattle.session_line.specs.Commands.{command_of}
+use Rattle.session_commands.specs.declared.words.Seen.{Seen}
+use Rattle.session_commands.specs.declared.words.Seen.TheVariants.{Exactly, Since}
+use Rattle.session_commands.specs.declared.commands.Command.{Command}
+use Rattle.session_commands.specs.declared.commands.Command.TheVariants as command
+use Rattle.session_commands.specs.declared.refusals.Refusal.{Refusal}
+use Rattle.session_commands.specs.Edits.{edit_in_batch, card_in_put}
+use Rattle.session_commands.specs.Commands.{command_of}
 use Rattle.session_line.specs.declared.published_texts.DeckText.TheVariants as part
 use Rattle.session_line.specs.declared.published_texts.PublishedText.TheVariants.{Image, Listing, Map}
 use Rattle.session_line.specs.declared.tasks.Task.{Task}

@@ -3,7 +3,7 @@ use Rattle.std.specs.Prelude.{ℕ, List}
 use Rattle.session_line.specs.declared.told_decks.DeckOutcome.{DeckOutcome}
 use Rattle.session_line.specs.declared.told_decks.DeckOutcome.TheVariants.{Done, Unkept, Refused}
 use Rattle.session_line.specs.declared.told_decks.ToldDeck.{ToldDeck}
-use Rattle.session_line.specs.declared.refusals.Refusal.TheVariants.{Foreign}
+use Rattle.session_commands.specs.declared.refusals.Refusal.TheVariants.{Foreign}
 use Rattle.session_line.specs.declared.answers.Told.{Told}
 use Rattle.session_line.specs.declared.answers.Told.TheVariants as told
 

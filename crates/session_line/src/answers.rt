@@ -8,20 +8,21 @@ ghost use Rattle.session_line.specs.Errors.{deck_named};
 ghost use Rattle.session_line.specs.Messages.{IsLinesOf, IsSaidOf, IsToldNames, IsToldSymbols, IsToldWords};
 ghost use Rattle.session_line.specs.PublishedTexts.{shown_part};
 
-use crate::Refusal;
-use crate::errors::{ErrorsView, shows_any};
+use crate::errors::shows_any;
 use crate::greetings::{Connected, Greeting};
 use crate::help::help_text;
 use crate::marked_rows::MarkedRow;
 use crate::messages::{object_named, told_of_messages};
 use crate::published_texts::{DeckText, PublishedText, shown_part};
+use crate::reasons::desk_reason;
 use crate::symbol_lines::{told_of_deck_symbols, told_of_entered};
 use crate::told_decks::ToldDeck;
-use crate::views::{CardsView, cards_from};
+use crate::views::cards_from;
 use cards::{Card, DeckName, Edit, MOST_CARDS, edited_copy, first_fault};
 use deck_files::FileRow;
 use deck_linker::ListedPublication;
 use desk_core::{KeptEdit, Listed, Reply, Row, SharedPublication};
+use session_commands::{CardsView, ErrorsView, Refusal};
 use std::alloc::Global;
 use std::hash::RandomState;
 use text_ports::Text;
@@ -111,7 +112,7 @@ pub(crate) fn told_of_call(reply: Reply) -> Told
                 foreign()
             }
         }
-        Reply::Refused(refusal) => Told::Refused(Refusal::from(refusal)),
+        Reply::Refused(refusal) => Told::Refused(desk_reason(refusal)),
         _ => foreign(),
     }
 }
@@ -123,7 +124,7 @@ pub(crate) fn told_of_wait(reply: Reply) -> Told
 {
     match reply {
         Reply::StatusIs(version, published, _) => Told::Standing(version, published),
-        Reply::Refused(refusal) => Told::Refused(Refusal::from(refusal)),
+        Reply::Refused(refusal) => Told::Refused(desk_reason(refusal)),
         _ => foreign(),
     }
 }
@@ -150,7 +151,7 @@ fn told_of_sessions(status: Reply, sessions: Listed<Connected>) -> Told
                 foreign()
             }
         }
-        Reply::Refused(refusal) => Told::Refused(Refusal::from(refusal)),
+        Reply::Refused(refusal) => Told::Refused(desk_reason(refusal)),
         _ => foreign(),
     }
 }
@@ -162,7 +163,7 @@ pub(crate) fn told_of_help(reply: Reply) -> Told
 {
     match reply {
         Reply::StatusIs(version, _, _) => Told::Help(version),
-        Reply::Refused(refusal) => Told::Refused(Refusal::from(refusal)),
+        Reply::Refused(refusal) => Told::Refused(desk_reason(refusal)),
         _ => foreign(),
     }
 }
@@ -174,7 +175,7 @@ pub(crate) fn told_of_cards(view: CardsView, reply: Reply) -> Told
 {
     match reply {
         Reply::CardsAre(version, cards) => told_of_list(version, cards.into_items(), view),
-        Reply::Refused(refusal) => Told::Refused(Refusal::from(refusal)),
+        Reply::Refused(refusal) => Told::Refused(desk_reason(refusal)),
         _ => foreign(),
     }
 }
@@ -215,7 +216,7 @@ pub(crate) fn told_of_cards_at(alloc: Global, reply: Reply) -> Told
         Reply::CardsBefore(version, cards, backs) => {
             told_of_backs(alloc, version, backs.as_slice(), &cards.into_items())
         }
-        Reply::Refused(refusal) => Told::Refused(Refusal::from(refusal)),
+        Reply::Refused(refusal) => Told::Refused(desk_reason(refusal)),
         _ => foreign(),
     }
 }
@@ -227,7 +228,7 @@ pub(crate) fn told_of_publication(text: PublishedText, reply: Reply) -> Told
 {
     match reply {
         Reply::Shown(publication) => Told::Published(publication, text),
-        Reply::Refused(refusal) => Told::Refused(Refusal::from(refusal)),
+        Reply::Refused(refusal) => Told::Refused(desk_reason(refusal)),
         _ => foreign(),
     }
 }
@@ -240,7 +241,7 @@ pub(crate) fn told_of_part(text: DeckText, name: DeckName, reply: Reply) -> Told
 {
     match reply {
         Reply::Shown(publication) => Told::Part(publication, text, name),
-        Reply::Refused(refusal) => Told::Refused(Refusal::from(refusal)),
+        Reply::Refused(refusal) => Told::Refused(desk_reason(refusal)),
         _ => foreign(),
     }
 }
@@ -259,7 +260,7 @@ pub(crate) fn told_of_errors(view: ErrorsView, reply: Reply) -> Told
                 foreign()
             }
         }
-        Reply::Refused(refusal) => Told::Refused(Refusal::from(refusal)),
+        Reply::Refused(refusal) => Told::Refused(desk_reason(refusal)),
         _ => foreign(),
     }
 }
@@ -288,7 +289,7 @@ pub(crate) fn told_of_words(alloc: Global, keys: RandomState, name: &DeckName, r
 {
     match reply {
         Reply::Shown(publication) => told_of_words_in(alloc, keys, publication.publication(), name),
-        Reply::Refused(refusal) => Told::Refused(Refusal::from(refusal)),
+        Reply::Refused(refusal) => Told::Refused(desk_reason(refusal)),
         _ => foreign(),
     }
 }
@@ -332,7 +333,7 @@ pub(crate) fn told_of_symbols(
             publication.publication(),
             name,
         ),
-        Reply::Refused(refusal) => Told::Refused(Refusal::from(refusal)),
+        Reply::Refused(refusal) => Told::Refused(desk_reason(refusal)),
         _ => foreign(),
     }
 }
@@ -348,7 +349,7 @@ pub(crate) fn told_of_names(alloc: Global, reply: Reply) -> Told
             let publication = shared.publication();
             told_of_entered(alloc, publication.version(), publication.objects())
         }
-        Reply::Refused(refusal) => Told::Refused(Refusal::from(refusal)),
+        Reply::Refused(refusal) => Told::Refused(desk_reason(refusal)),
         _ => foreign(),
     }
 }

@@ -2,7 +2,7 @@
 ghost use Rattle.std.specs.Prelude.{◌≡◌, ◌+◌, ◌≤◌, ◌++◌, codes, decimal, drop, length, take};
 ghost use Rattle.session_line.specs.ChangeLines.{change_line, change_lines};
 ghost use Rattle.session_line.specs.Joins.ChangeWalks.{first_len, run_len};
-ghost use Rattle.session_line.specs.Lines.{line_in_batch};
+ghost use Rattle.session_commands.specs.Lines.{line_in_batch};
 ghost use Rattle.session_line.specs.Replies.{line_of};
 
 use crate::reply_line::ReplyLine;

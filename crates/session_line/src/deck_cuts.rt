@@ -9,11 +9,11 @@ ghost use Rattle.session_line.specs.DeckCuts.{decks_in};
 ghost use Rattle.session_line.specs.Joins.DeckOrders.{IsReasonOf, newest_first};
 
 use crate::answers::MOST_DECKS;
-use crate::refusals::Refusal;
 use cards::{Card, DeckName, Fields, MOST_CARDS};
 use deck_listing::begins_deck;
 use definitions::is_same_text;
 use desk_core::NewDeck;
+use session_commands::Refusal;
 use std::alloc::{AllocError, Global};
 
 /// How many characters stand before the first comma or blank.

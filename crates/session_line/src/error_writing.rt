@@ -6,11 +6,12 @@ ghost use Rattle.session_line.specs.Errors.{Begins, Flagged, error_lines, errors
 ghost use Rattle.session_line.specs.Joins.FlagWalks.{flags_in, flags_text, shown_text};
 ghost use Rattle.session_line.specs.Replies.{line_of, text_of_lines};
 
-use crate::errors::{ErrorsView, shows_deck, shows_line, split_cards, split_line};
+use crate::errors::{shows_deck, shows_line, split_cards, split_line};
 use crate::reply_line::ReplyLine;
 use cards::{Card, DeckName};
 use deck_listing::{ListedObject, begins_deck};
 use deck_objects::{Line, Object};
+use session_commands::ErrorsView;
 use std::io::Write;
 use text_ports::{Broken, Counted, put_all};
 

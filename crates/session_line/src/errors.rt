@@ -5,21 +5,11 @@ ghost use Rattle.definitions.specs.DeckInput.{Deck};
 ghost use Rattle.session_line.specs.Errors.{deck_errors, error_lines, errors_where, flag_of, has_deck, is_link, lines_in, link_deck, shows_any, shows_deck, shows_line};
 ghost use Rattle.session_line.specs.Joins.FlagWalks.{flags_in, line_len};
 
-use crate::views::begins_with;
-use crate::words::{behind_blank, behind_word, from_blank, to_blank};
 use cards::{Card, DeckName};
 use deck_listing::{ListedObject, begins_deck};
 use deck_objects::{Line, Object};
 use definitions::is_same_text;
-
-/// Whose flagged statements and LINK lines are shown.
-#[derive(Drop)]
-pub enum ErrorsView {
-    /// Those of every deck.
-    Every,
-    /// Those of the deck of this name.
-    Of(DeckName),
-}
+use session_commands::{ErrorsView, begins_with, behind_blank, behind_word, from_blank, to_blank};
 
 /// Whether what is flagged in the deck of this name is shown.
 pub(crate) fn shows_deck(view: &ErrorsView, name: &DeckName) -> bool

@@ -7,25 +7,24 @@ ghost use Rattle.session_line.specs.Messages.{IsToldNames, IsToldSymbols, IsTold
 ghost use Rattle.session_line.specs.SavingDecks.{SavesCards, SavesDeck};
 ghost use Rattle.desk_core.specs.declared.calls.Call.TheVariants.{Cards, Show, Status};
 
-use crate::Refusal;
 use crate::answers::{
     Answer, Told, told_of_call, told_of_cards, told_of_cards_at, told_of_errors, told_of_greeting,
     told_of_help, told_of_names, told_of_part, told_of_publication, told_of_symbols, told_of_wait,
     told_of_words,
 };
 use crate::calls::Calls;
-use crate::errors::ErrorsView;
 use crate::file_status::show_file_status;
 use crate::file_tasks::show_files;
 use crate::loading_all::load_all;
 use crate::published_texts::{DeckText, PublishedText};
+use crate::reasons::{load_reason, save_reason};
 use crate::reloading::reload_deck;
 use crate::saving_all::save_all;
 use crate::tasks::Task;
-use crate::views::CardsView;
 use cards::{Card, DeckName};
 use deck_files::{SaveOver, Shelf};
 use desk_core::{Call, NewDeck};
+use session_commands::{CardsView, ErrorsView};
 use std::alloc::Global;
 use std::hash::RandomState;
 
@@ -167,7 +166,7 @@ fn load_deck<C: Calls, S: Shelf>(desk: &mut C, shelf: &mut S, name: DeckName) ->
             note_told(shelf, &name, &answer.told);
             answer
         }
-        Err(fault) => uncalled(Told::Refused(Refusal::from(fault))),
+        Err(fault) => uncalled(Told::Refused(load_reason(fault))),
     }
 }
 
@@ -185,7 +184,7 @@ fn save_cards<S: Shelf>(
 {
     match shelf.save(name, over, version, cards) {
         Ok(()) => called(Told::Done(version)),
-        Err(fault) => called(Told::Refused(Refusal::from(fault))),
+        Err(fault) => called(Told::Refused(save_reason(fault))),
     }
 }
 

@@ -3,13 +3,13 @@ ghost use Rattle.std.specs.Prelude.{◌≡◌, ◌≤◌, length, IfOk, OnErr};
 ghost use Rattle.session_line.specs.Answers.{IsTellable, most_decks};
 ghost use Rattle.session_line.specs.FileStatus.{MarksRows, ShowsFileStatus, TellsMarks};
 
-use crate::Refusal;
 use crate::answers::{Answer, Told, told_of_call};
 use crate::calls::Calls;
 use crate::executing::called;
 use crate::marked_rows::{MarkedRow, marked};
 use deck_files::Shelf;
 use desk_core::{Call, Listed, Row};
+use session_commands::Refusal;
 use std::alloc::{AllocError, Global};
 
 /// The rows of decks, with whether the shelf tells that the file of each has its cards. The memory for them is

@@ -3,10 +3,10 @@ ghost use Rattle.std.specs.Prelude.{◌≡◌};
 ghost use Rattle.session_line.specs.Answers.{IsTellable};
 ghost use Rattle.session_line.specs.FileTasks.{ShowsFiles, TellsFiles};
 
-use crate::Refusal;
 use crate::answers::{Answer, Told, told_of_wait};
 use crate::calls::Calls;
 use crate::executing::called;
+use crate::reasons::load_reason;
 use deck_files::Shelf;
 use desk_core::{Call, Listed};
 
@@ -17,7 +17,7 @@ fn tell_files<S: Shelf>(shelf: &mut S, version: u64) -> Answer
 {
     match shelf.list() {
         Ok(rows) => called(Told::Files(version, Listed::new(rows))),
-        Err(fault) => called(Told::Refused(Refusal::from(fault))),
+        Err(fault) => called(Told::Refused(load_reason(fault))),
     }
 }
 

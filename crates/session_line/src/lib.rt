@@ -1,27 +1,17 @@
-//! One line of a session, read, executed and answered: which line is which command, or why it is
-//! refused; which calls of the desk and of the shelf it makes; and the text of the reply. Nothing here
-//! knows what a desk does with a call, where a shelf keeps its files, or what a port is.
+//! One line of a session, read, executed and answered: which calls of the desk and of the shelf its command
+//! makes, and the text of the reply. Which line is which command, `session_commands` says. Nothing here knows
+//! what a desk does with a call, where a shelf keeps its files, or what a port is.
 //!
 //! All lines of a batch or a put are read before the first is looked at, so a fault or an end among them
 //! makes no call. A `Task` is what a command asks for: one call of the desk, a load, a save, the
 //! end, or nothing, for a reason; only SAVEALL, LOADALL and RELOAD call the desk more than once. LOAD reads the shelf
 //! first, so that a file that is no deck adds none; SAVE asks the desk first. A reply borrows its cards and texts, and takes no memory. What
 //! one call makes of a desk is named by the trait `Calls`: a `Desk` meets it with its own clause,
-//! `SeatCalls` with that of `Seat::call`. The lines are meant to stay: one is added only where it
-//! was none before.
+//! `SeatCalls` with that of `Seat::call`.
 #![tactic(auto)]
 
-// Words and numbers.
-mod unknown_words;
-mod verbs;
-mod words;
-
-// Lines that ask for something.
-mod commands;
-mod edits;
+// What is shown.
 mod errors;
-mod refusals;
-mod strangers;
 mod views;
 
 // Replies.
@@ -69,29 +59,16 @@ mod taken_lines;
 
 // What clients may rest on.
 mod desk_laws;
-mod laws;
 
 pub use calls::Calls;
-pub use cards::{Edit, EditFault};
-pub use commands::{BatchHead, Command, LinesHead, only_name, read_command};
-pub use deck_files::FileRow;
-pub use desk_core::{Row, State};
 pub use desk_laws::a_desk_answers_sessions;
-pub use edits::read_batch_line;
-pub use errors::ErrorsView;
 pub use greetings::{Connected, Greeting, VERSION};
-pub use laws::{lines_read_back, words_are_told_whole};
 pub use marked_rows::MarkedRow;
 pub use published_texts::PublishedText;
-pub use refusals::Refusal;
 pub use replies::Reply;
 pub use rights::Rights;
 pub use seat_calls::SeatCalls;
 pub use serving::{Outcome, serve_one};
-pub use strangers::{is_command, is_request_of_http};
 pub use taken_lines::serve_taken;
 pub use told_decks::{DeckOutcome, ToldDeck};
-pub use unknown_words::UnknownWord;
-pub use views::CardsView;
-pub use words::{Seen, behind_blank, behind_word, first_number, first_word, from_blank, to_blank};
 pub use writing::{reply_text, write_reply};

@@ -1,16 +1,15 @@
 //! What the lines behind a first one are, line by line: the edits of a batch, or the cards of a put.
 ghost use Rattle.std.specs.Prelude.{◌≡◌, List, [], ◌∷◌, ◌++◌, Result, Ok, length};
-ghost use Rattle.session_line.specs.declared.refusals.Refusal.{Refusal as Reason};
+ghost use Rattle.session_commands.specs.declared.refusals.Refusal.{Refusal as Reason};
 ghost use Rattle.session_line.specs.Joins.LineItems.{IsRead, item_behind};
 
-use crate::edits::read_put_line;
-use crate::{Refusal, read_batch_line};
 use cards::{Card, Edit};
+use session_commands::{Refusal, read_batch_line, read_put_line};
 
 /// What a line behind a first one is read as. The member says what the line of a number, from 1, is.
 pub(crate) trait LineItem: Drop {
     ghost use Rattle.std.specs.Prelude.{◌≡◌, ℕ, List, Result};
-    ghost use Rattle.session_line.specs.declared.refusals.Refusal.{Refusal as Reason};
+    ghost use Rattle.session_commands.specs.declared.refusals.Refusal.{Refusal as Reason};
 
     ghost item_of: { ℕ → List ℕ → Result Self Reason };
 
@@ -20,7 +19,7 @@ pub(crate) trait LineItem: Drop {
 }
 
 impl LineItem for Edit {
-    ghost use Rattle.session_line.specs.Edits.{edit_in_batch};
+    ghost use Rattle.session_commands.specs.Edits.{edit_in_batch};
 
     ghost item_of = { λ number line. edit_in_batch line };
 
@@ -30,7 +29,7 @@ impl LineItem for Edit {
 }
 
 impl LineItem for Card {
-    ghost use Rattle.session_line.specs.Edits.{card_in_put};
+    ghost use Rattle.session_commands.specs.Edits.{card_in_put};
 
     ghost item_of = { card_in_put };
 

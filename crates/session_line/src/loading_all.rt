@@ -3,15 +3,16 @@ ghost use Rattle.std.specs.Prelude.{◌≡◌, ◌≤◌, ◌+◌, length, vec_c
 ghost use Rattle.session_line.specs.Answers.{IsTellable, most_decks};
 ghost use Rattle.session_line.specs.LoadingAll.{AddsAll, AddsCut, AddsDeck, AddsDecks, LoadsAll, TellsAdds, is_any_there, refusal_to_add};
 
-use crate::Refusal;
 use crate::answers::{Answer, MOST_DECKS, Told, told_of_call};
 use crate::calls::Calls;
 use crate::deck_cuts::{cut_cards, is_taken};
 use crate::executing::{called, uncalled};
+use crate::reasons::load_reason;
 use crate::told_decks::{ToldDeck, outcome_of};
 use cards::DeckName;
 use deck_files::Shelf;
 use desk_core::{Call, Listed, NewDeck, Row};
+use session_commands::Refusal;
 use std::alloc::{AllocError, Global};
 
 /// Whether a desk with these decks has the name of one of others.
@@ -115,6 +116,6 @@ pub(crate) fn load_all<C: Calls, S: Shelf>(
             Ok(decks) => add_all(alloc, desk, decks),
             Err(refusal) => uncalled(Told::Refused(refusal)),
         },
-        Err(fault) => uncalled(Told::Refused(Refusal::from(fault))),
+        Err(fault) => uncalled(Told::Refused(load_reason(fault))),
     }
 }

@@ -7,7 +7,6 @@ ghost use Rattle.session_line.specs.Joins.MessageWalks.{AddsMessages, told_lette
 ghost use Rattle.session_line.specs.Messages.{AreMessages, IsMessage, IsSaid, deck_letters, letters_of, lettered, message_head, message_text, told_character};
 ghost use Rattle.session_line.specs.Replies.{line_of};
 
-use crate::Refusal;
 use crate::answers::Told;
 use crate::errors::split_cards;
 use crate::reply_line::ReplyLine;
@@ -16,6 +15,7 @@ use cards::{Card, DeckName, StatementRoom};
 use deck_listing::ListedObject;
 use deck_objects::{Line, Object};
 use definitions::is_same_text;
+use session_commands::Refusal;
 use std::alloc::{AllocError, Global};
 use std::hash::RandomState;
 use text_ports::Text;

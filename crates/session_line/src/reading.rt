@@ -2,14 +2,14 @@
 ghost use Rattle.std.specs.Prelude.{◌≡◌, IfErr, IfOk, OnOk};
 ghost use Rattle.text_ports.specs.Lines.{ReadsLine};
 ghost use Rattle.text_ports.specs.declared.lines.LineIs.TheVariants.{Line};
-ghost use Rattle.session_line.specs.Commands.{command_of};
+ghost use Rattle.session_commands.specs.Commands.{command_of};
 ghost use Rattle.session_line.specs.Taking.{BreaksOff, Stops, StopsWithin, TakesBehind, TakesTask, count_after_reading};
 ghost use Rattle.session_line.specs.Tasks.{lines_due};
 ghost use Rattle.session_line.specs.Joins.LineItems.{TakesItems};
 
 use crate::line_items::{ItemsRead, LineItem};
-use crate::read_command;
 use crate::tasks::{Task, is_put, lines_due, put_by, task_by};
+use session_commands::read_command;
 use std::alloc::Global;
 use std::io::Read;
 use text_ports::{Counted, LineBuf, LineIs, next_line};

@@ -1,12 +1,11 @@
 //! The texts of refusals.
 ghost use Rattle.std.specs.Prelude.{◌≡◌, ◌+◌, ◌≤◌, ◌++◌, length, decimal};
 ghost use Rattle.cards.specs.CardReads.{card_fault_text};
-ghost use Rattle.session_line.specs.Refusals.{edit_fault_text, refusal_text};
+ghost use Rattle.session_commands.specs.Refusals.{edit_fault_text, refusal_text};
 
-use crate::refusals::Refusal;
 use crate::reply_line::ReplyLine;
-use crate::unknown_words::UnknownWord;
 use cards::{CardFault, EditFault};
+use session_commands::{Refusal, UnknownWord};
 
 /// A name, and a number behind it.
 fn put_numbered(line: &mut ReplyLine, name: &[u8], number: u64)

@@ -6,14 +6,15 @@ ghost use Rattle.desk_core.specs.declared.replies.Row.{Row as Deck};
 ghost use Rattle.session_line.specs.Answers.{IsTellable};
 ghost use Rattle.session_line.specs.Reloading.{PutsOver, ReloadsDeck, version_in, version_told};
 
-use crate::Refusal;
 use crate::answers::{Answer, Told};
 use crate::calls::Calls;
 use crate::executing::{ask, called, note_told, uncalled};
+use crate::reasons::{desk_reason, load_reason};
 use cards::{Card, DeckName};
 use deck_files::Shelf;
 use definitions::is_same_text;
 use desk_core::{Call, NewDeck, Reply, Row};
+use session_commands::Refusal;
 
 /// The deck of a name among those of a status.
 fn row_named<'a>(name: &DeckName, rows: &'a [Row]) -> Option<&'a Row>
@@ -39,7 +40,7 @@ fn version_told(name: &DeckName, reply: Reply) -> Result<u64, Refusal>
 {
     match reply {
         Reply::StatusIs(_, _, rows) => version_in(name, rows.as_slice()),
-        Reply::Refused(refusal) => Err(Refusal::from(refusal)),
+        Reply::Refused(refusal) => Err(desk_reason(refusal)),
         _ => Err(Refusal::Foreign),
     }
 }
@@ -78,6 +79,6 @@ pub(crate) fn reload_deck<C: Calls, S: Shelf>(
             note_told(shelf, name, &answer.told);
             answer
         }
-        Err(fault) => uncalled(Told::Refused(Refusal::from(fault))),
+        Err(fault) => uncalled(Told::Refused(load_reason(fault))),
     }
 }

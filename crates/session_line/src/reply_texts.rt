@@ -3,21 +3,22 @@ ghost use Rattle.std.specs.Prelude.{◌≡◌, ◌+◌, ◌≤◌, ◌++◌, len
 ghost use Rattle.session_line.specs.Greetings.{connected_text, service_text, session_word};
 ghost use Rattle.session_line.specs.PublishedTexts.{line_count, shown_text};
 ghost use Rattle.session_line.specs.Replies.{IsWithinLimits, behind_text, line_of, counted_text, ok_text, unkept_text, head_text, numbers_text, published_text, row_text, state_text, status_text};
-ghost use Rattle.session_line.specs.Views.{has_text, number_where};
+ghost use Rattle.session_line.specs.Views.{number_where};
+ghost use Rattle.session_commands.specs.Sought.{has_text};
 
 use crate::change_lines::change_line_count;
 use crate::errors::error_count;
 use crate::greetings::{Connected, service_version};
 use crate::published_texts::{PublishedText, line_count, shown_lines};
 use crate::refusal_texts::put_refusal;
-use crate::refusals::Refusal;
 use crate::replies::Reply;
 use crate::reply_line::ReplyLine;
 use crate::rights::Rights;
-use crate::views::{count_with, has_text};
+use crate::views::count_with;
 use cards::Card;
 use deck_linker::ListedPublication;
 use desk_core::{Row, State};
+use session_commands::{Refusal, has_text};
 
 /// `OK version`
 fn ok_line(version: u64) -> ReplyLine

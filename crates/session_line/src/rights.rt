@@ -2,9 +2,9 @@
 ghost use Rattle.std.specs.Prelude.{◌≡◌};
 ghost use Rattle.session_line.specs.Rights.{allowed, changes, makes_change};
 
-use crate::Refusal;
 use crate::tasks::Task;
 use desk_core::Call;
+use session_commands::Refusal;
 
 /// What a session may do.
 #[derive(Clone, Copy)]

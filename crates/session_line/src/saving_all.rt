@@ -3,13 +3,13 @@ ghost use Rattle.std.specs.Prelude.{◌≡◌, ◌≤◌, ◌<◌, ◌+◌, ◌+
 ghost use Rattle.session_line.specs.Answers.{IsTellable, most_decks};
 ghost use Rattle.session_line.specs.SavingAll.{SavesAll, SavesRow, SavesRows, TellsSaves};
 
-use crate::Refusal;
 use crate::answers::{Answer, Told, told_of_call};
 use crate::calls::Calls;
 use crate::executing::{called, save_deck};
 use crate::told_decks::{ToldDeck, outcome_of};
 use deck_files::{SaveOver, Shelf};
 use desk_core::{Call, Listed, Row};
+use session_commands::Refusal;
 use std::alloc::{AllocError, Global};
 
 /// Saves a deck, where its file has not its cards: what became of it.

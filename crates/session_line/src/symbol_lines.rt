@@ -2,11 +2,11 @@
 ghost use Rattle.std.specs.Prelude.{◌≡◌, true, IfOk};
 ghost use Rattle.session_line.specs.Messages.{IsEnded, IsLines};
 
-use crate::Refusal;
 use crate::answers::Told;
 use card_messages::{EnteredNames, push_symbols};
 use cards::Card;
 use deck_listing::ListedObject;
+use session_commands::Refusal;
 use std::alloc::{AllocError, Global};
 use std::hash::RandomState;
 use text_ports::Text;

@@ -2,18 +2,17 @@
 ghost use Rattle.std.specs.Prelude.{◌≡◌, ℕ, true, false, List, Result, Ok};
 ghost use Rattle.definitions.specs.Cards.{Card as Columns};
 ghost use Rattle.cards.specs.declared.edits.Edit.{Edit as CardEdit};
-ghost use Rattle.session_line.specs.declared.refusals.Refusal.{Refusal as Reason};
+ghost use Rattle.session_commands.specs.declared.refusals.Refusal.{Refusal as Reason};
 ghost use Rattle.session_line.specs.Tasks.{batch_call, batch_named, cards_of, edit_call, edits_of, is_put, lines_behind, lines_due, nobody, put_named, task_by, task_of_command};
 ghost use Rattle.session_line.specs.Taking.{IsTaskFor};
 ghost use Rattle.session_line.specs.Joins.LineItems.{IsRead, is_lacking};
 
-use crate::errors::ErrorsView;
 use crate::line_items::ItemsRead;
 use crate::published_texts::{DeckText, PublishedText};
-use crate::{BatchHead, CardsView, Command, LinesHead, Refusal, Seen};
 use cards::{Card, DeckName, Edit};
 use deck_files::SaveOver;
 use desk_core::{Call, Listed, NewDeck};
+use session_commands::{BatchHead, CardsView, Command, ErrorsView, LinesHead, Refusal, Seen};
 use std::alloc::Global;
 
 /// What a command asks for that was read whole.

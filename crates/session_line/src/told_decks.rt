@@ -6,9 +6,9 @@ ghost use Rattle.session_line.specs.ToldDecks.{outcome_of};
 use crate::answers::Told;
 use crate::line_writing::ReplyRow;
 use crate::refusal_texts::put_refusal;
-use crate::refusals::Refusal;
 use crate::reply_line::ReplyLine;
 use cards::DeckName;
+use session_commands::Refusal;
 
 /// What became of a deck.
 #[derive(Clone, Copy)]

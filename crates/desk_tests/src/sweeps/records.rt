@@ -11,7 +11,7 @@ use deck_linker::{Publication, link};
 use deck_listing::{image, listing};
 use deck_objects::SharedObject;
 use edit_core::{FinishFault, Kept, RecordFault};
-use session_line::read_batch_line;
+use session_commands::read_batch_line;
 use std::alloc::{AllocError, Global};
 use std::hash::RandomState;
 

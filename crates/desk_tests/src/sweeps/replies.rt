@@ -9,7 +9,8 @@ use crate::sweeps::scene::Scene;
 use cards::{CardFault, MOST_CARDS};
 use deck_files::MOST_FILES;
 use desk_core::{Row, State};
-use session_line::{Connected, Refusal, Reply, Rights, reply_text, write_reply};
+use session_commands::Refusal;
+use session_line::{Connected, Reply, Rights, reply_text, write_reply};
 use std::alloc::{AllocError, Global};
 use text_ports::Counted;
 

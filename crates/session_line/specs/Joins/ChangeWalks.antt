@@ -2,7 +2,7 @@
 use Rattle.std.specs.Prelude.{ℕ, suc, ◌==◌, List, [], ◌∷◌, flat_map, map}
 use Rattle.std.specs.List.{prefix_len}
 use Rattle.desk_core.specs.declared.past.KeptEdit.{KeptEdit}
-use Rattle.session_line.specs.Lines.{line_in_batch}
+use Rattle.session_commands.specs.Lines.{line_in_batch}
 use Rattle.session_line.specs.ChangeLines.{change_with, lines_of_change}
 use Rattle.session_line.specs.Replies.{line_of}
 

@@ -1,8 +1,8 @@
 -- Decks in order, and as the definitions collect them (ours).
 use Rattle.std.specs.Prelude.{◌≡◌, ◌⊎◌, List, Err, map, reverse}
 use Rattle.definitions.specs.DeckInput.{Deck, Input, in_card_order}
-use Rattle.session_line.specs.declared.refusals.Refusal.{Refusal}
-use Rattle.session_line.specs.declared.refusals.Refusal.TheVariants.{OutOfMemory}
+use Rattle.session_commands.specs.declared.refusals.Refusal.{Refusal}
+use Rattle.session_commands.specs.declared.refusals.Refusal.TheVariants.{OutOfMemory}
 use Rattle.session_line.specs.DeckCuts.{decks_or_reason}
 
 -- newest first, each with its cards newest first

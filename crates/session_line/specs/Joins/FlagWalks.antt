@@ -5,7 +5,7 @@ use Rattle.definitions.specs.Characters.{line_feed}
 use Rattle.deck_objects.specs.declared.lines.Line.{Line}
 use Rattle.session_line.specs.Errors.{Flag, flag_of, flag_text, shows_line}
 use Rattle.session_line.specs.Replies.{line_of, text_of_lines}
-use Rattle.session_line.specs.declared.errors.ErrorsView.{ErrorsView}
+use Rattle.session_commands.specs.declared.views.ErrorsView.{ErrorsView}
 
 -- those that are told of statements that have these cards, of which so many stand before
 abbrev pub flags_in : ℕ → List Card → List Line → List Flag

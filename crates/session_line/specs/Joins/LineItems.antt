@@ -1,6 +1,6 @@
 -- What is known of the lines behind a first one while they are read: the edits of a batch, or the cards of a put (ours).
 use Rattle.std.specs.Prelude.{ℕ, ◌≡◌, Bool, true, false, List, [], ◌∷◌, ◌++◌, Option, Result, Ok, Err, IsOk, length}
-use Rattle.session_line.specs.declared.refusals.Refusal.{Refusal}
+use Rattle.session_commands.specs.declared.refusals.Refusal.{Refusal}
 use Rattle.session_line.specs.declared.line_items.ItemsRead.{ItemsRead}
 use Rattle.session_line.specs.declared.line_items.ItemsRead.TheVariants.{Whole, Lacking, Faulty}
 use Rattle.session_line.specs.Tasks.{items_from}

@@ -1,5 +1,5 @@
 use Rattle.std.proofs.Common.{◌≡◌, ◌++◌, drop, map}
-use Rattle.session_line.specs.Lines.{behind_a_blank, line_in_batch}
+use Rattle.session_commands.specs.Lines.{behind_a_blank, line_in_batch}
 use Rattle.journal.specs.Records.{text_of_lines}
 use Rattle.journal.proofs.writing.push_edits.Given as goal
 

@@ -1,5 +1,5 @@
 use Rattle.std.proofs.Common.{◌∙◌}
-use Rattle.session_line.specs.Lines.{line_in_batch}
+use Rattle.session_commands.specs.Lines.{line_in_batch}
 use Rattle.session_line.specs.Replies.{line_of}
 use Rattle.text_ports.proofs.SendSteps.{part-text}
 use Rattle.session_line.proofs.change_writing.write_edits.Goals as goal

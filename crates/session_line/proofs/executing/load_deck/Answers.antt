@@ -21,7 +21,7 @@ returns-in-Ok-clause-loads g c =
 
 pub returns-in-Err-clause-loads : goal.returns-in-Err-clause-loads
 returns-in-Err-clause-loads g c =
-    let told = c.uncalled.ensures ∙ ap (λ r. uncalled (told.Refused r)) c.from.ensures in
+    let told = c.uncalled.ensures ∙ ap (λ r. uncalled (told.Refused r)) c.load_reason.ensures in
     record {
       loaded = Err c.in-Err.fault;
       between = c.load.new.self;

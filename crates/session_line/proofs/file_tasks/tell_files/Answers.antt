@@ -14,5 +14,5 @@ pub returns-in-Err-clause-tells : goal.returns-in-Err-clause-tells
 returns-in-Err-clause-tells g c = record {
   listed = Err c.in-Err.fault;
   shelved = c.in-Err.ensures.fault;
-  answered = c.called-in-Err.ensures ∙ ap (λ r. called (told.Refused r)) c.from.ensures;
+  answered = c.called-in-Err.ensures ∙ ap (λ r. called (told.Refused r)) c.load_reason.ensures;
 }

@@ -26,5 +26,5 @@ pub returns-clause-loads : goal.returns-clause-loads
 returns-clause-loads g c = record {
   loaded = Err c.in-Err.fault;
   shelved = c.in-Err.ensures.fault;
-  added = (refl, c.uncalled-in-Err.ensures ∙ ap (λ r. uncalled (told.Refused r)) c.from.ensures);
+  added = (refl, c.uncalled-in-Err.ensures ∙ ap (λ r. uncalled (told.Refused r)) c.load_reason.ensures);
 }

@@ -16,7 +16,7 @@ returns-in-Ok-clause-reloads g c = record {
 
 pub returns-in-Err-clause-reloads : goal.returns-in-Err-clause-reloads
 returns-in-Err-clause-reloads g c =
-    let told = c.uncalled.ensures ∙ ap (λ r. uncalled (told.Refused r)) c.from.ensures in
+    let told = c.uncalled.ensures ∙ ap (λ r. uncalled (told.Refused r)) c.load_reason.ensures in
     record {
       loaded = Err c.in-Err.fault;
       between = c.load.new.self;

@@ -1,0 +1,2 @@
+pub mod RefusedChanges
+pub mod RefusedCommands

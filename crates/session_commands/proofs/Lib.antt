@@ -1,0 +1,4 @@
+pub mod WorkedLines
+pub mod ReadBack
+pub mod LineLaws
+pub mod UnknownWordLaws

@@ -1,0 +1,9 @@
+pub mod Words
+pub mod UnknownWords
+pub mod Verbs
+pub mod Sought
+pub mod Edits
+pub mod Commands
+pub mod Strangers
+pub mod Lines
+pub mod Refusals
