@@ -1,21 +1,21 @@
 -- What the faults of a step tell of the input and of the ports.
-use Rattle.std.proofs.Common.{ℕ, ◌≡◌, List, Result, Ok, Err, refl, sym, subst, IfErr}
-use Rattle.std.specs.Prelude.{IsErrAnd}
-use Rattle.definitions.specs.DeckInput.{Deck}
-use Rattle.definitions.specs.DeckInput.{Input, Decks}
+use Rattle.std.proofs.Common.{ℕ, ◌≡◌, refl}
+use Rattle.definitions.specs.DeckInput.{Input}
 use Rattle.asm_main.specs.declared.asm_fault.AsmFault.{AsmFault}
 use Rattle.asm_main.specs.declared.asm_fault.AsmFault.TheVariants.{OutOfMemory, DeckFull, NameTaken, TooManyDecks, ReadFault, BadLine, LastLineCut, WriteFault, BadName}
-use Rattle.asm_main.specs.Inputs.{IsSound, IsFaultOf}
+use Rattle.deck_cuts.specs.Cuts.{IsFaultOf as IsCutFaultOf}
+use Rattle.deck_cuts.specs.declared.cut_fault.CutFault.{CutFault}
+use Rattle.deck_cuts.specs.declared.cut_fault.CutFault.TheVariants as cut
+use Rattle.asm_main.specs.Inputs.{IsFaultOf, cut_fault}
 use Rattle.asm_main.specs.Runs.{IsBeforeWriting, input_count_after}
 
--- what holds of the fault that a step passes on
-pub IfErr-passed : {T : Type 0} (r : Result T AsmFault) (fault : AsmFault) (P : AsmFault → Type 0) → IsErrAnd r (λ passed. passed ≡ fault) → P fault → IfErr r P
-IfErr-passed (Ok value) fault P same p = tt
-IfErr-passed (Err passed) fault P same p = subst P (sym same) p
-
--- memory that is short where the input is sound
-pub IsFaultOf-memory : {T : Type 0} (r : Result T AsmFault) (input : Input) (found : List Deck) → IsErrAnd r (λ fault. fault ≡ OutOfMemory) → input ≡ Decks found → IfErr r (IsFaultOf input)
-IsFaultOf-memory r input found short sound = IfErr-passed r OutOfMemory (IsFaultOf input) short (refl, subst IsSound (sym sound) tt)
+-- a fault of the cut is that of the run
+pub IsFaultOf-cut : (input : Input) (fault : CutFault) → IsCutFaultOf input fault → IsFaultOf input (cut_fault fault)
+IsFaultOf-cut input cut.OutOfMemory h = (refl, h)
+IsFaultOf-cut input cut.DeckFull h = h
+IsFaultOf-cut input cut.NameTaken h = h
+IsFaultOf-cut input cut.TooManyDecks h = h
+IsFaultOf-cut input (cut.BadName number) h = h
 
 -- no reader failed
 pub IsFaultOf-count : (input : Input) (fault : AsmFault) (count : ℕ) → IsFaultOf input fault → input_count_after fault count ≡ count

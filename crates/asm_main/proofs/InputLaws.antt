@@ -11,7 +11,7 @@ use Rattle.definitions.specs.DeckInput.{Deck}
 use Rattle.definitions.specs.InputLines.{InputLine, Line, TooLong, Cut, lines_of}
 use Rattle.definitions.specs.DeckInput.{Input, Decks, Faulty, InputFault, BadName, NameTaken, TooManyDecks, DeckFull, most_decks, most_cards, is_deck_name, name_on, is_taken, begun, continued, with_card, with_read, with_line, input_of}
 use Rattle.asm_main.specs.Inputs.{input_in}
-use Rattle.asm_main.specs.Joins.CardRoles.{begun_named}
+use Rattle.deck_cuts.specs.Joins.CardRoles.{begun_named}
 
 -- a fault stays, whatever lines follow
 pub input_of-stays : (later earlier : List InputLine) (fault : InputFault) → input_of earlier ≡ Faulty fault → input_of (later ++ earlier) ≡ Faulty fault

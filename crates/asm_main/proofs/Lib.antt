@@ -1,6 +1,4 @@
 pub mod InputLaws
-pub mod DeckLaws
-pub mod CutSteps
 pub mod FaultLaws
 pub mod ReadSteps
 pub mod AnswerLaws

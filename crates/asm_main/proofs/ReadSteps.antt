@@ -14,10 +14,11 @@ use Rattle.text_ports.specs.declared.lines.LineIs.{LineIs}
 use Rattle.text_ports.specs.declared.lines.LineIs.TheVariants as is
 use Rattle.asm_main.specs.declared.asm_fault.AsmFault.{AsmFault}
 use Rattle.asm_main.specs.declared.asm_fault.AsmFault.TheVariants.{OutOfMemory, DeckFull, NameTaken, TooManyDecks, ReadFault, BadLine, LastLineCut, WriteFault, BadName}
-use Rattle.asm_main.specs.Inputs.{input_in, newest_first, AreDecksOf, IsSound, input_fault, IsFaultOf, TellsFaultOf, ReadsToFault, ReadsSound, IsSoundBefore}
+use Rattle.deck_cuts.specs.Cuts.{newest_first, IsSound}
+use Rattle.asm_main.specs.Inputs.{input_in, AreDecksOf, input_fault, IsFaultOf, TellsFaultOf, ReadsToFault, ReadsSound, IsSoundBefore}
 use Rattle.text_ports.proofs.LineLaws.{lines_of-line, lines_of-cut, lines_of-few, lines_of-long}
 use Rattle.asm_main.proofs.InputLaws.{input_in-faulty, few_lines, few_decks}
-use Rattle.asm_main.proofs.DeckLaws.{in_input_order-newest_first, length-newest_first}
+use Rattle.deck_cuts.proofs.DeckLaws.{in_input_order-newest_first, length-newest_first}
 
 -- the reader lost the bytes of these lines, newest first
 pub record IsReadAs (old new : Option (List ℕ)) (lines : List InputLine) : Type 0 where

@@ -1,12 +1,14 @@
 -- What a run makes of its input, in the words of the definitions (ours).
-use Rattle.std.specs.Prelude.{ℕ, ◌≡◌, ◌<◌, ◌≤◌, ◌^◌, ⊤, List, ◌++◌, Option, Some, None, length, map, reverse, IfSome, MatchOption}
+use Rattle.std.specs.Prelude.{ℕ, ◌≡◌, ◌<◌, ◌≤◌, ◌^◌, ⊤, List, ◌++◌, Option, Some, None, length, reverse, IfSome, MatchOption}
 use Rattle.std.specs.Io.KnownBytes.{Consumes}
-use Rattle.definitions.specs.DeckInput.{Deck}
 use Rattle.definitions.specs.InputLines.{lines_of}
-use Rattle.definitions.specs.DeckInput.{Input, Decks, Faulty, InputFault, input_of, in_card_order, in_input_order}
+use Rattle.definitions.specs.DeckInput.{Deck, Input, Decks, Faulty, InputFault, input_of, in_input_order}
 use Rattle.definitions.specs.DeckInput as input
 use Rattle.cards.specs.declared.card.CardFault.{CardFault}
 use Rattle.cards.specs.declared.card.CardFault.TheVariants as card
+use Rattle.deck_cuts.specs.Cuts.{IsSound}
+use Rattle.deck_cuts.specs.declared.cut_fault.CutFault.{CutFault}
+use Rattle.deck_cuts.specs.declared.cut_fault.CutFault.TheVariants as cut
 use Rattle.asm_main.specs.declared.asm_fault.AsmFault.{AsmFault}
 use Rattle.asm_main.specs.declared.asm_fault.AsmFault.TheVariants.{OutOfMemory, DeckFull, NameTaken, TooManyDecks, ReadFault, BadLine, LastLineCut, WriteFault, BadName}
 
@@ -14,19 +16,10 @@ use Rattle.asm_main.specs.declared.asm_fault.AsmFault.TheVariants.{OutOfMemory, 
 abbrev pub input_in : List ℕ → Input
 input_in bytes = input_of (reverse (lines_of bytes))
 
--- decks as the definitions collect them: newest first, each with its cards newest first
-abbrev pub newest_first : List Deck → List Deck
-newest_first decks = reverse (map in_card_order decks)
-
 -- the input is these decks, in order
 abbrev pub AreDecksOf : Input → List Deck → Type 0
 AreDecksOf (Decks found) decks = decks ≡ in_input_order found
 AreDecksOf (Faulty fault) decks = ⊥
-
--- no line of the input is a fault
-abbrev pub IsSound : Input → Type 0
-IsSound (Decks found) = ⊤
-IsSound (Faulty fault) = ⊥
 
 -- the fault of a line that is no card
 abbrev pub bad_line : ℕ → CardFault → InputFault
@@ -44,6 +37,14 @@ input_fault (BadLine number fault) = Some (bad_line number fault)
 input_fault LastLineCut = Some input.LastLineCut
 input_fault (WriteFault sent) = None
 input_fault (BadName number) = Some (input.BadName number)
+
+-- a fault of the cut into decks, as one of a run
+abbrev pub cut_fault : CutFault → AsmFault
+cut_fault cut.OutOfMemory = OutOfMemory
+cut_fault cut.DeckFull = DeckFull
+cut_fault cut.NameTaken = NameTaken
+cut_fault cut.TooManyDecks = TooManyDecks
+cut_fault (cut.BadName number) = BadName number
 
 -- the input has this very fault, or it has none and no memory was left
 abbrev pub IsFaultOf : Input → AsmFault → Type 0

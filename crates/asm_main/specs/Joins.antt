@@ -1,5 +1,4 @@
 -- What inner functions promise, so that the proofs of the outer ones join: no promise of the documents leads here.
-pub mod CardRoles
 pub mod LatestFaults
 pub mod Chains
 pub mod Outputs

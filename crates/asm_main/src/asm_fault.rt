@@ -1,6 +1,7 @@
 //! The faults of a run, and their texts.
 
 use cards::CardFault;
+use deck_cuts::CutFault;
 use std::alloc::{AllocError, AllocFailed};
 use std::fmt;
 use thiserror::Error;
@@ -47,6 +48,23 @@ impl fmt::Display for AsmFault {
             AsmFault::LastLineCut => write!(f, "LastLineCut"),
             AsmFault::WriteFault { sent } => write!(f, "WriteFault {sent}"),
             AsmFault::BadName { line } => write!(f, "BadName {line}"),
+        }
+    }
+}
+
+impl From<CutFault> for AsmFault {
+    ghost use Rattle.std.specs.Prelude.{◌≡◌};
+    ghost use Rattle.asm_main.specs.Inputs.{cut_fault};
+
+    ghost from_gives = { λ fault told. told ≡ cut_fault fault };
+
+    fn from(fault: CutFault) -> AsmFault {
+        match fault {
+            CutFault::OutOfMemory => AsmFault::OutOfMemory,
+            CutFault::DeckFull => AsmFault::DeckFull,
+            CutFault::NameTaken => AsmFault::NameTaken,
+            CutFault::TooManyDecks => AsmFault::TooManyDecks,
+            CutFault::BadName { number } => AsmFault::BadName { line: number },
         }
     }
 }

@@ -7,10 +7,10 @@ ghost use Rattle.deck_linker.specs.Publishing.{listings, map_of};
 ghost use Rattle.asm_main.specs.Builds.{Counts};
 ghost use Rattle.asm_main.specs.Joins.Ways.{decks_of};
 
-use crate::deck::Deck;
 use crate::objects::objects_of;
 use crate::running::{Tally, tally_of};
 use crate::writing::{put_text, write_texts};
+use deck_cuts::Deck;
 use deck_linker::{LinkedDecks, Publication, link};
 use deck_objects::{Object, SharedObject};
 use std::alloc::{AllocError, Global};

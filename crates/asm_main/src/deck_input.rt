@@ -1,13 +1,15 @@
 //! Reads the lines of a run as decks, or tells the first fault among them.
 ghost use Rattle.std.specs.Prelude.{◌≡◌, ◌≤◌, length, OnOk, IfOk, IfErr, IfSome};
 ghost use Rattle.std.specs.Io.KnownBytes.{IsAtEnd};
+ghost use Rattle.definitions.specs.InputLines.{Line};
+ghost use Rattle.definitions.specs.DeckInput.{Decks, with_card, with_line};
+ghost use Rattle.deck_cuts.specs.Cuts.{newest_first};
 ghost use Rattle.asm_main.specs.Runs.{IsBeforeWriting, input_count_after};
-ghost use Rattle.asm_main.specs.Inputs.{input_in, AreDecksOf, TellsFaultOf, ReadsToFault, ReadsSound, IsSoundBefore, AreSmall};
+ghost use Rattle.asm_main.specs.Inputs.{IsFaultOf, input_in, AreDecksOf, TellsFaultOf, ReadsToFault, ReadsSound, IsSoundBefore, AreSmall};
 
 use crate::asm_fault::AsmFault;
-use crate::deck::Deck;
-use crate::deck_cut::add_line;
-use cards::CardFault;
+use cards::{Card, CardFault};
+use deck_cuts::{Deck, add_card};
 use std::alloc::Global;
 use std::io::BufRead;
 use text_ports::{Counted, LineBuf, LineIs, next_held_line};
@@ -15,6 +17,33 @@ use text_ports::{Counted, LineBuf, LineIs, next_held_line};
 /// How many lines a run reads at most: those of 64 decks of 20,000 cards, and the one that is too
 /// many.
 const MOST_LINES: u64 = 1_280_001;
+
+/// Adds a card to the decks; `number` is its line's, from 1.
+fn add_read(alloc: Global, decks: &mut Vec<Deck>, number: u64, card: Card) -> Result<(), AsmFault>
+    ensures ok { OnOk result (with_card number card (newest_first decks.old.items)
+        ≡ Decks (newest_first decks.new.items)) }
+    ensures err { IfErr result (IsFaultOf (with_card number card (newest_first decks.old.items))) }
+{
+    add_card(alloc, decks, number, card)?;
+    Ok(())
+}
+
+/// Adds the card that a line shows to the decks; `number` is the line's, from 1. After a fault no
+/// clause says what became of the decks.
+fn add_line(alloc: Global, decks: &mut Vec<Deck>, number: u64, line: &[u8]) -> Result<(), AsmFault>
+    ensures ok { OnOk result (with_line number (Line line.now) (Decks (newest_first decks.old.items))
+        ≡ Decks (newest_first decks.new.items)) }
+    ensures err { IfErr result
+        (IsFaultOf (with_line number (Line line.now) (Decks (newest_first decks.old.items)))) }
+{
+    match Card::read(line) {
+        Ok(card) => add_read(alloc, decks, number, card),
+        Err(fault) => Err(AsmFault::BadLine {
+            line: number,
+            fault,
+        }),
+    }
+}
 
 /// Reads all lines as decks, in order and with their cards in order. The first fault ends it: what
 /// follows is not looked at. The line that was read last is left in `line`.

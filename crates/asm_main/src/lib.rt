@@ -11,8 +11,6 @@
 #![tactic(auto)]
 
 // From bytes to decks.
-mod deck;
-mod deck_cut;
 mod deck_input;
 
 // From decks to texts, and out.
@@ -39,7 +37,6 @@ mod running;
 pub use asm_fault::AsmFault;
 pub use built::Built;
 pub use chained::{Chained, LinePlace, Part};
-pub use deck::Deck;
 pub use fault_words::{column_of, line_of, words_of};
 pub use filter_laws::plain_stays;
 pub use filtered::{Filter, Filtered, tab_blanks};

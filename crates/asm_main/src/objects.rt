@@ -2,7 +2,7 @@
 ghost use Rattle.std.specs.Prelude.{◌≡◌, IfOk};
 ghost use Rattle.definitions.specs.DeckInput as definitions;
 
-use crate::deck::Deck;
+use deck_cuts::Deck;
 use deck_objects::SharedObject;
 use edit_core::assemble;
 use std::alloc::{AllocError, Global};

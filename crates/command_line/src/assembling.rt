@@ -13,10 +13,11 @@ use crate::symbols::symbol_tables;
 use crate::tab_places::FileColumns;
 use crate::words::{plain_word, valued_word};
 use asm_main::{
-    AsmFault, Built, Chained, Chosen, Deck, Filter, Remembering, Tally, asm_build, asm_build_with,
+    AsmFault, Built, Chained, Chosen, Filter, Remembering, Tally, asm_build, asm_build_with,
     asm_run, write_chosen,
 };
 use clap::{Arg, ArgAction, ArgMatches, Command};
+use deck_cuts::Deck;
 use deck_files::{begin_whole, end_whole};
 use std::alloc::{AllocError, Global};
 use std::hash::RandomState;

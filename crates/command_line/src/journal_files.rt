@@ -2,9 +2,10 @@
 
 use crate::standard_output::standard_output;
 use crate::words::valued_word;
-use asm_main::{AsmFault, Deck, asm_status};
+use asm_main::{AsmFault, asm_status};
 use cards::DeckName;
 use clap::{Arg, ArgAction, ArgMatches, Command};
+use deck_cuts::Deck;
 use desk_core::{Desk, NewDeck, StoredDeck};
 use journal::{
     Change, Ending, Entry, JournalFault, Next, Place, Record, ReplayFault, Replayed, log_line,

@@ -13,7 +13,8 @@ use Rattle.deck_objects.specs.Joins.PartsOf.{ArePartsOf}
 use Rattle.deck_objects.specs.declared.lines.CodedLine.{CodedLine}
 use Rattle.deck_objects.specs.declared.lines.Line.{Line}
 use Rattle.deck_objects.specs.declared.object.ObjectParts.{ObjectParts}
-use Rattle.deck_listing.specs.DecksBehind.{begins_behind, begins_deck, do_begin}
+use Rattle.deck_cuts.specs.Cuts.{begins_deck}
+use Rattle.deck_listing.specs.DecksBehind.{begins_behind, do_begin}
 use Rattle.deck_listing.specs.Joins.LinesBehind.{begun_by, begun_in}
 use Rattle.deck_listing.proofs.ListingLaws.{filter-reverse}
 

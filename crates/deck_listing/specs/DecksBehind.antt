@@ -1,16 +1,11 @@
 -- Decks that begin behind the END of another: they are listed there and not assembled (ours).
-use Rattle.std.specs.Prelude.{ℕ, Bool, false, ◌&&◌, is_none, List, [], ◌∷◌, codes, filter, length}
+use Rattle.std.specs.Prelude.{ℕ, Bool, false, ◌&&◌, is_none, List, [], ◌∷◌, filter, length}
 use Rattle.definitions.specs.Cards.{Card}
-use Rattle.definitions.specs.Characters.{same_text}
 use Rattle.definitions.specs.DeckInput.{Deck}
-use Rattle.definitions.specs.Fields.{fields_of}
 use Rattle.definitions.specs.Objects.{Shown, object_of}
+use Rattle.deck_cuts.specs.Cuts.{begins_deck}
 
--- whether a card begins a deck of a file, which is told by that card alone
-abbrev pub begins_deck : Card → Bool
-begins_deck card = same_text (fields_of (card ∷ [])).operation (codes "IDENT")
-
--- the same of the first of a statement's cards
+-- whether the first of a statement's cards begins a deck of a file
 abbrev pub do_begin : List Card → Bool
 do_begin [] = false
 do_begin (card ∷ cards) = begins_deck card

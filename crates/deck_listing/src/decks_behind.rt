@@ -1,19 +1,12 @@
 //! How many decks begin behind the END of another.
 ghost use Rattle.std.specs.Prelude.{◌≡◌, ◌≤◌, is_none, length};
-ghost use Rattle.deck_listing.specs.DecksBehind.{begins_deck, decks_behind};
+ghost use Rattle.deck_listing.specs.DecksBehind.{decks_behind};
 ghost use Rattle.deck_listing.specs.Joins.LinesBehind.{begun_by, begun_in};
 
 use crate::statements::split_cards;
-use cards::{Card, Fields};
+use cards::Card;
+use deck_cuts::begins_deck;
 use deck_objects::{Line, Object};
-use definitions::is_same_text;
-
-/// Whether a card begins a deck of a file: its operation is IDENT.
-pub fn begins_deck(card: &Card) -> bool
-    ensures { result ≡ begins_deck card.now }
-{
-    is_same_text(Fields::operation_of_card(card), b"IDENT")
-}
 
 /// How many decks begin with the statement of a line, which has these cards: one, or none.
 fn begun_by(cards: &[Card], shown: &Line) -> usize

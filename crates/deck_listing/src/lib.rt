@@ -40,7 +40,6 @@ mod kept_laws;
 mod placed_section;
 
 pub use blocks::words_of_blocks;
-pub use decks_behind::begins_deck;
 pub use image_lines::push_image_line;
 pub use kept_laws::{fields_fit_by_values, sections_follow_values};
 pub use listed_object::ListedObject;

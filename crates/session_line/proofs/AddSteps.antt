@@ -1,9 +1,13 @@
 -- The decks of a file added one by one.
-use Rattle.std.proofs.Common.{ℕ, suc, ◌≡◌, ◌+◌, ◌-◌, ◌<◌, List, [], ◌∷◌, ◌++◌, arith, drop, get_or, length, length-append, take, ◌⊎◌, ⊎_elim, Ok, Err, refl, sym, subst, ap, ◌∙◌}
+use Rattle.std.proofs.Common.{ℕ, suc, ◌≡◌, ◌+◌, ◌-◌, ◌<◌, List, [], ◌∷◌, ◌++◌, arith, drop, get_or, length, length-append, take, reverse, ◌⊎◌, ⊎_elim, inl, inr, Ok, Err, refl, sym, subst, ap, ◌∙◌}
 use Rattle.std.specs.Prelude.{Result}
 use Rattle.std.proofs.lemmas.List.{drop_more, length-drop, take_all, take_more}
 use Rattle.definitions.specs.Cards.{Card}
-use Rattle.definitions.specs.DeckInput.{Deck}
+use Rattle.definitions.specs.DeckInput.{Deck, Decks}
+use Rattle.deck_cuts.specs.Cuts.{input_of_cards, newest_first, TellsFaultOf}
+use Rattle.deck_cuts.specs.declared.cut_fault.CutFault.{CutFault}
+use Rattle.deck_cuts.specs.declared.cut_fault.CutFault.TheVariants as cutting
+use Rattle.deck_cuts.proofs.DeckLaws.{in_input_order-newest_first}
 use Rattle.desk_core.specs.declared.calls.Call.{Call}
 use Rattle.desk_core.specs.declared.replies.Reply.{Reply}
 use Rattle.session_line.specs.declared.told_decks.ToldDeck.{ToldDeck}
@@ -12,7 +16,8 @@ use Rattle.session_line.specs.declared.answers.Told.TheVariants as told
 use Rattle.session_commands.specs.declared.refusals.Refusal.{Refusal}
 use Rattle.session_commands.specs.declared.refusals.Refusal.TheVariants.{OutOfMemory}
 use Rattle.session_line.specs.Answers.{uncalled}
-use Rattle.session_line.specs.DeckCuts.{decks_in}
+use Rattle.session_line.specs.DeckCuts.{decks_in, decks_or_reason}
+use Rattle.session_line.specs.Reasons.{cut_reason}
 use Rattle.session_line.specs.LoadingAll.{AddsAll, AddsCut, AddsDeck, AddsDecks, AddsFile, cut, no_deck, next_deck, uncut}
 
 -- a deck that is left
@@ -50,6 +55,18 @@ behind-left decks lines after line deck behind is put =
 -- none is left
 pub none-left : (decks : List Deck) (lines : List ToldDeck) → [] ≡ drop (length lines) decks → take (length lines) decks ≡ decks
 none-left decks lines is = let all : length decks - length lines ≡ 0 = sym (length-drop (length lines) decks) ∙ ap length (sym is) in take_all (length lines) decks (omega (arith, all))
+
+-- the cut of a file's cards, as the code has it
+pub decks-cut : (cards : List Card) (decks : List Deck) → input_of_cards (reverse cards) ≡ Decks (newest_first decks) → decks_in cards ≡ Ok decks
+decks-cut cards decks is = ap decks_or_reason is ∙ ap Ok (in_input_order-newest_first decks)
+
+-- or why there is none
+pub reason-cut : (cards : List Card) (fault : CutFault) → TellsFaultOf (input_of_cards (reverse cards)) fault → (decks_in cards ≡ Err (cut_reason fault)) ⊎ (cut_reason fault ≡ OutOfMemory)
+reason-cut cards cutting.OutOfMemory told = inr refl
+reason-cut cards cutting.DeckFull told = inl (ap decks_or_reason told)
+reason-cut cards cutting.NameTaken told = inl (ap decks_or_reason told)
+reason-cut cards cutting.TooManyDecks told = inl (ap decks_or_reason told)
+reason-cut cards (cutting.BadName number) told = inl (ap decks_or_reason told)
 
 module _ {C : Type 0} (makes : C → Call → Reply → C → Type 0) where
   -- none was added

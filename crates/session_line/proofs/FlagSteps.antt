@@ -23,9 +23,9 @@ use Rattle.deck_objects.specs.Joins.PartsOf.{ArePartsOf}
 use Rattle.deck_objects.specs.declared.lines.CodedLine.{CodedLine}
 use Rattle.deck_objects.specs.declared.lines.Line.{Line}
 use Rattle.deck_objects.specs.declared.object.ObjectParts.{ObjectParts}
-use Rattle.deck_listing.specs.DecksBehind.{begins_deck}
 use Rattle.deck_listing.proofs.BehindLaws.{behind-same}
 use Rattle.deck_listing.proofs.ListingLaws.{behind-cards, take-none}
+use Rattle.deck_cuts.specs.Cuts.{begins_deck}
 use Rattle.session_line.specs.Errors.{Begins, Flag, deck_errors, errors_where, flag_of, flags_of, flag_text, shown_flag, shows_deck}
 use Rattle.session_line.specs.Joins.FlagWalks.{flags_in, flags_text}
 use Rattle.session_line.specs.Replies.{line_of, text_of_lines}

@@ -11,5 +11,4 @@ pub mod LinkSteps
 pub mod MessageSteps
 pub mod DeckMessages
 pub mod RowSteps
-pub mod CutSteps
 pub mod AddSteps

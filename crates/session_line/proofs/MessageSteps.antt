@@ -5,7 +5,7 @@ use Rattle.std.proofs.lemmas.Grind.{flat_map-append}
 use Rattle.std.proofs.lemmas.List.{drop_all, drop_more}
 use Rattle.definitions.specs.Cards.{Card}
 use Rattle.deck_objects.specs.declared.lines.Line.{Line}
-use Rattle.deck_listing.specs.DecksBehind.{begins_deck}
+use Rattle.deck_cuts.specs.Cuts.{begins_deck}
 use Rattle.session_line.specs.Errors.{Begins, flag_of}
 use Rattle.session_line.specs.Joins.FlagWalks.{flags_in}
 use Rattle.session_line.specs.Joins.MessageWalks.{AddsMessages, told_letters}

@@ -1,20 +1,11 @@
 -- The decks of a file's cards (ours): they are cut as those of an input are.
-use Rattle.std.specs.Prelude.{ℕ, ◌+◌, List, [], ◌∷◌, Result, Ok, Err, length, reverse}
+use Rattle.std.specs.Prelude.{List, Result, Ok, Err, reverse}
 use Rattle.definitions.specs.Cards.{Card}
-use Rattle.definitions.specs.DeckInput.{Deck, Input, Decks, Faulty, InputFault, BadLineTooWide, BadLineBadCharacter, LastLineCut, BadName, NameTaken, TooManyDecks, DeckFull, in_input_order, with_card}
+use Rattle.definitions.specs.DeckInput.{Deck, Input, Decks, Faulty, InputFault, BadLineTooWide, BadLineBadCharacter, LastLineCut, BadName, NameTaken, TooManyDecks, DeckFull, in_input_order}
 use Rattle.cards.specs.declared.card.CardFault.TheVariants as card
+use Rattle.deck_cuts.specs.Cuts.{input_of_cards}
 use Rattle.session_commands.specs.declared.refusals.Refusal.{Refusal}
 use Rattle.session_commands.specs.declared.refusals.Refusal.TheVariants as refusal
-
--- an input with the card of one line more; a fault that is there stays
-abbrev pub input_with : ℕ → Card → Input → Input
-input_with number card (Faulty fault) = Faulty fault
-input_with number card (Decks decks) = with_card number card decks
-
--- the input of cards that are read newest first, each on a line of its own
-abbrev pub input_of_cards : List Card → Input
-input_of_cards [] = Decks []
-input_of_cards (card ∷ earlier) = input_with (length earlier + 1) card (input_of_cards earlier)
 
 -- the refusal of what is no input
 abbrev pub input_reason : InputFault → Refusal

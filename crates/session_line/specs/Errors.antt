@@ -5,7 +5,7 @@ use Rattle.definitions.specs.Cards.{Card}
 use Rattle.definitions.specs.DeckInput.{Deck}
 use Rattle.definitions.specs.Fields.{unbroken_front}
 use Rattle.definitions.specs.Objects.{Shown, object_of}
-use Rattle.deck_listing.specs.DecksBehind.{begins_deck}
+use Rattle.deck_cuts.specs.Cuts.{begins_deck}
 use Rattle.session_commands.specs.Sought.{begins_with}
 use Rattle.session_commands.specs.Words.{from_blank, behind_word}
 use Rattle.session_commands.specs.declared.views.ErrorsView.{ErrorsView}

@@ -4,4 +4,3 @@ pub mod MessageWalks
 pub mod ChangeWalks
 pub mod LineItems
 pub mod Kinds
-pub mod DeckOrders

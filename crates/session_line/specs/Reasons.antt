@@ -1,6 +1,8 @@
 -- How a session is told why the desk or the shelf refuses (ours).
 use Rattle.desk_core.specs.declared.replies.Refusal.{Refusal as DeskRefusal}
 use Rattle.desk_core.specs.declared.replies.Refusal.TheVariants as desk
+use Rattle.deck_cuts.specs.declared.cut_fault.CutFault.{CutFault}
+use Rattle.deck_cuts.specs.declared.cut_fault.CutFault.TheVariants as cut
 use Rattle.deck_files.specs.declared.load_fault.LoadFault.{LoadFault}
 use Rattle.deck_files.specs.declared.load_fault.LoadFault.TheVariants as load
 use Rattle.deck_files.specs.declared.deck_shelf.ShelfLoadFault.{ShelfLoadFault}
@@ -38,6 +40,14 @@ file_reason (load.BadLine line fault) = refusal.BadLine line fault
 file_reason load.LastLineCut = refusal.LastLineCut
 file_reason load.DeckFull = refusal.DeckFull
 file_reason load.OutOfMemory = refusal.OutOfMemory
+
+-- a fault of cards that are no decks
+abbrev pub cut_reason : CutFault → Refusal
+cut_reason cut.OutOfMemory = refusal.OutOfMemory
+cut_reason cut.DeckFull = refusal.DeckFull
+cut_reason cut.NameTaken = refusal.NameTaken
+cut_reason cut.TooManyDecks = refusal.TooManyDecks
+cut_reason (cut.BadName number) = refusal.BadName
 
 -- a fault of the shelf in loading
 abbrev pub load_reason : ShelfLoadFault → Refusal

@@ -6,7 +6,8 @@ ghost use Rattle.session_line.specs.Errors.{deck_errors, error_lines, errors_whe
 ghost use Rattle.session_line.specs.Joins.FlagWalks.{flags_in, line_len};
 
 use cards::{Card, DeckName};
-use deck_listing::{ListedObject, begins_deck};
+use deck_cuts::begins_deck;
+use deck_listing::ListedObject;
 use deck_objects::{Line, Object};
 use definitions::is_same_text;
 use session_commands::{ErrorsView, begins_with, behind_blank, behind_word, from_blank, to_blank};

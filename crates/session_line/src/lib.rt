@@ -46,7 +46,6 @@ mod tasks;
 
 // What is done and told.
 mod answers;
-mod deck_cuts;
 mod executing;
 mod file_status;
 mod file_tasks;

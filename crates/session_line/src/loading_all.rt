@@ -1,29 +1,30 @@
 //! Adds each deck of a file of the shelf.
-ghost use Rattle.std.specs.Prelude.{◌≡◌, ◌≤◌, ◌+◌, length, vec_capacity, vec_len, Err, IfErr, IfNone, IfOk, Ok, OnErr};
+ghost use Rattle.std.specs.Prelude.{◌≡◌, ◌≤◌, ◌+◌, ◌⊎◌, length, vec_capacity, vec_len, Err, IfErr, IfNone, IfOk, Ok, OnErr};
 ghost use Rattle.session_line.specs.Answers.{IsTellable, most_decks};
+ghost use Rattle.session_line.specs.DeckCuts.{decks_in};
 ghost use Rattle.session_line.specs.LoadingAll.{AddsAll, AddsCut, AddsDeck, AddsDecks, LoadsAll, TellsAdds, is_any_there, refusal_to_add};
 
 use crate::answers::{Answer, MOST_DECKS, Told, told_of_call};
 use crate::calls::Calls;
-use crate::deck_cuts::{cut_cards, is_taken};
 use crate::executing::{called, uncalled};
-use crate::reasons::load_reason;
+use crate::reasons::{cut_reason, load_reason};
 use crate::told_decks::{ToldDeck, outcome_of};
-use cards::DeckName;
+use cards::{Card, DeckName};
+use deck_cuts::{Deck, is_taken};
 use deck_files::Shelf;
 use desk_core::{Call, Listed, NewDeck, Row};
 use session_commands::Refusal;
 use std::alloc::{AllocError, Global};
 
 /// Whether a desk with these decks has the name of one of others.
-fn is_any_there(rows: &[Row], decks: &[NewDeck]) -> bool
+fn is_any_there(rows: &[Row], decks: &[Deck]) -> bool
     ensures { result ≡ is_any_there rows.now decks.now }
 {
     rows.iter().any(|row| is_taken(row.name.as_slice(), decks))
 }
 
 /// Why a desk with these decks is asked to add none of others.
-fn refusal_to_add(rows: &[Row], decks: &[NewDeck]) -> Option<Refusal>
+fn refusal_to_add(rows: &[Row], decks: &[Deck]) -> Option<Refusal>
     requires { length rows.now ≤ most_decks }
     ensures refusal { result ≡ refusal_to_add rows.now decks.now }
     ensures few { IfNone result (length decks.now ≤ most_decks) }
@@ -39,13 +40,14 @@ fn refusal_to_add(rows: &[Row], decks: &[NewDeck]) -> Option<Refusal>
 }
 
 /// The desk is asked to add a deck: what became of it.
-fn add_deck<C: Calls>(desk: &mut C, deck: NewDeck) -> ToldDeck
+fn add_deck<C: Calls>(desk: &mut C, deck: Deck) -> ToldDeck
     ensures { AddsDeck C.makes deck desk.old desk.new result }
 {
-    let name = deck.name.copied();
-    let told = told_of_call(desk.call(Call::AddDeck(deck)));
+    let (name, cards) = deck.into_parts();
+    let added = name.copied();
+    let told = told_of_call(desk.call(Call::AddDeck(NewDeck::new(name, cards))));
     ToldDeck {
-        name,
+        name: added,
         outcome: outcome_of(&told),
     }
 }
@@ -54,7 +56,7 @@ fn add_deck<C: Calls>(desk: &mut C, deck: NewDeck) -> ToldDeck
 fn add_decks<C: Calls>(
     alloc: Global,
     desk: &mut C,
-    decks: Vec<NewDeck>,
+    decks: Vec<Deck>,
 ) -> Result<Vec<ToldDeck>, AllocError>
     ensures adds { IfOk result (λ lines. AddsDecks C.makes desk.old decks.items lines.items desk.new) }
     ensures each { IfOk result (λ lines. length lines.items ≡ length decks.items) }
@@ -74,7 +76,7 @@ fn tell_adds<C: Calls>(
     desk: &mut C,
     version: u64,
     rows: &[Row],
-    decks: Vec<NewDeck>,
+    decks: Vec<Deck>,
 ) -> Answer
     requires { length rows.now ≤ most_decks }
     ensures tells { TellsAdds C.makes version rows.now decks.items desk.old desk.new result }
@@ -90,13 +92,26 @@ fn tell_adds<C: Calls>(
 }
 
 /// The desk is asked for its status, and then to add the decks.
-fn add_all<C: Calls>(alloc: Global, desk: &mut C, decks: Vec<NewDeck>) -> Answer
+fn add_all<C: Calls>(alloc: Global, desk: &mut C, decks: Vec<Deck>) -> Answer
     ensures adds { AddsAll C.makes decks.items desk.old desk.new result }
     ensures fits { IsTellable result.told }
 {
     match told_of_call(desk.call(Call::Status)) {
         Told::Status(version, _, rows) => tell_adds(alloc, desk, version, rows.as_slice(), decks),
         told => called(told),
+    }
+}
+
+/// The decks of a file's cards, or why it has none: `BadName` where a card stands before the first IDENT or
+/// one of these has no name of a deck, `NameTaken` where two have the same, `TooManyDecks`, `DeckFull`; the
+/// first card counts that one applies to.
+fn cut_cards(alloc: Global, cards: &[Card]) -> Result<Vec<Deck>, Refusal>
+    ensures ok { IfOk result (λ decks. decks_in cards.now ≡ Ok decks.items) }
+    ensures err { IfErr result (λ refusal. (decks_in cards.now ≡ Err refusal) ⊎ (refusal ≡ Refusal.OutOfMemory)) }
+{
+    match deck_cuts::cut_cards(alloc, cards) {
+        Ok(decks) => Ok(decks),
+        Err(fault) => Err(cut_reason(fault)),
     }
 }
 

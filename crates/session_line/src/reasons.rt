@@ -1,7 +1,8 @@
 //! How a session is told why the desk or the shelf refuses.
 ghost use Rattle.std.specs.Prelude.{◌≡◌};
-ghost use Rattle.session_line.specs.Reasons.{desk_reason, file_reason, load_reason, save_reason};
+ghost use Rattle.session_line.specs.Reasons.{cut_reason, desk_reason, file_reason, load_reason, save_reason};
 
+use deck_cuts::CutFault;
 use deck_files::{LoadFault, ShelfLoadFault, ShelfSaveFault};
 use session_commands::Refusal;
 
@@ -44,6 +45,19 @@ fn file_reason(fault: LoadFault) -> Refusal
         LoadFault::LastLineCut => Refusal::LastLineCut,
         LoadFault::DeckFull => Refusal::DeckFull,
         LoadFault::OutOfMemory => Refusal::OutOfMemory,
+    }
+}
+
+/// Why cards are no decks.
+pub(crate) fn cut_reason(fault: CutFault) -> Refusal
+    ensures { result ≡ cut_reason fault }
+{
+    match fault {
+        CutFault::OutOfMemory => Refusal::OutOfMemory,
+        CutFault::DeckFull => Refusal::DeckFull,
+        CutFault::NameTaken => Refusal::NameTaken,
+        CutFault::TooManyDecks => Refusal::TooManyDecks,
+        CutFault::BadName { .. } => Refusal::BadName,
     }
 }
 

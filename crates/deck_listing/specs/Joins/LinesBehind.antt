@@ -2,7 +2,7 @@
 use Rattle.std.specs.Prelude.{ℕ, ◌+◌, Bool, ◌&&◌, is_none, List, [], ◌∷◌, drop, take, if◌then◌else◌}
 use Rattle.definitions.specs.Cards.{Card}
 use Rattle.deck_objects.specs.declared.lines.Line.{Line}
-use Rattle.deck_listing.specs.DecksBehind.{begins_deck}
+use Rattle.deck_cuts.specs.Cuts.{begins_deck}
 
 -- how many begin with a statement of these cards, which stands behind END or not
 abbrev pub begun_by : List Card → Bool → ℕ

@@ -1,5 +1,5 @@
 use Rattle.asm_main.proofs.AnswerLaws.{told-where}
-use Rattle.asm_main.proofs.FaultLaws.{IfErr-passed}
+use Rattle.deck_cuts.proofs.CutLaws.{IfErr-passed}
 use Rattle.asm_main.proofs.running.asm_build_with.Goals as goal
 
 pub returns-in_err-decks-clause-told : goal.returns-in_err-decks-clause-told

@@ -1,0 +1,3 @@
+pub mod DeckLaws
+pub mod CutSteps
+pub mod CutLaws

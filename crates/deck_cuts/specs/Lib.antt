@@ -1,0 +1,3 @@
+pub mod Cuts
+-- What no promise leads to.
+pub mod Joins
