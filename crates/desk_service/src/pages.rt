@@ -191,9 +191,13 @@ fn serve_next<R: Wait + Clock, C: Calls, S: Shelf>(
 
 /// A page thread serves connections until the end of the service is asked for.
 impl<
-    R: Wait + Clock + Eprint + Files<File = File> + AllocGlobal + Clone + Drop,
-    F: RecordsFile + Drop,
-> Serve for PagePlace<'_, R, F> {
+    R: Wait + Clock + Eprint + Files<File = File> + AllocGlobal + Clone + Drop + Sync,
+    F: RecordsFile + Drop + Send,
+> Serve for PagePlace<'_, R, F>
+where
+    R::File: Send,
+    R::Dir: Send,
+{
     fn serve(self) {
         let PagePlace {
             rt,

@@ -29,8 +29,9 @@ use std::sync::Wait;
 use std::time::{Clock, Duration};
 use turn_office::{Office, Seat, SeatList};
 
-/// What a thread works with.
-pub(crate) trait Serve {
+/// What a thread works with. That it may go to a thread of its own is shown where it is served, with no more known
+/// of the runtime than its work needs: with all that is known of it, the search takes minutes.
+pub(crate) trait Serve: Send + Drop {
     /// Does the work of the thread, to its end.
     fn serve(self);
 }
@@ -50,7 +51,7 @@ pub(crate) struct WorkerPlace<'a, R> {
 }
 
 /// A worker works until no bell can come any more.
-impl<R: Wait + Clock> Serve for WorkerPlace<'_, R> {
+impl<R: Wait + Clock + Sync> Serve for WorkerPlace<'_, R> {
     fn serve(self) {
         let WorkerPlace {
             rt,
@@ -99,9 +100,13 @@ pub(crate) struct SessionPlace<'a, R, F: RecordsFile> {
 
 /// A session thread serves connections until none can come any more.
 impl<
-    R: Wait + Clock + Eprint + Files<File = File> + AllocGlobal + Clone + Drop,
-    F: RecordsFile + Drop,
-> Serve for SessionPlace<'_, R, F> {
+    R: Wait + Clock + Eprint + Files<File = File> + AllocGlobal + Clone + Drop + Sync,
+    F: RecordsFile + Drop + Send,
+> Serve for SessionPlace<'_, R, F>
+where
+    R::File: Send,
+    R::Dir: Send,
+{
     fn serve(self) {
         let SessionPlace {
             rt,

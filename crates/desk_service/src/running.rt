@@ -102,7 +102,7 @@ struct Receiving<'a, R> {
 }
 
 /// It tells that the service listens, and receives clients to the end of the service.
-impl<R: Wait + Clock + Eprint> Serve for Receiving<'_, R> {
+impl<R: Wait + Clock + Eprint + Sync> Serve for Receiving<'_, R> {
     fn serve(self) {
         announce(self.rt, local_address(self.port), self.settings);
         announce_readers(self.rt, self.settings.readers);
@@ -119,8 +119,8 @@ impl<R: Wait + Clock + Eprint> Serve for Receiving<'_, R> {
     }
 }
 
-/// What hears of the end of a service.
-trait Hear {
+/// What hears of the end of a service, in a thread of its own.
+trait Hear: Send + Copy {
     /// Waits until somebody asks for the end, or the service ends by itself. What it gives stays open until
     /// the service is over.
     fn hear(self) -> Option<UnixStream>;
@@ -161,7 +161,11 @@ fn wake_pages<R: Net>(rt: &R, page: Option<u16>) {
     }
 }
 
-impl<R: Wait + Clock + Files + Net> Hear for Hearing<'_, R> {
+impl<R: Wait + Clock + Files + Net + Sync> Hear for Hearing<'_, R>
+where
+    R::Listener: Send,
+    R::Stream: Send,
+{
     fn hear(self) -> Option<UnixStream> {
         let asked = hear(self.rt, self.control, local_address(self.port), self.end);
         wake_pages(self.rt, self.page);
@@ -178,66 +182,85 @@ impl<R: Wait + Clock + Files + Net> Hear for Hearing<'_, R> {
     }
 }
 
-/// What a thread of a service works with.
-#[derive(Drop)]
-enum Place<W, S, P, C> {
-    Worker(W),
-    Session(S),
-    Page(P),
-    Receiving(C),
-}
-
-impl<W: Serve, S: Serve, P: Serve, C: Serve> Serve for Place<W, S, P, C> {
-    fn serve(self) {
-        match self {
-            Place::Worker(place) => place.serve(),
-            Place::Session(place) => place.serve(),
-            Place::Page(place) => place.serve(),
-            Place::Receiving(place) => place.serve(),
-        }
-    }
-}
-
 /// Serves a place in a thread of its own; want of memory where none can be made.
-fn start<'s, E, P: Serve + Send + Drop + 's>(
+fn start<'s, E, P: Serve + 's>(
     scope: &Scope<'s, E>,
     place: P,
 ) -> Result<JoinHandle<()>, AllocError> {
     Ok(scope.spawn(move || place.serve())?)
 }
 
+/// Serves each place in a thread of its own; want of memory where one can't be made.
+fn start_all<'s, E, P: Serve + 's>(
+    scope: &Scope<'s, E>,
+    places: Vec<P>,
+    threads: &mut Vec<JoinHandle<()>>,
+) -> Result<(), AllocError> {
+    for place in places {
+        threads.push(start(scope, place)?)?;
+    }
+    Ok(())
+}
+
 /// Hears of the end in a thread of its own; want of memory where none can be made.
-fn start_hearing<'s, E, H: Hear + Send + Copy + 's>(
+fn start_hearing<'s, E, H: Hear + 's>(
     scope: &Scope<'s, E>,
     hearing: H,
 ) -> Result<JoinHandle<Option<UnixStream>>, AllocError> {
     Ok(scope.spawn(move || hearing.hear())?)
 }
 
+/// Starts the threads of a service: one for each place, and one that hears of the end.
+fn start_threads<'s, E, W, S, P, C, H>(
+    scope: &Scope<'s, E>,
+    alloc: Global,
+    workers: Vec<W>,
+    sessions: Vec<S>,
+    pages: Vec<P>,
+    receiving: C,
+    hearing: H,
+) -> Result<(Vec<JoinHandle<()>>, JoinHandle<Option<UnixStream>>), AllocError>
+where
+    W: Serve + 's,
+    S: Serve + 's,
+    P: Serve + 's,
+    C: Serve + 's,
+    H: Hear + 's,
+{
+    let mut threads = Vec::new(alloc);
+    start_all(scope, workers, &mut threads)?;
+    start_all(scope, sessions, &mut threads)?;
+    start_all(scope, pages, &mut threads)?;
+    threads.push(start(scope, receiving)?)?;
+    Ok((threads, start_hearing(scope, hearing)?))
+}
+
 /// Runs each place in a thread of its own, and returns when all have ended. Where a thread can't be made,
 /// those that were made end at once.
-///
-/// It is over any places: that each is `Send` is shown by the functions below, one place each, with no
-/// more known of the runtime than it needs. With all that is known of it the search takes minutes.
-fn run<R, P, H>(rt: &R, alloc: Global, places: Vec<P>, hearing: H) -> Result<(), AllocError>
+fn run<R, W, S, P, C, H>(
+    rt: &R,
+    alloc: Global,
+    workers: Vec<W>,
+    sessions: Vec<S>,
+    pages: Vec<P>,
+    receiving: C,
+    hearing: H,
+) -> Result<(), AllocError>
 where
     R: Threads + Wait + Sync,
-    P: Serve + Send + Drop,
-    H: Hear + Send + Copy,
+    W: Serve,
+    S: Serve,
+    P: Serve,
+    C: Serve,
+    H: Hear,
 {
     thread::scope(
         thread::scope_env(),
         rt,
         move |scope| -> Result<(), AllocError> {
-            let mut threads = Vec::with_capacity(alloc, places.len())?;
-            for place in places {
-                let Ok(thread) = start(scope, place) else {
-                    hearing.close();
-                    return Err(AllocError);
-                };
-                threads.push(thread)?;
-            }
-            let Ok(stopped) = start_hearing(scope, hearing) else {
+            let Ok((threads, stopped)) = start_threads(
+                scope, alloc, workers, sessions, pages, receiving, hearing,
+            ) else {
                 hearing.close();
                 return Err(AllocError);
             };
@@ -249,145 +272,6 @@ where
             Ok(())
         },
     )
-}
-
-/// `run` with the places of workers, sessions and the page, and what receives the clients.
-fn run_places<R, W, S, P, C, H>(
-    rt: &R,
-    alloc: Global,
-    workers: Vec<W>,
-    sessions: Vec<S>,
-    pages: Vec<P>,
-    receiving: C,
-    hearing: H,
-) -> Result<(), AllocError>
-where
-    R: Threads + Wait + Sync,
-    W: Serve + Send + Drop,
-    S: Serve + Send + Drop,
-    P: Serve + Send + Drop,
-    C: Serve + Send + Drop,
-    H: Hear + Send + Copy,
-{
-    let mut places: Vec<Place<W, S, P, C>> = Vec::new(alloc);
-    for place in workers {
-        places.push(Place::Worker(place))?;
-    }
-    for place in sessions {
-        places.push(Place::Session(place))?;
-    }
-    for place in pages {
-        places.push(Place::Page(place))?;
-    }
-    places.push(Place::Receiving(receiving))?;
-    run(rt, alloc, places, hearing)
-}
-
-/// `run_places` with the places of workers.
-fn run_workers<R, S, P, C, H>(
-    rt: &R,
-    alloc: Global,
-    workers: Vec<WorkerPlace<'_, R>>,
-    sessions: Vec<S>,
-    pages: Vec<P>,
-    receiving: C,
-    hearing: H,
-) -> Result<(), AllocError>
-where
-    R: Threads + Wait + Sync + Clock,
-    S: Serve + Send + Drop,
-    P: Serve + Send + Drop,
-    C: Serve + Send + Drop,
-    H: Hear + Send + Copy,
-{
-    run_places(rt, alloc, workers, sessions, pages, receiving, hearing)
-}
-
-/// `run_workers` with what receives the clients.
-fn run_receiving<R, S, P, H>(
-    rt: &R,
-    alloc: Global,
-    workers: Vec<WorkerPlace<'_, R>>,
-    sessions: Vec<S>,
-    pages: Vec<P>,
-    receiving: Receiving<'_, R>,
-    hearing: H,
-) -> Result<(), AllocError>
-where
-    R: Threads + Wait + Sync + Clock + Eprint,
-    S: Serve + Send + Drop,
-    P: Serve + Send + Drop,
-    H: Hear + Send + Copy,
-{
-    run_workers(rt, alloc, workers, sessions, pages, receiving, hearing)
-}
-
-/// `run_receiving` with the places of sessions.
-fn run_sessions<R, P, H>(
-    rt: &R,
-    alloc: Global,
-    workers: Vec<WorkerPlace<'_, R>>,
-    sessions: Vec<SessionPlace<'_, R, SystemFile<R::File>>>,
-    pages: Vec<P>,
-    receiving: Receiving<'_, R>,
-    hearing: H,
-) -> Result<(), AllocError>
-where
-    R: Threads + Wait + Sync + Clock + Eprint + Files<File = File> + AllocGlobal + Clone + Drop,
-    R::File: Send,
-    R::Dir: Send,
-    P: Serve + Send + Drop,
-    H: Hear + Send + Copy,
-{
-    run_receiving(rt, alloc, workers, sessions, pages, receiving, hearing)
-}
-
-/// `run_sessions` with the places of the page.
-fn run_pages<R, H>(
-    rt: &R,
-    alloc: Global,
-    workers: Vec<WorkerPlace<'_, R>>,
-    sessions: Vec<SessionPlace<'_, R, SystemFile<R::File>>>,
-    pages: Vec<PagePlace<'_, R, SystemFile<R::File>>>,
-    receiving: Receiving<'_, R>,
-    hearing: H,
-) -> Result<(), AllocError>
-where
-    R: Threads + Wait + Sync + Clock + Eprint + Files<File = File> + AllocGlobal + Clone + Drop,
-    R::File: Send,
-    R::Dir: Send,
-    H: Hear + Send + Copy,
-{
-    run_sessions(rt, alloc, workers, sessions, pages, receiving, hearing)
-}
-
-/// `run_pages` with what hears of the end.
-fn run_hearing<R>(
-    rt: &R,
-    alloc: Global,
-    workers: Vec<WorkerPlace<'_, R>>,
-    sessions: Vec<SessionPlace<'_, R, SystemFile<R::File>>>,
-    pages: Vec<PagePlace<'_, R, SystemFile<R::File>>>,
-    receiving: Receiving<'_, R>,
-    hearing: Hearing<'_, R>,
-) -> Result<(), AllocError>
-where
-    R: Threads
-        + Wait
-        + Sync
-        + Clock
-        + Eprint
-        + Files<File = File>
-        + AllocGlobal
-        + Clone
-        + Drop
-        + Net,
-    R::File: Send,
-    R::Dir: Send,
-    R::Listener: Send,
-    R::Stream: Send,
-{
-    run_pages(rt, alloc, workers, sessions, pages, receiving, hearing)
 }
 
 /// The port of a page, if there is one.
@@ -472,7 +356,7 @@ where
         arrivals,
         end,
     };
-    Ok(run_hearing(rt, alloc, workers, sessions, pages, receiving, hearing)?)
+    Ok(run(rt, alloc, workers, sessions, pages, receiving, hearing)?)
 }
 
 /// Serves at a listener: the desk is new, or as its journal leaves it; each worker and each session has a
