@@ -18,7 +18,7 @@ use Rattle.session_commands.specs.declared.refusals.Refusal.{Refusal}
 use Rattle.session_line.specs.declared.told_decks.ToldDeck.{ToldDeck}
 use Rattle.session_line.specs.declared.tasks.Task.{Task}
 use Rattle.session_line.specs.declared.tasks.Task.TheVariants.{Ask, AwaitVersion, ShowCards, ShowCardsAt, ShowText, ShowPart, ShowErrors, ShowWords, ShowNames, ShowSymbols, LoadDeck, LoadAll, ReloadDeck, SaveDeck, SaveAll, ShowFiles, ShowFileStatus, Greet, ShowHelp, Leave, Refuse}
-use Rattle.session_line.specs.Answers.{told_of_call, called}
+use Rattle.session_line.specs.Answers.{WhereStatus, told_of_call, called}
 use Rattle.session_line.specs.Asking.{Asks}
 use Rattle.session_line.specs.Executing.{AddsLoaded, Executes}
 use Rattle.session_line.specs.Reloading.{PutsBy, PutsLoaded, version_told}
@@ -64,6 +64,26 @@ abbrev asks_session : Task → Bool
 asks_session (Ask call) = is_session_call call
 asks_session _ = true
 
+-- what holds of a status and of anything else holds of all that is told
+where-same : (what : Told) (Made : ℕ → Option ℕ → List Row → Type 0) (Other P : Type 0) → ((version : ℕ) (published : Option ℕ) (rows : List Row) → Made version published rows → P) → (Other → P) → WhereStatus what Made Other → P
+where-same (told.Status version published rows) Made Other P made other holds = made version published rows holds
+where-same (told.Done version) Made Other P made other holds = other holds
+where-same (told.Unkept version) Made Other P made other holds = other holds
+where-same (told.Cards version cards view) Made Other P made other holds = other holds
+where-same (told.Changes version kept) Made Other P made other holds = other holds
+where-same (told.Published publication text) Made Other P made other holds = other holds
+where-same (told.Part publication text name) Made Other P made other holds = other holds
+where-same (told.Errors publication view) Made Other P made other holds = other holds
+where-same (told.Lines version lines) Made Other P made other holds = other holds
+where-same (told.FileStatus version published decks) Made Other P made other holds = other holds
+where-same (told.Standing version published) Made Other P made other holds = other holds
+where-same (told.Decks version decks) Made Other P made other holds = other holds
+where-same (told.Files version rows) Made Other P made other holds = other holds
+where-same (told.Sessions version sessions) Made Other P made other holds = other holds
+where-same (told.Help version) Made Other P made other holds = other holds
+where-same (told.Refused reason) Made Other P made other holds = other holds
+where-same told.Bye Made Other P made other holds = other holds
+
 module _ {C S : Type 0} (makes : C → Call → Reply → C → Type 0) (awaits : C → ℕ → Reply → C → Type 0) (greets : C → List ℕ → Greeting → C → Type 0) (loads : S → List ℕ → List Card → S → Type 0)
     (refuses_to_load : S → List ℕ → ShelfLoadFault → S → Type 0)
     (saves : S → Saving → S → Type 0) (refuses_to_save : S → Saving → ShelfSaveFault → S → Type 0)
@@ -106,23 +126,9 @@ module _ {C S : Type 0} (makes : C → Call → Reply → C → Type 0) (awaits 
   saves-same version rows desk next shelf after answer (lacking stays same answered) = uncalled-same desk next stays
 
   all-same : (what : Told) (desk next : C) (shelf after : S) (answer : Answer) → SavesAllTold makes saves refuses_to_save tells_saved what desk next shelf after answer → IsSame desk next
-  all-same (told.Status version published rows) desk next shelf after answer saves = saves-same version rows desk next shelf after answer saves
-  all-same (told.Done version) desk next shelf after answer saves = uncalled-same desk next saves.0
-  all-same (told.Unkept version) desk next shelf after answer saves = uncalled-same desk next saves.0
-  all-same (told.Cards version cards view) desk next shelf after answer saves = uncalled-same desk next saves.0
-  all-same (told.Changes version kept) desk next shelf after answer saves = uncalled-same desk next saves.0
-  all-same (told.Published publication text) desk next shelf after answer saves = uncalled-same desk next saves.0
-  all-same (told.Part publication text name) desk next shelf after answer saves = uncalled-same desk next saves.0
-  all-same (told.Errors publication view) desk next shelf after answer saves = uncalled-same desk next saves.0
-  all-same (told.Lines version lines) desk next shelf after answer saves = uncalled-same desk next saves.0
-  all-same (told.FileStatus version published decks) desk next shelf after answer saves = uncalled-same desk next saves.0
-  all-same (told.Standing version published) desk next shelf after answer saves = uncalled-same desk next saves.0
-  all-same (told.Decks version decks) desk next shelf after answer saves = uncalled-same desk next saves.0
-  all-same (told.Files version rows) desk next shelf after answer saves = uncalled-same desk next saves.0
-  all-same (told.Sessions version sessions) desk next shelf after answer saves = uncalled-same desk next saves.0
-  all-same (told.Help version) desk next shelf after answer saves = uncalled-same desk next saves.0
-  all-same (told.Refused reason) desk next shelf after answer saves = uncalled-same desk next saves.0
-  all-same told.Bye desk next shelf after answer saves = uncalled-same desk next saves.0
+  all-same what desk next shelf after answer =
+      where-same what (λ version published rows. TellsSaves makes saves refuses_to_save tells_saved version rows desk next shelf after answer) ((next ≡ desk) × (after ≡ shelf) × (answer ≡ called what)) (IsSame desk next)
+      (λ version published rows saves. saves-same version rows desk next shelf after answer saves) (λ same. uncalled-same desk next same.0)
 
   -- decks of which a refusal is told were not added
   adds-told-same : (version : ℕ) (rows : List Row) (decks : List Deck) (desk next : C) (answer : Answer) → TellsAdds makes version rows decks desk next answer → is_refusal answer.told ≡ true → IsSame desk next
@@ -131,23 +137,9 @@ module _ {C S : Type 0} (makes : C → Call → Reply → C → Type 0) (awaits 
   adds-told-same version rows decks desk next answer (no_memory stays answered) refused = uncalled-same desk next stays
 
   adds-all-same : (what : Told) (decks : List Deck) (desk next : C) (answer : Answer) → AddsTold makes decks what desk next answer → is_refusal answer.told ≡ true → IsSame desk next
-  adds-all-same (told.Status version published rows) decks desk next answer adds refused = adds-told-same version rows decks desk next answer adds refused
-  adds-all-same (told.Done version) decks desk next answer adds refused = uncalled-same desk next adds.0
-  adds-all-same (told.Unkept version) decks desk next answer adds refused = uncalled-same desk next adds.0
-  adds-all-same (told.Cards version cards view) decks desk next answer adds refused = uncalled-same desk next adds.0
-  adds-all-same (told.Changes version kept) decks desk next answer adds refused = uncalled-same desk next adds.0
-  adds-all-same (told.Published publication text) decks desk next answer adds refused = uncalled-same desk next adds.0
-  adds-all-same (told.Part publication text name) decks desk next answer adds refused = uncalled-same desk next adds.0
-  adds-all-same (told.Errors publication view) decks desk next answer adds refused = uncalled-same desk next adds.0
-  adds-all-same (told.Lines version lines) decks desk next answer adds refused = uncalled-same desk next adds.0
-  adds-all-same (told.FileStatus version published marks) decks desk next answer adds refused = uncalled-same desk next adds.0
-  adds-all-same (told.Standing version published) decks desk next answer adds refused = uncalled-same desk next adds.0
-  adds-all-same (told.Decks version lines) decks desk next answer adds refused = uncalled-same desk next adds.0
-  adds-all-same (told.Files version rows) decks desk next answer adds refused = uncalled-same desk next adds.0
-  adds-all-same (told.Sessions version sessions) decks desk next answer adds refused = uncalled-same desk next adds.0
-  adds-all-same (told.Help version) decks desk next answer adds refused = uncalled-same desk next adds.0
-  adds-all-same (told.Refused reason) decks desk next answer adds refused = uncalled-same desk next adds.0
-  adds-all-same told.Bye decks desk next answer adds refused = uncalled-same desk next adds.0
+  adds-all-same what decks desk next answer adds refused =
+      where-same what (λ version published rows. TellsAdds makes version rows decks desk next answer) ((next ≡ desk) × (answer ≡ called what)) (IsSame desk next)
+      (λ version published rows adds. adds-told-same version rows decks desk next answer adds refused) (λ same. uncalled-same desk next same.0) adds
 
   cut-same : (decks : Result (List Deck) Refusal) (desk next : C) (answer : Answer) → AddsCut makes decks desk next answer → is_refusal answer.told ≡ true → IsSame desk next
   cut-same (Ok decks) desk next answer adds refused =

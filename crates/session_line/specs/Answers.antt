@@ -63,6 +63,11 @@ told_of_call (StatusIs version published rows) = if nat_le (length rows) most_de
 told_of_call (Refused reason) = told.Refused (desk_reason reason)
 told_of_call _ = foreign
 
+-- what holds where a status is told, with its version, what is published and its decks; or where anything else is
+abbrev pub WhereStatus : Told → (ℕ → Option ℕ → List Row → Type 0) → Type 0 → Type 0
+WhereStatus (told.Status version published rows) Made Other = Made version published rows
+WhereStatus _ Made Other = Other
+
 -- what is told of the reply to a call for the status that was waited for: the status without its decks
 abbrev pub told_of_wait : Reply → Told
 told_of_wait (StatusIs version published rows) = told.Standing version published

@@ -9,7 +9,7 @@ use Rattle.session_commands.specs.declared.refusals.Refusal.TheVariants.{OutOfMe
 use Rattle.session_line.specs.declared.answers.Told.{Told}
 use Rattle.session_line.specs.declared.answers.Told.TheVariants as told
 use Rattle.session_line.specs.declared.answers.Answer.{Answer}
-use Rattle.session_line.specs.Answers.{told_of_call, called}
+use Rattle.session_line.specs.Answers.{WhereStatus, told_of_call, called}
 
 -- the row of a deck, marked so
 abbrev pub marked : Row → Bool → MarkedRow
@@ -29,8 +29,7 @@ module _ {S : Type 0} (tells_saved : S → List ℕ → ℕ → Bool → S → T
 
   -- the decks of the status that would be told are marked; what else would be told is, and the shelf is not called
   abbrev pub MarksTold : Told → S → S → Answer → Type 0
-  MarksTold (told.Status version published rows) shelf after answer = TellsMarks version published rows shelf after answer
-  MarksTold what shelf after answer = (after ≡ shelf) × (answer ≡ called what)
+  MarksTold what shelf after answer = WhereStatus what (λ version published rows. TellsMarks version published rows shelf after answer) ((after ≡ shelf) × (answer ≡ called what))
 
 module _ {C S : Type 0} (makes : C → Call → Reply → C → Type 0) (tells_saved : S → List ℕ → ℕ → Bool → S → Type 0) where
   -- STATUS FILES: one call of the desk for the status, and then one of the shelf for each deck

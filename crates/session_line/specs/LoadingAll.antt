@@ -14,7 +14,7 @@ use Rattle.session_line.specs.declared.told_decks.ToldDeck.{ToldDeck}
 use Rattle.session_line.specs.declared.answers.Told.{Told}
 use Rattle.session_line.specs.declared.answers.Told.TheVariants as told
 use Rattle.session_line.specs.declared.answers.Answer.{Answer}
-use Rattle.session_line.specs.Answers.{called, most_decks, told_of_call, uncalled}
+use Rattle.session_line.specs.Answers.{WhereStatus, called, most_decks, told_of_call, uncalled}
 use Rattle.session_line.specs.Asking.{ShelfLoads}
 use Rattle.session_line.specs.DeckCuts.{decks_in}
 use Rattle.session_line.specs.Reasons.{load_reason}
@@ -48,8 +48,7 @@ module _ {C : Type 0} (makes : C → Call → Reply → C → Type 0) where
 
   -- the decks are added behind the status that would be told; what else would be told is, and nothing more is called
   abbrev pub AddsTold : List Deck → Told → C → C → Answer → Type 0
-  AddsTold decks (told.Status version published rows) desk next answer = TellsAdds version rows decks desk next answer
-  AddsTold decks what desk next answer = (next ≡ desk) × (answer ≡ called what)
+  AddsTold decks what desk next answer = WhereStatus what (λ version published rows. TellsAdds version rows decks desk next answer) ((next ≡ desk) × (answer ≡ called what))
 
   -- one call of the desk for the status, and then one for each deck
   pub record AddsAll (decks : List Deck) (desk next : C) (answer : Answer) : Type 0 where

@@ -12,7 +12,7 @@ use Rattle.session_commands.specs.declared.refusals.Refusal.TheVariants.{OutOfMe
 use Rattle.session_line.specs.declared.answers.Told.{Told}
 use Rattle.session_line.specs.declared.answers.Told.TheVariants as told
 use Rattle.session_line.specs.declared.answers.Answer.{Answer}
-use Rattle.session_line.specs.Answers.{told_of_call, called}
+use Rattle.session_line.specs.Answers.{WhereStatus, told_of_call, called}
 use Rattle.session_line.specs.SavingDecks.{SavesDeck}
 use Rattle.session_line.specs.ToldDecks.{told_deck}
 
@@ -37,8 +37,8 @@ module _ {C S : Type 0} (makes : C → Call → Reply → C → Type 0) (saves :
 
   -- the decks of the status that would be told are saved; what else would be told is, and nothing more is called
   abbrev pub SavesAllTold : Told → C → C → S → S → Answer → Type 0
-  SavesAllTold (told.Status version published rows) desk next shelf after answer = TellsSaves version rows desk next shelf after answer
-  SavesAllTold what desk next shelf after answer = (next ≡ desk) × (after ≡ shelf) × (answer ≡ called what)
+  SavesAllTold what desk next shelf after answer =
+      WhereStatus what (λ version published rows. TellsSaves version rows desk next shelf after answer) ((next ≡ desk) × (after ≡ shelf) × (answer ≡ called what))
 
   -- SAVEALL: one call of the desk for the status, and then each of its decks
   pub record SavesAll (desk next : C) (shelf after : S) (answer : Answer) : Type 0 where
