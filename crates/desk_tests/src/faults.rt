@@ -2,14 +2,13 @@
 //!
 //! `serve_all`: the session without a fault; `fail_reads`, `fail_writes`: with how many it ended as wanted.
 
-use crate::inputs::name_of;
 use crate::outputs::Answer;
 use crate::place::{push_outcome, serve};
-use crate::table_keys::fixed_keys;
 use deck_files::MemoryShelf;
 use desk_core::Desk;
 use session_line::Outcome;
 use std::alloc::{AllocError, Global};
+use test_parts::{fixed_keys, name_of};
 use text_ports::{Counted, FaultyReader, FaultyWriter};
 
 /// Makes a step of this word, if it is one of this session, and answers whether it is.

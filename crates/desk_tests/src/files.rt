@@ -5,14 +5,13 @@
 //! ports that give and take so many bytes at a time, and fail at the calls of these numbers; `run_line LINE`:
 //! whether a run writes this line; `statuses`: those of want of memory, and of a link that is missing.
 
-use crate::inputs::{cards_of, cut_number, number};
 use crate::outputs::Answer;
-use crate::table_keys::fixed_keys;
 use asm_main::{AsmFault, Tally, asm_run, asm_status};
 use cards::Card;
 use deck_files::{LoadFault, load, save};
 use std::alloc::{AllocError, Global};
 use std::io::{BufRead, BufReader, Read, Write};
+use test_parts::{cards_of, cut_number, fixed_keys, number};
 use text_ports::{Broken, Counted, FaultyReader, FaultyWriter};
 
 /// Makes a step of this word, if it is one of files, and answers whether it is.

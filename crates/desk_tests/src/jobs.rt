@@ -8,9 +8,7 @@
 //! the last 32 bytes of its image; `meter`: how many statements were sized and coded; `lost`: a job whose
 //! edit does not apply.
 
-use crate::inputs::{card_of, cards_of, cut, cut_number, name_of, number};
 use crate::outputs::Answer;
-use crate::table_keys::fixed_keys;
 use cards::{Card, DeckName, Edit};
 use deck_linker::{ListedPublication, publish};
 use deck_listing::ListedObject;
@@ -22,6 +20,7 @@ use desk_core::{
 use edit_core::{Kept, assemble};
 use std::alloc::{AllocError, Global};
 use std::hash::RandomState;
+use test_parts::{card_of, cards_of, cut, cut_number, fixed_keys, name_of, number};
 use text_ports::Counted;
 use work_meter::Meter;
 

@@ -3,10 +3,8 @@
 //! comes of it. It is proved beside the journal and the service, and not behind them.
 #![tactic(auto)]
 
-// What steps are read from, and what they write.
-mod inputs;
+// What steps write.
 mod outputs;
-mod table_keys;
 
 // Steps, lowest first.
 mod breaking;
@@ -20,14 +18,10 @@ mod refusing;
 mod shelves;
 mod workers;
 
-// What turns take, where a desk is full.
-mod turns;
-
 // Scenarios, in which any request for memory, read or write may fail.
 mod sweeps;
 
 use deck_files::KnownFiles;
-pub use inputs::{card_of, cards_of, cut, cut_line, cut_number, name_of, number, plain_text};
 pub use jobs::{ask, push_told};
 pub use outputs::Answer;
 pub use place::Place;
@@ -38,8 +32,6 @@ use std::sync::Wait;
 use std::thread::Threads;
 use std::time::Clock;
 pub use sweeps::{Ended, run_chosen};
-pub use table_keys::fixed_keys;
-pub use turns::measure_turns;
 
 /// Makes a step that stands in no place, and answers whether there is one of this word.
 fn make_alone<R: AllocGlobal + Threads + Wait + Sync + Files<File = File> + Clock + Clone + Drop>(

@@ -8,11 +8,9 @@
 ghost use Rattle.std.specs.Prelude.{◌≡◌, ◌+◌, ◌-◌, ◌^◌, ◌≤◌, min, IfOk};
 ghost use Rattle.turn_office.specs.Seats.{AreOf};
 
-use crate::inputs::{cards_of, cut_number, name_of};
 use crate::jobs::{push_reply, push_told};
 use crate::outputs::Answer;
 use crate::place::serve_ports;
-use crate::table_keys::fixed_keys;
 use deck_files::MemoryShelf;
 use desk_core::{Call, Desk, NewDeck};
 use session_line::SeatCalls;
@@ -21,6 +19,7 @@ use std::mem::size_of;
 use std::sync::Wait;
 use std::thread;
 use std::thread::Threads;
+use test_parts::{cards_of, cut_number, fixed_keys, name_of};
 use text_ports::{FaultyReader, FaultyWriter};
 use turn_office::{CloseFault, Office, Seat, SeatList, Sequential};
 

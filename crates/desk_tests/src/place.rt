@@ -10,16 +10,15 @@
 ghost use Rattle.std.specs.Prelude.{◌≤◌};
 
 use crate::breaking::BreakingShelf;
-use crate::inputs::{cut_number, name_of};
 use crate::jobs::Jobs;
 use crate::outputs::Answer;
-use crate::table_keys::fixed_keys;
 use deck_files::{MemoryShelf, Shelf};
 use desk_core::Desk;
 use session_line::{Calls, Outcome, Rights, serve_one};
 use std::alloc::{AllocError, Global};
 use std::hash::RandomState;
 use std::io::{Read, Write};
+use test_parts::{cut_number, fixed_keys, name_of};
 use text_ports::{Counted, FaultyReader, FaultyWriter};
 
 /// How many commands a session has at most.

@@ -6,10 +6,8 @@
 ghost use Rattle.std.specs.Prelude.{◌≡◌, IfOk};
 ghost use Rattle.std.specs.Thread.{IsSync};
 
-use crate::inputs::{cards_of, name_of};
 use crate::jobs::push_reply;
 use crate::outputs::Answer;
-use crate::table_keys::fixed_keys;
 use crossbeam_channel::Receiver;
 use deck_workers::{Bell, Gate, NoSubscriber, OpenGate, worker};
 use desk_core::{Call, Desk, NewDeck, Reply};
@@ -20,6 +18,7 @@ use std::sync::atomic::{AtomicU64, Ordering};
 use std::thread;
 use std::thread::Threads;
 use std::time::Clock;
+use test_parts::{cards_of, fixed_keys, name_of};
 use turn_office::{Office, Seat};
 
 /// Makes a step of this word, if it is one of workers, and answers whether it is.

@@ -1,8 +1,8 @@
 //! Lists of literals.
 
-use crate::inputs::{cut, decimal, octal};
 use crate::outputs::Answer;
 use std::alloc::AllocError;
+use test_parts::{cut, number, octal};
 use use_blocks::{Literals, blocks_are_bounded, blocks_are_few};
 
 /// Whether this is one of the topics here; what is found of the text is then in the answer.
@@ -20,11 +20,11 @@ pub fn answer(answer: &mut Answer, topic: &str, text: &str) -> Result<bool, Allo
 fn many_literals(answer: &mut Answer, text: &str) -> Result<(), AllocError> {
     let (last, word) = cut(text);
     let mut literals = Literals::new(answer.alloc, answer.keys);
-    for word in 1..=decimal(last) {
+    for word in 1..=number(last) {
         literals.add(word)?;
     }
     answer.decimal(literals.len() as u64);
-    answer.decimal(literals.offset(decimal(word)) as u64);
+    answer.decimal(literals.offset(number(word)) as u64);
     Ok(())
 }
 

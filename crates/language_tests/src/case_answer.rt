@@ -1,11 +1,11 @@
 //! What a run answers to a deck.
 
-use crate::fixed_keys::fixed_keys;
 use asm_main::{AsmFault, Tally, asm_run, asm_status};
 use std::alloc::Global;
 use std::hash::RandomState;
 use std::io;
 use std::io::{BufRead, Write};
+use test_parts::fixed_keys;
 use text_ports::Counted;
 
 /// What a run gives: its output, its text on standard error, and its status.

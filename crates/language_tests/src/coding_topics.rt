@@ -1,12 +1,12 @@
 //! Items and values as the manual's words, and the bits of instructions.
 
-use crate::inputs::{cut, signed, small};
 use crate::outputs::Answer;
 use definitions::{DeckKind, Letter, NumberBase};
 use expr_forms::{
     CountedItem, Expr, Field, Shape, characters_number, coded_in, counted_item_in,
     counted_item_word, item_literal, item_number, number_literal,
 };
+use test_parts::{cut, signed, small};
 
 /// Whether this is one of the topics here; what is found of the text is then in the answer.
 pub fn answer(answer: &mut Answer, topic: &str, text: &str) -> bool {

@@ -2,8 +2,6 @@
 
 use crate::edit_topics::edits_of;
 use crate::expression_topics::form;
-use crate::fixed_keys::fixed_keys;
-use crate::inputs::{cut, size};
 use crate::item_topics::item;
 use crate::outputs::Answer;
 use crate::statement_topics::{bases_shown, meter};
@@ -12,6 +10,7 @@ use deck_assembler::{Piece, SizedDeck, object_parts};
 use deck_objects::{CodedLine, Line, LineFields, ObjectParts};
 use edit_core::{Kept, RecordFault};
 use std::alloc::{AllocError, Global};
+use test_parts::{cut, fixed_keys, size};
 use work_meter::Meter;
 
 /// Whether this is one of the topics here; what is found of the text is then in the answer.

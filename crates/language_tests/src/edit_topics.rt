@@ -1,9 +1,9 @@
 //! Edits of a deck's cards, and their faults.
 
-use crate::inputs::{decimal, size};
 use crate::outputs::Answer;
 use cards::{Card, Edit, apply, fault_of, first_fault};
 use std::alloc::{AllocError, Global};
+use test_parts::{cut, number, size};
 
 /// Whether this is one of the topics here; what is found of the text is then in the answer.
 pub fn answer(answer: &mut Answer, topic: &str, text: &str) -> Result<bool, AllocError> {
@@ -19,9 +19,9 @@ pub fn answer(answer: &mut Answer, topic: &str, text: &str) -> Result<bool, Allo
 /// The edit of a word, if it is one: `I20`, this card comes in at place 20, `R20`, the card at place 20 goes.
 fn edit_of(word: &str, line: &[u8]) -> Option<Edit> {
     if let Some(at) = word.strip_prefix("R") {
-        return Some(Edit::Remove { at: decimal(at) });
+        return Some(Edit::Remove { at: number(at) });
     }
-    let at = decimal(word.strip_prefix("I")?);
+    let at = number(word.strip_prefix("I")?);
     let card = Card::read(line).ok()?;
     Some(Edit::Insert { at, card })
 }
@@ -39,7 +39,7 @@ pub fn edits_of(alloc: Global, text: &str, line: &[u8]) -> Result<Vec<Edit>, All
 
 /// How many cards a deck has, and the edits of it.
 fn deck_and_edits(alloc: Global, text: &str) -> Result<(usize, Vec<Edit>), AllocError> {
-    let (count, words) = crate::inputs::cut(text);
+    let (count, words) = cut(text);
     Ok((size(count), edits_of(alloc, words, b" NO")?))
 }
 

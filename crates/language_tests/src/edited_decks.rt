@@ -2,8 +2,6 @@
 //! same cards.
 
 use crate::deck_topics::{record_of, repeated_cards};
-use crate::fixed_keys::fixed_keys;
-use crate::inputs::{cut, decimal};
 use crate::outputs::Answer;
 use crate::statement_topics::{Counts, put_counts};
 use cards::{Card, Edit, edited_copy};
@@ -11,6 +9,7 @@ use deck_linker::{Publication, link};
 use deck_objects::SharedObject;
 use edit_core::{Kept, RecordFault, assemble};
 use std::alloc::{AllocError, Global};
+use test_parts::{cut, fixed_keys, number};
 use work_meter::Meter;
 
 /// Whether this is a topic here; what is found of the text is then in the answer.
@@ -76,7 +75,7 @@ fn edits_of_line(alloc: Global, kept: &mut Kept, line: &str) -> Result<Option<Co
         return Ok(None);
     };
     let mut most = Counts { sized: 0, coded: 0 };
-    for _ in 0..decimal(times) {
+    for _ in 0..number(times) {
         let mut done = work_meter::begin();
         if !is_edited(alloc, kept, &edit, &mut done)? {
             return Ok(None);
@@ -93,7 +92,7 @@ fn edits_of_line(alloc: Global, kept: &mut Kept, line: &str) -> Result<Option<Co
 fn edit_of(line: &str) -> Option<Edit> {
     let (word, rest) = cut(line);
     let (place, text) = cut(rest);
-    let at = decimal(place);
+    let at = number(place);
     if word == "DEL" {
         return Some(Edit::Remove { at });
     }

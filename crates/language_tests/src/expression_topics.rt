@@ -1,12 +1,12 @@
 //! Expressions: their elements, sums, literals and values.
 
-use crate::known_names::KnownNames;
 use crate::outputs::Answer;
 use definitions::{ItemText, NumberBase};
 use expr_forms::{
     Element, Expr, Form, Link, Literal, Number, Operator, Part, RegisterKind, Relocation,
     SumRegisters, one_value, value,
 };
+use test_parts::KnownNames;
 
 /// How many links, symbols or literals are looked at, at most.
 const MOST: usize = 12;

@@ -1,13 +1,13 @@
 //! Variable fields that are no instruction's: how a person reads them.
 
 use crate::expression_topics::{item, number};
-use crate::inputs::cut;
 use crate::outputs::Answer;
 use definitions::{DeckKind, Letter, NumberBase};
 use expr_forms::{
     BitFields, ConWords, DataWords, Datum, DisText, Expr, LinkedNames, Operand, Subfields,
     UseField, dis_text, is_symbol, number_base, operand, use_field,
 };
+use test_parts::cut;
 
 /// How many subfields are looked at, at most.
 const MOST: usize = 8;

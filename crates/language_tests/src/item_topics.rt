@@ -2,9 +2,6 @@
 
 use crate::coding_topics::{expression, shape_of};
 use crate::expression_topics::form;
-use crate::inputs::{cut, small};
-use crate::known_bases::OneBlock;
-use crate::known_names::KnownNames;
 use crate::outputs::Answer;
 use definitions::DeckKind;
 use expr_forms::{Form, Magnitude, Name, Number, Part, Relocation, Sign};
@@ -12,6 +9,7 @@ use statement_coder::{
     Content, InstructionItems, Item, bit_field_item, count_item, displacement_item,
     expression_item, instruction_items, number_item, shift_item, value_item, zeros_to_word,
 };
+use test_parts::{KnownNames, OneBlock, cut, small};
 
 /// Whether this is one of the topics here; what is found of the text is then in the answer.
 pub fn answer(answer: &mut Answer, topic: &str, text: &str) -> bool {

@@ -1,7 +1,6 @@
 //! Decks that are linked: the listing, the map and the image.
 
 use crate::deck_topics::repeated_cards;
-use crate::fixed_keys::fixed_keys;
 use crate::outputs::Answer;
 use cards::DeckName;
 use deck_linker::{Layout, Publication, link};
@@ -9,6 +8,7 @@ use deck_objects::SharedObject;
 use edit_core::assemble;
 use expr_forms::Name;
 use std::alloc::{AllocError, Global};
+use test_parts::fixed_keys;
 
 /// Whether this is one of the topics here; what is found of the text is then in the answer.
 pub fn answer(answer: &mut Answer, topic: &str, text: &str) -> Result<bool, AllocError> {

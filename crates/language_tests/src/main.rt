@@ -1,18 +1,13 @@
 //! Goes through tables of the language, where each row is a text and what a layer makes of it, worked
 //! by hand; and through cases, where each is an input and the whole answer of `asm_run`. A line tells
-//! each row or case that differs, and a line at the end of each kind how many are as wanted. Behind them
-//! stands a small run of what `benches` measures. The status is 1 where a row or a case differs, and 2
-//! where a table or the list of the cases can't be read, or something can't be measured.
-//!
-//! With words it goes through no table and no case, and measures alone what they name: `turns`, a layer
-//! (`parse`, `value`, `find`, `words`, `names`, `cards`, `sizes` or `codes`), or `records FILE`.
+//! each row or case that differs, and a line at the end of each kind how many are as wanted. The status is 1
+//! where a row or a case differs, and 2 where a table or the list of the cases can't be read.
 //!
 //! A table is a file of `data/` with the name of its topic. The lines of a row's text stand in front
 //! of an arrow, and what is wanted behind it; a line that begins with `# ` says something of the rows
 //! below.
 #![tactic(auto)]
 
-mod benches;
 mod block_topics;
 mod card_topics;
 mod case_answer;
@@ -25,11 +20,7 @@ mod edit_topics;
 mod edited_decks;
 mod expression_topics;
 mod field_topics;
-mod fixed_keys;
-mod inputs;
 mod item_topics;
-mod known_bases;
-mod known_names;
 mod link_topics;
 mod operation_topics;
 mod outputs;
@@ -39,17 +30,14 @@ mod statement_topics;
 mod tables;
 
 use cases::run_cases;
-use fixed_keys::fixed_keys;
 use outputs::Answer;
 use score::Score;
 use std::alloc::{AllocError, AllocGlobal, Global};
+use std::io;
 use std::process::ExitCode;
-use std::rt::{Env, Files};
-use std::sync::Wait;
-use std::thread::Threads;
-use std::time::{Clock, CpuClock};
-use std::{env, io};
+use std::rt::Files;
 use tables::{Row, rows_of};
+use test_parts::fixed_keys;
 
 /// The topics, lowest first.
 const TOPICS: [&str; 83] = [
@@ -138,7 +126,7 @@ const TOPICS: [&str; 83] = [
     "layouts",
 ];
 
-/// The status where a table or the list of the cases can't be read, or something can't be measured.
+/// The status where a table or the list of the cases can't be read.
 const NOTHING_STATUS: u8 = 2;
 
 /// Answers what ports, cards, edits and operations make of a text, where the topic is one of theirs.
@@ -218,46 +206,15 @@ fn run_rows<R: AllocGlobal + Files + Print>(rt: &R) -> io::Result<Score> {
     Ok(score)
 }
 
-/// Goes through all tables and all cases, and then a small run of what is measured: 0 where all are as
-/// wanted, else 1.
-fn run_all<R>(rt: &R) -> io::Result<u8>
-where
-    R: AllocGlobal + Files + Threads + Wait + Sync + Clock + Print,
-{
+/// Goes through all tables and all cases: 0 where all are as wanted, else 1.
+fn run_all<R: AllocGlobal + Files + Print>(rt: &R) -> io::Result<u8> {
     let of_rows = run_rows(rt)?.status();
     let of_cases = run_cases(rt)?.status();
-    benches::try_out(rt)?;
     Ok(of_rows.max(of_cases))
 }
 
-/// Measures what the arguments name, or goes through all where there are none: the status.
-fn run<R>(rt: &R) -> io::Result<u8>
-where
-    R: AllocGlobal
-        + Env
-        + Files
-        + Threads
-        + Wait
-        + Sync
-        + Send
-        + Drop
-        + Clone
-        + Clock
-        + CpuClock
-        + Print,
-{
-    let words: Vec<String> = env::args(rt)?.collect(rt.alloc())?;
-    match words.get(1) {
-        Some(word) => {
-            benches::measure(rt, word.as_str(), words.get(2))?;
-            Ok(0)
-        }
-        None => run_all(rt),
-    }
-}
-
 fn main(rt: HostRuntime) -> ExitCode {
-    match run(&rt) {
+    match run_all(&rt) {
         Ok(status) => ExitCode::from(status),
         Err(error) => {
             let _ = eprintln!(&rt; "language_tests: {error}");

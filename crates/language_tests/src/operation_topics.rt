@@ -1,6 +1,5 @@
 //! Operations, their classes and settings, letters, and the tables of both instruction sets.
 
-use crate::inputs::{bytes_of, cut};
 use crate::outputs::Answer;
 use definitions::{Letter, NumberBase};
 use expr_forms::{Field, Operand, Shape, operand};
@@ -9,6 +8,7 @@ use operations::central::{
 };
 use operations::{KindSearch, Letters, Operation, is_end, number_base_set, pseudo_instruction};
 use std::alloc::AllocError;
+use test_parts::{bytes_of, cut};
 
 /// Whether this is one of the topics here; what is found of the text is then in the answer.
 pub fn answer(answer: &mut Answer, topic: &str, text: &str) -> Result<bool, AllocError> {

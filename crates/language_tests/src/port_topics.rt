@@ -1,9 +1,9 @@
 //! Characters, digits, lines and writes: what the ports make of bytes.
 
-use crate::inputs::{bytes_of, cut, octal, size, small};
 use crate::outputs::Answer;
 use definitions::{char_of, display_of, has_display_code};
 use std::alloc::AllocError;
+use test_parts::{bytes_of, cut, octal, size, small};
 use text_ports::{
     Broken, Counted, FaultyReader, FaultyWriter, LineBuf, LineIs, ShortText, Text, next_line,
     put_all,
@@ -116,7 +116,7 @@ fn append(text: &mut Text, word: &str) -> Result<(), AllocError> {
         return text.push_bytes(bytes.as_bytes());
     }
     if let Some(number) = word.strip_prefix("d") {
-        return text.push_decimal(crate::inputs::decimal(number));
+        return text.push_decimal(test_parts::number(number));
     }
     let (digits, number) = word.split_once(":").unwrap_or(("", ""));
     if let Some(digits) = digits.strip_prefix("o") {
@@ -124,7 +124,7 @@ fn append(text: &mut Text, word: &str) -> Result<(), AllocError> {
     } else {
         text.push_padded(
             small(digits.trim_start_matches("p")).min(20),
-            crate::inputs::decimal(number),
+            test_parts::number(number),
         )
     }
 }
@@ -147,6 +147,6 @@ fn short_text(answer: &mut Answer, text: &str) {
     line.put_byte(b'\n');
     line.put_octal(20, octal(word));
     line.put_byte(b' ');
-    line.put_padded(5, crate::inputs::decimal(number));
+    line.put_padded(5, test_parts::number(number));
     answer.quoted(line.as_slice());
 }

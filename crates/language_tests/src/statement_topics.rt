@@ -4,10 +4,7 @@ ghost use Rattle.definitions.specs.States.{names_of_blocks};
 ghost use Rattle.use_blocks.specs.Joins.BlockLengths.{block_names};
 
 use crate::expression_topics::form;
-use crate::inputs::{cut, octal, small};
 use crate::item_topics::{fields_of_instruction, item};
-use crate::known_bases::NoBases;
-use crate::known_names::KnownNames;
 use crate::outputs::Answer;
 use cards::{Card, StatementRoom};
 use definitions::DeckKind;
@@ -15,6 +12,7 @@ use expr_forms::{Form, Name};
 use statement_coder::{Coded, CodedItems, Defines, KeptSizing, Sizing, Statement, code, size};
 use std::alloc::{AllocError, Global};
 use std::hash::RandomState;
+use test_parts::{KnownNames, NoBases, cut, octal, small};
 use use_blocks::{
     Bases, BlockState, Counting, Effect, Lengths, Literals, LocationSetting, location, origin,
 };

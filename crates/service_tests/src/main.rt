@@ -2,8 +2,7 @@
 //! with each reply, and threads, sockets and files as they run. A line tells how many steps a transcript
 //! has and that what comes of them is what stands there, or where the first line stands that differs;
 //! the status is 1 where one differs, and 2 where one can't be read. Then, or alone where the one argument
-//! names one, it goes through the scenarios of `desk_tests`, whose status it then has. Where the argument is
-//! `turns` it measures those of a full desk and does nothing else.
+//! names one, it goes through the scenarios of `desk_tests`, whose status it then has.
 //!
 //! A transcript is a file of `data/`. A line that begins with `> ` is a step, and the lines below it are
 //! what comes of it. A line that begins with `# ` says something of the steps below, which have a new desk
@@ -18,7 +17,7 @@ mod replies;
 mod sockets;
 
 use deck_files::KnownFiles;
-use desk_tests::{Answer, Place, cut, fixed_keys, measure_turns, plain_text, run_chosen};
+use desk_tests::{Answer, Place, run_chosen};
 use std::alloc::AllocGlobal;
 use std::fs::File;
 use std::net::{Net, TcpListener, TcpStream};
@@ -27,8 +26,9 @@ use std::random::RandomSource;
 use std::rt::{Env, Files};
 use std::sync::Wait;
 use std::thread::Threads;
-use std::time::{Clock, CpuClock};
+use std::time::Clock;
 use std::{env, fs, io};
+use test_parts::{cut, fixed_keys, plain_text};
 
 /// The transcripts, lowest first.
 const TRANSCRIPTS: [&str; 12] = [
@@ -218,19 +218,7 @@ where
     })
 }
 
-/// Measures turns where that is the word, or else goes through the scenarios that it names: the status.
-fn run_named<R>(rt: &R, word: &str) -> io::Result<u8>
-where
-    R: AllocGlobal + Wait + Files<File = File> + Drop + Clone + CpuClock + Print + Eprint,
-{
-    if word == "turns" {
-        measure_turns(rt)?;
-        return Ok(0);
-    }
-    Ok(run_chosen(rt, word)?.status())
-}
-
-/// Goes through what the arguments name: the status.
+/// Goes through the scenarios that the argument names, or all where there is none: the status.
 fn run<R>(rt: &R) -> io::Result<u8>
 where
     R: AllocGlobal
@@ -242,7 +230,6 @@ where
         + Drop
         + Clone
         + Clock
-        + CpuClock
         + Print
         + Eprint
         + RandomSource
@@ -252,7 +239,7 @@ where
 {
     let words: Vec<String> = env::args(rt)?.collect(rt.alloc())?;
     match words.get(1) {
-        Some(word) => run_named(rt, word.as_str()),
+        Some(word) => Ok(run_chosen(rt, word.as_str())?.status()),
         None => run_all(rt),
     }
 }

@@ -1,10 +1,8 @@
 //! A scenario of a folder: decks that are saved there and loaded, by reads and writes of the system.
 
-use crate::inputs::{cards_of, name_of};
 use crate::sweeps::decks::{DECKS, DeckText, are_same};
 use crate::sweeps::notes::Called;
 use crate::sweeps::scene::Scene;
-use crate::table_keys::fixed_keys;
 use cards::{Card, DeckName, MOST_CARDS};
 use deck_files::{
     FileRow, FolderShelf, KnownFiles, SaveOver, Shelf, ShelfLoadFault, ShelfSaveFault,
@@ -13,6 +11,7 @@ use std::alloc::{AllocError, AllocGlobal, Global};
 use std::fs::File;
 use std::rt::Files;
 use std::sync::Wait;
+use test_parts::{cards_of, fixed_keys, name_of};
 
 /// A deck with its cards, and the version that is saved.
 #[derive(Drop)]

@@ -1,19 +1,18 @@
 //! Scenarios of decks whose texts are long, so that a run makes and sends them part by part: what goes
 //! out is held against the texts that are made whole.
 
-use crate::inputs::{cards_of, name_of};
 use crate::sweeps::decks::DeckText;
 use crate::sweeps::notes::Called;
 use crate::sweeps::pieces::{Came, Failing, Piece, Tries, fail_each, held};
 use crate::sweeps::ports::{AsmRun, try_whole, went_out};
 use crate::sweeps::scene::Scene;
-use crate::table_keys::fixed_keys;
 use asm_main::{AsmFault, Built, Chosen, asm_build, write_chosen};
 use deck_linker::{Publication, link};
 use deck_objects::SharedObject;
 use edit_core::assemble;
 use std::alloc::{AllocError, Global};
 use std::io::BufRead;
+use test_parts::{cards_of, fixed_keys, name_of};
 use text_ports::Counted;
 
 /// How the decks begin: they enter names for each other, one that no deck enters is missing, and both

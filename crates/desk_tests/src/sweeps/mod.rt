@@ -27,12 +27,12 @@ mod sessions;
 
 use crate::sweeps::notes::Journal;
 use crate::sweeps::scene::Scene;
-use crate::table_keys::fixed_keys;
 use std::alloc::{AllocError, AllocGlobal};
 use std::fs::File;
 use std::io;
 use std::rt::Files;
 use std::sync::Wait;
+use test_parts::fixed_keys;
 
 /// What is gone through.
 #[derive(Clone, Copy)]

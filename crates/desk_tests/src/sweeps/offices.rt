@@ -2,7 +2,6 @@
 ghost use Rattle.std.specs.Prelude.{◌≡◌, IfOk};
 ghost use Rattle.turn_office.specs.Seats.{new_seats};
 
-use crate::inputs::{cards_of, name_of};
 use crate::sweeps::decks::{DECKS, DeckText};
 use crate::sweeps::jobs::{Told, told_in};
 use crate::sweeps::notes::Called;
@@ -11,6 +10,7 @@ use desk_core::{Call, Desk, NewDeck, Refusal};
 use std::alloc::{AllocError, Global};
 use std::mem;
 use std::sync::Wait;
+use test_parts::{cards_of, name_of};
 use turn_office::{Office, Seat, SeatList};
 
 /// In how many turns the desk is settled at most.

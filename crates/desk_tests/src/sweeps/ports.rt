@@ -2,7 +2,6 @@
 //! saved fails in turn.
 
 use crate::files::assembled;
-use crate::inputs::cards_of;
 use crate::sweeps::decks::{DECKS, asm_answer};
 use crate::sweeps::notes::Called;
 use crate::sweeps::pieces::{Came, Failing, Tries, WHOLE, fail_all, held, try_twice};
@@ -12,6 +11,7 @@ use cards::{Card, MOST_CARDS};
 use deck_files::{LoadFault, load, save};
 use std::alloc::{AllocError, Global};
 use std::io::BufReader;
+use test_parts::cards_of;
 use text_ports::Counted;
 
 /// A deck with few bytes of output.

@@ -1,11 +1,9 @@
 //! Scenarios of records and of texts: a record that is edited is spent for want of memory, and its
 //! cards are as they were; texts and links are made of them.
 
-use crate::inputs::{cards_of, name_of};
 use crate::sweeps::decks::{DECKS, DeckText, are_same, asm_answer, is_answer, push_lines};
 use crate::sweeps::notes::Called;
 use crate::sweeps::scene::Scene;
-use crate::table_keys::fixed_keys;
 use cards::{Card, DeckName, Edit, MOST_CARDS, copied_cards};
 use deck_linker::{Publication, link};
 use deck_listing::{image, listing};
@@ -14,6 +12,7 @@ use edit_core::{FinishFault, Kept, RecordFault};
 use session_commands::read_batch_line;
 use std::alloc::{AllocError, Global};
 use std::hash::RandomState;
+use test_parts::{cards_of, fixed_keys, name_of};
 
 /// Edits of a deck, and the fault of each where there is memory.
 const EDITS: [(&str, Option<RecordFault>); 5] = [

@@ -2,7 +2,6 @@
 ghost use Rattle.std.specs.Prelude.{◌≡◌, true};
 ghost use Rattle.session_line.specs.Replies.{IsWithinLimits};
 
-use crate::inputs::{cards_of, name_of};
 use crate::sweeps::decks::DECKS;
 use crate::sweeps::notes::Called;
 use crate::sweeps::scene::Scene;
@@ -12,6 +11,7 @@ use desk_core::{Row, State};
 use session_commands::Refusal;
 use session_line::{Connected, Reply, Rights, reply_text, write_reply};
 use std::alloc::{AllocError, Global};
+use test_parts::{cards_of, name_of};
 use text_ports::Counted;
 
 /// How many bytes a reply has at most.

@@ -1,7 +1,6 @@
 //! What a scenario goes through: a desk and a shelf, the commands that a session says there, and the
 //! desk settled as `asm_run` has it.
 
-use crate::inputs::name_of;
 use crate::place::serve;
 use crate::sweeps::decks::{DECKS, asm_answer};
 use crate::sweeps::notes::{Called, Journal};
@@ -11,6 +10,7 @@ use desk_core::Desk;
 use session_line::Calls;
 use std::alloc::{AllocError, Global};
 use std::hash::RandomState;
+use test_parts::name_of;
 use text_ports::Counted;
 
 /// How many bytes most replies have at most.

@@ -5,9 +5,9 @@ use crate::place::serve;
 use crate::sweeps::notes::Called;
 use crate::sweeps::pieces::{Came, Failing, Tries, fail_all, held};
 use crate::sweeps::scene::{Command, Scene};
-use crate::table_keys::fixed_keys;
 use session_line::Outcome;
 use std::alloc::{AllocError, Global};
+use test_parts::fixed_keys;
 use text_ports::{Counted, FaultyReader, FaultyWriter};
 
 /// The file that the session loads.

@@ -1,9 +1,9 @@
 //! A deck of 20,000 names, each defined once.
-use crate::fixed_keys::fixed_keys;
 use deck_assembler::SymbolTable;
 use expr_forms::Form;
 use std::alloc::{AllocError, Global};
 use std::io;
+use test_parts::fixed_keys;
 
 /// How many names the deck has.
 const NAMES: u64 = 20_000;

@@ -1,8 +1,5 @@
 //! Cards as decks often have them, read as statements, sized one behind the other, and coded.
 
-use crate::fixed_keys::fixed_keys;
-use crate::known_bases::NoBases;
-use crate::known_names::KnownNames;
 use cards::{Card, StatementRoom};
 use definitions::{DeckKind, is_same_text};
 use expr_forms::Form;
@@ -10,6 +7,7 @@ use statement_coder::{CodedItems, EarlySymbols, Item, KeptSizing, Statement, cod
 use std::alloc::Global;
 use std::hash::RandomState;
 use std::io;
+use test_parts::{KnownNames, NoBases, fixed_keys};
 use use_blocks::BlockState;
 use work_meter::Meter;
 

@@ -2,9 +2,6 @@
 //! replaced and dropped, and each time assembled, linked and published as workers do it. A line for each kind of
 //! calls tells how many turns there were, and the longest of them in microseconds of processor time.
 
-use crate::inputs::{card_of, name_of};
-use crate::jobs::ask;
-use crate::table_keys::fixed_keys;
 use cards::{Card, DeckName, Edit};
 use deck_workers::{Job, Made, Runs, job_in};
 use desk_core::{Call, Desk, Listed, NewDeck, Reply, SharedPublication};
@@ -12,6 +9,7 @@ use std::alloc::{AllocError, AllocGlobal, Global};
 use std::hash::RandomState;
 use std::io;
 use std::time::{CpuClock, Duration};
+use test_parts::{card_of, fixed_keys, name_of};
 use work_meter::Meter;
 
 /// How many decks there are.
@@ -165,6 +163,11 @@ impl Timed {
         let_go(self.ask(rt, "publish", Call::Publish(lease)));
         Ok(())
     }
+}
+
+/// Asks a desk. What it answers is looked at and no contract of it, and so who asks has no facts of it.
+fn ask(desk: &mut Desk, call: Call) -> Reply {
+    desk.step(call)
 }
 
 /// Lets a reply go that nobody looks at.
@@ -349,7 +352,7 @@ fn ask_often<R: CpuClock>(
 }
 
 /// Measures, and prints the table.
-pub fn measure_turns<R: AllocGlobal + CpuClock + Print>(rt: &R) -> io::Result<()> {
+pub fn measure<R: AllocGlobal + CpuClock + Print>(rt: &R) -> io::Result<()> {
     let mut timed = Timed::new(rt.alloc())?;
     let mut seen = add_all(rt, &mut timed)?;
     for round in &ROUNDS {

@@ -1,8 +1,8 @@
 //! Expressions as decks often have them, read and valued.
 
-use crate::known_names::KnownNames;
 use definitions::NumberBase;
 use expr_forms::{Expr, Form, value};
+use test_parts::KnownNames;
 
 /// One deck has them 2,500 times: 20,000 operands.
 const OPERANDS: [&[u8]; 8] = [

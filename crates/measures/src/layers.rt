@@ -2,11 +2,11 @@
 //! put into a block, names defined and found, and cards read, sized and coded. What is printed are
 //! checksums, so that no work is left out.
 
-use crate::benches::expressions::{parse_all, value_all};
-use crate::benches::instructions::find_all;
-use crate::benches::names::define_and_find;
-use crate::benches::packing::pack;
-use crate::benches::statements::{code_all, read_all, size_all};
+use crate::expressions::{parse_all, value_all};
+use crate::instructions::find_all;
+use crate::names::define_and_find;
+use crate::packing::pack;
+use crate::statements::{code_all, read_all, size_all};
 use std::alloc::{AllocGlobal, Global};
 use std::io;
 

@@ -1,5 +1,5 @@
 use Rattle.std.proofs.Common.{◌≡◌}
-use Rattle.language_tests.proofs.benches.counting.count_from.Given as goal
+use Rattle.measures.proofs.counting.count_from.Given as goal
 
 -- the seat stays one of its office
 abbrev pub invariant-loop : goal.invariant-loop

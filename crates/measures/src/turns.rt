@@ -3,8 +3,8 @@
 //! least half a second. Measured, it is a table; a small run prints the same whatever the schedule.
 ghost use Rattle.std.specs.Prelude.{◌≤◌};
 
-use crate::benches::counting::{Counted, count_by_lock, count_by_turns};
-use crate::benches::holding::wait_behind;
+use crate::counting::{Counted, count_by_lock, count_by_turns};
+use crate::holding::wait_behind;
 use std::alloc::{AllocGlobal, Global};
 use std::sync::Wait;
 use std::thread::Threads;
