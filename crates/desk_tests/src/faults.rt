@@ -2,6 +2,7 @@
 //!
 //! `serve_all`: the session without a fault; `fail_reads`, `fail_writes`: with how many it ended as wanted.
 
+use crate::failing::Failing;
 use crate::outputs::Answer;
 use crate::place::{push_outcome, serve};
 use deck_files::MemoryShelf;
@@ -9,7 +10,7 @@ use desk_core::Desk;
 use session_line::Outcome;
 use std::alloc::{AllocError, Global};
 use test_parts::{fixed_keys, name_of};
-use text_ports::{Counted, FaultyReader, FaultyWriter};
+use text_ports::{Counted, FaultyWriter};
 
 /// Makes a step of this word, if it is one of this session, and answers whether it is.
 pub fn make(alloc: Global, word: &str, answer: &mut Answer) -> bool {
@@ -75,8 +76,10 @@ struct Left {
 fn serve_failing(alloc: Global, lines: &str, read: u64, write: u64) -> Result<Left, AllocError> {
     let mut shelf = shelf_with_n(alloc)?;
     let mut desk = Desk::new(alloc, fixed_keys()?);
-    let mut input = Counted::new(FaultyReader::new(lines.as_bytes(), 1, read));
-    let mut output = Counted::new(FaultyWriter::new(alloc, 1, write));
+    let piece = 1;
+    let failing = Failing { piece, read, write };
+    let mut input = Counted::new(failing.reader(lines.as_bytes()));
+    let mut output = failing.writer(alloc);
     let mut outcome = Outcome::Served;
     for _ in &ROWS {
         if outcome == Outcome::Served {

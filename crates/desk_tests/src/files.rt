@@ -5,13 +5,15 @@
 //! ports that give and take so many bytes at a time, and fail at the calls of these numbers; `run_line LINE`:
 //! whether a run writes this line; `statuses`: those of want of memory, and of a link that is missing.
 
+use crate::assembling::assembled;
+use crate::failing::Failing;
 use crate::outputs::Answer;
-use asm_main::{AsmFault, Tally, asm_run, asm_status};
+use asm_main::{AsmFault, Tally, asm_status};
 use cards::Card;
 use deck_files::{LoadFault, load, save};
 use std::alloc::{AllocError, Global};
-use std::io::{BufRead, BufReader, Read, Write};
-use test_parts::{cards_of, cut_number, fixed_keys, number};
+use std::io::{BufReader, Read, Write};
+use test_parts::{cards_of, number};
 use text_ports::{Broken, Counted, FaultyReader, FaultyWriter};
 
 /// Makes a step of this word, if it is one of files, and answers whether it is.
@@ -89,15 +91,6 @@ fn push_saved(answer: &mut Answer, file: &[u8], fails_at: u64) {
     answer.line("");
 }
 
-/// Assembles decks, in the same way.
-pub fn assembled<R: BufRead, W: Write>(
-    alloc: Global,
-    input: &mut Counted<R>,
-    output: &mut Counted<W>,
-) -> Result<Tally, AsmFault> {
-    asm_run(alloc, fixed_keys()?, input, output)
-}
-
 /// What a run answered, and its status.
 fn push_outcome(answer: &mut Answer, outcome: &Result<Tally, AsmFault>) {
     answer.push("= ");
@@ -115,13 +108,12 @@ fn push_outcome(answer: &mut Answer, outcome: &Result<Tally, AsmFault>) {
 fn run_ports(
     answer: &mut Answer,
     reader: FaultyReader<'_>,
-    writer: FaultyWriter,
+    mut output: Counted<FaultyWriter>,
 ) -> Result<FaultyWriter, AllocError> {
     let Ok(reader) = BufReader::new(answer.alloc, reader) else {
         return Err(AllocError);
     };
     let mut input = Counted::new(reader);
-    let mut output = Counted::new(writer);
     let outcome = assembled(answer.alloc, &mut input, &mut output);
     push_outcome(answer, &outcome);
     answer.number(", faults ", input.faults());
@@ -133,12 +125,9 @@ fn run_ports(
 /// Assembles the file by ports that give and take so many bytes at a time, and fail at the calls of the numbers
 /// behind.
 fn run(answer: &mut Answer, file: &[u8], text: &str) -> Result<FaultyWriter, AllocError> {
-    let (piece, rest) = cut_number(text);
-    let (read, rest) = cut_number(rest);
-    let piece = (piece as usize).max(1);
-    let reader = FaultyReader::new(file, piece, read);
-    let writer = FaultyWriter::new(answer.alloc, piece, number(rest));
-    run_ports(answer, reader, writer)
+    let (failing, _) = Failing::cut(text);
+    let reader = failing.reader(file);
+    run_ports(answer, reader, failing.writer(answer.alloc))
 }
 
 fn push_run(answer: &mut Answer, file: &[u8], text: &str) {

@@ -8,16 +8,17 @@
 //! the last 32 bytes of its image; `meter`: how many statements were sized and coded; `lost`: a job whose
 //! edit does not apply.
 
+use crate::assembling::{object_of, record_of};
 use crate::outputs::Answer;
-use cards::{Card, DeckName, Edit};
+use cards::{Card, Edit};
 use deck_linker::{ListedPublication, publish};
 use deck_listing::ListedObject;
 use deck_workers::{Job, Made, Runs, job_in, settle};
 use desk_core::{
-    Call, DeckCards, DeckWork, Desk, Done, Held, Listed, PublicationBefore, Reply,
+    Call, DeckCards, DeckWork, Desk, Done, Held, Listed, NewDeck, PublicationBefore, Reply,
     SharedPublication, Start,
 };
-use edit_core::{Kept, assemble};
+use session_line::Calls;
 use std::alloc::{AllocError, Global};
 use std::hash::RandomState;
 use test_parts::{card_of, cards_of, cut, cut_number, fixed_keys, name_of, number};
@@ -49,29 +50,14 @@ impl Jobs {
             "claim" => self.claim(desk, answer),
             "deliver" => self.deliver(desk, answer),
             "settle" => self.settle(desk, number(rest), answer),
-            "image" => show_image(desk, answer),
+            "image" => push_image(answer, &ask(desk, Call::Show)),
             "meter" => push_pair(answer, self.meter.sized(), self.meter.coded()),
             "lost" => push_lost(self.alloc, self.keys, answer),
-            _ => return self.call(desk, word, rest, answer),
-        }
-        answer.line("");
-        true
-    }
-
-    /// Makes a call of this word, if there is one, and answers whether there is.
-    fn call(&self, desk: &mut Desk, word: &str, rest: &str, answer: &mut Answer) -> bool {
-        let call = match word {
-            "giveup" => Ok(Call::GiveUp(number(rest))),
-            "result" => result_of(self.alloc, rest),
-            "link" => link_of(self.alloc, rest),
-            "offer" => offer_of(self.alloc, rest),
-            "publish" => Ok(Call::Publish(number(rest))),
-            "batch" => batch_of(self.alloc, rest),
+            "giveup" | "result" | "link" | "offer" | "publish" | "batch" => {
+                let done = make_call(self.alloc, desk, word, rest, answer);
+                answer.keep(done);
+            }
             _ => return false,
-        };
-        match call {
-            Ok(call) => push_reply(answer, &ask(desk, call)),
-            Err(error) => answer.keep(Err(error)),
         }
         answer.line("");
         true
@@ -89,11 +75,11 @@ impl Jobs {
     /// Runs the job that is out, and hands in what it makes.
     fn deliver(&mut self, desk: &mut Desk, answer: &mut Answer) {
         if let Some(job) = self.out.take() {
-            let made = run(self.alloc, self.keys, job, &mut self.meter);
-            if !made.is_result() {
-                answer.push("lost, ");
-            }
-            push_reply(answer, &ask(desk, made.into_call()));
+            hand_in(
+                desk,
+                run(self.alloc, self.keys, job, &mut self.meter),
+                answer,
+            );
         }
     }
 
@@ -103,9 +89,41 @@ impl Jobs {
     }
 }
 
-/// Asks a desk. What it answers is looked at and no contract of it, and so who asks has no facts of it.
-pub fn ask(desk: &mut Desk, call: Call) -> Reply {
-    desk.step(call)
+/// The call that these words tell.
+fn call_of(alloc: Global, word: &str, rest: &str) -> Result<Call, AllocError> {
+    match word {
+        "giveup" => Ok(Call::GiveUp(number(rest))),
+        "result" => result_of(alloc, rest),
+        "link" => link_of(alloc, rest),
+        "offer" => offer_of(alloc, rest),
+        "publish" => Ok(Call::Publish(number(rest))),
+        _ => batch_of(alloc, rest),
+    }
+}
+
+/// Makes the call that these words tell.
+fn make_call(
+    alloc: Global,
+    desk: &mut Desk,
+    word: &str,
+    rest: &str,
+    answer: &mut Answer,
+) -> Result<(), AllocError> {
+    let call = call_of(alloc, word, rest)?;
+    push_reply(answer, &ask(desk, call));
+    Ok(())
+}
+
+/// The call that adds a deck of these lines.
+pub fn addition(alloc: Global, of: &str, lines: &str) -> Result<Call, AllocError> {
+    let name = name_of(of)?;
+    let cards = cards_of(alloc, lines)?;
+    Ok(Call::AddDeck(NewDeck::new(name, cards)))
+}
+
+/// Asks a desk, or from a seat. What it answers is looked at and no contract of it, and so who asks has no facts of it.
+pub fn ask<C: Calls>(desk: &mut C, call: Call) -> Reply {
+    desk.call(call)
 }
 
 /// Runs a job, in the same way.
@@ -113,17 +131,22 @@ fn run(alloc: Global, keys: RandomState, job: Job, meter: &mut Meter) -> Made {
     job.run(alloc, keys, meter)
 }
 
+/// Hands in what was made of a job.
+fn hand_in(desk: &mut Desk, made: Made, answer: &mut Answer) {
+    push_whether_lost(answer, &made);
+    push_reply(answer, &ask(desk, made.into_call()));
+}
+
+fn push_whether_lost(answer: &mut Answer, made: &Made) {
+    if !made.is_result() {
+        answer.push("lost, ");
+    }
+}
+
 /// Two numbers.
 fn push_pair(answer: &mut Answer, first: u64, second: u64) {
     answer.number("", first);
     answer.number(" ", second);
-}
-
-fn show_image(desk: &mut Desk, answer: &mut Answer) {
-    match ask(desk, Call::Show) {
-        Reply::Shown(shown) => push_image(answer, shown.publication()),
-        other => push_reply(answer, &other),
-    }
 }
 
 /// The image of a publication.
@@ -136,12 +159,20 @@ fn image_of(alloc: Global, publication: &ListedPublication) -> Result<Vec<u8>, A
 }
 
 /// The version of a publication, and the last 32 bytes of its image.
-fn push_image(answer: &mut Answer, publication: &ListedPublication) {
+fn push_publication(answer: &mut Answer, publication: &ListedPublication) {
     answer.number("", publication.version());
     answer.push(" ");
     match image_of(answer.alloc, publication) {
         Ok(image) => answer.bytes(image.split_at(image.len().saturating_sub(32)).1),
         Err(error) => answer.keep(Err(error)),
+    }
+}
+
+/// A reply that shows a publication.
+fn push_image(answer: &mut Answer, reply: &Reply) {
+    match reply {
+        Reply::Shown(shown) => push_publication(answer, shown.publication()),
+        other => push_reply(answer, other),
     }
 }
 
@@ -163,14 +194,28 @@ pub fn push_reply(answer: &mut Answer, reply: &Reply) {
     }
 }
 
+/// The version and the cards in a reply, if it has cards.
+fn cards_in(reply: Reply) -> Option<(u64, Vec<Card>)> {
+    match reply {
+        Reply::CardsAre(version, cards) => Some((version, cards.into_items())),
+        _ => None,
+    }
+}
+
+/// What a reply tells that has no cards.
+fn push_without_cards(answer: &mut Answer, reply: &Reply) {
+    match reply {
+        Reply::CardsAre(..) => {}
+        other => push_reply(answer, other),
+    }
+}
+
 /// A reply to a call for the cards of a deck.
 pub fn push_told(answer: &mut Answer, reply: Reply) {
-    match reply {
-        Reply::CardsAre(version, cards) => {
-            answer.number("cards ", version);
-            push_cards(answer, &cards.into_items());
-        }
-        other => push_reply(answer, &other),
+    push_without_cards(answer, &reply);
+    if let Some((version, cards)) = cards_in(reply) {
+        answer.number("cards ", version);
+        push_cards(answer, &cards);
     }
 }
 
@@ -229,32 +274,17 @@ fn push_edit(answer: &mut Answer, edit: &Edit) {
     }
 }
 
-/// The record of a deck with these cards.
-fn kept(alloc: Global, name: DeckName, lines: &str) -> Result<Kept, AllocError> {
-    let mut meter = work_meter::begin();
-    let cards = cards_of(alloc, lines)?;
-    Kept::new(alloc, fixed_keys()?, name, cards, &mut meter)
-}
-
 /// The record of a deck, whose name and a colon stand in front of its one card; none for `-`.
-fn record_of(alloc: Global, text: &str) -> Result<Option<Held>, AllocError> {
+fn held_of(alloc: Global, text: &str) -> Result<Option<Held>, AllocError> {
     match text.split_once(":") {
-        Some((of, line)) => Ok(Held::new(kept(alloc, name_of(of)?, line)?)),
+        Some((of, line)) => Ok(Held::new(record_of(alloc, of, line)?)),
         None => Ok(None),
     }
 }
 
 /// The object of M with this one card.
-fn object_of(alloc: Global, line: &str) -> Result<ListedObject, AllocError> {
-    let mut meter = work_meter::begin();
-    let object = assemble(
-        alloc,
-        fixed_keys()?,
-        name_of("M")?,
-        cards_of(alloc, line)?,
-        &mut meter,
-    )?;
-    ListedObject::new(alloc, object)
+fn listed_of(alloc: Global, line: &str) -> Result<ListedObject, AllocError> {
+    ListedObject::new(alloc, object_of(alloc, "M", line)?)
 }
 
 fn result_of(alloc: Global, text: &str) -> Result<Call, AllocError> {
@@ -262,12 +292,14 @@ fn result_of(alloc: Global, text: &str) -> Result<Call, AllocError> {
     let (deck, rest) = cut_number(rest);
     let (version, rest) = cut_number(rest);
     let (record, object) = cut(rest);
+    let kept = held_of(alloc, record)?;
+    let object = listed_of(alloc, object)?;
     Ok(Call::DeliverDeck(Done {
         lease,
         deck,
         version,
-        kept: record_of(alloc, record)?,
-        object: object_of(alloc, object)?,
+        kept,
+        object,
     }))
 }
 
@@ -279,9 +311,10 @@ fn publication_of(
 ) -> Result<SharedPublication, AllocError> {
     let mut objects = Vec::new(alloc);
     for line in lines.split_whitespace() {
-        objects.push(object_of(alloc, line)?)?;
+        objects.push(listed_of(alloc, line)?)?;
     }
-    SharedPublication::new(alloc, publish(alloc, fixed_keys()?, objects, version)?)
+    let publication = publish(alloc, fixed_keys()?, objects, version)?;
+    SharedPublication::new(alloc, publication)
 }
 
 fn link_of(alloc: Global, text: &str) -> Result<Call, AllocError> {
@@ -295,25 +328,27 @@ fn link_of(alloc: Global, text: &str) -> Result<Call, AllocError> {
 fn offer_of(alloc: Global, text: &str) -> Result<Call, AllocError> {
     let (lease, rest) = cut_number(text);
     let (place, line) = cut_number(rest);
+    let object = listed_of(alloc, line)?;
     Ok(Call::OfferObject {
         lease,
         place: place as usize,
-        object: object_of(alloc, line)?,
+        object,
     })
 }
 
 /// Edits of M by which its second card goes and comes again, so many in all.
 fn batch_of(alloc: Global, text: &str) -> Result<Call, AllocError> {
     let (seen, count) = cut_number(text);
+    let (name, by) = (name_of("M")?, name_of("0")?);
     let mut edits = Vec::new(alloc);
     for edit in 0..number(count) {
         edits.push(to_or_fro(edit % 2 == 0)?)?;
     }
     Ok(Call::Batch {
-        name: name_of("M")?,
+        name,
         seen,
         edits: Listed::new(edits),
-        by: name_of("0")?,
+        by,
     })
 }
 
@@ -327,14 +362,16 @@ fn to_or_fro(goes: bool) -> Result<Edit, AllocError> {
 
 /// A job of a deck of one card, of which the second is removed.
 fn job_that_does_not_apply(alloc: Global) -> Result<Job, AllocError> {
+    let name = name_of("M")?;
     let mut edits = Vec::new(alloc);
     edits.push(Edit::Remove { at: 2 })?;
+    let start = Start::FromCards(DeckCards::new(alloc, cards_of(alloc, "*A")?)?);
     Ok(Job::Deck(DeckWork {
         lease: 7,
         deck: 1,
         version: 2,
-        name: name_of("M")?,
-        start: Start::FromCards(DeckCards::new(alloc, cards_of(alloc, "*A")?)?),
+        name,
+        start,
         edits: Listed::new(edits),
     }))
 }

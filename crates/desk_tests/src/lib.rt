@@ -3,7 +3,9 @@
 //! comes of it. It is proved beside the journal and the service, and not behind them.
 #![tactic(auto)]
 
-// What steps write.
+// What steps assemble, by which ports, and what they write.
+mod assembling;
+mod failing;
 mod outputs;
 
 // Steps, lowest first.

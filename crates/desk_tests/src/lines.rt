@@ -3,7 +3,7 @@
 //! `line TEXT`: a command, or the first line of one; `batch_line TEXT`: a line of a batch.
 
 use crate::outputs::Answer;
-use cards::{DeckName, Edit};
+use cards::{Card, DeckName, Edit};
 use session_commands::{
     CardsView, Command, ErrorsView, Refusal, Seen, read_batch_line, read_command,
 };
@@ -44,6 +44,12 @@ fn push_named(answer: &mut Answer, what: &str, name: &[u8]) {
     answer.bytes(name);
 }
 
+/// Something with a name, and a version behind them.
+fn push_at(answer: &mut Answer, what: &str, name: &DeckName, between: &str, version: u64) {
+    push_named(answer, what, name.as_slice());
+    answer.number(between, version);
+}
+
 fn push_quoted(answer: &mut Answer, what: &str, columns: &[u8]) {
     answer.push(what);
     answer.push(" '");
@@ -51,16 +57,16 @@ fn push_quoted(answer: &mut Answer, what: &str, columns: &[u8]) {
     answer.push("'");
 }
 
+/// An edit that has a card.
+fn push_card(answer: &mut Answer, what: &str, at: u64, card: &Card) {
+    answer.number(what, at);
+    push_quoted(answer, "", card.as_slice());
+}
+
 fn push_edit(answer: &mut Answer, edit: &Edit) {
     match edit {
-        Edit::Insert { at, card } => {
-            answer.number("insert ", *at);
-            push_quoted(answer, "", card.as_slice());
-        }
-        Edit::Replace { at, card } => {
-            answer.number("replace ", *at);
-            push_quoted(answer, "", card.as_slice());
-        }
+        Edit::Insert { at, card } => push_card(answer, "insert ", *at, card),
+        Edit::Replace { at, card } => push_card(answer, "replace ", *at, card),
         Edit::Remove { at } => answer.number("remove ", *at),
     }
 }
@@ -113,10 +119,7 @@ fn push_change(answer: &mut Answer, command: &Command) {
         Command::Load { name } => push_named(answer, "load ", name.as_slice()),
         Command::LoadAll { name } => push_named(answer, "load all ", name.as_slice()),
         Command::Reload { name } => push_named(answer, "reload ", name.as_slice()),
-        Command::Drop { name, version } => {
-            push_named(answer, "drop ", name.as_slice());
-            answer.number(" ", *version);
-        }
+        Command::Drop { name, version } => push_at(answer, "drop ", name, " ", *version),
         Command::Edit { name, seen, edit } => {
             push_named(answer, "edit ", name.as_slice());
             push_seen(answer, *seen);
@@ -145,18 +148,9 @@ fn push_question(answer: &mut Answer, command: &Command) {
             push_named(answer, "cards ", name.as_slice());
             push_view(answer, view);
         }
-        Command::CardsAt { name, version } => {
-            push_named(answer, "cards ", name.as_slice());
-            answer.number(" at ", *version);
-        }
-        Command::Changes { name, version } => {
-            push_named(answer, "changes ", name.as_slice());
-            answer.number(" ", *version);
-        }
-        Command::Undo { name, version } => {
-            push_named(answer, "undo ", name.as_slice());
-            answer.number(" ", *version);
-        }
+        Command::CardsAt { name, version } => push_at(answer, "cards ", name, " at ", *version),
+        Command::Changes { name, version } => push_at(answer, "changes ", name, " ", *version),
+        Command::Undo { name, version } => push_at(answer, "undo ", name, " ", *version),
         Command::Image => answer.push("image"),
         Command::List => answer.push("list"),
         Command::Map => answer.push("map"),

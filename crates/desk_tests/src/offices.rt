@@ -8,19 +8,19 @@
 ghost use Rattle.std.specs.Prelude.{◌≡◌, ◌+◌, ◌-◌, ◌^◌, ◌≤◌, min, IfOk};
 ghost use Rattle.turn_office.specs.Seats.{AreOf};
 
-use crate::jobs::{push_reply, push_told};
+use crate::failing::Failing;
+use crate::jobs::{addition, push_reply, push_told};
 use crate::outputs::Answer;
 use crate::place::serve_ports;
 use deck_files::MemoryShelf;
-use desk_core::{Call, Desk, NewDeck};
+use desk_core::{Call, Desk, Reply};
 use session_line::SeatCalls;
 use std::alloc::{AllocError, AllocGlobal, Global};
 use std::mem::size_of;
 use std::sync::Wait;
 use std::thread;
 use std::thread::Threads;
-use test_parts::{cards_of, cut_number, fixed_keys, name_of};
-use text_ports::{FaultyReader, FaultyWriter};
+use test_parts::{cut_number, fixed_keys, name_of};
 use turn_office::{CloseFault, Office, Seat, SeatList, Sequential};
 
 /// How many calls each thread makes.
@@ -227,6 +227,29 @@ fn add_in_threads<R: AllocGlobal + Threads + Wait + Sync>(
     Ok(())
 }
 
+/// Asks from a seat. What it answers is looked at and no contract of it, and so who asks has no facts of it.
+pub fn ask_from<R: Wait>(rt: &R, office: &Office<Desk>, seat: &mut Seat<Desk>, call: Call) -> Reply
+    requires { seat.old.office ≡ office.now.id }
+    ensures { seat.new.office ≡ seat.old.office }
+{
+    seat.call(rt, office, call)
+}
+
+/// Shows the cards of M.
+fn show_cards<R: Wait>(
+    rt: &R,
+    office: &Office<Desk>,
+    seat: &mut Seat<Desk>,
+    answer: &mut Answer,
+) -> Result<(), AllocError>
+    requires { seat.old.office ≡ office.now.id }
+    ensures { seat.new.office ≡ seat.old.office }
+{
+    let call = Call::Cards(name_of("M")?);
+    push_told(answer, ask_from(rt, office, seat, call));
+    Ok(())
+}
+
 /// One seat adds a deck, and another meets it and reads the deck.
 fn add_and_show<R: Wait>(
     rt: &R,
@@ -238,12 +261,11 @@ fn add_and_show<R: Wait>(
     requires { (first.old.office ≡ office.now.id) × (second.old.office ≡ office.now.id) }
     ensures same { (first.new.office ≡ first.old.office) × (second.new.office ≡ second.old.office) }
 {
-    let deck = NewDeck::new(name_of("M")?, cards_of(answer.alloc, "*A")?);
-    push_reply(answer, &first.call(rt, office, Call::AddDeck(deck)));
+    let call = addition(answer.alloc, "M", "*A")?;
+    push_reply(answer, &ask_from(rt, office, first, call));
     answer.push(", ");
     second.meet(rt, office, first)?;
-    push_told(answer, second.call(rt, office, Call::Cards(name_of("M")?)));
-    Ok(())
+    show_cards(rt, office, second, answer)
 }
 
 /// An office over a desk, whose seats meet; closed with one of them, and with both.
@@ -276,9 +298,7 @@ fn serve_seated<R: Wait>(
     let mut shelf = MemoryShelf::new(alloc);
     let mut desk = SeatCalls::new(rt, office, seat);
     for line in lines.split_inclusive('\n') {
-        let input = FaultyReader::new(line.as_bytes(), 1, 0);
-        let output = FaultyWriter::new(alloc, 1, 0);
-        serve_ports(alloc, &mut desk, &mut shelf, input, output, answer);
+        serve_ports(&mut desk, &mut shelf, line, Failing::never(1), answer);
     }
     answer.number("seat ", desk.into_seat().number() as u64);
 }

@@ -7,9 +7,9 @@
 //!
 //! `bytes LINES`: these are the file; `times NUMBER LINES`: they are put behind it so many times.
 //! `shelf NAME`: the file is that of the deck on the shelf; `file NAME`: the deck's file there.
-ghost use Rattle.std.specs.Prelude.{◌≤◌};
 
 use crate::breaking::BreakingShelf;
+use crate::failing::Failing;
 use crate::jobs::Jobs;
 use crate::outputs::Answer;
 use deck_files::{MemoryShelf, Shelf};
@@ -19,7 +19,7 @@ use std::alloc::{AllocError, Global};
 use std::hash::RandomState;
 use std::io::{Read, Write};
 use test_parts::{cut_number, fixed_keys, name_of};
-use text_ports::{Counted, FaultyReader, FaultyWriter};
+use text_ports::Counted;
 
 /// How many commands a session has at most.
 const MOST_COMMANDS: u64 = 20;
@@ -53,7 +53,7 @@ impl Place {
         match word {
             "say" => self.say(rest, answer),
             "asking" => self.ask(rest, answer),
-            "cut" => self.serve(rest.as_bytes(), answer),
+            "cut" => self.serve(rest, Failing::never(1), answer),
             "failing" => self.fail(rest, answer),
             "breaking" => self.serve_by_breaking(rest, answer),
             "turns" => self.take_turns(rest, answer),
@@ -69,7 +69,7 @@ impl Place {
     /// Says a command, whose last line ends here.
     pub fn say(&mut self, lines: &str, answer: &mut Answer) {
         match format!(in self.alloc; "{lines}\n") {
-            Ok(lines) => self.serve(lines.as_bytes(), answer),
+            Ok(lines) => self.serve(lines.as_str(), Failing::never(1), answer),
             Err(error) => answer.keep(Err(error)),
         }
     }
@@ -97,35 +97,14 @@ impl Place {
     }
 
     /// Serves one command.
-    fn serve(&mut self, lines: &[u8], answer: &mut Answer) {
-        let input = FaultyReader::new(lines, 1, 0);
-        let output = FaultyWriter::new(self.alloc, 1, 0);
-        serve_ports(
-            self.alloc,
-            &mut self.desk,
-            &mut self.shelf,
-            input,
-            output,
-            answer,
-        );
+    fn serve(&mut self, lines: &str, failing: Failing, answer: &mut Answer) {
+        serve_ports(&mut self.desk, &mut self.shelf, lines, failing, answer);
     }
 
     /// Serves one command by ports that fail.
     fn fail(&mut self, text: &str, answer: &mut Answer) {
-        let (piece, rest) = cut_number(text);
-        let (read, rest) = cut_number(rest);
-        let (write, lines) = cut_number(rest);
-        let piece = (piece as usize).max(1);
-        let input = FaultyReader::new(lines.as_bytes(), piece, read);
-        let output = FaultyWriter::new(self.alloc, piece, write);
-        serve_ports(
-            self.alloc,
-            &mut self.desk,
-            &mut self.shelf,
-            input,
-            output,
-            answer,
-        );
+        let (failing, lines) = Failing::cut(text);
+        self.serve(lines, failing, answer);
     }
 
     /// Serves one command by a shelf whose writer breaks.
@@ -136,9 +115,8 @@ impl Place {
         let mut shelf = BreakingShelf { alloc, most };
         match format!(in alloc; "{line}\n") {
             Ok(lines) => {
-                let input = FaultyReader::new(lines.as_bytes(), 1, 0);
-                let output = FaultyWriter::new(alloc, 1, 0);
-                serve_ports(alloc, &mut self.desk, &mut shelf, input, output, answer);
+                let failing = Failing::never(1);
+                serve_ports(&mut self.desk, &mut shelf, lines.as_str(), failing, answer);
             }
             Err(error) => answer.keep(Err(error)),
         }
@@ -147,24 +125,23 @@ impl Place {
     /// Serves four commands of a session, another session to its end, and then the first to its own.
     fn take_turns(&mut self, text: &str, answer: &mut Answer) {
         let (first, second) = text.split_once("\0").unwrap_or((text, ""));
-        let mut input = Counted::new(FaultyReader::new(first.as_bytes(), 7, 0));
-        let mut other = Counted::new(FaultyReader::new(second.as_bytes(), 1, 0));
-        self.serve_many(&mut input, 7, 4, answer);
-        self.serve_many(&mut other, 1, MOST_COMMANDS, answer);
-        self.serve_many(&mut input, 7, 1, answer);
+        let (sevens, ones) = (Failing::never(7), Failing::never(1));
+        let mut input = Counted::new(sevens.reader(first.as_bytes()));
+        let mut other = Counted::new(ones.reader(second.as_bytes()));
+        self.serve_many(&mut input, sevens, 4, answer);
+        self.serve_many(&mut other, ones, MOST_COMMANDS, answer);
+        self.serve_many(&mut input, sevens, 1, answer);
     }
 
-    /// Serves commands of a session up to its end, so many at most, by a writer that takes so many bytes at a time.
+    /// Serves commands of a session up to its end, so many at most, by such a writer.
     fn serve_many<R: Read>(
         &mut self,
         input: &mut Counted<R>,
-        piece: usize,
+        failing: Failing,
         most: u64,
         answer: &mut Answer,
-    )
-        requires { 1 ≤ piece }
-    {
-        let mut output = Counted::new(FaultyWriter::new(self.alloc, piece, 0));
+    ) {
+        let mut output = failing.writer(self.alloc);
         let mut last = Outcome::Served;
         for _ in 0..most {
             if last == Outcome::Served {
@@ -243,16 +220,15 @@ pub fn serve<R: Read, W: Write, C: Calls, S: Shelf>(
 /// Serves one command: what goes out, how it ends where it is not served, and how many faults the ports
 /// had, where they had some.
 pub fn serve_ports<C: Calls, S: Shelf>(
-    alloc: Global,
     desk: &mut C,
     shelf: &mut S,
-    input: FaultyReader<'_>,
-    output: FaultyWriter,
+    lines: &str,
+    failing: Failing,
     answer: &mut Answer,
 ) {
-    let mut input = Counted::new(input);
-    let mut output = Counted::new(output);
-    let outcome = serve(alloc, &mut input, &mut output, desk, shelf);
+    let mut input = Counted::new(failing.reader(lines.as_bytes()));
+    let mut output = failing.writer(answer.alloc);
+    let outcome = serve(answer.alloc, &mut input, &mut output, desk, shelf);
     let faults = (input.faults(), output.faults());
     answer.bytes(output.into_inner().taken());
     push_outcome(answer, outcome);

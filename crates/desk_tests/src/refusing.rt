@@ -12,16 +12,15 @@ pub struct Refusing<F> {
 }
 
 impl<F> Refusing<F> {
-    /// Counts a call, and answers whether it is the one.
-    fn is_refused(&mut self) -> bool {
+    /// Counts a call, and refuses it if it is the one.
+    fn pass(&mut self) -> io::Result<()> {
         let calls = self.calls;
         self.calls = calls.saturating_sub(1);
-        calls == 1
+        if calls == 1 {
+            return Err(io::Error::from(ErrorKind::StorageFull));
+        }
+        Ok(())
     }
-}
-
-fn refused() -> io::Error {
-    io::Error::from(ErrorKind::StorageFull)
 }
 
 impl<F: Folder> Folder for Refusing<F> {
@@ -34,79 +33,57 @@ impl<F: Folder> Folder for Refusing<F> {
     ghost has_done = { λ _ _. ⊤ };
 
     fn look(&mut self, path: &str) -> io::Result<Standing> {
-        if self.is_refused() {
-            return Err(refused());
-        }
+        self.pass()?;
         self.files.look(path)
     }
 
     fn open(&mut self, path: &str) -> io::Result<F::File> {
-        if self.is_refused() {
-            return Err(refused());
-        }
+        self.pass()?;
         self.files.open(path)
     }
 
     fn make(&mut self, path: &str) -> io::Result<F::NewFile> {
-        if self.is_refused() {
-            return Err(refused());
-        }
+        self.pass()?;
         self.files.make(path)
     }
 
     fn take_after(&mut self, file: &F::NewFile, path: &str) -> io::Result<()> {
-        if self.is_refused() {
-            return Err(refused());
-        }
+        self.pass()?;
         self.files.take_after(file, path)
     }
 
     fn keep(&mut self, file: &F::NewFile) -> io::Result<()> {
-        if self.is_refused() {
-            return Err(refused());
-        }
+        self.pass()?;
         self.files.keep(file)
     }
 
     fn put(&mut self, file: F::NewFile, new: &str, path: &str) -> io::Result<()> {
-        if self.is_refused() {
-            return Err(refused());
-        }
+        self.pass()?;
         self.files.put(file, new, path)
     }
 
     fn rename(&mut self, from: &str, to: &str) -> io::Result<()> {
-        if self.is_refused() {
-            return Err(refused());
-        }
+        self.pass()?;
         self.files.rename(from, to)
     }
 
     fn link(&mut self, path: &str, other: &str) -> io::Result<()> {
-        if self.is_refused() {
-            return Err(refused());
-        }
+        self.pass()?;
         self.files.link(path, other)
     }
 
     fn remove(&mut self, path: &str) -> io::Result<()> {
-        if self.is_refused() {
-            return Err(refused());
-        }
+        self.pass()?;
         self.files.remove(path)
     }
 
     fn keep_folder(&mut self, folder: &str) -> io::Result<()> {
-        if self.is_refused() {
-            return Err(refused());
-        }
+        self.pass()?;
         self.files.keep_folder(folder)
     }
 
     fn decks(&mut self, alloc: Global, folder: &str) -> io::Result<Vec<DeckEntry>> {
-        if self.is_refused() {
-            return Err(refused());
-        }
+        self.pass()?;
         self.files.decks(alloc, folder)
     }
 }

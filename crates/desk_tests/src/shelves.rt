@@ -28,15 +28,7 @@ pub fn make<R: AllocGlobal + Files<File = File> + Wait + Clone + Drop>(
     rest: &str,
     answer: &mut Answer,
 ) -> bool {
-    match word {
-        "save_over" => save_refused(rt, known, rest, answer),
-        "load_from" => load_from(rt, known, rest, answer),
-        "list_in" => list_refused(rt, known, rest, answer),
-        "note_in" => note_in(rt, known, rest, answer),
-        "saved_in" => saved_in(rt, known, rest, answer),
-        _ => return change(rt, word, rest, answer),
-    }
-    true
+    Shelves { rt, known }.make(word, rest, answer) || change(rt, word, rest, answer)
 }
 
 /// What is saved: under which name, over what, of which version, and the cards.
@@ -86,37 +78,6 @@ fn push_saved<S: Shelf>(shelf: &mut S, saved: &Saved, answer: &mut Answer) {
     answer.debug(&done);
 }
 
-/// Saves by a shelf of a folder, whose call of the first number is refused, and none where it is 0.
-fn save_refused<R: AllocGlobal + Files<File = File> + Wait + Clone + Drop>(
-    rt: &R,
-    known: &KnownFiles,
-    text: &str,
-    answer: &mut Answer,
-) {
-    let (calls, rest) = cut_number(text);
-    let (number, rest) = cut_number(rest);
-    let (folder, rest) = cut(rest);
-    let files = Refusing {
-        files: SystemFolder::new(rt),
-        calls,
-    };
-    let number = number as usize;
-    let mut shelf = FolderShelf::over(files, rt, rt.alloc(), folder, number, known);
-    save(rt.alloc(), &mut shelf, rest, answer);
-}
-
-fn load_from<R: AllocGlobal + Files<File = File> + Wait + Clone + Drop>(
-    rt: &R,
-    known: &KnownFiles,
-    text: &str,
-    answer: &mut Answer,
-) {
-    let (number, rest) = cut_number(text);
-    let (folder, of) = cut(rest);
-    let mut shelf = FolderShelf::new(rt, rt.alloc(), folder, number as usize, known);
-    load(&mut shelf, of, answer);
-}
-
 /// Loads the cards of a deck.
 fn load<S: Shelf>(shelf: &mut S, of: &str, answer: &mut Answer) {
     let Ok(name) = name_of(of) else {
@@ -131,78 +92,101 @@ fn load<S: Shelf>(shelf: &mut S, of: &str, answer: &mut Answer) {
     }
 }
 
-/// Saves an empty deck by a shelf of its own.
-fn save_empty<R: AllocGlobal + Files<File = File> + Wait + Clone + Drop>(
-    rt: &R,
-    known: &KnownFiles,
-    folder: &str,
-    name: &DeckName,
-    version: u64,
-    answer: &mut Answer,
-) {
-    let mut shelf = FolderShelf::new(rt, rt.alloc(), folder, 1, known);
-    let done = shelf.save(name, SaveOver::Known, version, &[]);
-    answer.debug(&done);
-    answer.line("");
+/// The system's folders, and what is known of the files there.
+#[derive(Drop)]
+struct Shelves<'a, R> {
+    rt: &'a R,
+    known: &'a KnownFiles,
 }
 
-/// Loads by a shelf, which notes a version then; another may have saved in between.
-fn note_in<R: AllocGlobal + Files<File = File> + Wait + Clone + Drop>(
-    rt: &R,
-    known: &KnownFiles,
-    text: &str,
-    answer: &mut Answer,
-) {
-    let (version, rest) = cut_number(text);
-    let (between, rest) = cut_number(rest);
-    let (folder, of) = cut(rest);
-    let Ok(name) = name_of(of) else {
-        return;
-    };
-    let mut shelf = FolderShelf::new(rt, rt.alloc(), folder, 0, known);
-    load(&mut shelf, of, answer);
-    if between > 0 {
-        save_empty(rt, known, folder, &name, between, answer);
+impl<'a, R: AllocGlobal + Files<File = File> + Wait + Clone + Drop> Shelves<'a, R> {
+    /// Makes a step of this word, if it is one of shelves, and answers whether it is.
+    fn make(&self, word: &str, rest: &str, answer: &mut Answer) -> bool {
+        match word {
+            "save_over" => self.save_refused(rest, answer),
+            "load_from" => self.load_from(rest, answer),
+            "list_in" => self.list_refused(rest, answer),
+            "note_in" => self.note_in(rest, answer),
+            "saved_in" => self.saved_in(rest, answer),
+            _ => return false,
+        }
+        true
     }
-    shelf.note(&name, version);
-}
 
-/// Whether the file of a deck has the cards of a version.
-fn saved_in<R: AllocGlobal + Files<File = File> + Wait + Clone + Drop>(
-    rt: &R,
-    known: &KnownFiles,
-    text: &str,
-    answer: &mut Answer,
-) {
-    let (version, rest) = cut_number(text);
-    let (folder, of) = cut(rest);
-    let Ok(name) = name_of(of) else {
-        return;
-    };
-    let mut shelf = FolderShelf::new(rt, rt.alloc(), folder, 0, known);
-    let is_saved = shelf.is_saved(&name, version);
-    answer.line(if is_saved { "saved" } else { "unsaved" });
-}
+    /// A shelf of a folder, with this number.
+    fn shelf(&self, folder: &'a str, number: usize) -> FolderShelf<'a, R> {
+        FolderShelf::new(self.rt, self.rt.alloc(), folder, number, self.known)
+    }
 
-/// Lists the files of decks by a shelf of a folder, whose call of the first number is refused, and none
-/// where it is 0.
-fn list_refused<R: AllocGlobal + Files<File = File> + Wait + Clone + Drop>(
-    rt: &R,
-    known: &KnownFiles,
-    text: &str,
-    answer: &mut Answer,
-) {
-    let (calls, folder) = cut_number(text);
-    let files = Refusing {
-        files: SystemFolder::new(rt),
-        calls,
-    };
-    let mut shelf = FolderShelf::over(files, rt, rt.alloc(), folder, 0, known);
-    match shelf.list() {
-        Ok(rows) => push_rows(answer, &rows),
-        Err(fault) => {
-            answer.debug(&fault);
-            answer.line("");
+    /// A shelf of a folder, whose call of the first number is refused, and none where it is 0.
+    fn refusing(
+        &self,
+        folder: &'a str,
+        number: usize,
+        calls: u64,
+    ) -> FolderShelf<'a, R, Refusing<SystemFolder<'a, R>>> {
+        let files = SystemFolder::new(self.rt);
+        let files = Refusing { files, calls };
+        FolderShelf::over(files, self.rt, self.rt.alloc(), folder, number, self.known)
+    }
+
+    fn save_refused(&self, text: &'a str, answer: &mut Answer) {
+        let (calls, rest) = cut_number(text);
+        let (number, rest) = cut_number(rest);
+        let (folder, rest) = cut(rest);
+        let mut shelf = self.refusing(folder, number as usize, calls);
+        save(self.rt.alloc(), &mut shelf, rest, answer);
+    }
+
+    fn load_from(&self, text: &'a str, answer: &mut Answer) {
+        let (number, rest) = cut_number(text);
+        let (folder, of) = cut(rest);
+        load(&mut self.shelf(folder, number as usize), of, answer);
+    }
+
+    /// Saves an empty deck by a shelf of its own.
+    fn save_empty(&self, folder: &'a str, name: &DeckName, version: u64, answer: &mut Answer) {
+        let mut shelf = self.shelf(folder, 1);
+        let done = shelf.save(name, SaveOver::Known, version, &[]);
+        answer.debug(&done);
+        answer.line("");
+    }
+
+    /// Loads by a shelf, which notes a version then; another may have saved in between.
+    fn note_in(&self, text: &'a str, answer: &mut Answer) {
+        let (version, rest) = cut_number(text);
+        let (between, rest) = cut_number(rest);
+        let (folder, of) = cut(rest);
+        let Ok(name) = name_of(of) else {
+            return;
+        };
+        let mut shelf = self.shelf(folder, 0);
+        load(&mut shelf, of, answer);
+        if between > 0 {
+            self.save_empty(folder, &name, between, answer);
+        }
+        shelf.note(&name, version);
+    }
+
+    /// Whether the file of a deck has the cards of a version.
+    fn saved_in(&self, text: &'a str, answer: &mut Answer) {
+        let (version, rest) = cut_number(text);
+        let (folder, of) = cut(rest);
+        if let Ok(name) = name_of(of) {
+            let is_saved = self.shelf(folder, 0).is_saved(&name, version);
+            answer.line(if is_saved { "saved" } else { "unsaved" });
+        }
+    }
+
+    /// Lists the files of decks by a shelf that refuses.
+    fn list_refused(&self, text: &'a str, answer: &mut Answer) {
+        let (calls, folder) = cut_number(text);
+        match self.refusing(folder, 0, calls).list() {
+            Ok(rows) => push_rows(answer, &rows),
+            Err(fault) => {
+                answer.debug(&fault);
+                answer.line("");
+            }
         }
     }
 }

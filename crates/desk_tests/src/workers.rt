@@ -6,11 +6,12 @@
 ghost use Rattle.std.specs.Prelude.{◌≡◌, IfOk};
 ghost use Rattle.std.specs.Thread.{IsSync};
 
-use crate::jobs::push_reply;
+use crate::jobs::{addition, ask, push_reply};
 use crate::outputs::Answer;
 use crossbeam_channel::Receiver;
 use deck_workers::{Bell, Gate, NoSubscriber, OpenGate, worker};
-use desk_core::{Call, Desk, NewDeck, Reply};
+use desk_core::{Call, Desk, Reply};
+use session_line::{Calls, SeatCalls};
 use std::alloc::{AllocError, AllocGlobal, Global};
 use std::hash::RandomState;
 use std::sync::Wait;
@@ -18,7 +19,7 @@ use std::sync::atomic::{AtomicU64, Ordering};
 use std::thread;
 use std::thread::Threads;
 use std::time::Clock;
-use test_parts::{cards_of, fixed_keys, name_of};
+use test_parts::fixed_keys;
 use turn_office::{Office, Seat};
 
 /// Makes a step of this word, if it is one of workers, and answers whether it is.
@@ -71,6 +72,22 @@ impl Gate for MeetingGate {
     }
 }
 
+/// A worker at a seat, of whom nobody asks for publications. What it does is looked at and no contract of it.
+fn work<R: Wait + Clock, G: Gate>(
+    rt: &R,
+    alloc: Global,
+    keys: RandomState,
+    office: &Office<Desk>,
+    seat: Seat<Desk>,
+    gate: &G,
+    bells: Receiver<Bell>,
+) -> Seat<Desk>
+    requires { seat.office ≡ office.now.id }
+{
+    let none = &mut NoSubscriber;
+    worker(rt, alloc, keys, office, seat, gate, none, bells)
+}
+
 /// Two workers at their seats.
 fn work_at_seats<R: Threads + Wait + Clock + Sync>(
     rt: &R,
@@ -89,32 +106,10 @@ fn work_at_seats<R: Threads + Wait + Clock + Sync>(
         rt,
         move || -> Seat<Desk>
             requires { IsSync R.row × (first.office ≡ office.now.id) }
-        {
-            worker(
-                rt,
-                alloc,
-                keys,
-                office,
-                first,
-                gate,
-                &mut NoSubscriber,
-                to_first,
-            )
-        },
+        { work(rt, alloc, keys, office, first, gate, to_first) },
         move || -> Seat<Desk>
             requires { IsSync R.row × (second.office ≡ office.now.id) }
-        {
-            worker(
-                rt,
-                alloc,
-                keys,
-                office,
-                second,
-                gate,
-                &mut NoSubscriber,
-                to_second,
-            )
-        },
+        { work(rt, alloc, keys, office, second, gate, to_second) },
     )
 }
 
@@ -140,50 +135,11 @@ const CARD: &str = "          BX6    X1";
 /// How many cards a deck has of which two have more than are delivered at once.
 const MANY: u32 = 10_001;
 
-/// The call that adds a deck with these cards.
-fn addition(alloc: Global, of: &str, lines: &str) -> Result<Call, AllocError> {
-    let cards = cards_of(alloc, lines)?;
-    Ok(Call::AddDeck(NewDeck::new(name_of(of)?, cards)))
-}
-
-/// Makes a call from a seat. What it answers is looked at and no contract of it.
-fn ask<R: Wait>(rt: &R, office: &Office<Desk>, seat: &mut Seat<Desk>, call: Call) -> Reply
-    requires { seat.old.office ≡ office.now.id }
-    ensures { seat.new.office ≡ seat.old.office }
-{
-    seat.call(rt, office, call)
-}
-
-/// Adds a deck.
-fn add<R: Wait>(
-    rt: &R,
-    alloc: Global,
-    office: &Office<Desk>,
-    seat: &mut Seat<Desk>,
-    of: &str,
-    lines: &str,
-) -> Result<(), AllocError>
-    requires { seat.old.office ≡ office.now.id }
-    ensures { seat.new.office ≡ seat.old.office }
-{
-    let call = addition(alloc, of, lines)?;
-    ask(rt, office, seat, call);
-    Ok(())
-}
-
 /// Adds the decks A and B.
-fn add_two<R: Wait>(
-    rt: &R,
-    alloc: Global,
-    office: &Office<Desk>,
-    seat: &mut Seat<Desk>,
-    lines: &str,
-) -> Result<(), AllocError>
-    requires { seat.old.office ≡ office.now.id }
-    ensures { seat.new.office ≡ seat.old.office }
-{
-    add(rt, alloc, office, seat, "A", lines)?;
-    add(rt, alloc, office, seat, "B", lines)
+fn add_two<C: Calls>(desk: &mut C, alloc: Global, lines: &str) -> Result<(), AllocError> {
+    ask(desk, addition(alloc, "A", lines)?);
+    ask(desk, addition(alloc, "B", lines)?);
+    Ok(())
 }
 
 /// How many decks a reply shows.
@@ -195,33 +151,17 @@ fn push_shown(reply: &Reply, answer: &mut Answer) {
 }
 
 /// What a call answers, and how many decks it shows.
-fn push_asked<R: Wait>(
-    rt: &R,
-    office: &Office<Desk>,
-    seat: &mut Seat<Desk>,
-    call: Call,
-    answer: &mut Answer,
-)
-    requires { seat.old.office ≡ office.now.id }
-    ensures { seat.new.office ≡ seat.old.office }
-{
-    let reply = ask(rt, office, seat, call);
+fn push_asked<C: Calls>(desk: &mut C, call: Call, answer: &mut Answer) {
+    let reply = ask(desk, call);
     push_reply(answer, &reply);
     push_shown(&reply, answer);
 }
 
 /// What a claim finds to do, and how many decks the publication has.
-fn push_published<R: Wait>(
-    rt: &R,
-    office: &Office<Desk>,
-    seat: &mut Seat<Desk>,
-    answer: &mut Answer,
-)
-    requires { seat.old.office ≡ office.now.id }
-{
-    push_asked(rt, office, seat, Call::Claim, answer);
+fn push_published<C: Calls>(desk: &mut C, answer: &mut Answer) {
+    push_asked(desk, Call::Claim, answer);
     answer.push(", ");
-    push_asked(rt, office, seat, Call::Show, answer);
+    push_asked(desk, Call::Show, answer);
 }
 
 /// Two channels' ends for two workers, and two bells that stop them.
@@ -238,21 +178,22 @@ fn work_both<R: Threads + Wait + Clock + Sync>(
     alloc: Global,
     answer: &mut Answer,
 ) -> Result<(), AllocError> {
+    let keys = fixed_keys()?;
     let bells = stopped(rt, alloc)?;
-    let (office, first, second, mut third) = open_three(alloc)?;
-    answer.keep(add_two(rt, alloc, &office, &mut third, CARD));
+    let (office, first, second, third) = open_three(alloc)?;
+    let mut desk = SeatCalls::new(rt, &office, third);
+    answer.keep(add_two(&mut desk, alloc, CARD));
     let gate = MeetingGate {
         entered: AtomicU64::new(0),
         met: AtomicU64::new(0),
         left: AtomicU64::new(0),
     };
-    let keys = fixed_keys()?;
     work_at_seats(rt, alloc, keys, &office, (first, second), &gate, bells);
     answer.number("entered ", gate.entered.into_inner());
     answer.number(", met ", gate.met.into_inner());
     answer.number(", left ", gate.left.into_inner());
     answer.push(", ");
-    push_published(rt, &office, &mut third, answer);
+    push_published(&mut desk, answer);
     Ok(())
 }
 
@@ -269,15 +210,15 @@ fn work_alone<R: Wait + Clock>(
     lines: &str,
     answer: &mut Answer,
 ) -> Result<(), AllocError> {
-    let bells = rung_once(rt, alloc)?;
-    let (office, first, _, mut third) = open_three(alloc)?;
-    answer.keep(add_two(rt, alloc, &office, &mut third, lines));
-    let none = &mut NoSubscriber;
     let keys = fixed_keys()?;
-    let first = worker(rt, alloc, keys, &office, first, &OpenGate, none, bells);
+    let bells = rung_once(rt, alloc)?;
+    let (office, first, _, third) = open_three(alloc)?;
+    let mut desk = SeatCalls::new(rt, &office, third);
+    answer.keep(add_two(&mut desk, alloc, lines));
+    let first = work(rt, alloc, keys, &office, first, &OpenGate, bells);
     answer.number("seat ", first.number() as u64);
     answer.push(", ");
-    push_published(rt, &office, &mut third, answer);
+    push_published(&mut desk, answer);
     Ok(())
 }
 

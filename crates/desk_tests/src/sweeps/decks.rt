@@ -1,10 +1,8 @@
-//! The decks of the scenarios, and what `asm_run` gives for decks.
+//! The decks of the scenarios.
 
-use crate::files::assembled;
 use cards::Card;
 use deck_linker::Publication;
-use std::alloc::{AllocError, Global};
-use text_ports::Counted;
+use std::alloc::AllocError;
 
 /// A deck: its name, and its lines.
 #[derive(Clone, Copy)]
@@ -77,15 +75,6 @@ pub fn are_same(cards: &[Card], others: &[Card]) -> bool {
         }
     }
     true
-}
-
-/// What `asm_run` writes for decks.
-pub fn asm_answer(alloc: Global, input: &[u8]) -> Result<Vec<u8>, AllocError> {
-    let mut output = Counted::new(Vec::new(alloc));
-    match assembled(alloc, &mut Counted::new(input), &mut output) {
-        Ok(_) => Ok(output.into_inner()),
-        Err(_) => Err(AllocError),
-    }
 }
 
 /// Whether a text is listing and image of a publication, one behind the other.

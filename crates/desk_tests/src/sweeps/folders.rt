@@ -1,7 +1,6 @@
 //! A scenario of a folder: decks that are saved there and loaded, by reads and writes of the system.
 
 use crate::sweeps::decks::{DECKS, DeckText, are_same};
-use crate::sweeps::notes::Called;
 use crate::sweeps::scene::Scene;
 use cards::{Card, DeckName, MOST_CARDS};
 use deck_files::{
@@ -33,7 +32,7 @@ fn gives_once<S: Shelf>(shelf: &mut S, name: &DeckName, cards: &[Card]) -> Optio
 fn gives<S: Shelf>(scene: &mut Scene, shelf: &mut S, name: &DeckName, cards: &[Card]) -> bool {
     let mut given = gives_once(shelf, name, cards);
     if given.is_none() {
-        scene.journal.refused(Called::LoadShelf, true);
+        scene.journal.refused("Shelf::load", true);
         given = gives_once(shelf, name, cards);
     }
     given == Some(true)
@@ -78,7 +77,7 @@ fn save_once<S: Shelf>(scene: &mut Scene, shelf: &mut S, saved: &Saved, before: 
         Ok(()) => true,
         Err(fault) => {
             let holds = gives_either(scene, shelf, saved, before, fault);
-            scene.journal.refused(Called::SaveShelf, holds);
+            scene.journal.refused("Shelf::save", holds);
             false
         }
     }
@@ -88,7 +87,7 @@ fn save_once<S: Shelf>(scene: &mut Scene, shelf: &mut S, saved: &Saved, before: 
 fn save<S: Shelf>(scene: &mut Scene, shelf: &mut S, saved: &Saved, before: &[Card]) {
     let is_saved = save_once(scene, shelf, saved, before) || save_once(scene, shelf, saved, before);
     let is_given = is_saved && gives(scene, shelf, &saved.name, &saved.cards);
-    scene.journal.made(Called::SaveShelf, is_given);
+    scene.journal.made("Shelf::save", is_given);
 }
 
 /// A deck of this name with the cards of another.
@@ -138,10 +137,10 @@ fn list<S: Shelf>(scene: &mut Scene, shelf: &mut S) -> Result<(), AllocError> {
     };
     let mut told = tells_once(shelf, b"SWEPT", cards);
     if told.is_none() {
-        scene.journal.refused(Called::ListShelf, true);
+        scene.journal.refused("Shelf::list", true);
         told = tells_once(shelf, b"SWEPT", cards);
     }
-    scene.journal.made(Called::ListShelf, told == Some(true));
+    scene.journal.made("Shelf::list", told == Some(true));
     Ok(())
 }
 

@@ -1,11 +1,13 @@
 //! Jobs of a desk: claimed, run, delivered and given up, and made again where they find no memory.
 
 use crate::jobs::ask;
-use crate::sweeps::notes::Called;
 use crate::sweeps::scene::Scene;
 use deck_workers::{Job, Made, Runs, job_in};
 use desk_core::{Call, Desk, Refusal, Reply, SharedPublication};
 use edit_core::RecordFault;
+
+/// How what ends a job is told.
+const HAND_IN: &str = "DeliverDeck, OfferObject with Publish, or GiveUp";
 
 /// What a reply of the desk tells, but for what it gives.
 #[derive(Clone, Copy, PartialEq, Eq)]
@@ -14,9 +16,14 @@ pub enum Told {
     Version(u64),
     /// All of the present version is published.
     Idle,
+    /// A job is due.
+    Job,
     Refused(Refusal),
     Other,
 }
+
+/// That there is no memory.
+const LACKING: Told = Told::Refused(Refusal::OutOfMemory);
 
 /// What a reply tells.
 pub fn told_in(reply: &Reply) -> Told {
@@ -24,27 +31,44 @@ pub fn told_in(reply: &Reply) -> Told {
         Reply::StatusIs(version, _, _) => Told::Version(*version),
         Reply::Changed(made) => Told::Version(made.version()),
         Reply::Idle(_) => Told::Idle,
+        Reply::DeckJob(_) | Reply::LinkJob(_) => Told::Job,
         Reply::Refused(refusal) => Told::Refused(*refusal),
         _ => Told::Other,
     }
 }
 
-/// Claims what is due, once more where that finds no memory: then names, versions and cards are as
-/// before. There is no job where all of the present version is published.
+/// What the reply to a call tells.
+fn told_to(desk: &mut Desk, call: Call) -> Told {
+    told_in(&ask(desk, call))
+}
+
+/// Notes a claim: names, versions and cards are as before, and there is a job where not all of the present
+/// version is published. Only a first claim may find no memory.
+fn note_claim(scene: &mut Scene, told: Told, before: &[u8], is_first: bool) {
+    let is_kept = scene.state().as_slice() == before;
+    let is_wanted = told == Told::Job || told == Told::Idle;
+    if is_first && told == LACKING {
+        scene.journal.refused("Claim", is_kept);
+    } else {
+        scene.journal.kept("Claim", is_kept && is_wanted);
+    }
+}
+
+/// Claims what is due: what that tells, and the job.
+fn claim_once(scene: &mut Scene, before: &[u8], is_first: bool) -> (Told, Option<Job>) {
+    let reply = ask(&mut scene.desk, Call::Claim);
+    let told = told_in(&reply);
+    note_claim(scene, told, before, is_first);
+    (told, job_in(reply))
+}
+
+/// Claims what is due, once more where that finds no memory.
 fn claim(scene: &mut Scene) -> Option<Job> {
     let before = scene.state();
-    let mut reply = ask(&mut scene.desk, Call::Claim);
-    if told_in(&reply) == Told::Refused(Refusal::OutOfMemory) {
-        let is_kept = scene.state() == before;
-        scene.journal.refused(Called::Claim, is_kept);
-        reply = ask(&mut scene.desk, Call::Claim);
+    match claim_once(scene, &before, true) {
+        (Told::Refused(Refusal::OutOfMemory), _) => claim_once(scene, &before, false).1,
+        (_, job) => job,
     }
-    let is_idle = told_in(&reply) == Told::Idle;
-    let is_kept = scene.state() == before;
-    let job = job_in(reply);
-    let is_wanted = is_idle || job.is_some();
-    scene.journal.kept(Called::Claim, is_kept && is_wanted);
-    job
 }
 
 /// Whether a job was lost for want of memory.
@@ -58,47 +82,22 @@ fn is_lost(made: &Made) -> bool {
     )
 }
 
-/// What a desk answered to what was made of a job, and whether memory lacked to publish it.
-#[derive(Drop)]
-struct Ended {
-    reply: Reply,
-    is_given_up: bool,
-}
-
-/// Has a desk publish its decks; where memory lacks for that the lease is given up.
-fn publish(desk: &mut Desk, lease: u64) -> Ended {
-    let reply = ask(desk, Call::Publish(lease));
-    let is_given_up = told_in(&reply) == Told::Refused(Refusal::OutOfMemory);
-    Ended {
-        reply: if is_given_up {
-            ask(desk, Call::GiveUp(lease))
-        } else {
-            reply
-        },
-        is_given_up,
+/// Has a desk publish its decks; where memory lacks for that the lease is given up. What the desk told last, and
+/// whether memory lacked.
+fn publish(desk: &mut Desk, lease: u64) -> (Told, bool) {
+    let told = told_to(desk, Call::Publish(lease));
+    if told == LACKING {
+        (told_to(desk, Call::GiveUp(lease)), true)
+    } else {
+        (told, false)
     }
 }
 
-/// Ends a job: the objects of a publication are offered and the desk publishes, as a worker has it do with one of
-/// many cards.
-fn end_made(desk: &mut Desk, made: Made) -> Ended {
-    match made {
-        Made::Link { lease, publication } => {
-            offer_all(desk, lease, &publication);
-            publish(desk, lease)
-        }
-        other => Ended {
-            reply: ask(desk, other.into_call()),
-            is_given_up: false,
-        },
-    }
-}
-
-/// Offers the objects of a publication.
-fn offer_all(desk: &mut Desk, lease: u64, publication: &SharedPublication) {
-    for (place, object) in publication.publication().objects().iter().enumerate() {
+/// Offers an object of a publication, if there is memory to share it.
+fn offer(desk: &mut Desk, lease: u64, publication: &SharedPublication, place: usize) {
+    if let Some(object) = publication.publication().objects().get(place) {
         if let Ok(object) = object.share() {
-            let _ = ask(
+            told_to(
                 desk,
                 Call::OfferObject {
                     lease,
@@ -110,27 +109,44 @@ fn offer_all(desk: &mut Desk, lease: u64, publication: &SharedPublication) {
     }
 }
 
-/// Hands in what was made of a job, or gives up its lease: names, versions and cards stay as they are
-/// whatever the reply is. Whether memory lacked to publish it.
-fn hand_in(scene: &mut Scene, made: Made, is_foreign: bool) -> bool {
-    let before = scene.state();
-    let ended = if is_foreign {
-        Ended {
-            reply: ask(&mut scene.desk, made.into_call()),
-            is_given_up: false,
-        }
-    } else {
-        end_made(&mut scene.desk, made)
-    };
-    let told = told_in(&ended.reply);
-    let is_kept = scene.state() == before;
+/// Offers the objects of a publication, and has the desk publish its decks.
+fn offer_all(desk: &mut Desk, lease: u64, publication: &SharedPublication) -> (Told, bool) {
+    for place in 0..publication.publication().objects().len() {
+        offer(desk, lease, publication, place);
+    }
+    publish(desk, lease)
+}
+
+/// Ends a job: the objects of a publication are offered and the desk publishes, as a worker has it do with one of
+/// many cards.
+fn end_made(desk: &mut Desk, made: Made) -> (Told, bool) {
+    match made {
+        Made::Link { lease, publication } => offer_all(desk, lease, &publication),
+        other => (told_to(desk, other.into_call()), false),
+    }
+}
+
+/// Notes what a desk told at the end of a job: names, versions and cards are as before whatever that is.
+fn note_end(scene: &mut Scene, told: Told, before: &[u8], is_foreign: bool) {
+    let is_kept = scene.state().as_slice() == before;
     let is_wanted = match told {
         Told::Refused(Refusal::Foreign) => is_foreign,
         Told::Refused(_) => false,
         _ => !is_foreign,
     };
-    scene.journal.kept(Called::HandIn, is_wanted && is_kept);
-    ended.is_given_up
+    scene.journal.kept(HAND_IN, is_wanted && is_kept);
+}
+
+/// Hands in what was made of a job, or gives up its lease. Whether memory lacked to publish it.
+fn hand_in(scene: &mut Scene, made: Made, is_foreign: bool) -> bool {
+    let before = scene.state();
+    let (told, is_given_up) = if is_foreign {
+        (told_to(&mut scene.desk, made.into_call()), false)
+    } else {
+        end_made(&mut scene.desk, made)
+    };
+    note_end(scene, told, &before, is_foreign);
+    is_given_up
 }
 
 /// A job whose result is not one of its lease: it has another version.
@@ -158,37 +174,46 @@ pub enum End {
     GivenUp,
 }
 
-/// What ends a job, and whether that is foreign.
-fn made_of(scene: &Scene, job: Job, end: End) -> (Made, bool) {
+/// What a job makes.
+fn run(scene: &Scene, job: Job) -> Made {
     let mut meter = work_meter::begin();
+    job.run(scene.alloc, scene.keys, &mut meter)
+}
+
+/// What ends a job.
+fn made_of(scene: &Scene, job: Job, end: End) -> Made {
     match end {
-        End::Delivered => (job.run(scene.alloc, scene.keys, &mut meter), false),
-        End::Foreign => (foreign(job).run(scene.alloc, scene.keys, &mut meter), true),
-        End::GivenUp => {
-            let lease = job.lease();
-            let fault = RecordFault::Spent;
-            (Made::Lost { lease, fault }, false)
-        }
+        End::Delivered => run(scene, job),
+        End::Foreign => run(scene, foreign(job)),
+        End::GivenUp => Made::Lost {
+            lease: job.lease(),
+            fault: RecordFault::Spent,
+        },
     }
 }
 
-/// Claims a job and ends it, once more where it is lost for want of memory, or memory lacks to publish it;
-/// whether there was one.
+/// Ends a job, unless it is lost for want of memory, or memory lacks to publish it: whether it is ended.
+fn end_once(scene: &mut Scene, job: Job, end: End) -> bool {
+    let made = made_of(scene, job, end);
+    let is_lost = is_lost(&made);
+    let is_foreign = end == End::Foreign && !is_lost;
+    let is_given_up = hand_in(scene, made, is_foreign);
+    !is_lost && !is_given_up
+}
+
+/// Claims a job and ends it, once more where memory lacks for it; whether there was one.
 fn end_next(scene: &mut Scene, end: End) -> bool {
     for _ in 0..2 {
         let Some(job) = claim(scene) else {
             return false;
         };
-        let (made, is_foreign) = made_of(scene, job, end);
-        let is_lost = is_lost(&made);
-        let is_given_up = hand_in(scene, made, is_foreign && !is_lost);
-        if !is_lost && !is_given_up {
-            scene.journal.made(Called::RunJob, true);
+        if end_once(scene, job, end) {
+            scene.journal.made("Job::run", true);
             return true;
         }
-        scene.journal.refused(Called::RunJob, true);
+        scene.journal.refused("Job::run", true);
     }
-    scene.journal.made(Called::RunJob, false);
+    scene.journal.made("Job::run", false);
     false
 }
 

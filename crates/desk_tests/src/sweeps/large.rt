@@ -2,8 +2,7 @@
 //! have.
 
 use crate::sweeps::jobs::{End, do_jobs};
-use crate::sweeps::notes::Called;
-use crate::sweeps::scene::{Command, Scene};
+use crate::sweeps::scene::Scene;
 use std::alloc::{AllocError, Global};
 
 /// How many decks a desk has at most.
@@ -32,7 +31,7 @@ pub fn edits(scene: &mut Scene) -> Result<(), AllocError> {
     scene.load_decks();
     scene.settle_as_asm(TURNS)?;
     let lines = batch(scene.alloc)?;
-    scene.say(Called::Batch, &lines, b"OK 4\n");
+    scene.say("BATCH", &lines, b"OK 4\n");
     do_jobs(scene, &[End::Delivered], 2);
     scene.settle_as_asm(TURNS)
 }
@@ -43,22 +42,20 @@ fn put_numbered(scene: &mut Scene, number: u64) -> Result<(), AllocError> {
         "PUT D{number} 0 3\n          IDENT  D{number}\nLAB       SA1    =7\n          END\n"
     )?;
     let reply = format!(in scene.alloc; "OK {number}\n")?;
-    scene.say(Called::PutDeck, lines.as_bytes(), reply.as_bytes());
+    scene.say("PUT", lines.as_bytes(), reply.as_bytes());
     Ok(())
 }
 
 /// What is said to the desk of 64 decks that is published.
-const FULL: [Command; 2] = [
-    (Called::AddDeck, "ADD MORE\n", "NO TooManyDecks\n"),
-    (Called::EditDeck, "INS D1 1 2 *A\n", "OK 65\n"),
-];
+const FULL: &str = "> ADD MORE
+NO TooManyDecks
+> INS D1 1 2 *A
+OK 65
+";
 
 /// What it shows when that edit is published, too.
-const SHOWN: [Command; 2] = [
-    (
-        Called::Show,
-        "LIST D64\n",
-        "OK 65 8
+const SHOWN: &str = "> LIST D64
+OK 65 8
 DECK D64 REL
 00001           IDENT  D64
 00002 LAB       SA1    =7
@@ -67,10 +64,10 @@ DECK D64 REL
 BLOCK 0 00000000 00000001
 BLOCK = 00000001 00000001
 ERRORS 0
-",
-    ),
-    (Called::Show, "ERRORS\n", "OK 65 1\nEND\n"),
-];
+> ERRORS
+OK 65 1
+END
+";
 
 /// Asks how the desk stands before its decks are assembled.
 fn ask_status(scene: &mut Scene) -> Result<(), AllocError> {
@@ -80,7 +77,7 @@ fn ask_status(scene: &mut Scene) -> Result<(), AllocError> {
         let row = format!(in scene.alloc; "D{number} {number} 3 BEHIND\n")?;
         reply.extend_from_slice(row.as_bytes())?;
     }
-    scene.say(Called::Status, b"STATUS\n", &reply);
+    scene.say("STATUS", b"STATUS\n", &reply);
     Ok(())
 }
 
@@ -91,8 +88,8 @@ pub fn decks(scene: &mut Scene) -> Result<(), AllocError> {
     }
     ask_status(scene)?;
     scene.settle_as_asm(TURNS)?;
-    scene.say_all(&FULL);
+    scene.say_all(FULL);
     do_jobs(scene, &[End::Delivered], 2);
-    scene.say_all(&SHOWN);
+    scene.say_all(SHOWN);
     scene.settle_as_asm(TURNS)
 }

@@ -1,18 +1,18 @@
 //! Scenarios of decks whose texts are long, so that a run makes and sends them part by part: what goes
 //! out is held against the texts that are made whole.
 
+use crate::assembling::object_of;
+use crate::failing::Failing;
 use crate::sweeps::decks::DeckText;
-use crate::sweeps::notes::Called;
-use crate::sweeps::pieces::{Came, Failing, Piece, Tries, fail_each, held};
+use crate::sweeps::pieces::{Came, Tries, fail_each, held, written};
 use crate::sweeps::ports::{AsmRun, try_whole, went_out};
 use crate::sweeps::scene::Scene;
 use asm_main::{AsmFault, Built, Chosen, asm_build, write_chosen};
 use deck_linker::{Publication, link};
 use deck_objects::SharedObject;
-use edit_core::assemble;
 use std::alloc::{AllocError, Global};
 use std::io::BufRead;
-use test_parts::{cards_of, fixed_keys, name_of};
+use test_parts::fixed_keys;
 use text_ports::Counted;
 
 /// How the decks begin: they enter names for each other, one that no deck enters is missing, and both
@@ -51,6 +51,9 @@ const WORDS: &str = "          DIS    100,A
 /// makes whole.
 const TIMES: usize = 700;
 
+/// In pieces of how many bytes their texts go out.
+const MEGABYTE: usize = 1_000_000;
+
 /// How they end.
 const END: &str = "          END
 ";
@@ -74,19 +77,17 @@ fn input_of(alloc: Global) -> Result<Vec<u8>, AllocError> {
 }
 
 /// The object of a deck.
-fn object_of(alloc: Global, deck: &DeckText) -> Result<SharedObject, AllocError> {
+fn object_at(alloc: Global, deck: &DeckText) -> Result<SharedObject, AllocError> {
     let mut lines = Vec::new(alloc);
     push_deck(&mut lines, deck)?;
-    let cards = cards_of(alloc, str::from_utf8(&lines).unwrap_or(""))?;
-    let mut meter = work_meter::begin();
-    assemble(alloc, fixed_keys()?, name_of(deck.name)?, cards, &mut meter)
+    object_of(alloc, deck.name, str::from_utf8(&lines).unwrap_or(""))
 }
 
 /// The publication of both decks, whose texts are made whole.
 fn published(alloc: Global) -> Result<Publication, AllocError> {
     let mut objects = Vec::new(alloc);
     for deck in &HEADS {
-        objects.push(object_of(alloc, deck)?)?;
+        objects.push(object_at(alloc, deck)?)?;
     }
     link(alloc, fixed_keys()?, objects, 0)
 }
@@ -94,7 +95,7 @@ fn published(alloc: Global) -> Result<Publication, AllocError> {
 /// What is held against what goes out.
 fn whole_of(scene: &mut Scene) -> Result<Publication, AllocError> {
     let published = published(scene.alloc);
-    scene.journal.got(Called::Link, published)
+    scene.journal.got("link", published)
 }
 
 /// What a run of these lines is held against.
@@ -109,14 +110,14 @@ fn run_of<'i>(scene: &mut Scene, input: &'i [u8]) -> Result<AsmRun<'i>, AllocErr
 pub fn run(scene: &mut Scene) -> Result<(), AllocError> {
     let input = input_of(scene.alloc)?;
     let run = run_of(scene, &input)?;
-    try_whole(scene, Called::AsmRun, &run)
+    try_whole(scene, "asm_run", &run)
 }
 
 /// Each write of a run, in pieces of a megabyte.
 pub fn ports(scene: &mut Scene) -> Result<(), AllocError> {
     let input = input_of(scene.alloc)?;
     let run = run_of(scene, &input)?;
-    fail_each(scene, Called::AsmRun, &run, Piece::Megabyte, false)
+    fail_each(scene, "asm_run", &run, MEGABYTE, false)
 }
 
 /// The listings, which go to an output of their own, and so do the map and the image.
@@ -165,7 +166,7 @@ fn write_part(
     let taken = writer.taken();
     match outcome {
         Ok(()) => held(taken == text && faults == 0, Came::Whole),
-        Err(broken) => failing.written(went_out(taken, text, broken.sent) && faults == 1),
+        Err(broken) => written(failing, went_out(taken, text, broken.sent) && faults == 1),
     }
 }
 
@@ -210,5 +211,5 @@ pub fn parts(scene: &mut Scene) -> Result<(), AllocError> {
         input: &input,
         whole: &whole,
     };
-    fail_each(scene, Called::AsmRun, &outputs, Piece::Megabyte, false)
+    fail_each(scene, "asm_run", &outputs, MEGABYTE, false)
 }

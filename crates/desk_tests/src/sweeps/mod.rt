@@ -34,59 +34,30 @@ use std::rt::Files;
 use std::sync::Wait;
 use test_parts::fixed_keys;
 
-/// What is gone through.
-#[derive(Clone, Copy)]
-enum Scenario {
-    Records,
-    Texts,
-    Runs,
-    Ports,
-    Calls,
-    Jobs,
-    Foreign,
-    Settle,
-    Replies,
-    Session,
-    SessionPorts,
-    Office,
-    Folder,
-    ManyEdits,
-    ManyDecks,
-    LongRun,
-    LongPorts,
-    LongParts,
-}
-
-/// Where a scenario is gone through.
-#[derive(Clone, Copy)]
-enum Size {
-    /// Where it or none is named.
-    Small,
-    /// Where it is named.
-    Large,
-}
-
-/// All scenarios with their names.
-const SCENARIOS: [(&str, Scenario, Size); 18] = [
-    ("records", Scenario::Records, Size::Small),
-    ("texts", Scenario::Texts, Size::Small),
-    ("runs", Scenario::Runs, Size::Small),
-    ("ports", Scenario::Ports, Size::Small),
-    ("calls", Scenario::Calls, Size::Small),
-    ("jobs", Scenario::Jobs, Size::Small),
-    ("foreign", Scenario::Foreign, Size::Small),
-    ("settle", Scenario::Settle, Size::Small),
-    ("replies", Scenario::Replies, Size::Small),
-    ("session", Scenario::Session, Size::Small),
-    ("session_ports", Scenario::SessionPorts, Size::Small),
-    ("office", Scenario::Office, Size::Small),
-    ("folder", Scenario::Folder, Size::Small),
-    ("many_edits", Scenario::ManyEdits, Size::Large),
-    ("many_decks", Scenario::ManyDecks, Size::Large),
-    ("long_run", Scenario::LongRun, Size::Large),
-    ("long_ports", Scenario::LongPorts, Size::Large),
-    ("long_parts", Scenario::LongParts, Size::Large),
+/// All scenarios, the small ones in front.
+const SCENARIOS: [&str; 18] = [
+    "records",
+    "texts",
+    "runs",
+    "ports",
+    "calls",
+    "jobs",
+    "foreign",
+    "settle",
+    "replies",
+    "session",
+    "session_ports",
+    "office",
+    "folder",
+    "many_edits",
+    "many_decks",
+    "long_run",
+    "long_ports",
+    "long_parts",
 ];
+
+/// How many of them are gone through where none is named, too.
+const SMALL: usize = 13;
 
 /// The status where a check failed.
 const FAILED_STATUS: u8 = 1;
@@ -125,16 +96,16 @@ impl Ended {
 }
 
 /// Goes through a scenario of records, of decks and of ports.
-fn go_through_lower(scenario: Scenario, scene: &mut Scene) -> Result<(), AllocError> {
-    match scenario {
-        Scenario::Records => records::records(scene),
-        Scenario::Texts => records::texts(scene),
-        Scenario::Runs => ports::runs(scene),
-        Scenario::Ports => ports::ports(scene),
-        Scenario::Calls => desks::calls(scene),
-        Scenario::Jobs => desks::delivered(scene),
-        Scenario::Foreign => desks::foreign(scene),
-        Scenario::Settle => desks::settled(scene),
+fn go_through_lower(name: &str, scene: &mut Scene) -> Result<(), AllocError> {
+    match name {
+        "records" => records::records(scene),
+        "texts" => records::texts(scene),
+        "runs" => ports::runs(scene),
+        "ports" => ports::ports(scene),
+        "calls" => desks::calls(scene),
+        "jobs" => desks::delivered(scene),
+        "foreign" => desks::foreign(scene),
+        "settle" => desks::settled(scene),
         _ => Ok(()),
     }
 }
@@ -142,28 +113,28 @@ fn go_through_lower(scenario: Scenario, scene: &mut Scene) -> Result<(), AllocEr
 /// Goes through any scenario.
 fn go_through<R: AllocGlobal + Files<File = File> + Clone + Drop + Wait>(
     rt: &R,
-    scenario: Scenario,
+    name: &str,
     scene: &mut Scene,
 ) -> Result<(), AllocError> {
-    match scenario {
-        Scenario::Replies => replies::replies(scene),
-        Scenario::Session => sessions::session(scene),
-        Scenario::SessionPorts => sessions::failing(scene),
-        Scenario::Office => offices::office(rt, scene),
-        Scenario::Folder => folders::folder(rt, scene),
-        Scenario::ManyEdits => large::edits(scene),
-        Scenario::ManyDecks => large::decks(scene),
-        Scenario::LongRun => long::run(scene),
-        Scenario::LongPorts => long::ports(scene),
-        Scenario::LongParts => long::parts(scene),
-        lower => go_through_lower(lower, scene),
+    match name {
+        "replies" => replies::replies(scene),
+        "session" => sessions::session(scene),
+        "session_ports" => sessions::failing(scene),
+        "office" => offices::office(rt, scene),
+        "folder" => folders::folder(rt, scene),
+        "many_edits" => large::edits(scene),
+        "many_decks" => large::decks(scene),
+        "long_run" => long::run(scene),
+        "long_ports" => long::ports(scene),
+        "long_parts" => long::parts(scene),
+        _ => go_through_lower(name, scene),
     }
 }
 
 /// The journal of a scenario.
 fn journal_of<R: AllocGlobal + Files<File = File> + Clone + Drop + Wait>(
     rt: &R,
-    scenario: Scenario,
+    name: &str,
 ) -> Journal {
     let Ok(keys) = fixed_keys() else {
         let mut journal = Journal::new(rt.alloc());
@@ -171,7 +142,7 @@ fn journal_of<R: AllocGlobal + Files<File = File> + Clone + Drop + Wait>(
         return journal;
     };
     let mut scene = Scene::new(rt.alloc(), keys);
-    let done = go_through(rt, scenario, &mut scene);
+    let done = go_through(rt, name, &mut scene);
     scene.journal.keep(done);
     scene.journal
 }
@@ -184,7 +155,7 @@ fn tell_notes<R: Eprint>(rt: &R, name: &str, journal: &Journal) -> io::Result<()
         } else {
             "NOT AS WANTED"
         };
-        eprintln!(rt; "{name}: {} refused, {found}", note.call.text())?;
+        eprintln!(rt; "{name}: {} refused, {found}", note.call)?;
     }
     Ok(())
 }
@@ -208,9 +179,8 @@ fn tell<R: Print + Eprint>(rt: &R, name: &str, journal: &Journal) -> io::Result<
 fn run_once<R: AllocGlobal + Files<File = File> + Clone + Drop + Wait + Print + Eprint>(
     rt: &R,
     name: &str,
-    scenario: Scenario,
 ) -> io::Result<Ended> {
-    let journal = journal_of(rt, scenario);
+    let journal = journal_of(rt, name);
     tell_notes(rt, name, &journal)?;
     tell(rt, name, &journal)
 }
@@ -219,19 +189,10 @@ fn run_once<R: AllocGlobal + Files<File = File> + Clone + Drop + Wait + Print + 
 fn run_one<R: AllocGlobal + Files<File = File> + Clone + Drop + Wait + Print + Eprint>(
     rt: &R,
     name: &str,
-    scenario: Scenario,
 ) -> io::Result<Ended> {
-    match run_once(rt, name, scenario)? {
-        Ended::Lacking => run_once(rt, name, scenario),
+    match run_once(rt, name)? {
+        Ended::Lacking => run_once(rt, name),
         ended => Ok(ended),
-    }
-}
-
-/// Whether a word, or none, chooses a scenario.
-fn is_chosen(word: &str, name: &str, size: Size) -> bool {
-    match size {
-        Size::Small => word.is_empty() || word == name,
-        Size::Large => word == name,
     }
 }
 
@@ -241,9 +202,9 @@ pub fn run_chosen<R: AllocGlobal + Files<File = File> + Clone + Drop + Wait + Pr
     word: &str,
 ) -> io::Result<Ended> {
     let mut ended = Ended::Unknown;
-    for (name, scenario, size) in &SCENARIOS {
-        if is_chosen(word, name, *size) {
-            ended = run_one(rt, name, *scenario)?.behind(ended);
+    for (place, name) in SCENARIOS.iter().enumerate() {
+        if word == *name || (word.is_empty() && place < SMALL) {
+            ended = run_one(rt, name)?.behind(ended);
         }
     }
     Ok(ended)

@@ -3,102 +3,18 @@
 
 use std::alloc::{AllocError, Global};
 
-/// What is called.
-#[derive(Clone, Copy)]
-pub enum Called {
-    NewRecord,
-    Edit,
-    Finish,
-    Listing,
-    Image,
-    Link,
-    AsmRun,
-    Load,
-    Save,
-    AddDeck,
-    LoadDeck,
-    PutDeck,
-    DropDeck,
-    EditDeck,
-    Batch,
-    EditSince,
-    Undo,
-    Cards,
-    CardsAt,
-    Changes,
-    Find,
-    SaveDeck,
-    Status,
-    Wait,
-    Bye,
-    Show,
-    Claim,
-    RunJob,
-    HandIn,
-    Settle,
-    ReplyText,
-    WriteReply,
-    Session,
-    OpenOffice,
-    CallSeat,
-    Meet,
-    Close,
-    LoadShelf,
-    SaveShelf,
-    ListShelf,
-}
+/// What is called, as it is told.
+pub type Called = &'static str;
 
-/// What each is called where it is told, in the order of the calls above.
-const NAMES: [&str; 40] = [
-    "Kept::new",
-    "edit",
-    "finish",
-    "listing",
-    "image",
-    "link",
-    "asm_run",
-    "load",
-    "save",
-    "ADD",
-    "LOAD",
-    "PUT",
-    "DROP",
-    "INS, REP or DEL",
-    "BATCH",
-    "INS with a version before",
-    "UNDO",
-    "CARDS",
-    "CARDS AT",
-    "CHANGES",
-    "FIND",
-    "SAVE",
-    "STATUS",
-    "WAIT",
-    "BYE",
-    "LIST, IMAGE, MAP or ERRORS",
-    "Claim",
-    "Job::run",
-    "DeliverDeck, OfferObject with Publish, or GiveUp",
-    "settle",
-    "reply_text",
-    "write_reply",
-    "serve_one",
-    "Office::open",
-    "Seat::call",
-    "meet",
-    "close",
-    "Shelf::load",
-    "Shelf::save",
-    "Shelf::list",
-];
-
-impl Called {
-    /// What it is called where it is told.
-    pub fn text(self) -> &'static str {
-        match NAMES.get(self as usize) {
-            Some(name) => name,
-            None => "",
-        }
+/// What the command of these lines is called: by its first word, but where others are told with it.
+pub fn called(lines: &'static str) -> Called {
+    let word = lines.split_whitespace().next().unwrap_or("");
+    match word {
+        "INS" if lines.find("+ ").is_some() => "INS with a version before",
+        "INS" | "REP" | "DEL" => "INS, REP or DEL",
+        "CARDS" if lines.find(" AT ").is_some() => "CARDS AT",
+        "LIST" | "IMAGE" | "MAP" | "ERRORS" => "LIST, IMAGE, MAP or ERRORS",
+        _ => word,
     }
 }
 

@@ -2,15 +2,15 @@
 ghost use Rattle.std.specs.Prelude.{◌≡◌, IfOk};
 ghost use Rattle.turn_office.specs.Seats.{new_seats};
 
+use crate::jobs::addition;
+use crate::offices::ask_from;
 use crate::sweeps::decks::{DECKS, DeckText};
 use crate::sweeps::jobs::{Told, told_in};
-use crate::sweeps::notes::Called;
 use crate::sweeps::scene::Scene;
-use desk_core::{Call, Desk, NewDeck, Refusal};
-use std::alloc::{AllocError, Global};
+use desk_core::{Call, Desk, Refusal};
+use std::alloc::AllocError;
 use std::mem;
 use std::sync::Wait;
-use test_parts::{cards_of, name_of};
 use turn_office::{Office, Seat, SeatList};
 
 /// In how many turns the desk is settled at most.
@@ -39,16 +39,10 @@ fn open(scene: &mut Scene) -> Result<(Office<Desk>, SeatList<Desk>), AllocError>
         Ok(opened) => Ok(opened),
         Err(_) => {
             let is_kept = scene.state() == before;
-            scene.journal.refused(Called::OpenOffice, is_kept);
+            scene.journal.refused("Office::open", is_kept);
             open_once(scene)
         }
     }
-}
-
-/// The call that adds a deck.
-fn addition(alloc: Global, deck: &DeckText) -> Result<Call, AllocError> {
-    let cards = cards_of(alloc, deck.lines)?;
-    Ok(Call::AddDeck(NewDeck::new(name_of(deck.name)?, cards)))
 }
 
 /// What one call from a seat tells. It is looked at and no contract of it.
@@ -56,7 +50,7 @@ fn ask<R: Wait>(rt: &R, office: &Office<Desk>, seat: &mut Seat<Desk>, call: Call
     requires { seat.old.office ≡ office.now.id }
     ensures { seat.new.office ≡ seat.old.office }
 {
-    told_in(&seat.call(rt, office, call))
+    told_in(&ask_from(rt, office, seat, call))
 }
 
 /// The version of the desk, unless the scenario's own memory was refused.
@@ -93,7 +87,7 @@ fn add_once<R: Wait>(
     let told = ask(rt, office, seat, call);
     let after = version_of(rt, scene, office, seat);
     if told == Told::Refused(Refusal::OutOfMemory) {
-        scene.journal.refused(Called::CallSeat, before == after);
+        scene.journal.refused("Seat::call", before == after);
     }
     before < after && told == Told::Version(after)
 }
@@ -109,7 +103,7 @@ fn try_to_add<R: Wait>(
     requires { seat.old.office ≡ office.now.id }
     ensures { seat.new.office ≡ seat.old.office }
 {
-    let call = addition(scene.alloc, deck)?;
+    let call = addition(scene.alloc, deck.name, deck.lines)?;
     Ok(add_once(rt, scene, office, seat, call))
 }
 
@@ -126,7 +120,7 @@ fn add<R: Wait>(
 {
     let is_added = try_to_add(rt, scene, office, seat, deck)?
         || try_to_add(rt, scene, office, seat, deck)?;
-    scene.journal.made(Called::CallSeat, is_added);
+    scene.journal.made("Seat::call", is_added);
     Ok(())
 }
 
@@ -146,7 +140,7 @@ fn call_and_meet<R: Wait>(
     add(rt, scene, office, first, &DECKS[1])?;
     add(rt, scene, office, second, &DECKS[2])?;
     let have_met = first.meet(rt, office, second).is_ok();
-    scene.journal.made(Called::Meet, have_met);
+    scene.journal.made("meet", have_met);
     Ok(())
 }
 
@@ -176,6 +170,6 @@ pub fn office<R: Wait>(rt: &R, scene: &mut Scene) -> Result<(), AllocError> {
     scene.load_first();
     let (office, seats) = open(scene)?;
     scene.desk = use_office(rt, scene, office, seats)?;
-    scene.journal.made(Called::Close, true);
+    scene.journal.made("close", true);
     scene.settle_as_asm(TURNS)
 }

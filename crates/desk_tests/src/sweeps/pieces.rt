@@ -1,71 +1,12 @@
-//! Ports that fail where they are to, in pieces: each read and each write of what is tried fails in turn.
-ghost use Rattle.std.specs.Prelude.{◌<◌};
+//! Each read and each write of what is tried fails in turn, in pieces.
 
+use crate::failing::Failing;
 use crate::sweeps::notes::Called;
 use crate::sweeps::scene::Scene;
 use std::alloc::{AllocError, Global};
-use text_ports::{Counted, FaultyReader, FaultyWriter};
 
 /// How many calls of a port are failed at most.
 const MOST: u64 = 5000;
-
-/// How many bytes a call of a port gives or takes at most.
-#[derive(Clone, Copy)]
-pub enum Piece {
-    One,
-    Seven,
-    /// As many as a card has columns.
-    Card,
-    Megabyte,
-}
-
-impl Piece {
-    pub fn bytes(self) -> usize
-        ensures { 0 < result }
-    {
-        match self {
-            Piece::One => 1,
-            Piece::Seven => 7,
-            Piece::Card => 80,
-            Piece::Megabyte => 1_000_000,
-        }
-    }
-}
-
-/// The pieces in which ports give and take bytes, and the numbers of the read and of the write that
-/// fail, counted from 1.
-#[derive(Clone, Copy)]
-pub struct Failing {
-    pub piece: Piece,
-    pub read: u64,
-    pub write: u64,
-}
-
-/// Ports none of whose calls fails.
-pub const WHOLE: Failing = Failing {
-    piece: Piece::Card,
-    read: 0,
-    write: 0,
-};
-
-impl Failing {
-    pub fn reader(self, bytes: &[u8]) -> FaultyReader<'_> {
-        FaultyReader::new(bytes, self.piece.bytes(), self.read)
-    }
-
-    pub fn writer(self, alloc: Global) -> Counted<FaultyWriter> {
-        Counted::new(FaultyWriter::new(alloc, self.piece.bytes(), self.write))
-    }
-
-    /// What a fault of the writer is: one to memory fails too where it finds none.
-    pub fn written(self, holds: bool) -> Came {
-        if self.write == 0 {
-            Came::Lacking
-        } else {
-            held(holds, Came::Failed)
-        }
-    }
-}
 
 /// What came of something that was tried.
 #[derive(Clone, Copy)]
@@ -83,6 +24,15 @@ pub enum Came {
 /// What is wanted came, or something else.
 pub fn held(holds: bool, came: Came) -> Came {
     if holds { came } else { Came::Wrong }
+}
+
+/// What a fault of the writer is: one to memory fails too where it finds none.
+pub fn written(failing: Failing, holds: bool) -> Came {
+    if failing.write == 0 {
+        Came::Lacking
+    } else {
+        held(holds, Came::Failed)
+    }
 }
 
 /// What is tried.
@@ -111,7 +61,7 @@ pub fn fail_each<T: Tries>(
     scene: &mut Scene,
     call: Called,
     tried: &T,
-    piece: Piece,
+    piece: usize,
     is_read: bool,
 ) -> Result<(), AllocError> {
     let mut came = Came::Failed;
@@ -135,8 +85,8 @@ pub fn fail_all<T: Tries>(
     ports: &[bool],
 ) -> Result<(), AllocError> {
     for is_read in ports {
-        fail_each(scene, call, tried, Piece::One, *is_read)?;
-        fail_each(scene, call, tried, Piece::Seven, *is_read)?;
+        fail_each(scene, call, tried, 1, *is_read)?;
+        fail_each(scene, call, tried, 7, *is_read)?;
     }
     Ok(())
 }

@@ -1,10 +1,11 @@
 //! Scenarios of ports: each read and each write of a run, of a file that is loaded and of one that is
 //! saved fails in turn.
 
-use crate::files::assembled;
-use crate::sweeps::decks::{DECKS, asm_answer};
+use crate::assembling::{asm_answer, assembled};
+use crate::failing::Failing;
+use crate::sweeps::decks::DECKS;
 use crate::sweeps::notes::Called;
-use crate::sweeps::pieces::{Came, Failing, Tries, WHOLE, fail_all, held, try_twice};
+use crate::sweeps::pieces::{Came, Tries, fail_all, held, try_twice, written};
 use crate::sweeps::scene::Scene;
 use asm_main::AsmFault;
 use cards::{Card, MOST_CARDS};
@@ -51,7 +52,7 @@ impl<'i> Tries for AsmRun<'i> {
             Err(AsmFault::ReadFault) => held(is_silent, Came::Failed),
             Err(AsmFault::OutOfMemory) => held(is_silent, Came::Lacking),
             Err(AsmFault::WriteFault { sent }) => {
-                failing.written(went_out(taken, &self.output, sent) && faults == 1)
+                written(failing, went_out(taken, &self.output, sent) && faults == 1)
             }
             Err(_) => Came::Wrong,
         })
@@ -99,7 +100,7 @@ impl Tries for Saved {
         let taken = writer.taken();
         Ok(match outcome {
             Ok(()) => held(taken == file && faults == 0, Came::Whole),
-            Err(broken) => failing.written(went_out(taken, file, broken.sent) && faults == 1),
+            Err(broken) => written(failing, went_out(taken, file, broken.sent) && faults == 1),
         })
     }
 }
@@ -110,7 +111,7 @@ fn all_of(
     lines: &'static str,
 ) -> Result<(AsmRun<'static>, Loaded, Saved), AllocError> {
     let answer = asm_answer(scene.alloc, lines.as_bytes());
-    let output = scene.journal.got(Called::AsmRun, answer)?;
+    let output = scene.journal.got("asm_run", answer)?;
     let cards = cards_of(scene.alloc, lines)?;
     let count = cards.len();
     Ok((
@@ -130,9 +131,9 @@ fn fail_ports(
     loaded: &Loaded,
     saved: &Saved,
 ) -> Result<(), AllocError> {
-    fail_all(scene, Called::AsmRun, run, &[true, false])?;
-    fail_all(scene, Called::Load, loaded, &[true])?;
-    fail_all(scene, Called::Save, saved, &[false])
+    fail_all(scene, "asm_run", run, &[true, false])?;
+    fail_all(scene, "load", loaded, &[true])?;
+    fail_all(scene, "save", saved, &[false])
 }
 
 /// Each read and each write of a run, and of its cards as a file, in pieces.
@@ -143,7 +144,7 @@ pub fn ports(scene: &mut Scene) -> Result<(), AllocError> {
 
 /// Tries where no port fails.
 pub fn try_whole<T: Tries>(scene: &mut Scene, call: Called, tried: &T) -> Result<(), AllocError> {
-    let came = try_twice(scene, call, tried, WHOLE)?;
+    let came = try_twice(scene, call, tried, Failing::never(80))?;
     scene.journal.made(call, came == Came::Whole);
     Ok(())
 }
@@ -155,9 +156,9 @@ fn try_ports(
     loaded: &Loaded,
     saved: &Saved,
 ) -> Result<(), AllocError> {
-    try_whole(scene, Called::AsmRun, run)?;
-    try_whole(scene, Called::Load, loaded)?;
-    try_whole(scene, Called::Save, saved)
+    try_whole(scene, "asm_run", run)?;
+    try_whole(scene, "load", loaded)?;
+    try_whole(scene, "save", saved)
 }
 
 /// A run, a load and a save of a deck in which no port fails.

@@ -1,10 +1,11 @@
 //! Scenarios of records and of texts: a record that is edited is spent for want of memory, and its
 //! cards are as they were; texts and links are made of them.
 
-use crate::sweeps::decks::{DECKS, DeckText, are_same, asm_answer, is_answer, push_lines};
+use crate::assembling::{asm_answer, new_record};
+use crate::sweeps::decks::{DECKS, DeckText, are_same, is_answer, push_lines};
 use crate::sweeps::notes::Called;
 use crate::sweeps::scene::Scene;
-use cards::{Card, DeckName, Edit, MOST_CARDS, copied_cards};
+use cards::{Card, Edit, copied_cards};
 use deck_linker::{Publication, link};
 use deck_listing::{image, listing};
 use deck_objects::SharedObject;
@@ -12,7 +13,8 @@ use edit_core::{FinishFault, Kept, RecordFault};
 use session_commands::read_batch_line;
 use std::alloc::{AllocError, Global};
 use std::hash::RandomState;
-use test_parts::{cards_of, fixed_keys, name_of};
+use test_parts::{cards_of, name_of};
+use text_ports::Text;
 
 /// Edits of a deck, and the fault of each where there is memory.
 const EDITS: [(&str, Option<RecordFault>); 5] = [
@@ -31,15 +33,6 @@ fn edit_of(line: &str) -> Result<Edit, AllocError> {
     }
 }
 
-/// A new record of these cards.
-fn record_of(alloc: Global, name: DeckName, cards: Vec<Card>) -> Result<Kept, AllocError> {
-    if cards.len() > MOST_CARDS {
-        return Err(AllocError);
-    }
-    let mut meter = work_meter::begin();
-    Kept::new(alloc, fixed_keys()?, name, cards, &mut meter)
-}
-
 /// Edits a record, and answers its fault, if there is one.
 fn fault_of_edit(
     alloc: Global,
@@ -48,18 +41,7 @@ fn fault_of_edit(
     edit: &Edit,
 ) -> Option<RecordFault> {
     let mut meter = work_meter::begin();
-    match kept.edit(alloc, keys, edit, &mut meter) {
-        Ok(()) => None,
-        Err(fault) => Some(fault),
-    }
-}
-
-/// Whether nothing comes of a record, since it is spent.
-fn gives_nothing(kept: &Kept) -> bool {
-    match kept.finish() {
-        Ok(_) => false,
-        Err(fault) => fault == FinishFault::Spent,
-    }
+    kept.edit(alloc, keys, edit, &mut meter).err()
 }
 
 /// Whether a record has these cards, and is spent: nothing is edited and nothing comes of it.
@@ -70,9 +52,24 @@ fn is_spent_with(
     cards: &[Card],
     edit: &Edit,
 ) -> bool {
-    let is_spent = kept.is_spent() && gives_nothing(kept);
+    let gives_nothing = matches!(kept.finish(), Err(FinishFault::Spent));
+    let is_spent = kept.is_spent() && gives_nothing;
     let is_fault = fault_of_edit(alloc, keys, kept, edit) == Some(RecordFault::Spent);
     is_spent && is_fault && are_same(kept.cards(), cards)
+}
+
+/// Puts a new record of these cards in the place of one that is spent by an edit, as it is to be.
+fn renew(
+    scene: &mut Scene,
+    kept: &mut Kept,
+    before: &[Card],
+    edit: &Edit,
+) -> Result<(), AllocError> {
+    let holds = is_spent_with(scene.alloc, scene.keys, kept, before, edit);
+    scene.journal.refused("edit", holds);
+    let cards = copied_cards(scene.alloc, before)?;
+    *kept = new_record(scene.alloc, kept.name().copied(), cards)?;
+    Ok(())
 }
 
 /// Edits a record, and answers its fault, if there is one. Where there is no memory, the record is
@@ -84,17 +81,11 @@ fn edit_once(
 ) -> Result<Option<RecordFault>, AllocError> {
     let before = copied_cards(scene.alloc, kept.cards())?;
     let fault = fault_of_edit(scene.alloc, scene.keys, kept, edit);
-    if fault.is_none() {
-        return Ok(fault);
-    }
     if fault == Some(RecordFault::OutOfMemory) {
-        let holds = is_spent_with(scene.alloc, scene.keys, kept, &before, edit);
-        scene.journal.refused(Called::Edit, holds);
-        let cards = copied_cards(scene.alloc, &before)?;
-        *kept = record_of(scene.alloc, kept.name().copied(), cards)?;
+        renew(scene, kept, &before, edit)?;
     }
-    let is_kept = !kept.is_spent() && are_same(kept.cards(), &before);
-    scene.journal.kept(Called::Edit, is_kept);
+    let is_kept = fault.is_none() || (!kept.is_spent() && are_same(kept.cards(), &before));
+    scene.journal.kept("edit", is_kept);
     Ok(fault)
 }
 
@@ -110,7 +101,7 @@ fn edit(
     if fault == Some(RecordFault::OutOfMemory) {
         fault = edit_once(scene, kept, &edit)?;
     }
-    scene.journal.made(Called::Edit, fault == wanted);
+    scene.journal.made("edit", fault == wanted);
     Ok(())
 }
 
@@ -118,8 +109,8 @@ fn edit(
 fn record(scene: &mut Scene, deck: &DeckText) -> Result<Kept, AllocError> {
     let name = name_of(deck.name)?;
     let cards = cards_of(scene.alloc, deck.lines)?;
-    let kept = record_of(scene.alloc, name, cards);
-    scene.journal.got(Called::NewRecord, kept)
+    let kept = new_record(scene.alloc, name, cards);
+    scene.journal.got("Kept::new", kept)
 }
 
 /// The object of a record, once more where that finds no memory: it is not spent by it.
@@ -127,16 +118,24 @@ fn finish(scene: &mut Scene, kept: &Kept) -> Result<SharedObject, AllocError> {
     for _ in 0..2 {
         match kept.finish() {
             Ok(object) => {
-                scene.journal.made(Called::Finish, true);
+                scene.journal.made("finish", true);
                 return Ok(object);
             }
             Err(fault) => {
                 let holds = fault == FinishFault::OutOfMemory;
-                scene.journal.refused(Called::Finish, holds);
+                scene.journal.refused("finish", holds);
             }
         }
     }
     Err(AllocError)
+}
+
+/// Makes all edits of a record.
+fn edit_all(scene: &mut Scene, kept: &mut Kept) -> Result<(), AllocError> {
+    for (line, fault) in &EDITS {
+        edit(scene, kept, *line, *fault)?;
+    }
+    Ok(())
 }
 
 /// A deck's record after all edits, and its cards behind those of the decks before.
@@ -146,23 +145,16 @@ fn edited(
     input: &mut Vec<u8>,
 ) -> Result<SharedObject, AllocError> {
     let mut kept = record(scene, deck)?;
-    for (line, fault) in &EDITS {
-        edit(scene, &mut kept, *line, *fault)?;
-    }
+    edit_all(scene, &mut kept)?;
     push_lines(input, kept.cards())?;
     finish(scene, &kept)
 }
 
 /// What was made of objects holds what `asm_run` writes for these decks.
-fn compare(
-    scene: &mut Scene,
-    found: Result<Publication, AllocError>,
-    input: &[u8],
-) -> Result<(), AllocError> {
-    let found = scene.journal.got(Called::Link, found)?;
+fn compare(scene: &mut Scene, found: &Publication, input: &[u8]) -> Result<(), AllocError> {
     let answer = asm_answer(scene.alloc, input);
-    let wanted = scene.journal.got(Called::AsmRun, answer)?;
-    scene.journal.made(Called::Link, is_answer(&wanted, &found));
+    let wanted = scene.journal.got("asm_run", answer)?;
+    scene.journal.made("link", is_answer(&wanted, found));
     Ok(())
 }
 
@@ -175,31 +167,29 @@ pub fn records(scene: &mut Scene) -> Result<(), AllocError> {
         objects.push(edited(scene, deck, &mut input)?)?;
     }
     let found = link(scene.alloc, scene.keys, objects, 7);
-    compare(scene, found, &input)
+    let found = scene.journal.got("link", found)?;
+    compare(scene, &found, &input)
 }
 
 /// Where a deck alone stands.
 const BASE: u64 = 64;
 
-/// The listing of an object, which is the same a second time.
-fn listing_twice(scene: &mut Scene, object: &SharedObject) -> Result<(), AllocError> {
-    let text = listing(scene.alloc, object.object());
-    let first = scene.journal.got(Called::Listing, text)?;
-    let text = listing(scene.alloc, object.object());
-    let second = scene.journal.got(Called::Listing, text)?;
-    let is_same = first.as_slice() == second.as_slice();
-    scene.journal.made(Called::Listing, is_same);
-    Ok(())
+/// A text of an object: its listing, or its image where it stands alone.
+fn text_of(scene: &mut Scene, call: Called, object: &SharedObject) -> Result<Text, AllocError> {
+    let text = if call == "image" {
+        image(scene.alloc, object.object(), BASE)
+    } else {
+        listing(scene.alloc, object.object())
+    };
+    scene.journal.got(call, text)
 }
 
-/// The image of an object alone, which is the same a second time.
-fn image_twice(scene: &mut Scene, object: &SharedObject) -> Result<(), AllocError> {
-    let text = image(scene.alloc, object.object(), BASE);
-    let first = scene.journal.got(Called::Image, text)?;
-    let text = image(scene.alloc, object.object(), BASE);
-    let second = scene.journal.got(Called::Image, text)?;
+/// A text of an object, which is the same a second time.
+fn text_twice(scene: &mut Scene, call: Called, object: &SharedObject) -> Result<(), AllocError> {
+    let first = text_of(scene, call, object)?;
+    let second = text_of(scene, call, object)?;
     let is_same = first.as_slice() == second.as_slice();
-    scene.journal.made(Called::Image, is_same);
+    scene.journal.made(call, is_same);
     Ok(())
 }
 
@@ -209,17 +199,17 @@ fn object(scene: &mut Scene, deck: &DeckText) -> Result<SharedObject, AllocError
     finish(scene, &kept)
 }
 
-/// The texts of a deck alone.
-fn texts_of(scene: &mut Scene, deck: &DeckText) -> Result<(), AllocError> {
-    let object = object(scene, deck)?;
-    listing_twice(scene, &object)?;
-    image_twice(scene, &object)
+/// The texts of an object alone.
+fn texts_of(scene: &mut Scene, object: &SharedObject) -> Result<(), AllocError> {
+    text_twice(scene, "listing", object)?;
+    text_twice(scene, "image", object)
 }
 
 /// The texts of each deck alone.
 pub fn texts(scene: &mut Scene) -> Result<(), AllocError> {
     for deck in &DECKS {
-        texts_of(scene, deck)?;
+        let object = object(scene, deck)?;
+        texts_of(scene, &object)?;
     }
     Ok(())
 }

@@ -3,7 +3,6 @@ ghost use Rattle.std.specs.Prelude.{◌≡◌, true};
 ghost use Rattle.session_line.specs.Replies.{IsWithinLimits};
 
 use crate::sweeps::decks::DECKS;
-use crate::sweeps::notes::Called;
 use crate::sweeps::scene::Scene;
 use cards::{CardFault, MOST_CARDS};
 use deck_files::MOST_FILES;
@@ -77,10 +76,10 @@ fn text_of(alloc: Global, reply: &Reply<'_>) -> Result<Vec<u8>, AllocError> {
 /// A reply as a text and as it is written, which are the same.
 fn compare(scene: &mut Scene, reply: &Reply<'_>) -> Result<(), AllocError> {
     let text = text_of(scene.alloc, reply);
-    let text = scene.journal.got(Called::ReplyText, text)?;
+    let text = scene.journal.got("reply_text", text)?;
     let other = written(scene.alloc, reply);
-    let other = scene.journal.got(Called::WriteReply, other)?;
-    scene.journal.made(Called::ReplyText, text == other);
+    let other = scene.journal.got("write_reply", other)?;
+    scene.journal.made("reply_text", text == other);
     Ok(())
 }
 

@@ -1,16 +1,17 @@
 //! What a scenario goes through: a desk and a shelf, the commands that a session says there, and the
 //! desk settled as `asm_run` has it.
 
+use crate::assembling::asm_answer;
 use crate::place::serve;
-use crate::sweeps::decks::{DECKS, asm_answer};
-use crate::sweeps::notes::{Called, Journal};
+use crate::sweeps::decks::DECKS;
+use crate::sweeps::notes::{Called, Journal, called};
 use deck_files::{MemoryShelf, Shelf};
 use deck_workers::{Settled, settle};
 use desk_core::Desk;
 use session_line::Calls;
 use std::alloc::{AllocError, Global};
 use std::hash::RandomState;
-use test_parts::name_of;
+use test_parts::{name_of, plain_text};
 use text_ports::Counted;
 
 /// How many bytes most replies have at most.
@@ -22,8 +23,16 @@ const REFUSED: &[u8] = b"NO ";
 /// The reply of a command that found no memory.
 const LACKING: &[u8] = b"NO OutOfMemory\n";
 
-/// What a command calls, its lines, and its reply.
-pub type Command = (Called, &'static str, &'static str);
+/// What stands in front of each command in a table of them, which is written as a transcript: `|` ends a line of the
+/// command, and the reply is the lines below.
+pub const COMMAND: &str = "> ";
+
+/// The lines of a command.
+pub fn lines_of(alloc: Global, command: &str) -> Result<String, AllocError> {
+    let mut lines = plain_text(alloc, command)?;
+    lines.push_str("\n")?;
+    Ok(lines)
+}
 
 /// The reply to a command. The error is that there is no memory to write it to.
 fn replied<C: Calls, S: Shelf>(
@@ -196,10 +205,20 @@ impl Scene {
         self.journal.made(call, reply.as_slice() == wanted);
     }
 
-    /// Says commands, one after the other.
-    pub fn say_all(&mut self, commands: &[Command]) {
-        for (call, lines, reply) in commands {
-            self.say(*call, lines.as_bytes(), reply.as_bytes());
+    /// Says a command of a table.
+    pub fn say_one(&mut self, command: &'static str, reply: &str) {
+        match lines_of(self.alloc, command) {
+            Ok(lines) => self.say(called(command), lines.as_bytes(), reply.as_bytes()),
+            Err(error) => self.journal.keep(Err(error)),
+        }
+    }
+
+    /// Says the commands of a table, one after the other.
+    pub fn say_all(&mut self, commands: &'static str) {
+        for step in commands.split(COMMAND) {
+            if let Some((command, reply)) = step.split_once("\n") {
+                self.say_one(command, reply);
+            }
         }
     }
 
@@ -208,13 +227,13 @@ impl Scene {
         for deck in &DECKS {
             self.put(deck.name, deck.lines);
         }
-        self.say_all(&LOADS);
+        self.say_all(LOADS);
     }
 
     /// Loads the first of them.
     pub fn load_first(&mut self) {
         self.put(DECKS[0].name, DECKS[0].lines);
-        self.say_all(LOADS.split_at(1).0);
+        self.say("LOAD", b"LOAD MAIN\n", b"OK 1\n");
     }
 
     /// Settles the desk in so many turns: whether all of it is published then. Cards and versions are as
@@ -222,9 +241,9 @@ impl Scene {
     fn settle_once(&mut self, turns: u32, before: &[u8]) -> bool {
         let is_settled = is_settled(self.alloc, self.keys, &mut self.desk, turns);
         let is_kept = self.state().as_slice() == before;
-        self.journal.kept(Called::Settle, is_kept);
+        self.journal.kept("settle", is_kept);
         if !is_settled {
-            self.journal.refused(Called::Settle, true);
+            self.journal.refused("settle", true);
         }
         is_settled
     }
@@ -233,14 +252,14 @@ impl Scene {
     fn settle(&mut self, turns: u32) {
         let before = self.state();
         let is_settled = self.settle_once(turns, &before) || self.settle_once(turns, &before);
-        self.journal.made(Called::Settle, is_settled);
+        self.journal.made("settle", is_settled);
     }
 
     /// Puts what a command shows of the publication behind another text.
     fn push_shown(&mut self, text: &mut Vec<u8>, lines: &[u8]) -> Result<(), AllocError> {
         let mut reply = self.replied(lines)?;
         if reply.as_slice() == LACKING {
-            self.journal.refused(Called::Show, true);
+            self.journal.refused("LIST, IMAGE, MAP or ERRORS", true);
             reply = self.replied(lines)?;
         }
         let reply = str::from_utf8(&reply).unwrap_or("");
@@ -260,16 +279,19 @@ impl Scene {
         self.settle(turns);
         let input = self.texts(true)?;
         let answer = asm_answer(self.alloc, &input);
-        let wanted = self.journal.got(Called::AsmRun, answer)?;
+        let wanted = self.journal.got("asm_run", answer)?;
         let found = self.shown()?;
-        self.journal.made(Called::Show, found == wanted);
+        self.journal
+            .made("LIST, IMAGE, MAP or ERRORS", found == wanted);
         Ok(())
     }
 }
 
 /// The commands that load the three decks.
-const LOADS: [Command; 3] = [
-    (Called::LoadDeck, "LOAD MAIN\n", "OK 1\n"),
-    (Called::LoadDeck, "LOAD DATAS\n", "OK 2\n"),
-    (Called::LoadDeck, "LOAD CONST\n", "OK 3\n"),
-];
+const LOADS: &str = "> LOAD MAIN
+OK 1
+> LOAD DATAS
+OK 2
+> LOAD CONST
+OK 3
+";

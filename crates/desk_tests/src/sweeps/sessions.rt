@@ -1,10 +1,10 @@
 //! Scenarios of sessions: lines that are served where there is no memory, and where each read and each
 //! write fails in turn.
 
+use crate::failing::Failing;
 use crate::place::serve;
-use crate::sweeps::notes::Called;
-use crate::sweeps::pieces::{Came, Failing, Tries, fail_all, held};
-use crate::sweeps::scene::{Command, Scene};
+use crate::sweeps::pieces::{Came, Tries, fail_all, held};
+use crate::sweeps::scene::{COMMAND, Scene, lines_of};
 use session_line::Outcome;
 use std::alloc::{AllocError, Global};
 use test_parts::fixed_keys;
@@ -24,86 +24,100 @@ const TURNS: u32 = 8;
 const LACKING: &str = "NO OutOfMemory\n";
 
 /// Commands with their lines, and their replies.
-const COMMANDS: [Command; 24] = [
-    (Called::AddDeck, "ADD M\n", "OK 1\n"),
-    (Called::EditDeck, "INS M 1 1           IDENT  M\n", "OK 2\n"),
-    (
-        Called::Batch,
-        "BATCH M 2 3\nINS 2           EXT    GO\nINS 3           RJ     GO\nREP 2 *\n",
-        "OK 3\n",
-    ),
-    (
-        Called::Batch,
-        "BATCH M 3 2\nDEL 2\nDEL 9\n",
-        "NO BadEdit 2 NoSuchCard\n",
-    ),
-    (
-        Called::Cards,
-        "CARDS M\n",
-        "OK 3 3\n          IDENT  M\n*\n          RJ     GO\n",
-    ),
-    (
-        Called::Cards,
-        "CARDS M 3 5\n",
-        "OK 3 1\n          RJ     GO\n",
-    ),
-    (
-        Called::Changes,
-        "CHANGES M 2\n",
-        "OK 3 4\nCHANGE 3 0 3\nINS 2           EXT    GO\nINS 3           RJ     GO\nREP 2 *\n",
-    ),
-    (
-        Called::CardsAt,
-        "CARDS M AT 2\n",
-        "OK 2 1\n          IDENT  M\n",
-    ),
-    (Called::Find, "FIND M  M\n", "OK 3 1\n1\n"),
-    (Called::SaveDeck, "SAVE M\n", "OK 3\n"),
-    (Called::LoadDeck, "LOAD N\n", "OK 4\n"),
-    (
-        Called::Status,
-        "STATUS FILES\n",
-        "OK 4 3\nPUBLISHED NONE\nM 3 3 BEHIND SAVED\nN 4 4 BEHIND SAVED\n",
-    ),
-    (
-        Called::PutDeck,
-        "PUT N 4 2\n*\n*a\n",
-        "NO BadLine 2 BadCharacter 2\n",
-    ),
-    (
-        Called::PutDeck,
-        "PUT N 4 4\n          IDENT  N\n          ENTRY  GO\nGO        SA1    =8\n          END\n",
-        "OK 5\n",
-    ),
-    (Called::LoadDeck, "LOAD Q\n", "NO CannotOpen\n"),
-    (Called::EditDeck, "DEL M 1 1\n", "NO OldVersion 3\n"),
-    (Called::EditSince, "INS M 2+ 2 *X\n", "OK 6\n"),
-    (Called::Undo, "UNDO M 5\n", "NO NoChange\n"),
-    (Called::Undo, "UNDO M 3\n", "OK 7\n"),
-    (
-        Called::Status,
-        "STATUS\n",
-        "OK 7 3\nPUBLISHED NONE\nM 7 2 BEHIND\nN 5 4 BEHIND\n",
-    ),
-    (Called::Show, "IMAGE\n", "NO NoPublication\n"),
-    (Called::Show, "MAP\n", "NO NoPublication\n"),
-    (Called::AddDeck, "ADD M+\n", "NO BadName\n"),
-    (Called::Bye, "BYE\n", "BYE\n"),
-];
+const COMMANDS: &str = "> ADD M
+OK 1
+> INS M 1 1           IDENT  M
+OK 2
+> BATCH M 2 3|INS 2           EXT    GO|INS 3           RJ     GO|REP 2 *
+OK 3
+> BATCH M 3 2|DEL 2|DEL 9
+NO BadEdit 2 NoSuchCard
+> CARDS M
+OK 3 3
+          IDENT  M
+*
+          RJ     GO
+> CARDS M 3 5
+OK 3 1
+          RJ     GO
+> CHANGES M 2
+OK 3 4
+CHANGE 3 0 3
+INS 2           EXT    GO
+INS 3           RJ     GO
+REP 2 *
+> CARDS M AT 2
+OK 2 1
+          IDENT  M
+> FIND M  M
+OK 3 1
+1
+> SAVE M
+OK 3
+> LOAD N
+OK 4
+> STATUS FILES
+OK 4 3
+PUBLISHED NONE
+M 3 3 BEHIND SAVED
+N 4 4 BEHIND SAVED
+> PUT N 4 2|*|*a
+NO BadLine 2 BadCharacter 2
+> PUT N 4 4|          IDENT  N|          ENTRY  GO|GO        SA1    =8|          END
+OK 5
+> LOAD Q
+NO CannotOpen
+> DEL M 1 1
+NO OldVersion 3
+> INS M 2+ 2 *X
+OK 6
+> UNDO M 5
+NO NoChange
+> UNDO M 3
+OK 7
+> STATUS
+OK 7 3
+PUBLISHED NONE
+M 7 2 BEHIND
+N 5 4 BEHIND
+> IMAGE
+NO NoPublication
+> MAP
+NO NoPublication
+> ADD M+
+NO BadName
+> BYE
+BYE
+";
 
 /// A session whose lines find memory or not.
 pub fn session(scene: &mut Scene) -> Result<(), AllocError> {
     scene.put("N", FILE);
-    scene.say_all(&COMMANDS);
+    scene.say_all(COMMANDS);
     scene.settle_as_asm(TURNS)
+}
+
+/// Puts the lines of a command, or its reply, behind others.
+fn push_text(
+    texts: &mut Vec<u8>,
+    alloc: Global,
+    command: &str,
+    reply: &str,
+    is_reply: bool,
+) -> Result<(), AllocError> {
+    if is_reply {
+        return texts.extend_from_slice(reply.as_bytes());
+    }
+    texts.extend_from_slice(lines_of(alloc, command)?.as_bytes())
 }
 
 /// The lines of all commands, or all replies.
 fn all(alloc: Global, is_replies: bool) -> Result<Vec<u8>, AllocError> {
     let mut texts = Vec::new(alloc);
-    for (_, lines, reply) in &COMMANDS {
-        let text = if is_replies { reply } else { lines };
-        texts.extend_from_slice(text.as_bytes())?;
+    for step in COMMANDS.split(COMMAND) {
+        if let Some((command, reply)) = step.split_once("\n") {
+            push_text(&mut texts, alloc, command, reply, is_replies)?;
+        }
     }
     Ok(texts)
 }
@@ -113,22 +127,25 @@ fn states(scene: &mut Scene) -> Result<Vec<Vec<u8>>, AllocError> {
     scene.put("N", FILE);
     let mut states = Vec::new(scene.alloc);
     states.push(scene.state())?;
-    for (call, lines, reply) in &COMMANDS {
-        scene.say(*call, lines.as_bytes(), reply.as_bytes());
-        states.push(scene.state())?;
+    for step in COMMANDS.split(COMMAND) {
+        if let Some((command, reply)) = step.split_once("\n") {
+            scene.say_one(command, reply);
+            states.push(scene.state())?;
+        }
     }
     Ok(states)
 }
 
-/// Serves a session up to its end: how it ended, and how many commands were executed.
+/// Serves a session of so many commands at most up to its end: how it ended, and how many were executed.
 fn serve_all(
     place: &mut Scene,
     input: &mut Counted<FaultyReader<'_>>,
     output: &mut Counted<FaultyWriter>,
+    most: usize,
 ) -> (Outcome, usize) {
     let mut outcome = Outcome::Served;
     let mut executed = 0;
-    for (number, _) in COMMANDS.iter().enumerate() {
+    for number in 0..most {
         executed = number;
         outcome = serve(
             place.alloc,
@@ -211,7 +228,7 @@ impl Tries for Dialogue {
         place.put("N", FILE);
         let mut input = Counted::new(failing.reader(&self.lines));
         let mut output = failing.writer(alloc);
-        let (outcome, executed) = serve_all(&mut place, &mut input, &mut output);
+        let (outcome, executed) = serve_all(&mut place, &mut input, &mut output, self.states.len());
         let writer = output.into_inner();
         let state = place.state();
         if place.journal.is_lacking {
@@ -228,5 +245,5 @@ pub fn failing(scene: &mut Scene) -> Result<(), AllocError> {
         replies: all(scene.alloc, true)?,
         states: states(scene)?,
     };
-    fail_all(scene, Called::Session, &dialogue, &[true, false])
+    fail_all(scene, "serve_one", &dialogue, &[true, false])
 }
