@@ -2,14 +2,12 @@
 //!
 //! `serve_all`: the session without a fault; `fail_reads`, `fail_writes`: with how many it ended as wanted.
 
-use crate::failing::Failing;
-use crate::outputs::Answer;
 use crate::place::{push_outcome, serve};
 use deck_files::MemoryShelf;
 use desk_core::Desk;
 use session_line::Outcome;
 use std::alloc::{AllocError, Global};
-use test_parts::{fixed_keys, name_of};
+use test_parts::{Answer, Failing, fixed_keys, name_of};
 use text_ports::{Counted, FaultyWriter};
 
 /// Makes a step of this word, if it is one of this session, and answers whether it is.

@@ -5,15 +5,12 @@
 //! ports that give and take so many bytes at a time, and fail at the calls of these numbers; `run_line LINE`:
 //! whether a run writes this line; `statuses`: those of want of memory, and of a link that is missing.
 
-use crate::assembling::assembled;
-use crate::failing::Failing;
-use crate::outputs::Answer;
 use asm_main::{AsmFault, Tally, asm_status};
 use cards::Card;
 use deck_files::{LoadFault, load, save};
 use std::alloc::{AllocError, Global};
 use std::io::{BufReader, Read, Write};
-use test_parts::{cards_of, number};
+use test_parts::{Answer, Failing, assembled, cards_of, number};
 use text_ports::{Broken, Counted, FaultyReader, FaultyWriter};
 
 /// Makes a step of this word, if it is one of files, and answers whether it is.

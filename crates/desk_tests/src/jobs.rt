@@ -8,8 +8,6 @@
 //! the last 32 bytes of its image; `meter`: how many statements were sized and coded; `lost`: a job whose
 //! edit does not apply.
 
-use crate::assembling::{object_of, record_of};
-use crate::outputs::Answer;
 use cards::{Card, Edit};
 use deck_linker::{ListedPublication, publish};
 use deck_listing::ListedObject;
@@ -21,7 +19,9 @@ use desk_core::{
 use session_line::Calls;
 use std::alloc::{AllocError, Global};
 use std::hash::RandomState;
-use test_parts::{card_of, cards_of, cut, cut_number, fixed_keys, name_of, number};
+use test_parts::{
+    Answer, card_of, cards_of, cut, cut_number, fixed_keys, name_of, number, object_of, record_of,
+};
 use text_ports::Counted;
 use work_meter::Meter;
 

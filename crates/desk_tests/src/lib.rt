@@ -3,20 +3,13 @@
 //! comes of it. It is proved beside the journal and the service, and not behind them.
 #![tactic(auto)]
 
-// What steps assemble, by which ports, and what they write.
-mod assembling;
-mod failing;
-mod outputs;
-
 // Steps, lowest first.
-mod breaking;
 mod faults;
 mod files;
 mod jobs;
 mod lines;
 mod offices;
 mod place;
-mod refusing;
 mod shelves;
 mod workers;
 
@@ -25,7 +18,6 @@ mod sweeps;
 
 use deck_files::KnownFiles;
 pub use jobs::{ask, push_told};
-pub use outputs::Answer;
 pub use place::Place;
 use std::alloc::AllocGlobal;
 use std::fs::File;
@@ -34,6 +26,7 @@ use std::sync::Wait;
 use std::thread::Threads;
 use std::time::Clock;
 pub use sweeps::{Ended, run_chosen};
+use test_parts::Answer;
 
 /// Makes a step that stands in no place, and answers whether there is one of this word.
 fn make_alone<R: AllocGlobal + Threads + Wait + Sync + Files<File = File> + Clock + Clone + Drop>(

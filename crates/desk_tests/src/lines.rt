@@ -2,11 +2,11 @@
 //!
 //! `line TEXT`: a command, or the first line of one; `batch_line TEXT`: a line of a batch.
 
-use crate::outputs::Answer;
 use cards::{Card, DeckName, Edit};
 use session_commands::{
     CardsView, Command, ErrorsView, Refusal, Seen, read_batch_line, read_command,
 };
+use test_parts::Answer;
 
 /// Makes a step of this word, if it is one of lines, and answers whether it is.
 pub fn make(word: &str, rest: &str, answer: &mut Answer) -> bool {

@@ -8,9 +8,7 @@
 ghost use Rattle.std.specs.Prelude.{◌≡◌, ◌+◌, ◌-◌, ◌^◌, ◌≤◌, min, IfOk};
 ghost use Rattle.turn_office.specs.Seats.{AreOf};
 
-use crate::failing::Failing;
 use crate::jobs::{addition, push_reply, push_told};
-use crate::outputs::Answer;
 use crate::place::serve_ports;
 use deck_files::MemoryShelf;
 use desk_core::{Call, Desk, Reply};
@@ -20,7 +18,7 @@ use std::mem::size_of;
 use std::sync::Wait;
 use std::thread;
 use std::thread::Threads;
-use test_parts::{cut_number, fixed_keys, name_of};
+use test_parts::{Answer, Failing, cut_number, fixed_keys, name_of};
 use turn_office::{CloseFault, Office, Seat, SeatList, Sequential};
 
 /// How many calls each thread makes.

@@ -7,7 +7,6 @@ ghost use Rattle.std.specs.Prelude.{◌≡◌, IfOk};
 ghost use Rattle.std.specs.Thread.{IsSync};
 
 use crate::jobs::{addition, ask, push_reply};
-use crate::outputs::Answer;
 use crossbeam_channel::Receiver;
 use deck_workers::{Bell, Gate, NoSubscriber, OpenGate, worker};
 use desk_core::{Call, Desk, Reply};
@@ -19,7 +18,7 @@ use std::sync::atomic::{AtomicU64, Ordering};
 use std::thread;
 use std::thread::Threads;
 use std::time::Clock;
-use test_parts::fixed_keys;
+use test_parts::{Answer, fixed_keys};
 use turn_office::{Office, Seat};
 
 /// Makes a step of this word, if it is one of workers, and answers whether it is.

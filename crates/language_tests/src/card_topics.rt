@@ -60,8 +60,7 @@ fn statements_of(answer: &mut Answer, marks: &str) -> Result<(), AllocError> {
     let list = statements(answer.alloc, &cards)?;
     answer.decimal(list.as_slice().len() as u64);
     for span in list.as_slice() {
-        let word = format!(in answer.alloc; "{}+{}", span.start, span.count);
-        answer.made(word);
+        answer.word(format!(in answer.alloc; "{}+{}", span.start, span.count)?.as_str());
     }
     Ok(())
 }

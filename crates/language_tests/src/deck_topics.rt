@@ -5,12 +5,12 @@ use crate::expression_topics::form;
 use crate::item_topics::item;
 use crate::outputs::Answer;
 use crate::statement_topics::{bases_shown, meter};
-use cards::{Card, DeckName, Edit};
+use cards::{Card, Edit};
 use deck_assembler::{Piece, SizedDeck, object_parts};
 use deck_objects::{CodedLine, Line, LineFields, ObjectParts};
 use edit_core::{Kept, RecordFault};
 use std::alloc::{AllocError, Global};
-use test_parts::{cut, fixed_keys, size};
+use test_parts::{counted_record, cut, name_of, new_record, size};
 use work_meter::Meter;
 
 /// Whether this is one of the topics here; what is found of the text is then in the answer.
@@ -192,24 +192,6 @@ fn names(answer: &mut Answer, parts: &ObjectParts) {
     bases_shown(answer, &parts.bases)
 }
 
-/// The record of a deck named M, if it has at most 20,000 cards.
-pub fn record_of(
-    alloc: Global,
-    cards: Vec<Card>,
-    done: &mut Meter,
-) -> Result<Option<Kept>, AllocError> {
-    match DeckName::read(b"M") {
-        Ok(name) if cards.len() <= 20_000 => Ok(Some(Kept::new(
-            alloc,
-            fixed_keys()?,
-            name,
-            cards,
-            done,
-        )?)),
-        _ => Ok(None),
-    }
-}
-
 /// A record: its name, its cards, how many statements its pieces have, what was done, and how many
 /// lines its object has.
 fn record_shown(answer: &mut Answer, kept: &Kept, done: &Meter) {
@@ -223,12 +205,11 @@ fn record_shown(answer: &mut Answer, kept: &Kept, done: &Meter) {
 
 /// The record of the deck of these lines.
 fn record(answer: &mut Answer, text: &str) -> Result<(), AllocError> {
-    let mut done = work_meter::begin();
+    let name = name_of("M")?;
     let cards = repeated_cards(answer.alloc, text)?;
-    match record_of(answer.alloc, cards, &mut done)? {
-        Some(kept) => record_shown(answer, &kept, &done),
-        None => answer.word("no record"),
-    }
+    let mut done = work_meter::begin();
+    let kept = counted_record(answer.alloc, name, cards, &mut done)?;
+    record_shown(answer, &kept, &done);
     Ok(())
 }
 
@@ -279,15 +260,9 @@ fn make_edits(
 /// card at place 20 goes, and `I20`, this card comes in at place 20.
 fn record_edits(answer: &mut Answer, text: &str, card: &[u8]) -> Result<(), AllocError> {
     let (count, words) = cut(text);
-    let mut done = work_meter::begin();
-    let cards = comment_cards(answer.alloc, count)?;
-    match record_of(answer.alloc, cards, &mut done)? {
-        Some(mut kept) => make_edits(answer, &mut kept, words, card),
-        None => {
-            answer.word("no record");
-            Ok(())
-        }
-    }
+    let name = name_of("M")?;
+    let mut kept = new_record(answer.alloc, name, comment_cards(answer.alloc, count)?)?;
+    make_edits(answer, &mut kept, words, card)
 }
 
 /// So many comment cards.

@@ -1,15 +1,15 @@
 //! Decks that are edited: behind each edit a record gives the listing and the image of a new deck of the
 //! same cards.
 
-use crate::deck_topics::{record_of, repeated_cards};
+use crate::deck_topics::repeated_cards;
 use crate::outputs::Answer;
 use crate::statement_topics::{Counts, put_counts};
 use cards::{Card, Edit, edited_copy};
 use deck_linker::{Publication, link};
 use deck_objects::SharedObject;
-use edit_core::{Kept, RecordFault, assemble};
+use edit_core::{Kept, RecordFault};
 use std::alloc::{AllocError, Global};
-use test_parts::{cut, fixed_keys, number};
+use test_parts::{cut, fixed_keys, name_of, new_object, new_record, number};
 use work_meter::Meter;
 
 /// Whether this is a topic here; what is found of the text is then in the answer.
@@ -30,15 +30,9 @@ fn edited_deck(
     edits: &str,
     is_counted: bool,
 ) -> Result<(), AllocError> {
-    let mut done = work_meter::begin();
-    let cards = repeated_cards(answer.alloc, deck)?;
-    match record_of(answer.alloc, cards, &mut done)? {
-        Some(mut kept) => edited(answer, &mut kept, edits, is_counted),
-        None => {
-            answer.word("no deck");
-            Ok(())
-        }
-    }
+    let name = name_of("M")?;
+    let mut kept = new_record(answer.alloc, name, repeated_cards(answer.alloc, deck)?)?;
+    edited(answer, &mut kept, edits, is_counted)
 }
 
 /// Makes the edits of these lines, one after the other, and looks after each.
@@ -120,12 +114,8 @@ fn is_edited(
 
 /// The link of a new object of a record's cards.
 fn published_anew(alloc: Global, kept: &Kept) -> Result<Publication, AllocError> {
-    let mut done = work_meter::begin();
     let cards = edited_copy(alloc, kept.cards(), &[])?;
-    published(
-        alloc,
-        assemble(alloc, fixed_keys()?, kept.name().copied(), cards, &mut done)?,
-    )
+    published(alloc, new_object(alloc, kept.name().copied(), cards)?)
 }
 
 /// Whether listing and image of a record's object are those of a new object of its cards.

@@ -2,13 +2,10 @@
 
 use crate::deck_topics::repeated_cards;
 use crate::outputs::Answer;
-use cards::DeckName;
 use deck_linker::{Layout, Publication, link};
-use deck_objects::SharedObject;
-use edit_core::assemble;
 use expr_forms::Name;
 use std::alloc::{AllocError, Global};
-use test_parts::fixed_keys;
+use test_parts::{fixed_keys, name_of, new_object};
 
 /// Whether this is one of the topics here; what is found of the text is then in the answer.
 pub fn answer(answer: &mut Answer, topic: &str, text: &str) -> Result<bool, AllocError> {
@@ -23,30 +20,13 @@ pub fn answer(answer: &mut Answer, topic: &str, text: &str) -> Result<bool, Allo
     Ok(true)
 }
 
-/// The object of a deck.
-fn object_of(alloc: Global, name: &str, text: &str) -> Result<Option<SharedObject>, AllocError> {
-    let cards = repeated_cards(alloc, text)?;
-    let mut done = work_meter::begin();
-    match DeckName::read(name.as_bytes()) {
-        Ok(name) if cards.len() <= 20_000 => Ok(Some(assemble(
-            alloc,
-            fixed_keys()?,
-            name,
-            cards,
-            &mut done,
-        )?)),
-        _ => Ok(None),
-    }
-}
-
 /// The link of decks as version 7: each begins with a line of its name behind `=`.
 fn published(alloc: Global, text: &str) -> Result<Publication, AllocError> {
     let mut objects = Vec::new(alloc);
     for deck in text.split("=") {
         if let Some((name, lines)) = deck.split_once("\n") {
-            if let Some(object) = object_of(alloc, name, lines)? {
-                objects.push(object)?;
-            }
+            let name = name_of(name)?;
+            objects.push(new_object(alloc, name, repeated_cards(alloc, lines)?)?)?;
         }
     }
     link(alloc, fixed_keys()?, objects, 7)

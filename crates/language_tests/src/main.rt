@@ -3,9 +3,9 @@
 //! each row or case that differs, and a line at the end of each kind how many are as wanted. The status is 1
 //! where a row or a case differs, and 2 where a table or the list of the cases can't be read.
 //!
-//! A table is a file of `data/` with the name of its topic. The lines of a row's text stand in front
-//! of an arrow, and what is wanted behind it; a line that begins with `# ` says something of the rows
-//! below.
+//! A table is a file of `data/` with the name of its topic; the file `topics` has these names, lowest first. The
+//! lines of a row's text stand in front of an arrow, and what is wanted behind it; a line that begins with `# ` says
+//! something of the rows below.
 #![tactic(auto)]
 
 mod block_topics;
@@ -32,99 +32,12 @@ mod tables;
 use cases::run_cases;
 use outputs::Answer;
 use score::Score;
-use std::alloc::{AllocError, AllocGlobal, Global};
-use std::io;
+use std::alloc::{AllocError, AllocGlobal};
 use std::process::ExitCode;
 use std::rt::Files;
+use std::{fs, io};
 use tables::{Row, rows_of};
 use test_parts::fixed_keys;
-
-/// The topics, lowest first.
-const TOPICS: [&str; 83] = [
-    "displays",
-    "octals",
-    "lines",
-    "writes",
-    "texts",
-    "short_texts",
-    "cards",
-    "deck_names",
-    "statements",
-    "fields",
-    "card_fields",
-    "edit_faults",
-    "first_faults",
-    "edits",
-    "operations",
-    "classes",
-    "deck_kinds",
-    "settings",
-    "letters",
-    "central_codes",
-    "central_tables",
-    "central_digits",
-    "central",
-    "central_ignoring",
-    "peripheral_codes",
-    "peripheral",
-    "peripheral_ignoring",
-    "values",
-    "octal_values",
-    "undefined_values",
-    "elements",
-    "sums",
-    "signs",
-    "signs_beside",
-    "whole_items",
-    "literals",
-    "symbols",
-    "plain",
-    "plain_literals",
-    "one_values",
-    "subfields",
-    "operands",
-    "data",
-    "octal_data",
-    "con",
-    "con_literals",
-    "vfd",
-    "dis",
-    "octal_dis_periph",
-    "entries",
-    "uses",
-    "bases",
-    "are_symbols",
-    "items",
-    "values_in_fields",
-    "number_literals",
-    "characters",
-    "item_fields",
-    "negative_numbers",
-    "zeros",
-    "widths",
-    "instruction_fields",
-    "literal_lists",
-    "literal_limits",
-    "sizes",
-    "codes",
-    "effects",
-    "states",
-    "block_bases",
-    "counters",
-    "sized_decks",
-    "symbols_of_decks",
-    "lines_of_decks",
-    "parts_of_decks",
-    "records",
-    "record_edits",
-    "record_kinds",
-    "edited_decks",
-    "counted_edits",
-    "listings",
-    "ends_of_listings",
-    "images",
-    "layouts",
-];
 
 /// The status where a table or the list of the cases can't be read.
 const NOTHING_STATUS: u8 = 2;
@@ -160,22 +73,23 @@ fn upper_answer(answer: &mut Answer, topic: &str, text: &str) -> Result<bool, Al
     )
 }
 
-/// What the topic's layer makes of a text.
-fn answer(alloc: Global, topic: &str, text: &str) -> Result<String, AllocError> {
-    let mut answer = Answer::new(alloc, fixed_keys()?);
-    let is_known = lower_answer(&mut answer, topic, text)?
-        || field_answer(&mut answer, topic, text)?
-        || upper_answer(&mut answer, topic, text)?;
+/// Answers what the topic's layer makes of a text.
+fn find(answer: &mut Answer, topic: &str, text: &str) -> Result<(), AllocError> {
+    let is_known = lower_answer(answer, topic, text)?
+        || field_answer(answer, topic, text)?
+        || upper_answer(answer, topic, text)?;
     if !is_known {
         answer.word("no such topic");
     }
-    answer.into_text()
+    Ok(())
 }
 
 /// Whether what is found for a row is as wanted; a line tells where it is not.
 fn is_met<R: AllocGlobal + Print>(rt: &R, topic: &str, row: &Row) -> io::Result<bool> {
-    let found = answer(rt.alloc(), topic, row.text.as_str())?;
-    let is_met = found.as_str() == row.wanted.as_str();
+    let mut answer = Answer::new(rt.alloc(), fixed_keys()?);
+    find(&mut answer, topic, row.text.as_str())?;
+    let found = answer.text()?;
+    let is_met = found == row.wanted.as_str();
     if !is_met {
         println!(rt; "{topic}: {} -> {found}, not {}", row.text, row.wanted)?;
     }
@@ -199,7 +113,7 @@ fn run_topic<R: AllocGlobal + Files + Print>(
 /// Goes through all tables, and tells how many rows are as wanted.
 fn run_rows<R: AllocGlobal + Files + Print>(rt: &R) -> io::Result<Score> {
     let mut score = Score::none();
-    for topic in &TOPICS {
+    for topic in fs::read_to_string(rt, "topics")?.as_str().lines() {
         score = run_topic(rt, topic, score)?;
     }
     println!(rt; "rows: {score}")?;

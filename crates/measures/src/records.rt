@@ -1,13 +1,13 @@
 //! What an edit of a record costs beside a new record: a card replaced in the middle of a deck, a hundred
 //! cards within a thousand, and twenty all over the deck.
 
-use cards::{Card, Edit, MOST_CARDS, edited_copy};
+use cards::{Card, Edit, edited_copy};
 use edit_core::Kept;
 use std::alloc::{AllocError, AllocGlobal, Global};
 use std::rt::Files;
 use std::time::{CpuClock, Duration};
 use std::{fs, io};
-use test_parts::{cards_of, fixed_keys, name_of};
+use test_parts::{cards_of, counted_record, fixed_keys, name_of};
 use work_meter::Meter;
 
 /// How often each is measured; the least time counts.
@@ -57,13 +57,9 @@ fn replacements(alloc: Global, spread: Spread) -> Result<Vec<Edit>, AllocError> 
 
 /// A new record of these cards, as many as a deck may have.
 fn record_of(alloc: Global, cards: &[Card], meter: &mut Meter) -> io::Result<Kept> {
-    let keys = fixed_keys()?;
     let name = name_of("M")?;
     let cards = edited_copy(alloc, cards, &[])?;
-    if cards.len() > MOST_CARDS {
-        return Err(io::Error::other("no such deck"));
-    }
-    Ok(Kept::new(alloc, keys, name, cards, meter)?)
+    Ok(counted_record(alloc, name, cards, meter)?)
 }
 
 /// What a new record costs.

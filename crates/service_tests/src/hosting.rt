@@ -8,7 +8,6 @@ ghost use Rattle.desk_service.specs.Services.{AreInRange};
 
 use crate::sockets::{ADDRESS, Addresses, Client, are_in_range, gather, say_all, settings_of};
 use desk_service::{Settings, serve, stop};
-use desk_tests::Answer;
 use std::alloc::{AllocGlobal, Global};
 use std::fs::File;
 use std::net::{Net, SocketAddr, TcpListener, TcpStream};
@@ -18,6 +17,7 @@ use std::sync::Wait;
 use std::thread::Threads;
 use std::time::{Clock, Duration};
 use std::{io, thread};
+use test_parts::Answer;
 
 /// How often it is looked whether a service listens: a thousandth of a second lies between two looks.
 const LOOKS: u64 = 1_000;

@@ -6,14 +6,14 @@
 
 use deck_files::Moment;
 use desk_core::Call;
-use desk_tests::{Answer, ask, push_told};
+use desk_tests::{ask, push_told};
 use journal::{
     Ending, JournalFault, Next, Place, ReplayFault, Replayed, compacted_text, next_record,
     record_text, replay,
 };
 use std::alloc::{AllocError, Global};
 use std::io::Read;
-use test_parts::{fixed_keys, name_of, number};
+use test_parts::{Answer, fixed_keys, name_of, number};
 use text_ports::{Counted, FaultyReader, Text};
 
 /// Makes a step of this word, if it is one of journals, and answers whether it is.

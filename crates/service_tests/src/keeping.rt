@@ -8,7 +8,6 @@ use cards::Edit;
 use deck_files::Moment;
 use desk_core::{Call, Desk, NewDeck, Refusal, Reply};
 use desk_service::{Journal, SessionKeeper, SystemFile};
-use desk_tests::Answer;
 use journal::{Batch, Change, Ending, JournalFile, Mark, Queue, RecordsFile, draft_change, replay};
 use kept_desk::Keeping;
 use session_line::Calls;
@@ -18,7 +17,7 @@ use std::io;
 use std::io::{ErrorKind, Seek, SeekFrom, Write};
 use std::sync::{Mutex, Wait};
 use std::time::Clock;
-use test_parts::{card_of, fixed_keys, name_of, number};
+use test_parts::{Answer, card_of, fixed_keys, name_of, number};
 use text_ports::{Counted, FaultyReader};
 
 /// Makes a step of this word, if it is one of what is kept, and answers whether it is.

@@ -17,7 +17,7 @@ mod replies;
 mod sockets;
 
 use deck_files::KnownFiles;
-use desk_tests::{Answer, Place, run_chosen};
+use desk_tests::{Place, run_chosen};
 use std::alloc::AllocGlobal;
 use std::fs::File;
 use std::net::{Net, TcpListener, TcpStream};
@@ -28,7 +28,7 @@ use std::sync::Wait;
 use std::thread::Threads;
 use std::time::Clock;
 use std::{env, fs, io};
-use test_parts::{cut, fixed_keys, plain_text};
+use test_parts::{Answer, cut, fixed_keys, plain_text};
 
 /// The transcripts, lowest first.
 const TRANSCRIPTS: [&str; 12] = [

@@ -10,11 +10,10 @@ use cards::{Card, CardFault, EditFault, MOST_CARDS};
 use deck_files::{LoadFault, MOST_FILES, Moment};
 use desk_core::{Row, State};
 use desk_service::ServeFault;
-use desk_tests::Answer;
 use session_commands::Refusal;
 use session_line::{DeckOutcome, MarkedRow, Reply, ToldDeck, reply_text, write_reply};
 use std::alloc::{AllocError, Global};
-use test_parts::{cards_of, cut_line, name_of, number};
+use test_parts::{Answer, cards_of, cut_line, name_of, number};
 use text_ports::{Counted, FaultyWriter};
 
 /// Makes a step of this word, if it is one of replies, and answers whether it is.

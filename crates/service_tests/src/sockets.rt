@@ -11,7 +11,6 @@ ghost use Rattle.desk_service.specs.Services.{AreInRange};
 
 use crate::hosting::post;
 use desk_service::{Journaling, Settings, serve_on};
-use desk_tests::Answer;
 use std::alloc::{AllocGlobal, Global};
 use std::fs::File;
 use std::io::{self, BufRead, BufReader, Write};
@@ -22,7 +21,7 @@ use std::sync::Wait;
 use std::thread;
 use std::thread::Threads;
 use std::time::{Clock, Duration};
-use test_parts::{cut, cut_line, cut_number, number};
+use test_parts::{Answer, cut, cut_line, cut_number, number};
 
 /// Where a service listens: at a port that is free.
 pub(crate) const ADDRESS: &str = "127.0.0.1:0";

@@ -1,8 +1,6 @@
 //! Scenarios of decks whose texts are long, so that a run makes and sends them part by part: what goes
 //! out is held against the texts that are made whole.
 
-use crate::assembling::object_of;
-use crate::failing::Failing;
 use crate::sweeps::decks::DeckText;
 use crate::sweeps::pieces::{Came, Tries, fail_each, held, written};
 use crate::sweeps::ports::{AsmRun, try_whole, went_out};
@@ -12,7 +10,7 @@ use deck_linker::{Publication, link};
 use deck_objects::SharedObject;
 use std::alloc::{AllocError, Global};
 use std::io::BufRead;
-use test_parts::fixed_keys;
+use test_parts::{Failing, fixed_keys, object_of};
 use text_ports::Counted;
 
 /// How the decks begin: they enter names for each other, one that no deck enters is missing, and both

@@ -1,9 +1,9 @@
 //! Each read and each write of what is tried fails in turn, in pieces.
 
-use crate::failing::Failing;
 use crate::sweeps::notes::Called;
 use crate::sweeps::scene::Scene;
 use std::alloc::{AllocError, Global};
+use test_parts::Failing;
 
 /// How many calls of a port are failed at most.
 const MOST: u64 = 5000;

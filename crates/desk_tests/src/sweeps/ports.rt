@@ -1,8 +1,6 @@
 //! Scenarios of ports: each read and each write of a run, of a file that is loaded and of one that is
 //! saved fails in turn.
 
-use crate::assembling::{asm_answer, assembled};
-use crate::failing::Failing;
 use crate::sweeps::decks::DECKS;
 use crate::sweeps::notes::Called;
 use crate::sweeps::pieces::{Came, Tries, fail_all, held, try_twice, written};
@@ -12,7 +10,7 @@ use cards::{Card, MOST_CARDS};
 use deck_files::{LoadFault, load, save};
 use std::alloc::{AllocError, Global};
 use std::io::BufReader;
-use test_parts::cards_of;
+use test_parts::{Failing, asm_answer, assembled, cards_of};
 use text_ports::Counted;
 
 /// A deck with few bytes of output.

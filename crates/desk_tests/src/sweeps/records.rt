@@ -1,7 +1,6 @@
 //! Scenarios of records and of texts: a record that is edited is spent for want of memory, and its
 //! cards are as they were; texts and links are made of them.
 
-use crate::assembling::{asm_answer, new_record};
 use crate::sweeps::decks::{DECKS, DeckText, are_same, is_answer, push_lines};
 use crate::sweeps::notes::Called;
 use crate::sweeps::scene::Scene;
@@ -13,7 +12,7 @@ use edit_core::{FinishFault, Kept, RecordFault};
 use session_commands::read_batch_line;
 use std::alloc::{AllocError, Global};
 use std::hash::RandomState;
-use test_parts::{cards_of, name_of};
+use test_parts::{asm_answer, cards_of, name_of, new_record};
 use text_ports::Text;
 
 /// Edits of a deck, and the fault of each where there is memory.

@@ -1,7 +1,6 @@
 //! What a scenario goes through: a desk and a shelf, the commands that a session says there, and the
 //! desk settled as `asm_run` has it.
 
-use crate::assembling::asm_answer;
 use crate::place::serve;
 use crate::sweeps::decks::DECKS;
 use crate::sweeps::notes::{Called, Journal, called};
@@ -11,7 +10,7 @@ use desk_core::Desk;
 use session_line::Calls;
 use std::alloc::{AllocError, Global};
 use std::hash::RandomState;
-use test_parts::{name_of, plain_text};
+use test_parts::{asm_answer, name_of, plain_text};
 use text_ports::Counted;
 
 /// How many bytes most replies have at most.

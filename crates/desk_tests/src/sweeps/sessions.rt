@@ -1,13 +1,12 @@
 //! Scenarios of sessions: lines that are served where there is no memory, and where each read and each
 //! write fails in turn.
 
-use crate::failing::Failing;
 use crate::place::serve;
 use crate::sweeps::pieces::{Came, Tries, fail_all, held};
 use crate::sweeps::scene::{COMMAND, Scene, lines_of};
 use session_line::Outcome;
 use std::alloc::{AllocError, Global};
-use test_parts::fixed_keys;
+use test_parts::{Failing, fixed_keys};
 use text_ports::{Counted, FaultyReader, FaultyWriter};
 
 /// The file that the session loads.

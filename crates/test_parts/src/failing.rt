@@ -1,8 +1,8 @@
 //! Ports that give and take bytes in pieces, and fail where they are to.
 ghost use Rattle.std.specs.Prelude.{◌<◌};
 
+use crate::words::cut_number;
 use std::alloc::Global;
-use test_parts::cut_number;
 use text_ports::{Counted, FaultyReader, FaultyWriter};
 
 /// How many bytes a call of a port gives or takes at most, and the numbers of the read and of the write that

@@ -29,6 +29,10 @@ impl Answer {
         Ok(self.text.as_str())
     }
 
+    pub fn is_empty(&self) -> bool {
+        self.text.is_empty()
+    }
+
     /// Notes whether there was memory.
     pub fn keep(&mut self, done: Result<(), AllocError>) {
         self.is_lacking |= done.is_err();
@@ -36,6 +40,11 @@ impl Answer {
 
     pub fn push(&mut self, part: &str) {
         let done = self.text.push_str(part);
+        self.keep(done);
+    }
+
+    pub fn character(&mut self, character: char) {
+        let done = self.text.push(character);
         self.keep(done);
     }
 
@@ -51,7 +60,7 @@ impl Answer {
     }
 
     /// A part that was made, if there was memory for it.
-    fn made(&mut self, part: Result<String, AllocError>) {
+    pub fn made(&mut self, part: Result<String, AllocError>) {
         match part {
             Ok(part) => self.push(part.as_str()),
             Err(_) => self.is_lacking = true,

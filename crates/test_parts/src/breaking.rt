@@ -7,9 +7,9 @@ use text_ports::{Counted, FaultyWriter};
 
 /// A shelf without files, whose writer takes so many bytes at its first call, and fails at the second.
 #[derive(Drop)]
-pub(crate) struct BreakingShelf {
-    pub(crate) alloc: Global,
-    pub(crate) most: usize,
+pub struct BreakingShelf {
+    pub alloc: Global,
+    pub most: usize,
 }
 
 impl Shelf for BreakingShelf {
