@@ -1,8 +1,6 @@
 //! The files of the cases, in the folder `cases`: its file `cases` has their names, `NAME.deck` is the
 //! input, and `NAME.out`, `NAME.err` and `NAME.status` are the answer that is wanted. Those in
 //! `cases/examples` are the decks of `examples/` at the top of the repository.
-ghost use Rattle.std.specs.Prelude.{IfOk};
-ghost use Rattle.language_tests.specs.StatusTexts.{TellsStatus};
 
 use crate::case_answer::CaseAnswer;
 use std::alloc::AllocGlobal;
@@ -34,9 +32,7 @@ pub fn deck_of<R: AllocGlobal + Files>(rt: &R, name: &str) -> io::Result<Vec<u8>
 }
 
 /// The status that a file tells: its one digit, and 0 where there is no file.
-fn status_told(bytes: &[u8]) -> io::Result<u8>
-    ensures { IfOk result (λ status. TellsStatus bytes.now status) }
-{
+fn status_told(bytes: &[u8]) -> io::Result<u8> {
     match bytes {
         [] => Ok(0),
         [digit, b'\n'] if digit.is_ascii_digit() => Ok(*digit - b'0'),

@@ -116,7 +116,7 @@ fn run_rows<R: AllocGlobal + Files + Print>(rt: &R) -> io::Result<Score> {
     for topic in fs::read_to_string(rt, "topics")?.as_str().lines() {
         score = run_topic(rt, topic, score)?;
     }
-    println!(rt; "rows: {score}")?;
+    score.tell(rt, "rows")?;
     Ok(score)
 }
 
