@@ -72,8 +72,9 @@ struct Left {
 
 /// Serves the session on a new desk; the read and the write of these numbers fail.
 fn serve_failing(alloc: Global, lines: &str, read: u64, write: u64) -> Result<Left, AllocError> {
+    let keys = fixed_keys()?;
     let mut shelf = shelf_with_n(alloc)?;
-    let mut desk = Desk::new(alloc, fixed_keys()?);
+    let mut desk = Desk::new(alloc, keys);
     let piece = 1;
     let failing = Failing { piece, read, write };
     let mut input = Counted::new(failing.reader(lines.as_bytes()));

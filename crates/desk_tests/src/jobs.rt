@@ -303,17 +303,23 @@ fn result_of(alloc: Global, text: &str) -> Result<Call, AllocError> {
     }))
 }
 
-/// The publication of decks of these cards, one each.
+/// The objects of decks of these cards, one each.
+fn objects_of(alloc: Global, lines: &str) -> Result<Vec<ListedObject>, AllocError> {
+    let mut objects = Vec::new(alloc);
+    for line in lines.split_whitespace() {
+        objects.push(listed_of(alloc, line)?)?;
+    }
+    Ok(objects)
+}
+
+/// Their publication.
 fn publication_of(
     alloc: Global,
     lines: &str,
     version: u64,
 ) -> Result<SharedPublication, AllocError> {
-    let mut objects = Vec::new(alloc);
-    for line in lines.split_whitespace() {
-        objects.push(listed_of(alloc, line)?)?;
-    }
-    let publication = publish(alloc, fixed_keys()?, objects, version)?;
+    let keys = fixed_keys()?;
+    let publication = publish(alloc, keys, objects_of(alloc, lines)?, version)?;
     SharedPublication::new(alloc, publication)
 }
 
@@ -336,18 +342,24 @@ fn offer_of(alloc: Global, text: &str) -> Result<Call, AllocError> {
     })
 }
 
-/// Edits of M by which its second card goes and comes again, so many in all.
+/// Edits by which the second card of a deck goes and comes again, so many in all.
+fn edits_of(alloc: Global, count: u64) -> Result<Listed<Edit>, AllocError> {
+    let mut edits = Vec::new(alloc);
+    for edit in 0..count {
+        edits.push(to_or_fro(edit % 2 == 0)?)?;
+    }
+    Ok(Listed::new(edits))
+}
+
+/// So many edits of M.
 fn batch_of(alloc: Global, text: &str) -> Result<Call, AllocError> {
     let (seen, count) = cut_number(text);
     let (name, by) = (name_of("M")?, name_of("0")?);
-    let mut edits = Vec::new(alloc);
-    for edit in 0..number(count) {
-        edits.push(to_or_fro(edit % 2 == 0)?)?;
-    }
+    let edits = edits_of(alloc, number(count))?;
     Ok(Call::Batch {
         name,
         seen,
-        edits: Listed::new(edits),
+        edits,
         by,
     })
 }
@@ -363,8 +375,7 @@ fn to_or_fro(goes: bool) -> Result<Edit, AllocError> {
 /// A job of a deck of one card, of which the second is removed.
 fn job_that_does_not_apply(alloc: Global) -> Result<Job, AllocError> {
     let name = name_of("M")?;
-    let mut edits = Vec::new(alloc);
-    edits.push(Edit::Remove { at: 2 })?;
+    let edits = edits_of(alloc, 1)?;
     let start = Start::FromCards(DeckCards::new(alloc, cards_of(alloc, "*A")?)?);
     Ok(Job::Deck(DeckWork {
         lease: 7,
@@ -372,7 +383,7 @@ fn job_that_does_not_apply(alloc: Global) -> Result<Job, AllocError> {
         version: 2,
         name,
         start,
-        edits: Listed::new(edits),
+        edits,
     }))
 }
 

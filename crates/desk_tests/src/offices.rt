@@ -266,26 +266,46 @@ fn add_and_show<R: Wait>(
     show_cards(rt, office, second, answer)
 }
 
-/// An office over a desk, whose seats meet; closed with one of them, and with both.
-fn meet_at_desk<R: AllocGlobal + Wait>(rt: &R, answer: &mut Answer) -> Result<(), AllocError> {
-    let alloc = rt.alloc();
-    let keys = fixed_keys()?;
-    let Ok((office, mut seats)) = Office::open(alloc, Desk::new(alloc, keys), 2) else {
+/// An office over a desk, and its two seats.
+fn open_desk(alloc: Global) -> Result<(Office<Desk>, Seat<Desk>, Seat<Desk>), AllocError>
+    ensures { IfOk result (λ r. (r.1.office ≡ r.0.id) × (r.2.office ≡ r.0.id)) }
+{
+    let desk = Desk::new(alloc, fixed_keys()?);
+    let Ok((office, mut seats)) = Office::open(alloc, desk, 2) else {
         return Err(AllocError);
     };
-    let (Some(mut second), Some(mut first)) = (seats.pop(), seats.pop()) else {
-        return Err(AllocError);
-    };
-    add_and_show(rt, &office, &mut first, &mut second, answer)?;
-    let mut one = Vec::new(alloc);
+    match (seats.pop(), seats.pop()) {
+        (Some(second), Some(first)) => Ok((office, first, second)),
+        _ => Err(AllocError),
+    }
+}
+
+/// Closes an office with one of its two seats, and then with both.
+fn close_in_turn(
+    office: Office<Desk>,
+    first: Seat<Desk>,
+    second: Seat<Desk>,
+    answer: &mut Answer,
+) -> Result<(), AllocError>
+    requires first { first.office ≡ office.id }
+    requires second { second.office ≡ office.id }
+{
+    let mut one = Vec::new(answer.alloc);
     one.push(first)?;
     close_without(office, one, second, answer)
+}
+
+/// An office over a desk, whose seats meet; closed with one of them, and with both.
+fn meet_at_desk<R: AllocGlobal + Wait>(rt: &R, answer: &mut Answer) -> Result<(), AllocError> {
+    let (office, mut first, mut second) = open_desk(rt.alloc())?;
+    let done = add_and_show(rt, &office, &mut first, &mut second, answer);
+    answer.keep(done);
+    close_in_turn(office, first, second, answer)
 }
 
 /// Serves commands of a session on a desk, each from the second seat of its office: the number of the seat.
 fn serve_seated<R: Wait>(
     rt: &R,
-    alloc: Global,
     office: &Office<Desk>,
     seat: Seat<Desk>,
     lines: &str,
@@ -293,7 +313,7 @@ fn serve_seated<R: Wait>(
 )
     requires { seat.office ≡ office.now.id }
 {
-    let mut shelf = MemoryShelf::new(alloc);
+    let mut shelf = MemoryShelf::new(answer.alloc);
     let mut desk = SeatCalls::new(rt, office, seat);
     for line in lines.split_inclusive('\n') {
         serve_ports(&mut desk, &mut shelf, line, Failing::never(1), answer);
@@ -306,14 +326,7 @@ fn say_all<R: AllocGlobal + Wait>(
     lines: &str,
     answer: &mut Answer,
 ) -> Result<(), AllocError> {
-    let alloc = rt.alloc();
-    let desk = Desk::new(alloc, fixed_keys()?);
-    let Ok((office, mut seats)) = Office::open(alloc, desk, 2) else {
-        return Err(AllocError);
-    };
-    match seats.pop() {
-        Some(seat) => serve_seated(rt, alloc, &office, seat, lines, answer),
-        None => return Err(AllocError),
-    }
+    let (office, _, seat) = open_desk(rt.alloc())?;
+    serve_seated(rt, &office, seat, lines, answer);
     Ok(())
 }

@@ -81,13 +81,19 @@ fn object_at(alloc: Global, deck: &DeckText) -> Result<SharedObject, AllocError>
     object_of(alloc, deck.name, str::from_utf8(&lines).unwrap_or(""))
 }
 
-/// The publication of both decks, whose texts are made whole.
-fn published(alloc: Global) -> Result<Publication, AllocError> {
+/// The objects of both decks.
+fn objects_of(alloc: Global) -> Result<Vec<SharedObject>, AllocError> {
     let mut objects = Vec::new(alloc);
     for deck in &HEADS {
         objects.push(object_at(alloc, deck)?)?;
     }
-    link(alloc, fixed_keys()?, objects, 0)
+    Ok(objects)
+}
+
+/// The publication of both decks, whose texts are made whole.
+fn published(alloc: Global) -> Result<Publication, AllocError> {
+    let keys = fixed_keys()?;
+    link(alloc, keys, objects_of(alloc)?, 0)
 }
 
 /// What is held against what goes out.
@@ -96,11 +102,17 @@ fn whole_of(scene: &mut Scene) -> Result<Publication, AllocError> {
     scene.journal.got("link", published)
 }
 
+/// The output of a run with these texts.
+fn output_of(alloc: Global, whole: &Publication) -> Result<Vec<u8>, AllocError> {
+    let mut output = Vec::from_slice(alloc, whole.listing())?;
+    output.extend_from_slice(whole.image())?;
+    Ok(output)
+}
+
 /// What a run of these lines is held against.
 fn run_of<'i>(scene: &mut Scene, input: &'i [u8]) -> Result<AsmRun<'i>, AllocError> {
     let whole = whole_of(scene)?;
-    let mut output = Vec::from_slice(scene.alloc, whole.listing())?;
-    output.extend_from_slice(whole.image())?;
+    let output = output_of(scene.alloc, &whole)?;
     Ok(AsmRun { input, output })
 }
 

@@ -79,6 +79,14 @@ impl Journal {
         }
     }
 
+    /// What was found, if the scenario's own memory was not refused.
+    pub fn own<T: Drop>(&self, found: T) -> Result<T, AllocError> {
+        if self.is_lacking {
+            return Err(AllocError);
+        }
+        Ok(found)
+    }
+
     /// What a call gave that changes nothing. Where it found no memory, the scenario is begun again.
     pub fn got<T: Drop>(
         &mut self,

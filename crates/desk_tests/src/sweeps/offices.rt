@@ -72,28 +72,8 @@ fn version_of<R: Wait>(
     }
 }
 
-/// Makes a call that adds a deck, and answers whether it did. Without memory the version is as before.
+/// Adds a deck from a seat, and answers whether it did. Without memory the version is as before.
 fn add_once<R: Wait>(
-    rt: &R,
-    scene: &mut Scene,
-    office: &Office<Desk>,
-    seat: &mut Seat<Desk>,
-    call: Call,
-) -> bool
-    requires { seat.old.office ≡ office.now.id }
-    ensures { seat.new.office ≡ seat.old.office }
-{
-    let before = version_of(rt, scene, office, seat);
-    let told = ask(rt, office, seat, call);
-    let after = version_of(rt, scene, office, seat);
-    if told == Told::Refused(Refusal::OutOfMemory) {
-        scene.journal.refused("Seat::call", before == after);
-    }
-    before < after && told == Told::Version(after)
-}
-
-/// Adds a deck from a seat, and answers whether it did.
-fn try_to_add<R: Wait>(
     rt: &R,
     scene: &mut Scene,
     office: &Office<Desk>,
@@ -104,7 +84,13 @@ fn try_to_add<R: Wait>(
     ensures { seat.new.office ≡ seat.old.office }
 {
     let call = addition(scene.alloc, deck.name, deck.lines)?;
-    Ok(add_once(rt, scene, office, seat, call))
+    let before = version_of(rt, scene, office, seat);
+    let told = ask(rt, office, seat, call);
+    let after = version_of(rt, scene, office, seat);
+    if told == Told::Refused(Refusal::OutOfMemory) {
+        scene.journal.refused("Seat::call", before == after);
+    }
+    Ok(before < after && told == Told::Version(after))
 }
 
 /// Adds a deck from a seat, once more where there is no memory.
@@ -118,8 +104,8 @@ fn add<R: Wait>(
     requires { seat.old.office ≡ office.now.id }
     ensures { seat.new.office ≡ seat.old.office }
 {
-    let is_added = try_to_add(rt, scene, office, seat, deck)?
-        || try_to_add(rt, scene, office, seat, deck)?;
+    let is_added = add_once(rt, scene, office, seat, deck)?
+        || add_once(rt, scene, office, seat, deck)?;
     scene.journal.made("Seat::call", is_added);
     Ok(())
 }

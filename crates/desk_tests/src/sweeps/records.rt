@@ -157,14 +157,20 @@ fn compare(scene: &mut Scene, found: &Publication, input: &[u8]) -> Result<(), A
     Ok(())
 }
 
+/// The object of each deck after all edits, and the cards of all.
+fn all_edited(scene: &mut Scene, input: &mut Vec<u8>) -> Result<Vec<SharedObject>, AllocError> {
+    let mut objects = Vec::new(scene.alloc);
+    for deck in &DECKS {
+        objects.push(edited(scene, deck, input)?)?;
+    }
+    Ok(objects)
+}
+
 /// A record of each deck, edited and linked with the others: the bytes of `asm_run` for the edited
 /// cards.
 pub fn records(scene: &mut Scene) -> Result<(), AllocError> {
     let mut input = Vec::new(scene.alloc);
-    let mut objects = Vec::new(scene.alloc);
-    for deck in &DECKS {
-        objects.push(edited(scene, deck, &mut input)?)?;
-    }
+    let objects = all_edited(scene, &mut input)?;
     let found = link(scene.alloc, scene.keys, objects, 7);
     let found = scene.journal.got("link", found)?;
     compare(scene, &found, &input)

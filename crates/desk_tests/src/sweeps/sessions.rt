@@ -221,19 +221,24 @@ impl Dialogue {
     }
 }
 
+impl Dialogue {
+    /// What came of a session of all lines in a new place, by ports that fail.
+    fn came_in(&self, place: &mut Scene, failing: Failing) -> Came {
+        let mut input = Counted::new(failing.reader(&self.lines));
+        let mut output = failing.writer(place.alloc);
+        let (outcome, executed) = serve_all(place, &mut input, &mut output, self.states.len());
+        let state = place.state();
+        self.came(output.into_inner().taken(), &state, outcome, executed)
+    }
+}
+
 impl Tries for Dialogue {
     fn try_once(&self, alloc: Global, failing: Failing) -> Result<Came, AllocError> {
-        let mut place = Scene::new(alloc, fixed_keys()?);
+        let keys = fixed_keys()?;
+        let mut place = Scene::new(alloc, keys);
         place.put("N", FILE);
-        let mut input = Counted::new(failing.reader(&self.lines));
-        let mut output = failing.writer(alloc);
-        let (outcome, executed) = serve_all(&mut place, &mut input, &mut output, self.states.len());
-        let writer = output.into_inner();
-        let state = place.state();
-        if place.journal.is_lacking {
-            return Err(AllocError);
-        }
-        Ok(self.came(writer.taken(), &state, outcome, executed))
+        let came = self.came_in(&mut place, failing);
+        place.journal.own(came)
     }
 }
 
