@@ -2,7 +2,7 @@
 //! of it, and so who calls has no facts of it. A meter lives for one call alone.
 
 use crate::decks::{cards_of, name_of};
-use crate::fixed_keys::fixed_keys;
+use crate::keys::fixed_keys;
 use asm_main::{AsmFault, Tally, asm_run};
 use cards::{Card, DeckName, MOST_CARDS};
 use deck_objects::SharedObject;

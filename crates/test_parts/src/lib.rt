@@ -8,7 +8,7 @@ mod assembling;
 mod breaking;
 mod decks;
 mod failing;
-mod fixed_keys;
+mod keys;
 mod known_bases;
 mod known_names;
 mod refusing;
@@ -21,7 +21,7 @@ pub use assembling::{
 pub use breaking::BreakingShelf;
 pub use decks::{card_of, cards_of, name_of};
 pub use failing::Failing;
-pub use fixed_keys::fixed_keys;
+pub use keys::fixed_keys;
 pub use known_bases::{NoBases, OneBlock};
 pub use known_names::KnownNames;
 pub use refusing::Refusing;
