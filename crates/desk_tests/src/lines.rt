@@ -21,20 +21,20 @@ pub fn make(word: &str, rest: &str, answer: &mut Answer) -> bool {
 
 /// What a line asks for, or its refusal.
 fn push_line(answer: &mut Answer, line: &str) {
-    match read_command(line.as_bytes()) {
-        Ok(command) => push_change(answer, &command),
+    match &read_command(line.as_bytes()) {
+        Ok(command) => push_change(answer, command),
         Err(Refusal::UnknownCommand(word)) => {
             push_named(answer, "UnknownCommand ", word.as_slice());
         }
-        Err(refusal) => answer.debug(&refusal),
+        Err(refusal) => answer.debug(refusal),
     }
 }
 
 /// What a line of a batch asks for, or its refusal.
 fn push_batch_line(answer: &mut Answer, line: &str) {
-    match read_batch_line(line.as_bytes()) {
-        Ok(edit) => push_edit(answer, &edit),
-        Err(refusal) => answer.debug(&refusal),
+    match &read_batch_line(line.as_bytes()) {
+        Ok(edit) => push_edit(answer, edit),
+        Err(refusal) => answer.debug(refusal),
     }
 }
 
