@@ -26,7 +26,7 @@ use crate::sized_statement::{SizedStatement, label_of};
 use crate::symbol_table::SymbolTable;
 use expr_forms::Name;
 use statement_coder::{
-    Defines, KeptSizing, Meter, Reading, Statement, operand_letters, read_operand, size_reading,
+    Defines, Meter, Reading, Statement, operand_letters, read_operand, size_kept,
 };
 use std::alloc::{AllocError, Global};
 use std::hash::RandomState;
@@ -85,18 +85,16 @@ impl Sizer {
         let (state, symbols) = (&self.state, &self.symbols);
         let keys = symbols.keys();
         let letters = operand_letters(alloc, keys, statement, &reading, symbols, meter)?;
-        let sizing = size_reading(statement, &reading, &letters, state, symbols, meter);
+        let sizing = size_kept(alloc, statement, &reading, &letters, state, symbols, meter)?;
         let effect = sizing.effect(statement);
-        let is_bare = self.note(&reading, statement.location, sizing.defines, &effect)?;
-        let is_counted = self.state.block().counting().is_some();
-        let kept_sizing = KeptSizing::new(alloc, statement.kind, is_counted, sizing)?;
+        let is_bare = self.note(&reading, statement.location, sizing.defines(), &effect)?;
         let sized = SizedStatement {
             cards: count,
             operation: statement.operation,
             label: label_of(statement.location),
             is_bare,
             kept: reading.kept(),
-            sizing: kept_sizing,
+            sizing,
         };
         self.put(alloc, sized, &effect)?;
         Ok(())

@@ -25,7 +25,7 @@ ghost use Rattle.deck_assembler.specs.Joins.Tails.{HasTailIfAny, HasTailWithin};
 ghost use Rattle.deck_assembler.specs.Stays.{IsCountedOrStays, RisesAnew};
 ghost use Rattle.deck_assembler.specs.declared.old_deck.Stage.TheVariants as stages;
 
-use crate::old_deck::OldDeck;
+use crate::old_deck::{OldDeck, Stage};
 use crate::sized_statement::SizedStatement;
 use crate::sizer::Sizer;
 use cards::{Card, Span, StatementRoom, fields};
@@ -153,6 +153,9 @@ impl Sizer {
         ensures all { OnOk result (old_deck.old.stage ≡ stages.Over → meter.new.sized ≡ min (meter.old.sized + 1) (2 ^ 64 - 1)) }
         ensures coded { meter.new.coded ≡ meter.old.coded }
     {
+        if let Stage::Over = old_deck.stage {
+            return self.take_span(alloc, kind, cards, span, room, meter);
+        }
         let kept = old_deck.kept(alloc, cards, span, self, room)?;
         match kept {
             Some(sized) => self.keep_span(alloc, kind, cards, span, room, sized),

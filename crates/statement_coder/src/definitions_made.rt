@@ -6,12 +6,24 @@ ghost use Rattle.definitions.specs.Operands as operands;
 ghost use Rattle.definitions.specs.Settling.{View, first_definition, definitions_of};
 ghost use Rattle.operations.specs.Joins.OperationsAs.{operation_as};
 ghost use Rattle.statement_coder.specs.Joins.Readings.{IsReading};
-ghost use Rattle.statement_coder.specs.Joins.Definitions.{has_names, defined_by, is_ext, IsOfExt};
+ghost use Rattle.statement_coder.specs.Joins.Definitions.{has_names, defined_by, is_ext, made_as, IsOfExt};
 
 use crate::readings::Reading;
 use definitions::DeckKind;
 use expr_forms::{Form, is_symbol};
 use operations::Operation;
+
+/// What a statement defines, whatever the values are.
+#[derive(Clone, Copy)]
+pub(crate) enum Definition {
+    Nothing,
+    /// The symbol of its location field, as the location counter.
+    Counter,
+    /// The symbol of its location field, as a number.
+    Number,
+    /// The names of its EXT that are new.
+    Externals,
+}
 
 /// What a statement defines.
 #[derive(Clone, Copy)]
@@ -23,17 +35,41 @@ pub enum Defines {
     Externals,
 }
 
-/// The symbol of a location field, where it is one that is not defined before.
-#[inline(never)]
-fn first_definition(location: &[u8], form: Form, is_defined: bool) -> Defines
-    ensures definitions { (view : View) (operand : operands.Operand) → is_some (view location.now) ≡ is_defined →
-        defined_by view location.now operand result ≡ first_definition location.now form (view location.now) }
-    ensures externals { (operation : op.Operation) → is_ext operation ≡ false → IsOfExt operation result }
+/// What is defined, with the location counter and the value.
+pub(crate) fn defined_with(definition: Definition, counter: Form, value: Form) -> Defines
+    ensures { result ≡ made_as counter value definition }
+{
+    match definition {
+        Definition::Nothing => Defines::Nothing,
+        Definition::Counter => Defines::Symbol(counter),
+        Definition::Number => Defines::Symbol(value),
+        Definition::Externals => Defines::Externals,
+    }
+}
+
+/// The symbol of a location field as the location counter, where it is one that is not defined before.
+fn first_at_counter(location: &[u8], is_defined: bool) -> Definition
+    ensures definitions { (view : View) (operand : operands.Operand) (value counter : forms.Form) → is_some (view location.now) ≡ is_defined →
+        defined_by view location.now operand (made_as counter value result) ≡ first_definition location.now counter (view location.now) }
+    ensures externals { (operation : op.Operation) → is_ext operation ≡ false → (value counter : forms.Form) → IsOfExt operation (made_as counter value result) }
 {
     if is_symbol(location) && !is_defined {
-        Defines::Symbol(form)
+        Definition::Counter
     } else {
-        Defines::Nothing
+        Definition::Nothing
+    }
+}
+
+/// The same as the value of an EQU.
+fn first_as_number(location: &[u8], is_defined: bool) -> Definition
+    ensures definitions { (view : View) (operand : operands.Operand) (value counter : forms.Form) → is_some (view location.now) ≡ is_defined →
+        defined_by view location.now operand (made_as counter value result) ≡ first_definition location.now value (view location.now) }
+    ensures externals { (operation : op.Operation) → is_ext operation ≡ false → (value counter : forms.Form) → IsOfExt operation (made_as counter value result) }
+{
+    if is_symbol(location) && !is_defined {
+        Definition::Number
+    } else {
+        Definition::Nothing
     }
 }
 
@@ -56,51 +92,49 @@ fn has_names(reading: &Reading<'_>) -> bool
 }
 
 /// What an EXT defines.
-#[inline(never)]
-fn externals(kind: DeckKind, reading: &Reading<'_>) -> Defines
+fn externals(kind: DeckKind, reading: &Reading<'_>) -> Definition
     ensures definitions { (location : List ℕ) (value counter : forms.Form) (view : View) (operand : operands.Operand) → IsReading reading.now operand →
-        defined_by view location operand result ≡ definitions_of kind op.Ext operand location value counter view }
-    ensures externals { IsOfExt op.Ext result }
+        defined_by view location operand (made_as counter value result) ≡ definitions_of kind op.Ext operand location value counter view }
+    ensures externals { (value counter : forms.Form) → IsOfExt op.Ext (made_as counter value result) }
 {
     match kind {
         DeckKind::Rel => {
             if has_names(reading) {
-                Defines::Externals
+                Definition::Externals
             } else {
-                Defines::Nothing
+                Definition::Nothing
             }
         }
-        DeckKind::Abs => Defines::Nothing,
-        DeckKind::Periph => Defines::Nothing,
+        DeckKind::Abs => Definition::Nothing,
+        DeckKind::Periph => Definition::Nothing,
     }
 }
 
 /// What a statement defines: EQU its symbol as the value, EXT its names, and other labelled operations
 /// theirs as the location counter; only what no earlier statement defines.
+#[inline(always)]
 pub(crate) fn definition_made(
     kind: DeckKind,
     operation: Operation,
     reading: &Reading<'_>,
     location: &[u8],
     is_defined: bool,
-    value: Form,
-    counter: Form,
-) -> Defines
-    ensures definitions { (view : View) (operand : operands.Operand) → IsReading reading.now operand → is_some (view location.now) ≡ is_defined →
-        defined_by view location.now operand result ≡ definitions_of kind (operation_as operation) operand location.now value counter view }
-    ensures externals { IsOfExt (operation_as operation) result }
+) -> Definition
+    ensures definitions { (view : View) (operand : operands.Operand) (value counter : forms.Form) → IsReading reading.now operand → is_some (view location.now) ≡ is_defined →
+        defined_by view location.now operand (made_as counter value result) ≡ definitions_of kind (operation_as operation) operand location.now value counter view }
+    ensures externals { (value counter : forms.Form) → IsOfExt (operation_as operation) (made_as counter value result) }
 {
     match operation {
-        Operation::Equ => first_definition(location, value, is_defined),
+        Operation::Equ => first_as_number(location, is_defined),
         Operation::Ext => externals(kind, reading),
-        Operation::Bss => first_definition(location, counter, is_defined),
-        Operation::Bssz => first_definition(location, counter, is_defined),
-        Operation::Data => first_definition(location, counter, is_defined),
-        Operation::Con => first_definition(location, counter, is_defined),
-        Operation::Vfd => first_definition(location, counter, is_defined),
-        Operation::Dis => first_definition(location, counter, is_defined),
-        Operation::Instruction => first_definition(location, counter, is_defined),
-        Operation::Unknown => first_definition(location, counter, is_defined),
-        _ => Defines::Nothing,
+        Operation::Bss => first_at_counter(location, is_defined),
+        Operation::Bssz => first_at_counter(location, is_defined),
+        Operation::Data => first_at_counter(location, is_defined),
+        Operation::Con => first_at_counter(location, is_defined),
+        Operation::Vfd => first_at_counter(location, is_defined),
+        Operation::Dis => first_at_counter(location, is_defined),
+        Operation::Instruction => first_at_counter(location, is_defined),
+        Operation::Unknown => first_at_counter(location, is_defined),
+        _ => Definition::Nothing,
     }
 }

@@ -87,6 +87,7 @@ impl Sizing {
 
 impl UsualSizing {
     /// The same of a usual sizing.
+    #[inline(always)]
     pub(crate) fn effect(&self, statement: &Statement<'_>) -> Effect
         ensures effect { (kind : kinds.DeckKind) (given : statements.Statement) (base : bases.NumberBase) (view : View) (settled : Settled) →
             IsRead kind given.cards statement.now → settled.read ≡ read_of kind base given → IsSizing view settled (usual_as self.now) →

@@ -16,10 +16,10 @@ ghost use Rattle.statement_coder.specs.Joins.Sizings.{IsSizing};
 ghost use Rattle.statement_coder.specs.Joins.StatementsRead.{IsRead};
 ghost use Rattle.statement_coder.specs.Joins.KeptSizings.{counter_of, defined_as, recounted, usual_as, IsTaken, IsUnmoved, IsUsual};
 
-use crate::definitions_made::Defines;
+use crate::definitions_made::{Defines, Definition};
 use crate::sizing::Sizing;
 use crate::statement::Statement;
-use crate::usual_sizing::{UsualDefinition, UsualSizing};
+use crate::usual_sizing::UsualSizing;
 use definitions::{DeckKind, NumberBase};
 use expr_forms::{Form, Name};
 use operations::Letters;
@@ -58,6 +58,17 @@ fn is_no_definition(defines: Defines) -> bool
     }
 }
 
+/// Whether the names of an EXT are defined.
+fn is_of_externals(defines: Defines) -> bool
+    ensures { Decides result (defines ≡ made.Externals) }
+{
+    match defines {
+        Defines::Nothing => false,
+        Defines::Symbol(_) => false,
+        Defines::Externals => true,
+    }
+}
+
 /// Whether a symbol is defined with this value.
 fn is_defined_as(defines: Defines, value: Form) -> bool
     ensures { Decides result (defines ≡ made.Symbol value) }
@@ -70,18 +81,18 @@ fn is_defined_as(defines: Defines, value: Form) -> bool
 }
 
 /// How a value may be kept that a symbol gets.
-fn usual_definition(sizing: &Sizing) -> UsualDefinition
-    ensures nothing { sizing.now.defines ≡ made.Nothing → result ≡ UsualDefinition.Nothing }
-    ensures counter { sizing.now.defines ≡ made.Symbol sizing.now.location → result ≡ UsualDefinition.Counter }
+fn usual_definition(sizing: &Sizing) -> Definition
+    ensures nothing { sizing.now.defines ≡ made.Nothing → result ≡ Definition.Nothing }
+    ensures counter { sizing.now.defines ≡ made.Symbol sizing.now.location → result ≡ Definition.Counter }
 {
     match sizing.defines {
-        Defines::Nothing => UsualDefinition::Nothing,
-        Defines::Externals => UsualDefinition::Nothing,
+        Defines::Nothing => Definition::Nothing,
+        Defines::Externals => Definition::Externals,
         Defines::Symbol(form) => {
             if is_same_form(form, sizing.location) {
-                UsualDefinition::Counter
+                Definition::Counter
             } else {
-                UsualDefinition::Number
+                Definition::Number
             }
         }
     }
@@ -104,8 +115,8 @@ impl UsualSizing {
     fn of(kind: DeckKind, sizing: &Sizing) -> UsualSizing
         ensures taken { IsTaken result sizing.now }
         ensures kind { result.kind ≡ kind }
-        ensures nothing { sizing.now.defines ≡ made.Nothing → result.definition ≡ UsualDefinition.Nothing }
-        ensures counter { sizing.now.defines ≡ made.Symbol sizing.now.location → result.definition ≡ UsualDefinition.Counter }
+        ensures nothing { sizing.now.defines ≡ made.Nothing → result.definition ≡ Definition.Nothing }
+        ensures counter { sizing.now.defines ≡ made.Symbol sizing.now.location → result.definition ≡ Definition.Counter }
     {
         UsualSizing {
             block: sizing.block,
@@ -131,9 +142,10 @@ impl UsualSizing {
         ensures { result ≡ defined_as self.now }
     {
         match self.definition {
-            UsualDefinition::Nothing => Defines::Nothing,
-            UsualDefinition::Counter => Defines::Symbol(self.counter()),
-            UsualDefinition::Number => Defines::Symbol(Form::absolute(i64::from(self.number))),
+            Definition::Nothing => Defines::Nothing,
+            Definition::Counter => Defines::Symbol(self.counter()),
+            Definition::Number => Defines::Symbol(Form::absolute(i64::from(self.number))),
+            Definition::Externals => Defines::Externals,
         }
     }
 
@@ -143,11 +155,10 @@ impl UsualSizing {
         ensures { Decides result (defines ≡ defined_as self.now) }
     {
         match self.definition {
-            UsualDefinition::Nothing => is_no_definition(defines),
-            UsualDefinition::Counter => is_defined_as(defines, counter),
-            UsualDefinition::Number => {
-                is_defined_as(defines, Form::absolute(i64::from(self.number)))
-            }
+            Definition::Nothing => is_no_definition(defines),
+            Definition::Counter => is_defined_as(defines, counter),
+            Definition::Number => { is_defined_as(defines, Form::absolute(i64::from(self.number))) }
+            Definition::Externals => is_of_externals(defines),
         }
     }
 
@@ -238,6 +249,16 @@ impl Model for KeptSizing {
 }
 
 impl KeptSizing {
+    /// Keeps a usual one.
+    #[inline(always)]
+    pub(crate) fn usual(usual: UsualSizing) -> KeptSizing
+        ensures { result ≡ usual_as usual }
+    {
+        KeptSizing {
+            held: Held::Usual(usual),
+        }
+    }
+
     /// Keeps a sizing of a deck of this kind; its counters may differ only where a LOC is in force. It
     /// takes memory where it is not a usual one alone.
     pub fn new(
@@ -408,6 +429,7 @@ impl KeptSizing {
     }
 
     /// What the statement that was sized does to the state before it, as `Sizing::effect` has it.
+    #[inline(always)]
     pub fn effect(&self, statement: &Statement<'_>) -> Effect
         ensures effect { (kind : kinds.DeckKind) (given : statements.Statement) (base : bases.NumberBase) (view : View) (settled : Settled) →
             IsRead kind given.cards statement.now → settled.read ≡ read_of kind base given → IsSizing view settled self.now →

@@ -3,13 +3,13 @@
 //!
 //! `size` takes a statement, the `BlockState` before it and the symbols that earlier statements
 //! define (`EarlySymbols`), and promises what the definitions settle of any such state, so an edit
-//! may begin anywhere; `size_reading` is the same for whoever has read the operand.
-//! `Sizing::effect` is what the statement does to the state. A `KeptSizing` is a sizing in few bytes.
+//! may begin anywhere; `size_kept` is the same for whoever has read the operand, in few bytes: a `KeptSizing`.
+//! `Sizing::effect` is what the statement does to the state.
 //! `code_read` takes what was read with that, the values of all symbols and literals
 //! (`FinalSymbols`) and the bases, and gives fields and letters; `code` has the statement alone. `kept_operand` has the operand of the
 //! `KeptReading` that was made while the statement was sized, and what was not kept is read again.
 //! No other calls size or code, and each of the four adds one to the `Meter`. Sizing takes memory only
-//! for the names of an EXT, coding only for data, and there is what is kept of an unusual sizing.
+//! for the names of an EXT, and for what is kept of an unusual sizing; coding only for data.
 //!
 //! An `Item` has a width, at most one letter, and bits that are known or a form for the link: in
 //! ABS and PERIPH decks a form becomes a number here, in a REL deck one with a block or external
@@ -42,6 +42,7 @@ mod effects;
 mod kept_sizing;
 mod sized;
 mod sizing;
+mod usual_sizes;
 mod usual_sizing;
 
 // What a value, a counted item or a number is in so many bits of a deck of some kind.
@@ -77,7 +78,7 @@ pub use operand_sources::kept_operand;
 pub use read_operands::ReadOperand;
 pub use readings::{Reading, read_operand};
 pub use six_bits::{count_item, displacement_item, shift_item};
-pub use sized::{operand_letters, size, size_reading};
+pub use sized::{operand_letters, size, size_kept};
 pub use sizing::Sizing;
 pub use statement::Statement;
 pub use statement_cards::known_statement;

@@ -249,7 +249,7 @@ fn outcome_of_value(
 }
 
 /// A statement ends behind its items; one whose items would pass the block ends at its place, with A.
-fn outcome_of_size(kind: DeckKind, place: u32, size: u32) -> Outcome
+pub(crate) fn outcome_of_size(kind: DeckKind, place: u32, size: u32) -> Outcome
     requires place { place ≤ 524288 }
     requires size { size ≤ 40000000 }
     ensures outcome { (all : ℕ) → min size 600000 ≡ min all 600000 → outcome_as result ≡ outcome_of_size kind place all }

@@ -1,23 +1,30 @@
 //! Where a statement stands in its block (COMPASS 60492600, forcing upper; which instructions ask
 //! for upper is ours).
-ghost use Rattle.std.specs.Prelude.{◌≡◌, ◌≤◌, ◌||◌, codes};
+ghost use Rattle.std.specs.Prelude.{◌≡◌, ◌≤◌, ◌==◌, ◌||◌, codes, length, min};
 ghost use Rattle.definitions.specs.Characters.{same_text};
 ghost use Rattle.definitions.specs.Kinds.{units};
 ghost use Rattle.definitions.specs.Operands as operands;
-ghost use Rattle.definitions.specs.Places.{is_bad, is_long, is_no_minus, has_minus, is_upper, to_word, past_last_parcel, is_at_word, least_place};
+ghost use Rattle.definitions.specs.Pieces.{pieces_of, subfields_of};
+ghost use Rattle.definitions.specs.Places.{is_bad, is_long, is_no_minus, has_minus, is_upper, to_word, past_last_parcel, is_at_word, least_place, asks_upper, asks_after};
 ghost use Rattle.definitions.specs.Settling.{place_of};
+ghost use Rattle.definitions.specs.Sizes.{size_of};
 ghost use Rattle.operations.specs.Joins.OperationsAs.{operation_as};
+ghost use Rattle.statement_coder.specs.Joins.Readings.{IsReading};
 
+use crate::readings::Reading;
+use crate::sizes::{is_bad, is_long, size_of};
+use crate::statement::Statement;
 use definitions::{DeckKind, is_same_text};
-use expr_forms::is_symbol;
+use expr_forms::{Subfields, is_symbol};
 use operations::Operation;
+use use_blocks::UsedBlock;
 
 /// What the place of a statement asks of its operand: whether it is flagged V, and whether it is a
 /// long central instruction.
 #[derive(Clone, Copy)]
-pub(crate) struct OperandClass {
-    pub(crate) is_bad: bool,
-    pub(crate) is_long: bool,
+struct OperandClass {
+    is_bad: bool,
+    is_long: bool,
 }
 
 /// Whether a `-` in the location field counts as nothing: that of VFD outside peripheral decks.
@@ -92,7 +99,7 @@ fn least_place(
 
 /// The place of a statement: one that has none of its own has the position of its block, or the
 /// next word where upper is asked.
-pub(crate) fn place_of(
+fn place_of(
     kind: DeckKind,
     operation: Operation,
     class: OperandClass,
@@ -111,5 +118,89 @@ pub(crate) fn place_of(
         to_word(kind, from)
     } else {
         from
+    }
+}
+
+/// The place of a statement, and how many units it fills.
+#[derive(Clone, Copy)]
+pub(crate) struct Placed {
+    pub(crate) place: u32,
+    pub(crate) size: u32,
+}
+
+/// Where a statement stands whose operand was read, and how much it fills, in the block in use.
+#[inline(always)]
+pub(crate) fn placed_in(
+    used: &UsedBlock,
+    statement: &Statement<'_>,
+    reading: &Reading<'_>,
+) -> Placed
+    ensures place { (operand : operands.Operand) → IsReading reading.now operand →
+        result.place ≡ place_of statement.now.kind (operation_as statement.now.operation) operand statement.now.location.now used.now.position }
+    ensures size { (operand : operands.Operand) → IsReading reading.now operand → min result.size 600000 ≡ min (size_of statement.now.kind operand) 600000 }
+    ensures within { result.place ≤ 524288 }
+    ensures few { result.size ≤ 40000000 }
+{
+    let kind = statement.kind;
+    let operation = statement.operation;
+    let size = size_of(kind, reading);
+    let class = OperandClass {
+        is_bad: is_bad(reading),
+        is_long: is_long(kind, operation, size),
+    };
+    let position = used.position();
+    let place = place_of(
+        kind,
+        operation,
+        class,
+        statement.location,
+        position.asks(),
+        position.end(),
+    );
+    Placed { place, size }
+}
+
+/// Whether a variable field has one subfield.
+fn is_one(text: &[u8]) -> bool
+    requires { length text.now ≤ 711 }
+    ensures { result ≡ (length (subfields_of (pieces_of text.now)) == 1) }
+{
+    let mut subfields = Subfields::new(text);
+    match subfields.next() {
+        None => false,
+        Some(_) => match subfields.next() {
+            None => true,
+            Some(_) => false,
+        },
+    }
+}
+
+/// Whether the name of a central instruction with this field asks that the next one is upper.
+fn asks_upper(name: &[u8], text: &[u8]) -> bool
+    requires { length text.now ≤ 711 }
+    ensures { result ≡ asks_upper name.now (length (subfields_of (pieces_of text.now))) }
+{
+    match name {
+        [b'J', b'P'] => true,
+        [b'R', b'J'] => true,
+        [b'P', b'S'] => true,
+        [b'E', b'Q'] => is_one(text),
+        _ => false,
+    }
+}
+
+/// Whether the block asks for upper behind a statement.
+#[inline(always)]
+pub(crate) fn asks_after(statement: &Statement<'_>, reading: &Reading<'_>) -> bool
+    ensures { (operand : operands.Operand) → IsReading reading.now operand →
+        result ≡ asks_after statement.now.kind (operation_as statement.now.operation) operand statement.now.name.now (length (subfields_of (pieces_of statement.now.variable.now))) }
+{
+    if !statement.operation.is_instruction() {
+        return false;
+    }
+    match statement.kind {
+        DeckKind::Periph => false,
+        DeckKind::Rel => !is_bad(reading) && asks_upper(statement.name, statement.variable),
+        DeckKind::Abs => !is_bad(reading) && asks_upper(statement.name, statement.variable),
     }
 }

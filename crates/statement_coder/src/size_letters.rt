@@ -1,5 +1,6 @@
 //! The letters of a statement that are known without later statements (COMPASS 60492600, error flags).
-ghost use Rattle.std.specs.Prelude.{◌≡◌, ◌++◌, ◌∷◌, [], true, List, IfOk, OnErr, if◌then◌else◌};
+ghost use Rattle.std.specs.Prelude.{◌≡◌, ◌++◌, ◌∷◌, [], true, List, Option, is_some, IfOk, OnErr, if◌then◌else◌};
+ghost use Rattle.definitions.specs.Forms as forms;
 ghost use Rattle.definitions.specs.Letters.{in_order};
 ghost use Rattle.definitions.specs.Operands as operands;
 ghost use Rattle.definitions.specs.Settling.{letter_where, location_letters, is_refused, operand_letters};
@@ -129,22 +130,22 @@ fn variable_letters(
     }
 }
 
-/// The letters of a statement that are known without later statements, where those of its operand are.
-pub(crate) fn size_letters<S: EarlySymbols>(
+/// The letters of a statement that are known without later statements, where those of its operand are, and
+/// whether its symbol is defined before.
+pub(crate) fn size_letters(
     statement: &Statement<'_>,
-    symbols: &S,
+    is_defined: bool,
     reading: &Reading<'_>,
     state: &BlockState,
     of_operand: &Letters,
     outcome: Option<Letter>,
 ) -> Letters
-    ensures { (operand : operands.Operand) (letters : List marks.Letter) → IsReading reading.now operand → of_operand.now ≡ in_order letters →
+    ensures { (operand : operands.Operand) (letters : List marks.Letter) (before : Option forms.Form) → IsReading reading.now operand → of_operand.now ≡ in_order letters → is_some before ≡ is_defined →
         result ≡ in_order (letter_where statement.now.is_stray letter.C
-        ++ (location_letters statement.now.kind (operation_as statement.now.operation) statement.now.location.now (S.view symbols.now statement.now.location.now)
+        ++ (location_letters statement.now.kind (operation_as statement.now.operation) statement.now.location.now before
         ++ (if is_refused statement.now.kind (operation_as statement.now.operation) operand statement.now.location.now state.now.neutral (names_of_blocks state.now.blocks) then letter.O ∷ []
         else letters ++ letters_as outcome))) }
 {
-    let is_defined = symbols.symbol(statement.location).is_some();
     let stray = with_letter(
         &Letters::none(),
         letter_where(statement.is_stray, Letter::C),

@@ -1,11 +1,9 @@
 //! What a statement is once the state before it is known.
-ghost use Rattle.std.specs.Prelude.{◌≡◌, ◌≤◌, ◌==◌, ◌+◌, ◌-◌, ◌^◌, true, None, length, min, IfOk, OnErr, OnOk};
+ghost use Rattle.std.specs.Prelude.{◌≡◌, ◌≤◌, ◌+◌, ◌-◌, ◌^◌, true, None, min, IfOk, IsOk, OnErr, OnOk};
 ghost use Rattle.definitions.specs.Statements as statements;
 ghost use Rattle.definitions.specs.Statements.{is_stray};
 ghost use Rattle.definitions.specs.Counters.{counters_at};
 ghost use Rattle.definitions.specs.Operands as operands;
-ghost use Rattle.definitions.specs.Pieces.{pieces_of, subfields_of};
-ghost use Rattle.definitions.specs.Places.{asks_upper, asks_after};
 ghost use Rattle.definitions.specs.Letters.{in_order};
 ghost use Rattle.definitions.specs.Operations as op;
 ghost use Rattle.definitions.specs.Settling.{is_run, operand_letters, settled_from};
@@ -14,71 +12,26 @@ ghost use Rattle.definitions.specs.declared.deck_kind.DeckKind as kinds;
 ghost use Rattle.operations.specs.Joins.OperationsAs.{operation_as};
 ghost use Rattle.use_blocks.specs.Joins.Changes.{IsAccepted, block_now};
 ghost use Rattle.use_blocks.specs.Joins.EffectsAs.{change_as, setting_as};
-ghost use Rattle.statement_coder.specs.Joins.Readings.{IsReading, has_names};
+ghost use Rattle.statement_coder.specs.Joins.Readings.{IsReading, has_names, is_plain};
 ghost use Rattle.statement_coder.specs.Joins.StatementsRead.{IsRead};
 ghost use Rattle.statement_coder.specs.Joins.Sizings.{read_as, settled_read, IsSizing};
 
 use crate::block_changes::change_of;
-use crate::definitions_made::definition_made;
+use crate::definitions_made::{defined_with, definition_made};
 use crate::early_values::{EarlyNames, EarlySymbols, early_value, equated};
+use crate::kept_sizing::KeptSizing;
 use crate::outcomes::outcome_of;
-use crate::placing::{OperandClass, place_of};
+use crate::placing::{Placed, asks_after, placed_in};
 use crate::readings::{Reading, read_operand};
 use crate::size_letters::{found_letters, size_letters};
-use crate::sizes::{is_bad, is_long, size_of};
 use crate::sizing::Sizing;
 use crate::statement::Statement;
-use definitions::DeckKind;
-use expr_forms::Subfields;
-use operations::{Letters, Operation};
+use crate::usual_sizes::size_usual;
+use operations::Letters;
 use std::alloc::{AllocError, Global};
 use std::hash::RandomState;
 use use_blocks::{BlockState, LocationSetting};
 use work_meter::{Meter, count_sized};
-
-/// Whether a variable field has one subfield.
-fn is_one(text: &[u8]) -> bool
-    requires { length text.now ≤ 711 }
-    ensures { result ≡ (length (subfields_of (pieces_of text.now)) == 1) }
-{
-    let mut subfields = Subfields::new(text);
-    match subfields.next() {
-        None => false,
-        Some(_) => match subfields.next() {
-            None => true,
-            Some(_) => false,
-        },
-    }
-}
-
-/// Whether the name of a central instruction with this field asks that the next one is upper.
-fn asks_upper(name: &[u8], text: &[u8]) -> bool
-    requires { length text.now ≤ 711 }
-    ensures { result ≡ asks_upper name.now (length (subfields_of (pieces_of text.now))) }
-{
-    match name {
-        [b'J', b'P'] => true,
-        [b'R', b'J'] => true,
-        [b'P', b'S'] => true,
-        [b'E', b'Q'] => is_one(text),
-        _ => false,
-    }
-}
-
-/// Whether the block asks for upper behind a statement.
-fn asks_after(statement: &Statement<'_>, reading: &Reading<'_>) -> bool
-    ensures { (operand : operands.Operand) → IsReading reading.now operand →
-        result ≡ asks_after statement.now.kind (operation_as statement.now.operation) operand statement.now.name.now (length (subfields_of (pieces_of statement.now.variable.now))) }
-{
-    if !statement.operation.is_instruction() {
-        return false;
-    }
-    match statement.kind {
-        DeckKind::Periph => false,
-        DeckKind::Rel => !is_bad(reading) && asks_upper(statement.name, statement.variable),
-        DeckKind::Abs => !is_bad(reading) && asks_upper(statement.name, statement.variable),
-    }
-}
 
 /// Whether a run begins: an ORG that is not faulty begins one.
 fn is_run(setting: LocationSetting) -> bool
@@ -111,20 +64,7 @@ fn settle<S: EarlySymbols>(
     let kind = statement.kind;
     let operation = statement.operation;
     let used = state.block();
-    let size = size_of(kind, reading);
-    let class = OperandClass {
-        is_bad: is_bad(reading),
-        is_long: is_long(kind, operation, size),
-    };
-    let position = used.position();
-    let place = place_of(
-        kind,
-        operation,
-        class,
-        statement.location,
-        position.asks(),
-        position.end(),
-    );
+    let Placed { place, size } = placed_in(&used, statement, reading);
     let location = state.location(kind, place);
     let origin = state.origin(kind, place);
     let value = early_value(
@@ -138,18 +78,11 @@ fn settle<S: EarlySymbols>(
     let equated = equated(&value);
     let outcome = outcome_of(kind, operation, size, &used.name(), place, value);
     let is_defined = symbols.symbol(statement.location).is_some();
-    let defines = definition_made(
-        kind,
-        operation,
-        reading,
-        statement.location,
-        is_defined,
-        equated,
-        location,
-    );
+    let definition = definition_made(kind, operation, reading, statement.location, is_defined);
+    let defines = defined_with(definition, location, equated);
     let letters = size_letters(
         statement,
-        symbols,
+        is_defined,
         reading,
         state,
         of_operand,
@@ -204,29 +137,55 @@ pub fn operand_letters<S: EarlySymbols>(
     }
 }
 
+/// The same in few bytes.
+#[inline(never)]
+fn kept_settled<S: EarlySymbols>(
+    alloc: Global,
+    statement: &Statement<'_>,
+    reading: &Reading<'_>,
+    of_operand: &Letters,
+    state: &BlockState,
+    symbols: &S,
+) -> Result<KeptSizing, AllocError>
+    ensures sizing { IfOk result (λ sizing. (given : statements.Statement) (operand : operands.Operand) → is_stray given.cards ≡ statement.now.is_stray → IsReading reading.now operand →
+        of_operand.now ≡ in_order (operand_letters statement.now.kind (operation_as statement.now.operation) operand (S.view symbols.now)) →
+        IsSizing (S.view symbols.now) (settled_read statement.now.kind (seen_from state.now (S.view symbols.now)) (read_as statement.now given operand)) sizing) }
+    ensures accepted { IfOk result (λ sizing. IsAccepted (change_as sizing.change) state.now) }
+    ensures number_base { IfOk result (λ sizing. sizing.number_base ≡ state.now.number_base) }
+{
+    let sizing = settle(statement, reading, state, symbols, of_operand);
+    let is_counted = state.block().counting().is_some();
+    KeptSizing::new(alloc, statement.kind, is_counted, sizing)
+}
+
 /// What a statement is whose operand was read, once the state before it and the early values of symbols are
-/// known, and the letters of its operand; counted in the meter. The state accepts its change.
-pub fn size_reading<S: EarlySymbols>(
+/// known, and the letters of its operand; counted in the meter. The state accepts its change. An operand
+/// that takes no value, and is not that of a USE, takes no memory where no LOC is in force.
+#[inline(always)]
+pub fn size_kept<S: EarlySymbols>(
+    alloc: Global,
     statement: &Statement<'_>,
     reading: &Reading<'_>,
     of_operand: &Letters,
     state: &BlockState,
     symbols: &S,
     meter: &mut Meter,
-) -> Sizing
-    ensures sizing { (given : statements.Statement) (operand : operands.Operand) → is_stray given.cards ≡ statement.now.is_stray → IsReading reading.now operand →
+) -> Result<KeptSizing, AllocError>
+    ensures sizing { IfOk result (λ sizing. (given : statements.Statement) (operand : operands.Operand) → is_stray given.cards ≡ statement.now.is_stray → IsReading reading.now operand →
         of_operand.now ≡ in_order (operand_letters statement.now.kind (operation_as statement.now.operation) operand (S.view symbols.now)) →
-        IsSizing (S.view symbols.now) (settled_read statement.now.kind (seen_from state.now (S.view symbols.now)) (read_as statement.now given operand)) result }
-    ensures accepted { IsAccepted (change_as result.change) state.now }
-    ensures number_base { result.number_base ≡ state.now.number_base }
-    ensures origin { result.origin ≡ (counters_at statement.now.kind result.block result.place None).origin }
-    ensures uncounted { (block_now state.now).counting ≡ None → result.location ≡ result.origin }
+        IsSizing (S.view symbols.now) (settled_read statement.now.kind (seen_from state.now (S.view symbols.now)) (read_as statement.now given operand)) sizing) }
+    ensures accepted { IfOk result (λ sizing. IsAccepted (change_as sizing.change) state.now) }
+    ensures number_base { IfOk result (λ sizing. sizing.number_base ≡ state.now.number_base) }
+    ensures needs_none { (block_now state.now).counting ≡ None → is_plain reading.now ≡ true → IsOk result }
     ensures sized { meter.new.sized ≡ min (meter.old.sized + 1) (2 ^ 64 - 1) }
     ensures rises { meter.old.sized ≤ meter.new.sized }
     ensures coded { meter.new.coded ≡ meter.old.coded }
 {
     count_sized(meter);
-    settle(statement, reading, state, symbols, of_operand)
+    match size_usual(statement, reading, of_operand, state, symbols) {
+        Some(usual) => Ok(KeptSizing::usual(usual)),
+        None => kept_settled(alloc, statement, reading, of_operand, state, symbols),
+    }
 }
 
 /// What a statement is once the state before it and the early values of symbols are known, counted in
@@ -259,5 +218,6 @@ pub fn size<S: EarlySymbols>(
         statement.variable,
     );
     let letters = operand_letters(alloc, keys, statement, &reading, symbols, meter)?;
-    Ok(size_reading(statement, &reading, &letters, state, symbols, meter))
+    count_sized(meter);
+    Ok(settle(statement, &reading, state, symbols, &letters))
 }

@@ -1,19 +1,10 @@
 //! What is kept of a usual sizing.
 ghost use Rattle.std.specs.Prelude.{◌≤◌};
 
+use crate::definitions_made::Definition;
 use definitions::{DeckKind, NumberBase};
 use expr_forms::Name;
 use operations::Letters;
-
-/// What most statements define.
-#[derive(Clone, Copy)]
-pub(crate) enum UsualDefinition {
-    Nothing,
-    /// The symbol of its location field, as the location counter.
-    Counter,
-    /// The symbol of its location field, as a number.
-    Number,
-}
 
 /// What cannot be told from the rest in a usual sizing: its statement changes neither block nor
 /// location counter, and both counters are the word of its block.
@@ -23,7 +14,7 @@ pub(crate) struct UsualSizing {
     pub(crate) kind: DeckKind,
     pub(crate) is_placed: bool,
     pub(crate) asks: bool,
-    pub(crate) definition: UsualDefinition,
+    pub(crate) definition: Definition,
     pub(crate) number_base: NumberBase,
     pub(crate) place: u32,
     pub(crate) end: u32,

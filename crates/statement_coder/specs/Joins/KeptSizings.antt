@@ -2,12 +2,11 @@
 use Rattle.std.specs.Prelude.{◌≡◌, ◌⊎◌, false, None}
 use Rattle.definitions.specs.Counters.{counters_at}
 use Rattle.definitions.specs.Forms.{Form, absolute}
+use Rattle.statement_coder.specs.Joins.Definitions.{made_as}
 use Rattle.statement_coder.specs.declared.definitions_made.Defines as code
 use Rattle.statement_coder.specs.declared.definitions_made.Defines.TheVariants as defines
 use Rattle.statement_coder.specs.declared.kept_sizing.Held.{Held}
 use Rattle.statement_coder.specs.declared.kept_sizing.Held.TheVariants as held
-use Rattle.statement_coder.specs.declared.usual_sizing.UsualDefinition.{UsualDefinition}
-use Rattle.statement_coder.specs.declared.usual_sizing.UsualDefinition.TheVariants as usual
 use Rattle.statement_coder.specs.declared.usual_sizing.UsualSizing.{UsualSizing}
 use Rattle.statement_coder.specs.declared.sizing.Sizing.{Sizing}
 use Rattle.use_blocks.specs.declared.effects.BlockChange.TheVariants as change
@@ -19,12 +18,7 @@ counter_of usual = (counters_at usual.kind usual.block usual.place None).origin
 
 -- what its statement defines
 abbrev pub defined_as : UsualSizing → code.Defines
-defined_as u = by u.definition
-  where
-    by : UsualDefinition → code.Defines
-    by usual.Nothing = defines.Nothing
-    by usual.Counter = defines.Symbol (counter_of u)
-    by usual.Number = defines.Symbol (absolute u.number)
+defined_as u = made_as (counter_of u) (absolute u.number) u.definition
 
 -- a usual sizing
 abbrev pub usual_as : UsualSizing → Sizing

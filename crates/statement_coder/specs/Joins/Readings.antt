@@ -37,6 +37,12 @@ abbrev pub has_names : code.Reading → Bool
 has_names (reading.Names names) = true
 has_names _ = false
 
+-- whether it takes no early value and changes no block
+abbrev pub is_plain : code.Reading → Bool
+is_plain (reading.Value e) = false
+is_plain (reading.Use field) = false
+is_plain _ = true
+
 -- the text of a DIS
 abbrev pub text_in : code.Reading → Option DisText
 text_in (reading.Text text) = Some text

@@ -14,5 +14,5 @@ returns-clause-sizing g c =
     let operand = operand_of code.kind state.number_base (operation_as code.operation) code.name.now code.variable.now in
     let reading : IsReading c.read_operand-reading.result operand =
     subst (λ base. IsReading c.read_operand-reading.result (operand_of code.kind base (operation_as code.operation) code.name.now code.variable.now)) c.number_base.ensures c.read_operand-reading.ensures.reading in
-    λ kind given read. settled-sizing view (seen_from state view) kind given code c.size_reading.result read
-    (c.size_reading.ensures.sizing given operand (sym read.stray) reading (c.in_ok-letters.ensures.letters operand reading))
+    λ kind given read. settled-sizing view (seen_from state view) kind given code c.settle.result read
+    (c.settle.ensures.sizing given operand (sym read.stray) reading (c.in_ok-letters.ensures.letters operand reading))

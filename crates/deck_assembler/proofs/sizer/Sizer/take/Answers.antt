@@ -5,6 +5,7 @@ use Rattle.definitions.specs.Operands.{operand_of}
 use Rattle.definitions.specs.Settling.{number_base_of, settle, settled_all}
 use Rattle.definitions.specs.States.{BlockState, advanced}
 use Rattle.operations.specs.Joins.OperationsAs.{operation_as}
+use Rattle.statement_coder.specs.declared.definitions_made.Defines.{Defines}
 use Rattle.use_blocks.specs.Joins.EffectsAs.{effect_as}
 use Rattle.deck_assembler.specs.Joins.FirstSymbols.{symbol_in}
 use Rattle.deck_assembler.specs.Joins.PieceSteps.{with_statement}
@@ -22,17 +23,18 @@ returns-clause-taken c = λ kind cards earlier given read next is.
     let settled = settle kind all given in
     let r = c.read_operand-reading.result in
     let base = c.number_base.result in
-    let sizing = c.size_reading-sizing.result in
+    let sizing = c.in_ok-sizing.sizing in
     let sized : SizedStatement = record { cards = c.args.count; operation = code.operation; label = c.label_of.result; is_bare = c.in_ok-is_bare.is_bare; kept = c.kept.result; sizing = sizing } in
     let based = c.number_base.ensures ∙ ap (λ (state : BlockState). state.number_base) is.state in
     let read_here = subst (λ b. operand_in code b r) c.number_base.ensures c.read_operand-reading.ensures.reading in
     let here = operand_of code.kind old.state.number_base (operation_as code.operation) code.name.now code.variable.now in
     let operand = settled-operand kind earlier given code base r read based c.read_operand-reading.ensures.reading in
     let is_sizing = settled-sized kind earlier given code old.state (symbol_in old.symbols) sizing read is.state is.symbols
-    (c.size_reading-sizing.ensures.sizing given here (sym read.stray) read_here (c.in_ok-letters.ensures.letters here read_here)) in
-    let number_base = c.size_reading-sizing.ensures.number_base ∙ ap (λ (state : BlockState). state.number_base) is.state in
+    (c.in_ok-sizing.ensures.sizing given here (sym read.stray) read_here (c.in_ok-letters.ensures.letters here read_here)) in
+    let number_base = c.in_ok-sizing.ensures.number_base ∙ ap (λ (state : BlockState). state.number_base) is.state in
     let effect = effect_as c.effect-effect.result in
-    let noted = subst (λ (l : List ℕ). IsNoted l settled.read.operand sizing.defines effect old c.note.new.self) read.location (c.in_ok-is_bare.ensures.noted settled.read.operand operand) in
+    let defined = subst (λ (defines : Defines). IsNoted code.location.now settled.read.operand defines effect old c.note.new.self) c.defines.ensures (c.in_ok-is_bare.ensures.noted settled.read.operand operand) in
+    let noted = subst (λ (l : List ℕ). IsNoted l settled.read.operand sizing.defines effect old c.note.new.self) read.location defined in
     sizer-step kind cards earlier given effect sized old c.put.new.self next is (record {
       sizing = is_sizing;
       number_base = number_base;
@@ -49,8 +51,6 @@ returns-clause-taken c = λ kind cards earlier given read next is.
         lengths = c.put.ensures.lengths ∙ noted.lengths;
         same_blocks = ap (λ lengths. block_names lengths) c.put.ensures.lengths ∙ noted.same_blocks;
       };
-      pieces = c.in_ok-put.ensures.pieces ∙ (λ i. with_statement (c.note.ensures.state i)
-          (record { cards = c.args.count; operation = code.operation; label = c.label_of.result; is_bare = c.in_ok-is_bare.is_bare; kept = c.kept.result; sizing = c.in_ok-kept_sizing.ensures.kept i })
-          (reverse (c.note.ensures.pieces i).items));
+      pieces = c.in_ok-put.ensures.pieces ∙ (λ i. with_statement (c.note.ensures.state i) sized (reverse (c.note.ensures.pieces i).items));
       state = c.in_ok-put.ensures.state ∙ ap (advanced effect) c.note.ensures.state;
     })

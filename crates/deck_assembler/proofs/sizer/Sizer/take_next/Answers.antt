@@ -3,9 +3,11 @@ use Rattle.std.proofs.Common.{ℕ, inl, inr, true≢false, refl, ap, sym, subst,
 use Rattle.std.specs.Prelude.{Option, IfSome, is_some}
 use Rattle.deck_assembler.proofs.ResultLaws.{on_ok_any, on_ok_one}
 use Rattle.cards.specs.Joins.Spans.{statement_at}
-use Rattle.deck_assembler.specs.Joins.OldDecks.{IsThatOf}
+use Rattle.deck_assembler.specs.Joins.Meetings.{WillAgreeAt}
+use Rattle.deck_assembler.specs.Joins.OldDecks.{IsAtStage, IsThatOf}
 use Rattle.deck_assembler.specs.Joins.Sizers.{stood, ahead, IsNext}
 use Rattle.deck_assembler.specs.declared.sized_statement.SizedStatement.{SizedStatement}
+use Rattle.deck_assembler.proofs.MeetLaws.{goes-on}
 use Rattle.deck_assembler.proofs.SizerSteps.{sized-accepted}
 use Rattle.deck_assembler.proofs.sizer.Sizer.take_next.Goals as goal
 
@@ -42,7 +44,7 @@ returns-in-Some-clause-taken c =
 pub returns-in-None-clause-taken : goal.returns-in-None-clause-taken
 returns-in-None-clause-taken c =
     let kind = c.args.kind in
-    on_ok_one c.take_span.result _ _ (λ step old earlier on. (step earlier on.next on.sizer_is, c.in_ok-kept.ensures.kept kind old earlier on)) c.take_span.ensures.taken
+    on_ok_one c.take_span-in-None.result _ _ (λ step old earlier on. (step earlier on.next on.sizer_is, c.in_ok-kept.ensures.kept kind old earlier on)) c.take_span-in-None.ensures.taken
 
 pub returns-in-Some-clause-front : goal.returns-in-Some-clause-front
 returns-in-Some-clause-front c = on_ok_any c.keep_span.result (λ old earlier on goes.
@@ -50,7 +52,7 @@ returns-in-Some-clause-front c = on_ok_any c.keep_span.result (λ old earlier on
     (front.stage, front.before))
 
 pub returns-in-None-clause-front : goal.returns-in-None-clause-front
-returns-in-None-clause-front c = on_ok_any c.take_span.result (λ old earlier on goes.
+returns-in-None-clause-front c = on_ok_any c.take_span-in-None.result (λ old earlier on goes.
     let front = c.in_ok-kept.ensures.front c.args.kind old earlier on goes in
     (front.stage, front.before))
 
@@ -69,7 +71,7 @@ pub returns-in-Some-clause-due : goal.returns-in-Some-clause-due
 returns-in-Some-clause-due c = on_ok_any c.keep_span.result (λ old earlier limit on next will. (c.in_ok-kept.ensures.due c.args.kind old earlier limit on next will).will)
 
 pub returns-in-None-clause-due : goal.returns-in-None-clause-due
-returns-in-None-clause-due c = on_ok_any c.take_span.result (λ old earlier limit on next will. (c.in_ok-kept.ensures.due c.args.kind old earlier limit on next will).will)
+returns-in-None-clause-due c = on_ok_any c.take_span-in-None.result (λ old earlier limit on next will. (c.in_ok-kept.ensures.due c.args.kind old earlier limit on next will).will)
 
 pub returns-in-None-clause-in_time : goal.returns-in-None-clause-in_time
 returns-in-None-clause-in_time c = λ old earlier limit on next will. inr ((c.in_ok-kept.ensures.due c.args.kind old earlier limit on next will).sized c.in-None.is)
@@ -81,4 +83,36 @@ returns-in-Some-clause-anew c =
     on_ok_any c.keep_span.result (λ old earlier on. inr (refl, (found c.args.kind old earlier on).1.1))
 
 pub returns-in-None-clause-anew : goal.returns-in-None-clause-anew
-returns-in-None-clause-anew c = on_ok_any c.take_span.result (λ old earlier on. inl c.take_span.ensures.sized)
+returns-in-None-clause-anew c = on_ok_any c.take_span-in-None.result (λ old earlier on. inl c.take_span-in-None.ensures.sized)
+
+-- where the old deck is over it stays as it is
+pub returns-in-Over-clause-taken : goal.returns-in-Over-clause-taken
+returns-in-Over-clause-taken c =
+    let cards = c.args.cards.now in
+    let deck = c.args.old_deck.now in
+    on_ok_one c.take_span.result _ _ (λ step old earlier on. (
+      step earlier on.next on.sizer_is,
+      goes-on c.args.kind old cards earlier _ c.args.span c.args.self.now deck deck on (record { kind = refl; before = refl; behind = refl })
+          (subst (IsAtStage c.args.kind old cards _ deck) (sym c.in-Over.is) tt),
+    )) c.take_span.ensures.taken
+
+pub returns-in-Over-clause-front : goal.returns-in-Over-clause-front
+returns-in-Over-clause-front c = on_ok_any c.take_span.result (λ old earlier on goes.
+    let front = goes.stands.stage in
+    let over = c.in-Over.is in
+    absurd (cc))
+
+pub returns-in-Over-clause-kept : goal.returns-in-Over-clause-kept
+returns-in-Over-clause-kept c = λ old earlier on goes.
+    let front = goes.stands.stage in
+    let over = c.in-Over.is in
+    absurd (cc)
+
+pub returns-in-Over-clause-due : goal.returns-in-Over-clause-due
+returns-in-Over-clause-due c = on_ok_any c.take_span.result (λ old earlier limit on next will. absurd (subst (WillAgreeAt c.args.kind old c.args.cards.now limit earlier c.args.old_deck.now) c.in-Over.is will))
+
+pub returns-in-Over-clause-in_time : goal.returns-in-Over-clause-in_time
+returns-in-Over-clause-in_time c = λ old earlier limit on next will. absurd (subst (WillAgreeAt c.args.kind old c.args.cards.now limit earlier c.args.old_deck.now) c.in-Over.is will)
+
+pub returns-in-Over-clause-anew : goal.returns-in-Over-clause-anew
+returns-in-Over-clause-anew c = on_ok_any c.take_span.result (λ old earlier on. inl c.take_span.ensures.sized)

@@ -2,7 +2,7 @@ use Rattle.std.proofs.Common.{◌≡◌, ℕ, List, false, length, codes, refl, 
 use Rattle.definitions.specs.Pieces.{pieces_of, subfields_of}
 use Rattle.definitions.specs.Places.{asks_upper}
 use Rattle.operations.proofs.SettingLaws.{other_length}
-use Rattle.statement_coder.proofs.sized.asks_upper.Goals as goal
+use Rattle.statement_coder.proofs.placing.asks_upper.Goals as goal
 
 -- each name that asks has two letters
 no_other : (name : List ℕ) (subfields : ℕ) → (length name ≡ 2 → ⊥) → false ≡ asks_upper name subfields

@@ -1,0 +1,17 @@
+use Rattle.std.proofs.Common.{true≢false, ap, sym, subst, ◌∙◌}
+use Rattle.std.specs.Prelude.{is_some}
+use Rattle.definitions.specs.States.{seen_from}
+use Rattle.statement_coder.specs.Joins.Sizings.{read_as, settled_read, IsSizing}
+use Rattle.statement_coder.proofs.sized.size_kept.Goals as goal
+
+pub returns-in-Some-clause-sizing : goal.returns-in-Some-clause-sizing
+returns-in-Some-clause-sizing g c =
+    let view = g.S.EarlySymbols.view c.args.symbols.now in
+    let code = c.args.statement.now in
+    λ given operand stray reading letters.
+    subst (IsSizing view (settled_read code.kind (seen_from c.args.state.now view) (read_as code given operand))) (sym c.usual.ensures)
+    (c.in-Some.ensures.sizing given operand stray reading letters)
+
+pub returns-in-None-clause-needs_none : goal.returns-in-None-clause-needs_none
+returns-in-None-clause-needs_none g c = λ counting plain.
+    absurd (true≢false (sym (c.size_usual.ensures.some counting plain) ∙ ap is_some c.in-None.is))
