@@ -2,9 +2,9 @@
 ghost use Rattle.std.specs.Prelude.{◌≡◌, IfOk};
 ghost use Rattle.definitions.specs.DeckInput as definitions;
 
+use deck_assembler::assemble;
 use deck_cuts::Deck;
 use deck_objects::SharedObject;
-use edit_core::assemble;
 use std::alloc::{AllocError, Global};
 use std::hash::RandomState;
 use work_meter::Meter;

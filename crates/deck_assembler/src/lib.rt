@@ -2,6 +2,8 @@
 //! piece, its symbols, externals, literals and the lengths of its blocks; then its lines with their fields
 //! and its entries. What an object is, `deck_objects` says.
 //!
+//! `assemble` makes the object of a deck, and lets go of the rest.
+//!
 //! `SizedDeck::new` takes one statement after the other: reads it, sizes it behind the state so
 //! far, takes in its literals and what it defines, and steps lengths and state by its effect. A
 //! `Piece` has up to 128 statements, with the state before the first. `object_parts` goes over
@@ -57,6 +59,10 @@ mod object_part_list;
 mod rebinding;
 mod same_bindings;
 
+// The object of a deck.
+mod assembling;
+
+pub use assembling::{assemble, object_of};
 pub use former::{EditedDeck, Former};
 pub use literal_words::literal_word;
 pub use object_part_list::{edited_parts, object_parts};

@@ -13,13 +13,13 @@ ghost use Rattle.edit_core.specs.Records.{ArePieces};
 ghost use Rattle.edit_core.specs.Sums.{cards_between, statements_sum, CountsInOrder, RisesInGroups, RisesWithinSum, RisesWithinSumCode};
 ghost use Rattle.edit_core.specs.Joins.Groups.{IsFirstMade};
 
-use crate::assembling::{edited_object, object_of};
+use crate::edited_object::edited_object;
 use crate::faults::RecordFault;
 use crate::fronts::{cards_before_all, cards_behind_all};
 use crate::near::near_edits;
 use crate::piece_counts::piece_counts;
 use cards::{Card, DeckName, Edit, edited_copy, first_fault};
-use deck_assembler::{OldCards, SizedDeck};
+use deck_assembler::{OldCards, SizedDeck, object_of};
 use deck_objects::SharedObject;
 use statement_coder::Meter;
 use std::alloc::{AllocError, Global};

@@ -1,7 +1,7 @@
 //! The record of a deck: its name and its cards, and all that is kept of them, so that its object is
 //! at hand.
 //!
-//! `assemble` makes the object of a deck and lets go of the rest; `Kept::new` keeps the sized deck
+//! `Kept::new` makes the object of a deck as `assemble` of `deck_assembler` does, and keeps the sized deck
 //! beside it. `finish` gives the object, which is at hand. `edit_all` finds the fault of the first edit
 //! that does not apply, or makes the record of the edited cards, and is spent where memory runs out on
 //! the way: what was sized in front of the edited cards stays, and behind them from where both decks
@@ -11,13 +11,12 @@
 //! within the sum of what is due for each.
 #![tactic(auto)]
 
-mod assembling;
+mod edited_object;
 mod faults;
 mod fronts;
 mod kept;
 mod near;
 mod piece_counts;
 
-pub use assembling::assemble;
 pub use faults::RecordFault;
 pub use kept::{FinishFault, Kept};

@@ -7,7 +7,7 @@ use Rattle.deck_objects.specs.Joins.PartsOf.{ArePartsOf}
 use Rattle.deck_assembler.specs.Joins.DueCodes.{IsPlanOf, RisesReboundOf, code_due_of}
 use Rattle.deck_assembler.specs.Joins.Formers.{known_in}
 use Rattle.deck_assembler.proofs.ResultLaws.{on_ok_any}
-use Rattle.edit_core.proofs.assembling.edited_object.Goals as goal
+use Rattle.edit_core.proofs.edited_object.edited_object.Goals as goal
 
 pub new-requires : goal.new-requires
 new-requires c =

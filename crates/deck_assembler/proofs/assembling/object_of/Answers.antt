@@ -3,7 +3,7 @@ use Rattle.definitions.specs.Cards.{Card}
 use Rattle.definitions.specs.DeckInput.{Deck}
 use Rattle.definitions.specs.Objects.{object_of}
 use Rattle.deck_objects.specs.Joins.PartsOf.{ArePartsOf}
-use Rattle.edit_core.proofs.assembling.object_of.Goals as goal
+use Rattle.deck_assembler.proofs.assembling.object_of.Goals as goal
 
 pub new-requires : goal.new-requires
 new-requires c =

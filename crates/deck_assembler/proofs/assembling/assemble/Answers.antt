@@ -4,7 +4,7 @@ use Rattle.definitions.specs.DeckKinds.{up_to_end}
 use Rattle.definitions.specs.Statements.{statements_of}
 use Rattle.statement_coder.specs.Joins.Meters.{RisesBy}
 use Rattle.deck_assembler.proofs.ResultLaws.{on_ok_any}
-use Rattle.edit_core.proofs.assembling.assemble.Goals as goal
+use Rattle.deck_assembler.proofs.assembling.assemble.Goals as goal
 
 pub returns-clause-sized_all : goal.returns-clause-sized_all
 returns-clause-sized_all c =
