@@ -1,10 +1,17 @@
 -- The decks that begin behind END by the lines of an object are those by its statements.
-use Rattle.std.proofs.Common.{◌≡◌, ℕ, ◌+◌, ◌<◌, Bool, true, false, List, [], ◌∷◌, length, take, drop, get_or, reverse, refl, sym, ap, ap₂, ◌∙◌, arith}
-use Rattle.std.specs.Prelude.{◌&&◌, Option, None, Some, filter, is_none, if◌then◌else◌}
+use Rattle.std.proofs.Common.{◌≡◌, ℕ, ◌+◌, ◌<◌, Bool, true, false, List, [], ◌∷◌, length, take, drop, get_or, reverse, refl, sym, ap, ap₂, ◌∙◌, arith, ◌++◌, append-nil}
+use Rattle.std.specs.Prelude.{◌&&◌, Option, None, Some, filter, is_none, if◌then◌else◌, map}
 use Rattle.std.proofs.lemmas.List.{drop_more}
+use Rattle.std.proofs.lemmas.List.Elements.{filter-append}
 use Rattle.definitions.specs.Cards.{Card}
+use Rattle.definitions.specs.DeckInput.{Deck}
+use Rattle.definitions.specs.DeckKinds.{behind_end, kind_of_statements, up_to_end}
 use Rattle.definitions.specs.Lengths.{BlockRow}
-use Rattle.definitions.specs.Objects.{Object, Shown}
+use Rattle.definitions.specs.Objects.{Object, Shown, context_of, object_of, only_listed, shown_of}
+use Rattle.definitions.specs.Settled.{Settled}
+use Rattle.definitions.specs.Settling.{settled_all}
+use Rattle.definitions.specs.StatementItems.{Context}
+use Rattle.definitions.specs.Statements.{Statement, statements_of}
 use Rattle.definitions.specs.Words.{Coded}
 use Rattle.definitions.specs.declared.deck_kind.DeckKind.{DeckKind}
 use Rattle.statement_coder.specs.declared.items.Item as code
@@ -14,9 +21,9 @@ use Rattle.deck_objects.specs.declared.lines.CodedLine.{CodedLine}
 use Rattle.deck_objects.specs.declared.lines.Line.{Line}
 use Rattle.deck_objects.specs.declared.object.ObjectParts.{ObjectParts}
 use Rattle.deck_cuts.specs.Cuts.{begins_deck}
-use Rattle.deck_listing.specs.DecksBehind.{begins_behind, do_begin}
-use Rattle.deck_listing.specs.Joins.LinesBehind.{begun_by, begun_in}
-use Rattle.deck_listing.proofs.ListingLaws.{filter-reverse}
+use Rattle.deck_listing.specs.DecksBehind.{begins_with_deck, decks_behind, do_begin}
+use Rattle.deck_listing.specs.Joins.LinesBehind.{begins_behind, begun_by, begun_in}
+use Rattle.deck_listing.proofs.ListingLaws.{filter-reverse, one_more}
 
 -- the next statement, and those behind it
 pub begun-next : (cards : List Card) (lines : List Line) (i : ℕ) (shown : Line) → i < length lines → shown ≡ get_or lines i shown →
@@ -54,7 +61,31 @@ begun-same kind rows items stood cards (shown ∷ lines) (statement ∷ others) 
     (begun-same kind rows items (stood + shown.cards) (drop shown.cards cards) lines others are.1)
     ∙ begun-one statement.statement.cards (is_none statement.coded) statement (filter begins_behind others)
 
+-- what is only listed begins as many as its statements
+listed-count : (behind : List Statement) → length (filter begins_behind (map only_listed behind)) ≡ length (filter begins_with_deck behind)
+listed-count [] = refl
+listed-count (statement ∷ earlier) =
+    one_more (do_begin statement.cards) (only_listed statement) (filter begins_behind (map only_listed earlier)) statement (filter begins_with_deck earlier) (listed-count earlier)
+
+-- and what stands up to END none
+coded-none : (context : Context) (settled : List Settled) → filter begins_behind (map (shown_of context) settled) ≡ []
+coded-none context [] = refl
+coded-none context (one ∷ earlier) = coded-none context earlier
+
+shown-count : (deck : Deck) → length (filter begins_behind (object_of deck).shown) ≡ decks_behind deck
+shown-count deck =
+    let statements = statements_of (reverse deck.cards) in
+    let behind = behind_end statements in
+    let kind = kind_of_statements (up_to_end statements) in
+    let settled = settled_all kind (up_to_end statements) in
+    let context = context_of kind settled in
+    ap length (filter-append begins_behind (map only_listed behind) (map (shown_of context) settled))
+    ∙ ap (λ (l : List Shown). length (filter begins_behind (map only_listed behind) ++ l)) (coded-none context settled)
+    ∙ ap length (append-nil (filter begins_behind (map only_listed behind)))
+    ∙ listed-count behind
+
 -- those of a deck
-pub begun-all : (cards : List Card) (parts : ObjectParts) (object : Object) → ArePartsOf cards parts object → begun_in cards parts.lines.items ≡ length (filter begins_behind object.shown)
-begun-all cards parts object are =
-    begun-same parts.kind parts.bases parts.items.items 0 cards parts.lines.items (reverse object.shown) are.shown ∙ filter-reverse begins_behind object.shown
+pub begun-all : (deck : Deck) (parts : ObjectParts) → ArePartsOf deck.cards parts (object_of deck) → begun_in deck.cards parts.lines.items ≡ decks_behind deck
+begun-all deck parts are =
+    begun-same parts.kind parts.bases parts.items.items 0 deck.cards parts.lines.items (reverse (object_of deck).shown) are.shown
+    ∙ filter-reverse begins_behind (object_of deck).shown ∙ shown-count deck

@@ -79,7 +79,7 @@ lines-same kind rows items before stood cards (shown ∷ lines) (statement ∷ o
     (line-same kind rows items before stood cards shown statement are.0 (⊎_elim (λ none. inl (take-none shown.cards cards none)) (λ same. inr same) which))
     (lines-same kind rows items (before + length (take shown.cards cards)) (stood + shown.cards) (drop shown.cards cards) lines others are.1 (behind-cards shown.cards before stood cards which))
 
-one_more : (b : Bool) (x : Line) (xs : List Line) (y : Shown) (ys : List Shown) → length xs ≡ length ys → length (if b then x ∷ xs else xs) ≡ length (if b then y ∷ ys else ys)
+pub one_more : {X Y : Type 0} (b : Bool) (x : X) (xs : List X) (y : Y) (ys : List Y) → length xs ≡ length ys → length (if b then x ∷ xs else xs) ≡ length (if b then y ∷ ys else ys)
 one_more true x xs y ys e = ap (λ n. suc n) e
 one_more false x xs y ys e = e
 

@@ -1,8 +1,14 @@
 -- Decks that begin behind the END of another, from the lines of its object (ours).
 use Rattle.std.specs.Prelude.{ℕ, ◌+◌, Bool, ◌&&◌, is_none, List, [], ◌∷◌, drop, take, if◌then◌else◌}
 use Rattle.definitions.specs.Cards.{Card}
+use Rattle.definitions.specs.Objects.{Shown}
 use Rattle.deck_objects.specs.declared.lines.Line.{Line}
 use Rattle.deck_cuts.specs.Cuts.{begins_deck}
+use Rattle.deck_listing.specs.DecksBehind.{do_begin}
+
+-- whether a statement stands behind END and begins another deck
+abbrev pub begins_behind : Shown → Bool
+begins_behind shown = is_none shown.coded && do_begin shown.statement.cards
 
 -- how many begin with a statement of these cards, which stands behind END or not
 abbrev pub begun_by : List Card → Bool → ℕ

@@ -1,5 +1,4 @@
 use Rattle.std.proofs.Common.{◌∙◌, ap₂}
-use Rattle.definitions.specs.Objects.{object_of}
 use Rattle.deck_listing.specs.Joins.LinesBehind.{begun_in}
 use Rattle.deck_listing.proofs.BehindLaws.{begun-all}
 use Rattle.deck_listing.proofs.decks_behind.decks_behind.Goals as goal
@@ -7,4 +6,4 @@ use Rattle.deck_listing.proofs.decks_behind.decks_behind.Goals as goal
 pub returns : goal.returns
 returns c =
     c.begun_in.ensures ∙ ap₂ begun_in c.cards.ensures c.as_slice.ensures.value
-    ∙ begun-all c.args.object.now.cards c.parts.result.now (object_of c.args.object.now) c.parts.ensures
+    ∙ begun-all c.args.object.now c.parts.result.now c.parts.ensures
