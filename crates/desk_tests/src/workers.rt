@@ -134,11 +134,22 @@ const CARD: &str = "          BX6    X1";
 /// How many cards a deck has of which two have more than are delivered at once.
 const MANY: u32 = 10_001;
 
+/// A reply at which nobody looks; it is dropped here alone.
+fn pass_over(reply: Reply) {
+    let _ = reply;
+}
+
+/// Adds a deck of this name.
+fn add<C: Calls>(desk: &mut C, alloc: Global, of: &str, lines: &str) -> Result<(), AllocError> {
+    let call = addition(alloc, of, lines)?;
+    pass_over(ask(desk, call));
+    Ok(())
+}
+
 /// Adds the decks A and B.
 fn add_two<C: Calls>(desk: &mut C, alloc: Global, lines: &str) -> Result<(), AllocError> {
-    ask(desk, addition(alloc, "A", lines)?);
-    ask(desk, addition(alloc, "B", lines)?);
-    Ok(())
+    add(desk, alloc, "A", lines)?;
+    add(desk, alloc, "B", lines)
 }
 
 /// How many decks a reply shows.
@@ -150,10 +161,13 @@ fn push_shown(reply: &Reply, answer: &mut Answer) {
 }
 
 /// What a call answers, and how many decks it shows.
+fn push_both(answer: &mut Answer, reply: &Reply) {
+    push_reply(answer, reply);
+    push_shown(reply, answer);
+}
+
 fn push_asked<C: Calls>(desk: &mut C, call: Call, answer: &mut Answer) {
-    let reply = ask(desk, call);
-    push_reply(answer, &reply);
-    push_shown(&reply, answer);
+    push_both(answer, &ask(desk, call));
 }
 
 /// What a claim finds to do, and how many decks the publication has.
