@@ -137,7 +137,7 @@ pub fn operand_letters<S: EarlySymbols>(
     }
 }
 
-/// The same in few bytes.
+/// What `settle` makes of a statement, in few bytes: it takes memory where that is not usual.
 #[inline(never)]
 fn kept_settled<S: EarlySymbols>(
     alloc: Global,

@@ -2,6 +2,7 @@
 //! that failed, and whether its own memory was refused.
 
 use std::alloc::{AllocError, Global};
+use test_parts::plain_text;
 
 /// What is called, as it is told.
 pub type Called = &'static str;
@@ -19,15 +20,17 @@ pub fn called(lines: &'static str) -> Called {
 }
 
 /// A call that was refused, or that did something else than is wanted; and whether its check held.
-#[derive(Clone, Copy)]
+#[derive(Drop)]
 pub struct Note {
-    pub call: Called,
+    /// What is called; its own text, since no `'static` can stand beside a shelf that has several lifetimes.
+    pub call: String,
     pub holds: bool,
 }
 
 /// The notes of a scenario.
 #[derive(Drop)]
 pub struct Journal {
+    alloc: Global,
     /// How many calls there were, those that were made again counted once: the same in each run.
     pub calls: u64,
     /// Whether a check failed.
@@ -40,6 +43,7 @@ pub struct Journal {
 impl Journal {
     pub fn new(alloc: Global) -> Journal {
         Journal {
+            alloc,
             calls: 0,
             has_failed: false,
             is_lacking: false,
@@ -69,7 +73,14 @@ impl Journal {
         if !holds {
             self.has_failed = true;
         }
-        let _ = self.notes.push(Note { call, holds });
+        let _ = self.note(call, holds);
+    }
+
+    /// Puts a note behind the others, unless there is no memory for it.
+    fn note(&mut self, call: Called, holds: bool) -> Result<(), AllocError> {
+        let call = plain_text(self.alloc, call)?;
+        self.notes.push(Note { call, holds })?;
+        Ok(())
     }
 
     /// Notes whether the scenario's own memory was refused.
