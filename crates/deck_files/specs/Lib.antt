@@ -6,6 +6,7 @@ pub mod Files
 pub mod KnownFiles
 pub mod KnownTexts
 pub mod Savings
+pub mod ShelfRelations
 pub mod Moments
 pub mod Folders
 pub mod FileRows

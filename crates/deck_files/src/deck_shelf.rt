@@ -43,42 +43,21 @@ pub enum ShelfSaveFault {
     OutOfMemory,
 }
 
-/// Where decks are kept, each as a file under its name. The members say what one call makes of the
+/// Where decks are kept, each as a file under its name. The relations say what one call makes of the
 /// shelf: which shelf it finds and leaves, and what it answers.
 pub trait Shelf {
-    ghost use Rattle.std.specs.Prelude.{ℕ, Bool, List, Result, Ok, Err};
-    ghost use Rattle.deck_files.specs.declared.file_rows.FileRow.{FileRow as Row};
+    ghost use Rattle.std.specs.Prelude.{Ok, Err};
     ghost use Rattle.deck_files.specs.FileRows.{most_files};
-    ghost use Rattle.deck_files.specs.declared.deck_shelf.ShelfLoadFault.{ShelfLoadFault};
-    ghost use Rattle.deck_files.specs.declared.deck_shelf.ShelfSaveFault.{ShelfSaveFault};
-    ghost use Rattle.deck_files.specs.Savings.{Saving, saving};
+    ghost use Rattle.deck_files.specs.Savings.{saving};
+    ghost use Rattle.deck_files.specs.ShelfRelations.{ShelfRelations};
     ghost use Rattle.std.specs.Prelude.{◌≤◌, length, IfOk, OnOk, IfErr};
 
-    // The shelf before, the name, the cards, and the shelf after.
-    ghost loads: { Self → List ℕ → List (List ℕ) → Self → Type 0 };
-
-    // The shelf before, the name, the fault, and the shelf after.
-    ghost refuses_to_load: { Self → List ℕ → ShelfLoadFault → Self → Type 0 };
-
-    // The shelf before, what is saved, and the shelf after.
-    ghost saves: { Self → Saving → Self → Type 0 };
-
-    // The shelf before, what is saved, the fault, and the shelf after.
-    ghost refuses_to_save: { Self → Saving → ShelfSaveFault → Self → Type 0 };
-
-    // The shelf before, the rows of its files or why there are none, and the shelf after.
-    ghost lists: { Self → Result (List Row) ShelfLoadFault → Self → Type 0 };
-
-    // The shelf before, the name, the version, and the shelf after.
-    ghost notes: { Self → List ℕ → ℕ → Self → Type 0 };
-
-    // The shelf before, the name, the version, whether its cards are those of the file, and the shelf after.
-    ghost tells_saved: { Self → List ℕ → ℕ → Bool → Self → Type 0 };
+    ghost relations: { ShelfRelations Self };
 
     /// Loads the deck with this name. The file is known once its version is noted, and not before.
     fn load(&mut self, name: &DeckName) -> Result<Vec<Card>, ShelfLoadFault>
-        ensures cards { IfOk result (λ cards. loads self.old name.now cards.items self.new) }
-        ensures fault { IfErr result (λ fault. refuses_to_load self.old name.now fault self.new) };
+        ensures cards { IfOk result (λ cards. relations.loads self.old name.now cards.items self.new) }
+        ensures fault { IfErr result (λ fault. relations.refuses_to_load self.old name.now fault self.new) };
 
     /// Saves the deck of this name, with the cards that it had at this version, in place of what stood
     /// there, if it may be written over. Where others save on the shelf too, an older version never takes
@@ -91,20 +70,20 @@ pub trait Shelf {
         cards: &[Card],
     ) -> Result<(), ShelfSaveFault>
         requires { length cards.now ≤ 20000 }
-        ensures saved { OnOk result (saves self.old (saving name.now over version cards.now) self.new) }
-        ensures fault { IfErr result (λ fault. refuses_to_save self.old (saving name.now over version cards.now) fault self.new) };
+        ensures saved { OnOk result (relations.saves self.old (saving name.now over version cards.now) self.new) }
+        ensures fault { IfErr result (λ fault. relations.refuses_to_save self.old (saving name.now over version cards.now) fault self.new) };
 
     /// The files of decks that are there, in the order of their names.
     fn list(&mut self) -> Result<Vec<FileRow>, ShelfLoadFault>
-        ensures rows { IfOk result (λ rows. lists self.old (Ok rows.items) self.new) }
+        ensures rows { IfOk result (λ rows. relations.lists self.old (Ok rows.items) self.new) }
         ensures few { IfOk result (λ rows. length rows.items ≤ most_files) }
-        ensures fault { IfErr result (λ fault. lists self.old (Err fault) self.new) };
+        ensures fault { IfErr result (λ fault. relations.lists self.old (Err fault) self.new) };
 
     /// The deck of this name, the last that was loaded here, has this version on the desk.
     fn note(&mut self, name: &DeckName, version: u64)
-        ensures { notes self.old name.now version self.new };
+        ensures { relations.notes self.old name.now version self.new };
 
     /// Whether the deck's file has the cards of this version, by what was loaded and saved here.
     fn is_saved(&mut self, name: &DeckName, version: u64) -> bool
-        ensures { tells_saved self.old name.now version result self.new };
+        ensures { relations.tells_saved self.old name.now version result self.new };
 }

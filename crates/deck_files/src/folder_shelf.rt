@@ -237,19 +237,15 @@ fn save_in_turn<F: Folder, K: SaveTurns>(
 impl<'a, R: Wait, F: Folder, K: SaveTurns> Shelf for FolderShelf<'a, R, F, K> {
     ghost use Rattle.deck_files.specs.FolderShelves.{ListsDecks, LoadsDeck, LoadsNoDeck, NotesDeck, SavesDeck, SavesNoDeck, TellsSaved};
 
-    ghost loads = { LoadsDeck F.has_done K.tells_newest K.places };
-
-    ghost refuses_to_load = { LoadsNoDeck F.has_done K.tells_newest K.lacks };
-
-    ghost saves = { SavesDeck F.has_done K.turns K.lacks K.notes };
-
-    ghost refuses_to_save = { SavesNoDeck F.has_done K.turns K.lacks K.notes };
-
-    ghost lists = { ListsDecks F.has_done };
-
-    ghost notes = { NotesDeck K.notes_loaded };
-
-    ghost tells_saved = { TellsSaved K.tells_saved };
+    ghost relations = { record {
+        loads = LoadsDeck F.has_done K.tells_newest K.places;
+        refuses_to_load = LoadsNoDeck F.has_done K.tells_newest K.lacks;
+        saves = SavesDeck F.has_done K.turns K.lacks K.notes;
+        refuses_to_save = SavesNoDeck F.has_done K.turns K.lacks K.notes;
+        lists = ListsDecks F.has_done;
+        notes = NotesDeck K.notes_loaded;
+        tells_saved = TellsSaved K.tells_saved
+    } };
 
     fn load(&mut self, name: &DeckName) -> Result<Vec<Card>, ShelfLoadFault> {
         self.loaded = None;

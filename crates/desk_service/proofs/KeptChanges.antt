@@ -15,7 +15,7 @@ use Rattle.journal.specs.JournalFiles.{Step, IsKeptAs}
 use Rattle.kept_desk.specs.Keeping.{TellsKept, TellsCarried, MakesKept, refused, called, not_opened, opened, told_of, version_told}
 use Rattle.journal.specs.Records.{text_behind_version}
 use Rattle.journal.specs.Replaying.{call_of}
-use Rattle.desk_service.specs.SessionKeepers.{SessionKeeper, BeginsRecord, IsCarriedAndKept, IsMadeAndKept, KeepsRecord, OpensRecord, keeper_name}
+use Rattle.desk_service.specs.SessionKeepers.{SessionKeeper, IsCarriedAndKept, IsMadeAndKept, KeepsRecord, keeper_relations}
 
 module _ {F : Type 0} (has_done : F → List Step → Type 0) where
   -- the record that is kept has the text that who asks has of its own
@@ -36,7 +36,7 @@ module _ {F : Type 0} (has_done : F → List Step → Type 0) where
   untold : (P : Type 0) (what reply : Reply) (version : ℕ) → what ≡ reply → version_told reply ≡ None → version_told what ≡ Some version → P
   untold P what reply version is none tells = let not : Some version ≡ None = sym tells ∙ ap version_told is ∙ none in cc
 
-  kept : (P : Type 0) (reply what : Reply) (draft : List ℕ) (version : ℕ) (between after : SessionKeeper) → between.journaled ≡ true → TellsKept (KeepsRecord has_done) draft reply between what after → version_told what ≡ Some version →
+  kept : (P : Type 0) (reply what : Reply) (draft : List ℕ) (version : ℕ) (between after : SessionKeeper) → between.journaled ≡ true → TellsKept (keeper_relations has_done) draft reply between what after → version_told what ≡ Some version →
       (reply ≡ Changed version → IsKeptAs has_done version draft → P) → P
   kept P (Changed made) what draft version between after journaled tells is then =
       answered P tells.0 draft made version what between after journaled tells.1.0 tells.1.1 is (λ same keeps. then (ap Changed same) (subst (λ (n : ℕ). IsKeptAs has_done n draft) same keeps))
@@ -57,7 +57,7 @@ module _ {F : Type 0} (has_done : F → List Step → Type 0) where
   kept P Cleared what draft version between after journaled tells is then = untold P what _ version tells.0 refl is
   kept P (Refused refusal) what draft version between after journaled tells is then = untold P what _ version tells.0 refl is
 
-  carried : (P : Type 0) (reply what : Reply) (stamp : Stamp) (name : List ℕ) (version : ℕ) (between after : SessionKeeper) → between.journaled ≡ true → TellsCarried (KeepsRecord has_done) stamp name reply between what after →
+  carried : (P : Type 0) (reply what : Reply) (stamp : Stamp) (name : List ℕ) (version : ℕ) (between after : SessionKeeper) → between.journaled ≡ true → TellsCarried (keeper_relations has_done) stamp name reply between what after →
       version_told what ≡ Some version → ((seen : ℕ) (edits : List Edit) → reply ≡ Carried version seen edits → IsKeptAs has_done version (carried_text stamp name seen edits) → P) → P
   carried P (Carried made seen edits) what stamp name version between after journaled tells is then =
       answered P tells.0 (carried_text stamp name seen edits) made version what between after journaled tells.1.0 tells.1.1 is
@@ -80,7 +80,7 @@ module _ {F : Type 0} (has_done : F → List Step → Type 0) where
   carried P (Refused refusal) what stamp name version between after journaled tells is then = untold P what _ version tells.0 refl is
 
   pub changes-kept : {C : Type 0} (makes : C → Call → Reply → C → Type 0) (old new : C × SessionKeeper) (change : Change) (told : Reply) (version : ℕ) → old.1.journaled ≡ true → version_told told ≡ Some version →
-      MakesKept makes (BeginsRecord has_done) (KeepsRecord has_done) keeper_name (OpensRecord has_done) old (asked.Change change) told new → IsMadeAndKept has_done makes old.1.name change version old.0 new.0
+      MakesKept makes (keeper_relations has_done) old (asked.Change change) told new → IsMadeAndKept has_done makes old.1.name change version old.0 new.0
   changes-kept makes old new change told version journaled is (refused refusal begins same stays) = untold (IsMadeAndKept has_done makes old.1.name change version old.0 new.0) told _ version same refl is
   changes-kept makes old new change told version journaled is (called draft between reply begins made tells) =
       let name : between.name ≡ old.1.name = ap (λ (k : SessionKeeper). k.name) begins.0 in
@@ -92,7 +92,7 @@ module _ {F : Type 0} (has_done : F → List Step → Type 0) where
       })
 
   pub carried-kept : {C : Type 0} (makes : C → Call → Reply → C → Type 0) (old new : C × SessionKeeper) (carry : Carry) (told : Reply) (version : ℕ) → old.1.journaled ≡ true → version_told told ≡ Some version →
-      MakesKept makes (BeginsRecord has_done) (KeepsRecord has_done) keeper_name (OpensRecord has_done) old (asked.Carry carry) told new → IsCarriedAndKept has_done makes old.1.name carry version old.0 new.0
+      MakesKept makes (keeper_relations has_done) old (asked.Carry carry) told new → IsCarriedAndKept has_done makes old.1.name carry version old.0 new.0
   carried-kept makes old new carry told version journaled is (not_opened refusal opens same stays) = untold (IsCarriedAndKept has_done makes old.1.name carry version old.0 new.0) told _ version same refl is
   carried-kept makes old new carry told version journaled is (opened stamp between reply opens made tells) =
       let name : between.name ≡ old.1.name = ap (λ (k : SessionKeeper). k.name) opens.0 in

@@ -1,15 +1,9 @@
 -- The first lines of a session one by one.
-use Rattle.std.proofs.Common.{ℕ, ◌≡◌, ◌+◌, ◌==◌, ◌<◌, ◌∙◌, Bool, true, false, List, Result, Option, Some, None, refl, sym, ap, subst}
+use Rattle.std.proofs.Common.{ℕ, ◌≡◌, ◌+◌, ◌==◌, ◌<◌, ◌∙◌, Bool, true, false, List, Option, Some, None, refl, sym, ap, subst}
 use Rattle.std.proofs.lemmas.Option.{none-some}
-use Rattle.definitions.specs.Cards.{Card}
-use Rattle.deck_files.specs.declared.deck_shelf.ShelfLoadFault.{ShelfLoadFault}
-use Rattle.deck_files.specs.declared.deck_shelf.ShelfSaveFault.{ShelfSaveFault}
-use Rattle.deck_files.specs.Savings.{Saving}
-use Rattle.deck_files.specs.declared.file_rows.FileRow.{FileRow}
-use Rattle.desk_core.specs.declared.calls.Call.{Call}
+use Rattle.deck_files.specs.ShelfRelations.{ShelfRelations}
 use Rattle.session_line.specs.declared.rights.Rights.{Rights}
-use Rattle.session_line.specs.declared.greetings.Greeting.{Greeting}
-use Rattle.desk_core.specs.declared.replies.Reply.{Reply}
+use Rattle.session_line.specs.DeskRelations.{DeskRelations}
 use Rattle.text_ports.specs.Faults.{count_after_line}
 use Rattle.text_ports.specs.declared.lines.LineIs.{LineIs}
 use Rattle.text_ports.specs.declared.lines.LineIs.TheVariants as line
@@ -63,43 +57,39 @@ ending-opening (Some ending) command = refl
 ending-opening None true = refl
 ending-opening None false = refl
 
-module _ {C S : Type 0} (rights : Rights) (makes : C → Call → Reply → C → Type 0) (awaits : C → ℕ → Reply → C → Type 0) (greets : C → List ℕ → Greeting → C → Type 0) (loads : S → List ℕ → List Card → S → Type 0)
-    (refuses_to_load : S → List ℕ → ShelfLoadFault → S → Type 0)
-    (saves : S → Saving → S → Type 0) (refuses_to_save : S → Saving → ShelfSaveFault → S → Type 0)
-    (lists : S → Result (List FileRow) ShelfLoadFault → S → Type 0)
-    (notes : S → List ℕ → ℕ → S → Type 0) (tells_saved : S → List ℕ → ℕ → Bool → S → Type 0) where
+module _ {C S : Type 0} (rights : Rights) (calls : DeskRelations C) (files : ShelfRelations S) where
   -- a line that is no command, after which the next may come
-  pub strangers_more : (first middle last : Standing C S) (count : ℕ) (is_first : Bool) (what : Opening) → OpensLines rights makes awaits greets loads refuses_to_load saves refuses_to_save lists notes tells_saved first middle count →
-      is_first ≡ (count == 0) → OpensLine rights makes awaits greets loads refuses_to_load saves refuses_to_save lists notes tells_saved is_first middle last what → what ≡ opening.Strange → OpensLines rights makes awaits greets loads refuses_to_load saves refuses_to_save lists notes tells_saved first last (count + 1)
+  pub strangers_more : (first middle last : Standing C S) (count : ℕ) (is_first : Bool) (what : Opening) → OpensLines rights calls files first middle count →
+      is_first ≡ (count == 0) → OpensLine rights calls files is_first middle last what → what ≡ opening.Strange → OpensLines rights calls files first last (count + 1)
   strangers_more first middle last count is_first what lines at line is_strange =
-      let P : Opening → Type 0 = λ (w : Opening). OpensLine rights makes awaits greets loads refuses_to_load saves refuses_to_save lists notes tells_saved (count == 0) middle last w in
-      let Q : Bool → Type 0 = λ (b : Bool). OpensLine rights makes awaits greets loads refuses_to_load saves refuses_to_save lists notes tells_saved b middle last what in
+      let P : Opening → Type 0 = λ (w : Opening). OpensLine rights calls files (count == 0) middle last w in
+      let Q : Bool → Type 0 = λ (b : Bool). OpensLine rights calls files b middle last what in
       next_stranger middle last count lines (subst P is_strange (subst Q at line))
 
   -- a line that ends the session
-  pub session_ended_early : (first middle last : Standing C S) (count : ℕ) (is_first : Bool) (what : Opening) (ending : Ending) → OpensLines rights makes awaits greets loads refuses_to_load saves refuses_to_save lists notes tells_saved first middle count →
-      count < most_strange → is_first ≡ (count == 0) → OpensLine rights makes awaits greets loads refuses_to_load saves refuses_to_save lists notes tells_saved is_first middle last what → what ≡ opening.Ended ending → OpensSession rights makes awaits greets loads refuses_to_load saves refuses_to_save lists notes tells_saved first last (Some ending)
+  pub session_ended_early : (first middle last : Standing C S) (count : ℕ) (is_first : Bool) (what : Opening) (ending : Ending) → OpensLines rights calls files first middle count →
+      count < most_strange → is_first ≡ (count == 0) → OpensLine rights calls files is_first middle last what → what ≡ opening.Ended ending → OpensSession rights calls files first last (Some ending)
   session_ended_early first middle last count is_first what ending lines fewer at line is_ending =
-      let P : Opening → Type 0 = λ (w : Opening). OpensLine rights makes awaits greets loads refuses_to_load saves refuses_to_save lists notes tells_saved (count == 0) middle last w in
-      let Q : Bool → Type 0 = λ (b : Bool). OpensLine rights makes awaits greets loads refuses_to_load saves refuses_to_save lists notes tells_saved b middle last what in
+      let P : Opening → Type 0 = λ (w : Opening). OpensLine rights calls files (count == 0) middle last w in
+      let Q : Bool → Type 0 = λ (b : Bool). OpensLine rights calls files b middle last what in
       ended_early middle count ending lines fewer (subst P is_ending (subst Q at line))
 
   -- the first command
-  pub session_met : (first middle last : Standing C S) (count : ℕ) (is_first : Bool) (what : Opening) → OpensLines rights makes awaits greets loads refuses_to_load saves refuses_to_save lists notes tells_saved first middle count →
-      count < most_strange → is_first ≡ (count == 0) → OpensLine rights makes awaits greets loads refuses_to_load saves refuses_to_save lists notes tells_saved is_first middle last what → what ≡ opening.Met → OpensSession rights makes awaits greets loads refuses_to_load saves refuses_to_save lists notes tells_saved first last None
+  pub session_met : (first middle last : Standing C S) (count : ℕ) (is_first : Bool) (what : Opening) → OpensLines rights calls files first middle count →
+      count < most_strange → is_first ≡ (count == 0) → OpensLine rights calls files is_first middle last what → what ≡ opening.Met → OpensSession rights calls files first last None
   session_met first middle last count is_first what lines fewer at line is_met =
-      let P : Opening → Type 0 = λ (w : Opening). OpensLine rights makes awaits greets loads refuses_to_load saves refuses_to_save lists notes tells_saved (count == 0) middle last w in
-      let Q : Bool → Type 0 = λ (b : Bool). OpensLine rights makes awaits greets loads refuses_to_load saves refuses_to_save lists notes tells_saved b middle last what in
+      let P : Opening → Type 0 = λ (w : Opening). OpensLine rights calls files (count == 0) middle last w in
+      let Q : Bool → Type 0 = λ (b : Bool). OpensLine rights calls files b middle last what in
       met middle count lines fewer (subst P is_met (subst Q at line))
 
   -- a first line that is a request of HTTP
   pub opens-turned : (is_first : Bool) (answer : LineIs) (text same : List ℕ) (old new : Standing C S) (turned : Bool) → TakesLine answer text old new → ending_without answer ≡ None → same ≡ text →
-      turned ≡ is_turned_away is_first same → turned ≡ true → OpensLine rights makes awaits greets loads refuses_to_load saves refuses_to_save lists notes tells_saved is_first old new (opening.Ended ending.Request)
+      turned ≡ is_turned_away is_first same → turned ≡ true → OpensLine rights calls files is_first old new (opening.Ended ending.Request)
   opens-turned is_first answer text same old new turned taken e is_text told holds = turned_away same (came-as answer text same old new taken e is_text) (sym told ∙ holds) refl
 
   -- a first line that is served
   pub opens-served : (is_first : Bool) (answer : LineIs) (text same : List ℕ) (old taken new : Standing C S) (turned command : Bool) (told : Option Ending) (what : Opening) →
-      TakesLine answer text old taken → ending_without answer ≡ None → same ≡ text → turned ≡ is_turned_away is_first same → turned ≡ false → ServesTaken rights makes awaits greets loads refuses_to_load saves refuses_to_save lists notes tells_saved same taken new told →
-      command ≡ is_command same → what ≡ opening_of told command → OpensLine rights makes awaits greets loads refuses_to_load saves refuses_to_save lists notes tells_saved is_first old new what
+      TakesLine answer text old taken → ending_without answer ≡ None → same ≡ text → turned ≡ is_turned_away is_first same → turned ≡ false → ServesTaken rights calls files same taken new told →
+      command ≡ is_command same → what ≡ opening_of told command → OpensLine rights calls files is_first old new what
   opens-served is_first answer text same old taken new turned command told what takes e is_text is_turned fails served commands becomes =
       first_line same taken told (came-as answer text same old taken takes e is_text) (sym is_turned ∙ fails) served (becomes ∙ ap (opening_of told) commands)

@@ -1,18 +1,12 @@
 -- A session line by line.
-use Rattle.std.proofs.Common.{ℕ, ◌≡◌, ◌+◌, ◌<◌, ◌∙◌, Bool, true, false, List, Result, Option, Some, None, refl, sym, ap, subst}
-use Rattle.definitions.specs.Cards.{Card}
-use Rattle.deck_files.specs.declared.deck_shelf.ShelfLoadFault.{ShelfLoadFault}
-use Rattle.deck_files.specs.declared.deck_shelf.ShelfSaveFault.{ShelfSaveFault}
-use Rattle.deck_files.specs.Savings.{Saving}
-use Rattle.deck_files.specs.declared.file_rows.FileRow.{FileRow}
-use Rattle.desk_core.specs.declared.calls.Call.{Call}
+use Rattle.std.proofs.Common.{ℕ, ◌≡◌, ◌+◌, ◌<◌, ◌∙◌, Bool, true, false, Option, Some, None, refl, sym, ap, subst}
+use Rattle.deck_files.specs.ShelfRelations.{ShelfRelations}
 use Rattle.session_line.specs.declared.rights.Rights.{Rights}
-use Rattle.session_line.specs.declared.greetings.Greeting.{Greeting}
-use Rattle.desk_core.specs.declared.replies.Reply.{Reply}
 use Rattle.text_ports.specs.Faults.{count_after_flush}
 use Rattle.session_line.specs.Serving.{read_faults_after, write_faults_after}
 use Rattle.session_line.specs.declared.serving.Outcome.{Outcome}
 use Rattle.session_line.specs.declared.serving.Outcome.TheVariants.{Served, Ended, ReadFault, WriteFault}
+use Rattle.session_line.specs.DeskRelations.{DeskRelations}
 use Rattle.desk_service.specs.declared.sessions.Ending.{Ending}
 use Rattle.desk_service.specs.Sessions.{ending_after, is_fault, read_faults_at, write_faults_at, Standing, ServesLine, ServesLines, ServesToEnd, next_line, ended, most_commands}
 
@@ -42,21 +36,17 @@ pub write_faults-ending : (outcome : Outcome) (flushed : Bool) (told : Option En
     count_after_flush flushed (write_faults_after outcome faults) ≡ write_faults_at told faults
 write_faults-ending outcome flushed told faults h e = write_faults-line outcome flushed faults h ∙ ap (λ t. write_faults_at t faults) (sym e)
 
-module _ {C S : Type 0} (rights : Rights) (makes : C → Call → Reply → C → Type 0) (awaits : C → ℕ → Reply → C → Type 0) (greets : C → List ℕ → Greeting → C → Type 0) (loads : S → List ℕ → List Card → S → Type 0)
-    (refuses_to_load : S → List ℕ → ShelfLoadFault → S → Type 0)
-    (saves : S → Saving → S → Type 0) (refuses_to_save : S → Saving → ShelfSaveFault → S → Type 0)
-    (lists : S → Result (List FileRow) ShelfLoadFault → S → Type 0)
-    (notes : S → List ℕ → ℕ → S → Type 0) (tells_saved : S → List ℕ → ℕ → Bool → S → Type 0) where
+module _ {C S : Type 0} (rights : Rights) (calls : DeskRelations C) (files : ShelfRelations S) where
   -- a line after which the next may come
-  pub lines_more : (first middle last : Standing C S) (count : ℕ) (told : Option Ending) → ServesLines rights makes awaits greets loads refuses_to_load saves refuses_to_save lists notes tells_saved first middle count →
-      ServesLine rights makes awaits greets loads refuses_to_load saves refuses_to_save lists notes tells_saved middle last told → told ≡ None → ServesLines rights makes awaits greets loads refuses_to_load saves refuses_to_save lists notes tells_saved first last (count + 1)
+  pub lines_more : (first middle last : Standing C S) (count : ℕ) (told : Option Ending) → ServesLines rights calls files first middle count →
+      ServesLine rights calls files middle last told → told ≡ None → ServesLines rights calls files first last (count + 1)
   lines_more first middle last count told lines line is_none =
-      let P : Option Ending → Type 0 = λ (t : Option Ending). ServesLine rights makes awaits greets loads refuses_to_load saves refuses_to_save lists notes tells_saved middle last t in
+      let P : Option Ending → Type 0 = λ (t : Option Ending). ServesLine rights calls files middle last t in
       next_line middle last count lines (subst P is_none line)
 
   -- a line that ends the session
-  pub session_ended : (first middle last : Standing C S) (count : ℕ) (told : Option Ending) (ending : Ending) → ServesLines rights makes awaits greets loads refuses_to_load saves refuses_to_save lists notes tells_saved first middle count →
-      count < most_commands → ServesLine rights makes awaits greets loads refuses_to_load saves refuses_to_save lists notes tells_saved middle last told → told ≡ Some ending → ServesToEnd rights makes awaits greets loads refuses_to_load saves refuses_to_save lists notes tells_saved first last ending
+  pub session_ended : (first middle last : Standing C S) (count : ℕ) (told : Option Ending) (ending : Ending) → ServesLines rights calls files first middle count →
+      count < most_commands → ServesLine rights calls files middle last told → told ≡ Some ending → ServesToEnd rights calls files first last ending
   session_ended first middle last count told ending lines fewer line is_ending =
-      let P : Option Ending → Type 0 = λ (t : Option Ending). ServesLine rights makes awaits greets loads refuses_to_load saves refuses_to_save lists notes tells_saved middle last t in
+      let P : Option Ending → Type 0 = λ (t : Option Ending). ServesLine rights calls files middle last t in
       ended middle count ending lines fewer (subst P is_ending line)

@@ -1,14 +1,8 @@
 -- The connections that a session thread serves (ours).
-use Rattle.std.specs.Prelude.{ℕ, ◌≡◌, ◌+◌, ◌≤◌, Bool, true, false, List, Result}
-use Rattle.definitions.specs.Cards.{Card}
-use Rattle.deck_files.specs.declared.deck_shelf.ShelfLoadFault.{ShelfLoadFault}
-use Rattle.deck_files.specs.declared.deck_shelf.ShelfSaveFault.{ShelfSaveFault}
-use Rattle.deck_files.specs.Savings.{Saving}
-use Rattle.deck_files.specs.declared.file_rows.FileRow.{FileRow}
-use Rattle.desk_core.specs.declared.calls.Call.{Call}
+use Rattle.std.specs.Prelude.{ℕ, ◌≡◌, ◌+◌, ◌≤◌, Bool, true, false}
+use Rattle.deck_files.specs.ShelfRelations.{ShelfRelations}
 use Rattle.session_line.specs.declared.rights.Rights.{Rights}
-use Rattle.session_line.specs.declared.greetings.Greeting.{Greeting}
-use Rattle.desk_core.specs.declared.replies.Reply.{Reply}
+use Rattle.session_line.specs.DeskRelations.{DeskRelations}
 use Rattle.desk_service.specs.declared.sessions.Ending.{Ending}
 use Rattle.desk_service.specs.declared.connections.Closed.{Closed}
 use Rattle.desk_service.specs.declared.connections.Closed.TheVariants.{NoMore, Once, Asked}
@@ -20,15 +14,11 @@ EndsAfter NoMore once count = once ≡ true → count ≡ 0
 EndsAfter Once once count = (once ≡ true) × (count ≡ 1)
 EndsAfter Asked once count = (once ≡ false) × (1 ≤ count)
 
-module _ {C S : Type 0} (rights : Rights) (makes : C → Call → Reply → C → Type 0) (awaits : C → ℕ → Reply → C → Type 0) (greets : C → List ℕ → Greeting → C → Type 0) (begins : C → C → Type 0) (loads : S → List ℕ → List Card → S → Type 0)
-    (refuses_to_load : S → List ℕ → ShelfLoadFault → S → Type 0)
-    (saves : S → Saving → S → Type 0) (refuses_to_save : S → Saving → ShelfSaveFault → S → Type 0)
-    (lists : S → Result (List FileRow) ShelfLoadFault → S → Type 0)
-    (notes : S → List ℕ → ℕ → S → Type 0) (tells_saved : S → List ℕ → ℕ → Bool → S → Type 0) where
+module _ {C S : Type 0} (rights : Rights) (calls : DeskRelations C) (files : ShelfRelations S) where
   -- one connection: a session from the desk and the shelf before to those after; or it is closed at once, and both are as they were
   pub data ServesConnection (desk : C) (shelf : S) (next : C) (after : S) : Type 0 where
     closed : next ≡ desk → after ≡ shelf → ServesConnection desk shelf next after
-    served : (first last : Standing C S) (ending : Ending) → ServesSession rights makes awaits greets begins loads refuses_to_load saves refuses_to_save lists notes tells_saved first last ending →
+    served : (first last : Standing C S) (ending : Ending) → ServesSession rights calls files first last ending →
         first.sides.desk ≡ desk → first.sides.shelf ≡ shelf → last.sides.desk ≡ next → last.sides.shelf ≡ after → ServesConnection desk shelf next after
 
   -- so many connections, one after the other

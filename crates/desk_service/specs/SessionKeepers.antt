@@ -18,6 +18,7 @@ use Rattle.journal.specs.JournalFiles.{Step, IsKept, IsKeptAs}
 use Rattle.journal.specs.Names.{session_name}
 use Rattle.journal.specs.Records.{text_behind_version}
 use Rattle.journal.specs.Replaying.{call_of}
+use Rattle.kept_desk.specs.KeeperRelations.{KeeperRelations}
 
 -- whether there is a journal, the number of the session, the version of its latest change that was told as not kept, and the name by which it asks for changes
 pub record SessionKeeper : Type 0 where
@@ -69,6 +70,10 @@ module _ {F : Type 0} (has_done : F → List Step → Type 0) where
   abbrev pub KeepsRecord : SessionKeeper → ℕ → List ℕ → Bool → SessionKeeper → Type 0
   KeepsRecord old version draft true new = (new ≡ old) × (old.journaled ≡ true → IsKeptAs has_done version draft)
   KeepsRecord old version draft false new = (new ≡ record old { missed = Some version }) × (old.journaled ≡ true)
+
+  -- what the calls of the end of the journal make of it
+  abbrev pub keeper_relations : KeeperRelations SessionKeeper
+  keeper_relations = record { begins = BeginsRecord; keeps = KeepsRecord; opens = OpensRecord; names = NamesKeeper; who = keeper_name }
 
   -- the desk makes a change that who has a name asks for, with this version, and the record of just that change is kept
   pub record IsMadeAndKept {C : Type 0} (makes : C → Call → Reply → C → Type 0) (name : List ℕ) (change : Change) (version : ℕ) (old new : C) : Type 0 where

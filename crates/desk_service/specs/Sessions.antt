@@ -1,22 +1,16 @@
 -- A session: lines that are served one after the other, and what ends it (ours).
-use Rattle.std.specs.Prelude.{ℕ, ◌≡◌, ◌+◌, ◌==◌, ◌<◌, ◌&&◌, Bool, true, false, List, Result, Option, Some, None}
+use Rattle.std.specs.Prelude.{ℕ, ◌≡◌, ◌+◌, ◌==◌, ◌<◌, ◌&&◌, Bool, true, false, List, Option, Some, None}
 use Rattle.std.specs.Io.KnownBytes.{Keeps}
-use Rattle.definitions.specs.Cards.{Card}
 use Rattle.text_ports.specs.Faults.{count_up, count_after_flush, count_after_line}
 use Rattle.text_ports.specs.Lines.{ReadsLine}
 use Rattle.text_ports.specs.declared.lines.LineIs.{LineIs}
 use Rattle.text_ports.specs.declared.lines.LineIs.TheVariants as line
-use Rattle.deck_files.specs.declared.deck_shelf.ShelfLoadFault.{ShelfLoadFault}
-use Rattle.deck_files.specs.declared.deck_shelf.ShelfSaveFault.{ShelfSaveFault}
-use Rattle.deck_files.specs.Savings.{Saving}
-use Rattle.deck_files.specs.declared.file_rows.FileRow.{FileRow}
-use Rattle.desk_core.specs.declared.calls.Call.{Call}
+use Rattle.deck_files.specs.ShelfRelations.{ShelfRelations}
 use Rattle.session_line.specs.declared.rights.Rights.{Rights}
-use Rattle.session_line.specs.declared.greetings.Greeting.{Greeting}
-use Rattle.desk_core.specs.declared.replies.Reply.{Reply}
 use Rattle.session_line.specs.declared.serving.Outcome.{Outcome}
 use Rattle.session_line.specs.declared.serving.Outcome.TheVariants.{Served, Ended, ReadFault, WriteFault}
 use Rattle.session_line.specs.Serving.{Sides, Serves, ServesBehind, read_faults_after, write_faults_after}
+use Rattle.session_line.specs.DeskRelations.{DeskRelations}
 use Rattle.session_commands.specs.Strangers.{is_command, is_request_of_http}
 use Rattle.desk_service.specs.declared.openings.Opening.{Opening}
 use Rattle.desk_service.specs.declared.openings.Opening.TheVariants as opening
@@ -109,17 +103,13 @@ module _ {C S : Type 0} where
     pub reader : new.read_faults ≡ count_after_line answer old.read_faults
     pub writer : new.write_faults ≡ old.write_faults
 
-module _ {C S : Type 0} (rights : Rights) (makes : C → Call → Reply → C → Type 0) (awaits : C → ℕ → Reply → C → Type 0) (greets : C → List ℕ → Greeting → C → Type 0) (loads : S → List ℕ → List Card → S → Type 0)
-    (refuses_to_load : S → List ℕ → ShelfLoadFault → S → Type 0)
-    (saves : S → Saving → S → Type 0) (refuses_to_save : S → Saving → ShelfSaveFault → S → Type 0)
-    (lists : S → Result (List FileRow) ShelfLoadFault → S → Type 0)
-    (notes : S → List ℕ → ℕ → S → Type 0) (tells_saved : S → List ℕ → ℕ → Bool → S → Type 0) where
+module _ {C S : Type 0} (rights : Rights) (calls : DeskRelations C) (files : ShelfRelations S) where
   -- one line is served, its reply is sent on, and this is how the session ends there, if it ends
   pub record ServesLine (old new : Standing C S) (told : Option Ending) : Type 0 where
     pub middle : Standing C S
     pub outcome : Outcome
     pub flushed : Bool
-    pub served : Serves rights makes awaits greets loads refuses_to_load saves refuses_to_save lists notes tells_saved old.sides middle.sides outcome
+    pub served : Serves rights calls files old.sides middle.sides outcome
     pub reads : middle.read_faults ≡ read_faults_after outcome old.read_faults
     pub writes : middle.write_faults ≡ write_faults_after outcome old.write_faults
     pub sent : SendsOn flushed middle new
@@ -130,7 +120,7 @@ module _ {C S : Type 0} (rights : Rights) (makes : C → Call → Reply → C �
     pub middle : Standing C S
     pub outcome : Outcome
     pub flushed : Bool
-    pub served : ServesBehind rights makes awaits greets loads refuses_to_load saves refuses_to_save lists notes tells_saved text old.sides middle.sides outcome
+    pub served : ServesBehind rights calls files text old.sides middle.sides outcome
     pub reads : middle.read_faults ≡ read_faults_after outcome old.read_faults
     pub writes : middle.write_faults ≡ write_faults_after outcome old.write_faults
     pub sent : SendsOn flushed middle new
@@ -173,13 +163,9 @@ module _ {C S : Type 0} (rights : Rights) (makes : C → Call → Reply → C �
 abbrev pub with_desk : {C S : Type 0} → Standing C S → C → Standing C S
 with_desk standing desk = record standing { sides = record standing.sides { desk = desk } }
 
-module _ {C S : Type 0} (rights : Rights) (makes : C → Call → Reply → C → Type 0) (awaits : C → ℕ → Reply → C → Type 0) (greets : C → List ℕ → Greeting → C → Type 0) (begins : C → C → Type 0) (loads : S → List ℕ → List Card → S → Type 0)
-    (refuses_to_load : S → List ℕ → ShelfLoadFault → S → Type 0)
-    (saves : S → Saving → S → Type 0) (refuses_to_save : S → Saving → ShelfSaveFault → S → Type 0)
-    (lists : S → Result (List FileRow) ShelfLoadFault → S → Type 0)
-    (notes : S → List ℕ → ℕ → S → Type 0) (tells_saved : S → List ℕ → ℕ → Bool → S → Type 0) where
+module _ {C S : Type 0} (rights : Rights) (calls : DeskRelations C) (files : ShelfRelations S) where
   -- a session: it begins, and its lines are served to its end
   pub record ServesSession (first last : Standing C S) (ending : Ending) : Type 0 where
     pub begun : C
-    pub begins_so : begins first.sides.desk begun
-    pub served : ServesAll rights makes awaits greets loads refuses_to_load saves refuses_to_save lists notes tells_saved (with_desk first begun) last ending
+    pub begins_so : calls.begins first.sides.desk begun
+    pub served : ServesAll rights calls files (with_desk first begun) last ending

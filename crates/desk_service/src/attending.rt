@@ -70,7 +70,7 @@ fn greet_among<C: Calls, A: Attend>(
     company: &mut A,
     name: &DeckName,
 ) -> Greeting
-    ensures { GreetsAmong C.greets A.lists A.notes name.now desk.old company.old result desk.new company.new }
+    ensures { GreetsAmong C.relations.greets A.lists A.notes name.now desk.old company.old result desk.new company.new }
 {
     let Ok(sessions) = company.list(alloc, name) else {
         return Greeting::alone(alloc, Reply::Refused(Refusal::OutOfMemory));
@@ -88,13 +88,12 @@ impl<C: Calls, A: Attend> Calls for Attending<C, A> {
     ghost use Rattle.std.specs.Prelude.{◌≡◌};
     ghost use Rattle.desk_service.specs.Company.{GreetsAmong};
 
-    ghost makes = { λ old call reply new. C.makes old.0 call reply new.0 × (new.1 ≡ old.1) };
-
-    ghost awaits = { λ old version reply new. C.awaits old.0 version reply new.0 × (new.1 ≡ old.1) };
-
-    ghost greets = { λ old name greeting new. GreetsAmong C.greets A.lists A.notes name old.0 old.1 greeting new.0 new.1 };
-
-    ghost begins = { λ old new. C.begins old.0 new.0 × (new.1 ≡ old.1) };
+    ghost relations = { record {
+        makes = λ old call reply new. C.relations.makes old.0 call reply new.0 × (new.1 ≡ old.1);
+        awaits = λ old version reply new. C.relations.awaits old.0 version reply new.0 × (new.1 ≡ old.1);
+        greets = λ old name greeting new. GreetsAmong C.relations.greets A.lists A.notes name old.0 old.1 greeting new.0 new.1;
+        begins = λ old new. C.relations.begins old.0 new.0 × (new.1 ≡ old.1)
+    } };
 
     fn call(&mut self, call: Call) -> Reply {
         self.desk.call(call)

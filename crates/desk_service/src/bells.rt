@@ -47,13 +47,12 @@ impl<C: Calls, B: Ring> Calls for Ringing<C, B> {
     ghost use Rattle.std.specs.Prelude.{◌≡◌};
     ghost use Rattle.desk_service.specs.Bells.{RingsAfter};
 
-    ghost makes = { λ old call reply new. C.makes old.0 call reply new.0 × RingsAfter B.rings reply old.1 new.1 };
-
-    ghost awaits = { λ old version reply new. C.awaits old.0 version reply new.0 × (new.1 ≡ old.1) };
-
-    ghost greets = { λ old name greeting new. C.greets old.0 name greeting new.0 × (new.1 ≡ old.1) };
-
-    ghost begins = { λ old new. C.begins old.0 new.0 × (new.1 ≡ old.1) };
+    ghost relations = { record {
+        makes = λ old call reply new. C.relations.makes old.0 call reply new.0 × RingsAfter B.rings reply old.1 new.1;
+        awaits = λ old version reply new. C.relations.awaits old.0 version reply new.0 × (new.1 ≡ old.1);
+        greets = λ old name greeting new. C.relations.greets old.0 name greeting new.0 × (new.1 ≡ old.1);
+        begins = λ old new. C.relations.begins old.0 new.0 × (new.1 ≡ old.1)
+    } };
 
     fn call(&mut self, call: Call) -> Reply {
         let reply = self.desk.call(call);

@@ -46,7 +46,7 @@ fn serve_connection<R: Clock, C: Calls, S: Shelf>(
     desk: &mut C,
     shelf: &mut S,
 )
-    ensures { ServesConnection rights C.makes C.awaits C.greets C.begins S.loads S.refuses_to_load S.saves S.refuses_to_save S.lists S.notes S.tells_saved desk.old shelf.old desk.new shelf.new }
+    ensures { ServesConnection rights C.relations S.relations desk.old shelf.old desk.new shelf.new }
 {
     let _ = stream.set_nodelay(true);
     let Ok(reader) = BufReader::new(alloc, PatientReader::new(rt, stream, idle)) else {
@@ -85,7 +85,7 @@ fn serve_arrival<R: Wait + Clock, C: Calls, S: Shelf>(
     desk: &mut C,
     shelf: &mut S,
 )
-    ensures { ServesConnection serving.entry.rights C.makes C.awaits C.greets C.begins S.loads S.refuses_to_load S.saves S.refuses_to_save S.lists S.notes S.tells_saved desk.old shelf.old desk.new shelf.new }
+    ensures { ServesConnection serving.entry.rights C.relations S.relations desk.old shelf.old desk.new shelf.new }
 {
     let Serving {
         keys,
@@ -112,7 +112,7 @@ pub(crate) fn serve_connections<R: Wait + Clock, C: Calls, S: Shelf>(
     desk: &mut C,
     shelf: &mut S,
 ) -> Closed
-    ensures { (count : ℕ) × ServesConnections serving.entry.rights C.makes C.awaits C.greets C.begins S.loads S.refuses_to_load S.saves S.refuses_to_save S.lists S.notes S.tells_saved desk.old shelf.old desk.new shelf.new count × EndsAfter result serving.entry.once count }
+    ensures { (count : ℕ) × ServesConnections serving.entry.rights C.relations S.relations desk.old shelf.old desk.new shelf.new count × EndsAfter result serving.entry.once count }
 {
     for _ in rt.forever() {
         let Ok(stream) = arrivals.recv(rt) else {

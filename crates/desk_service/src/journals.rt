@@ -293,17 +293,9 @@ impl<'a, R, F: RecordsFile> SessionKeeper<'a, R, F> {
 }
 
 impl<R: Wait + Clock + Eprint, F: RecordsFile + Drop> Keep for SessionKeeper<'_, R, F> {
-    ghost use Rattle.desk_service.specs.SessionKeepers.{BeginsRecord, KeepsRecord, NamesKeeper, OpensRecord, keeper_name};
+    ghost use Rattle.desk_service.specs.SessionKeepers.{keeper_relations};
 
-    ghost begins = { BeginsRecord F.has_done };
-
-    ghost keeps = { KeepsRecord F.has_done };
-
-    ghost who = { keeper_name };
-
-    ghost opens = { OpensRecord F.has_done };
-
-    ghost names = { NamesKeeper };
+    ghost relations = { keeper_relations F.has_done };
 
     fn begin(&mut self, change: &Change) -> Result<Draft, Refusal> {
         let Some(journal) = self.journal else {

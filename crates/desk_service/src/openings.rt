@@ -69,7 +69,7 @@ fn serve_taken_line<R: Read, W: Write, C: Calls, S: Shelf>(
     desk: &mut C,
     shelf: &mut S,
 ) -> Option<Ending>
-    ensures line { ServesTaken rights C.makes C.awaits C.greets S.loads S.refuses_to_load S.saves S.refuses_to_save S.lists S.notes S.tells_saved line.now
+    ensures line { ServesTaken rights C.relations S.relations line.now
         (standing (sides (R.remaining input.old.0) (W.contents output.old.0) desk.old shelf.old) input.old.1 output.old.1)
         (standing (sides (R.remaining input.new.0) (W.contents output.new.0) desk.new shelf.new) input.new.1 output.new.1) result }
     ensures read_faults { input.new.1 ≡ read_faults_at result input.old.1 }
@@ -91,7 +91,7 @@ fn open_line<R: Read, W: Write, C: Calls, S: Shelf>(
     desk: &mut C,
     shelf: &mut S,
 ) -> Opening
-    ensures line { OpensLine rights C.makes C.awaits C.greets S.loads S.refuses_to_load S.saves S.refuses_to_save S.lists S.notes S.tells_saved is_first
+    ensures line { OpensLine rights C.relations S.relations is_first
         (standing (sides (R.remaining input.old.0) (W.contents output.old.0) desk.old shelf.old) input.old.1 output.old.1)
         (standing (sides (R.remaining input.new.0) (W.contents output.new.0) desk.new shelf.new) input.new.1 output.new.1) result }
     ensures read_faults { input.new.1 ≡ read_faults_at (ending_in result) input.old.1 }
@@ -122,7 +122,7 @@ pub(crate) fn open_session<R: Read, W: Write, C: Calls, S: Shelf>(
     desk: &mut C,
     shelf: &mut S,
 ) -> Option<Ending>
-    ensures opens { OpensSession rights C.makes C.awaits C.greets S.loads S.refuses_to_load S.saves S.refuses_to_save S.lists S.notes S.tells_saved
+    ensures opens { OpensSession rights C.relations S.relations
         (standing (sides (R.remaining input.old.0) (W.contents output.old.0) desk.old shelf.old) input.old.1 output.old.1)
         (standing (sides (R.remaining input.new.0) (W.contents output.new.0) desk.new shelf.new) input.new.1 output.new.1) result }
     ensures read_faults { input.new.1 ≡ read_faults_at result input.old.1 }

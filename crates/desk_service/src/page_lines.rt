@@ -54,7 +54,7 @@ impl<C, S> DeskLines<C, S> {
 impl<C: Calls, S: Shelf> ServeLines for DeskLines<C, S> {
     ghost use Rattle.desk_service.specs.PageLines.{ServesBody};
 
-    ghost serves = { ServesBody C.makes C.awaits C.greets C.begins S.loads S.refuses_to_load S.saves S.refuses_to_save S.lists S.notes S.tells_saved };
+    ghost serves = { ServesBody C.relations S.relations };
 
     fn serve(&mut self, lines: &[u8], replies: Replies) -> Served {
         let (mut input, mut output) = (Counted::new(lines), Counted::new(replies));

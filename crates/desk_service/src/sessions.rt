@@ -69,7 +69,7 @@ fn serve_line<R: Read, W: Write, C: Calls, S: Shelf>(
     desk: &mut C,
     shelf: &mut S,
 ) -> Option<Ending>
-    ensures line { ServesLine rights C.makes C.awaits C.greets S.loads S.refuses_to_load S.saves S.refuses_to_save S.lists S.notes S.tells_saved
+    ensures line { ServesLine rights C.relations S.relations
         (standing (sides (R.remaining input.old.0) (W.contents output.old.0) desk.old shelf.old) input.old.1 output.old.1)
         (standing (sides (R.remaining input.new.0) (W.contents output.new.0) desk.new shelf.new) input.new.1 output.new.1) result }
     ensures read_faults { input.new.1 ≡ read_faults_at result input.old.1 }
@@ -92,7 +92,7 @@ fn serve_lines<R: Read, W: Write, C: Calls, S: Shelf>(
     desk: &mut C,
     shelf: &mut S,
 ) -> Ending
-    ensures session { ServesToEnd rights C.makes C.awaits C.greets S.loads S.refuses_to_load S.saves S.refuses_to_save S.lists S.notes S.tells_saved
+    ensures session { ServesToEnd rights C.relations S.relations
         (standing (sides (R.remaining input.old.0) (W.contents output.old.0) desk.old shelf.old) input.old.1 output.old.1)
         (standing (sides (R.remaining input.new.0) (W.contents output.new.0) desk.new shelf.new) input.new.1 output.new.1) result }
     ensures read_faults { input.new.1 ≡ read_faults_at (Some result) input.old.1 }
@@ -120,7 +120,7 @@ pub fn serve_session<R: Read, W: Write, C: Calls, S: Shelf>(
     desk: &mut C,
     shelf: &mut S,
 ) -> Ending
-    ensures session { ServesSession rights C.makes C.awaits C.greets C.begins S.loads S.refuses_to_load S.saves S.refuses_to_save S.lists S.notes S.tells_saved
+    ensures session { ServesSession rights C.relations S.relations
         (standing (sides (R.remaining input.old.0) (W.contents output.old.0) desk.old shelf.old) input.old.1 output.old.1)
         (standing (sides (R.remaining input.new.0) (W.contents output.new.0) desk.new shelf.new) input.new.1 output.new.1) result }
     ensures read_faults { input.new.1 ≡ read_faults_at (Some result) input.old.1 }

@@ -59,13 +59,12 @@ impl<C: Calls, S: Sleep, R: Wait> Calls for Waiting<'_, C, S, R> {
     ghost use Rattle.std.specs.Prelude.{◌≡◌};
     ghost use Rattle.desk_service.specs.Waiting.{AwaitsPublication};
 
-    ghost makes = { λ old call reply new. C.makes old.0 call reply new.0 × (new.1 ≡ old.1) };
-
-    ghost awaits = { λ old version reply new. AwaitsPublication C.makes S.sleeps version old.0 old.1 reply new.0 new.1 };
-
-    ghost greets = { λ old name greeting new. C.greets old.0 name greeting new.0 × (new.1 ≡ old.1) };
-
-    ghost begins = { λ old new. C.begins old.0 new.0 × (new.1 ≡ old.1) };
+    ghost relations = { record {
+        makes = λ old call reply new. C.relations.makes old.0 call reply new.0 × (new.1 ≡ old.1);
+        awaits = λ old version reply new. AwaitsPublication C.relations.makes S.sleeps version old.0 old.1 reply new.0 new.1;
+        greets = λ old name greeting new. C.relations.greets old.0 name greeting new.0 × (new.1 ≡ old.1);
+        begins = λ old new. C.relations.begins old.0 new.0 × (new.1 ≡ old.1)
+    } };
 
     fn call(&mut self, call: Call) -> Reply {
         self.desk.call(call)
@@ -111,7 +110,7 @@ fn await_publication<R: Wait, C: Calls, S: Sleep>(
     sleeper: &mut S,
     version: u64,
 ) -> Reply
-    ensures { AwaitsPublication C.makes S.sleeps version desk.old sleeper.old result desk.new sleeper.new }
+    ensures { AwaitsPublication C.relations.makes S.sleeps version desk.old sleeper.old result desk.new sleeper.new }
 {
     for _ in rt.forever() {
         let reply = desk.call(Call::Status);

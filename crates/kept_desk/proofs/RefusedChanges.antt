@@ -1,10 +1,9 @@
 -- What a desk whose changes are kept tells as refused has changed nothing.
-use Rattle.std.proofs.Common.{ℕ, ◌≡◌, List, Bool, true, false, Option, Result, refl, sym, ap, subst, ◌∙◌}
+use Rattle.std.proofs.Common.{ℕ, ◌≡◌, List, Bool, true, false, Option, refl, sym, ap, subst, ◌∙◌}
 use Rattle.cards.specs.declared.edits.Edit.{Edit}
 use Rattle.desk_core.specs.Desks.{Desk, Publication}
 use Rattle.desk_core.specs.declared.calls.Call.{Call}
 use Rattle.desk_core.specs.declared.calls.Call.TheVariants.{AddDeck, PutDeck, DropDeck, EditDeck, Batch, EditSince, BatchSince, Undo, Changes, CardsAt, Cards, Show, Status, Claim, DeliverDeck, DeliverLink, OfferObject, Publish, GiveUp}
-use Rattle.desk_core.specs.declared.replies.Refusal.{Refusal as DeskRefusal}
 use Rattle.desk_core.specs.declared.replies.Reply.{Reply}
 use Rattle.desk_core.specs.declared.replies.Reply.TheVariants.{Changed, Carried, Unkept, CardsAre, ChangesAre, CardsBefore, Shown, StatusIs, DeckJob, LinkJob, Idle, AllOut, Stored, Considered, Published, Cleared, Refused}
 use Rattle.desk_core.specs.Runs.{IsUnchanged, accepts}
@@ -22,6 +21,7 @@ use Rattle.journal.specs.declared.changes.Change.{Change}
 use Rattle.journal.specs.declared.changes.Change.TheVariants as change
 use Rattle.journal.specs.declared.drafts.Stamp.{Stamp}
 use Rattle.journal.specs.Asking.{asked_of, call_of_carry, carried_deck}
+use Rattle.kept_desk.specs.KeeperRelations.{KeeperRelations}
 use Rattle.kept_desk.specs.Keeping.{TellsKept, TellsCarried, MakesKept, refused, called, not_opened, opened, told_of}
 use Rattle.journal.specs.Replaying.{call_of}
 
@@ -213,9 +213,9 @@ carry-fits by (carry.Edited name before edit) version = refl
 carry-fits by (carry.Batch name before edits) version = refl
 carry-fits by (carry.Undone name before) version = refl
 
-module _ {K : Type 0} (keeps : K → ℕ → List ℕ → Bool → K → Type 0) where
+module _ {K : Type 0} (records : KeeperRelations K) where
   change-unchanged : (by draft : List ℕ) (change : Change) (reply what : Reply) (desk next : Desk) (between after : K) → Steps desk (call_of by change) reply next →
-      TellsKept keeps draft reply between what after → tells_refusal what ≡ true → IsUnchanged desk next
+      TellsKept records draft reply between what after → tells_refusal what ≡ true → IsUnchanged desk next
   change-unchanged by draft change (Changed version) what desk next between after steps tells told = not-refused tells.0 version what tells.1.1 told
   change-unchanged by draft change (Carried version seen edits) what desk next between after steps tells told =
       let not : false ≡ true = sym (change-fits by change version seen edits) ∙ session_fits desk next (call_of by change) (Carried version seen edits) (change-session by change) steps in cc
@@ -236,7 +236,7 @@ module _ {K : Type 0} (keeps : K → ℕ → List ℕ → Bool → K → Type 0)
   change-unchanged by draft change (Refused why) what desk next between after steps tells told = session-quiet desk next (call_of by change) (Refused why) (change-session by change) steps refl
 
   carry-unchanged : (by name : List ℕ) (stamp : Stamp) (carry : Carry) (reply what : Reply) (desk next : Desk) (between after : K) → Steps desk (call_of_carry by carry) reply next →
-      TellsCarried keeps stamp name reply between what after → tells_refusal what ≡ true → IsUnchanged desk next
+      TellsCarried records stamp name reply between what after → tells_refusal what ≡ true → IsUnchanged desk next
   carry-unchanged by name stamp carry (Carried version seen edits) what desk next between after steps tells told = not-refused tells.0 version what tells.1.1 told
   carry-unchanged by name stamp carry (Changed version) what desk next between after steps tells told =
       let not : false ≡ true = sym (carry-fits by carry version) ∙ session_fits desk next (call_of_carry by carry) (Changed version) (carry-session by carry) steps in cc
@@ -256,74 +256,73 @@ module _ {K : Type 0} (keeps : K → ℕ → List ℕ → Bool → K → Type 0)
   carry-unchanged by name stamp carry Cleared what desk next between after steps tells told = session-quiet desk next (call_of_carry by carry) Cleared (carry-session by carry) steps refl
   carry-unchanged by name stamp carry (Refused why) what desk next between after steps tells told = session-quiet desk next (call_of_carry by carry) (Refused why) (carry-session by carry) steps refl
 
-  module _ (begins : K → Change → Result (List ℕ) DeskRefusal → K → Type 0) (who : K → List ℕ) (opens : K → Result Stamp DeskRefusal → K → Type 0) where
-    change-made : (change : Change) (old new : Desk × K) (what : Reply) → MakesKept Steps begins keeps who opens old (asked.Change change) what new → tells_refusal what ≡ true → IsUnchanged old.0 new.0
-    change-made change old new what (refused why begins told stays) is = stays-unchanged old.0 new.0 stays
-    change-made change old new what (called draft between reply begins made tells) is = change-unchanged (who between) draft change reply what old.0 new.0 between new.1 made tells is
+  change-made : (change : Change) (old new : Desk × K) (what : Reply) → MakesKept Steps records old (asked.Change change) what new → tells_refusal what ≡ true → IsUnchanged old.0 new.0
+  change-made change old new what (refused why begins told stays) is = stays-unchanged old.0 new.0 stays
+  change-made change old new what (called draft between reply begins made tells) is = change-unchanged (records.who between) draft change reply what old.0 new.0 between new.1 made tells is
 
-    carry-made : (carry : Carry) (old new : Desk × K) (what : Reply) → MakesKept Steps begins keeps who opens old (asked.Carry carry) what new → tells_refusal what ≡ true → IsUnchanged old.0 new.0
-    carry-made carry old new what (not_opened why opens told stays) is = stays-unchanged old.0 new.0 stays
-    carry-made carry old new what (opened stamp between reply opens made tells) is = carry-unchanged (who between) (carried_deck carry) stamp carry reply what old.0 new.0 between new.1 made tells is
+  carry-made : (carry : Carry) (old new : Desk × K) (what : Reply) → MakesKept Steps records old (asked.Carry carry) what new → tells_refusal what ≡ true → IsUnchanged old.0 new.0
+  carry-made carry old new what (not_opened why opens told stays) is = stays-unchanged old.0 new.0 stays
+  carry-made carry old new what (opened stamp between reply opens made tells) is = carry-unchanged (records.who between) (carried_deck carry) stamp carry reply what old.0 new.0 between new.1 made tells is
 
-    -- a reply that is told as refused is no change
-    refused-silent : (what : Reply) → tells_refusal what ≡ true → accepts what ≡ false
-    refused-silent (Changed n) is = cc
-    refused-silent (Carried n seen edits) is = cc
-    refused-silent (Unkept n) is = refl
-    refused-silent (CardsAre n cards) is = refl
-    refused-silent (ChangesAre n edits) is = refl
-    refused-silent (CardsBefore n cards backs) is = refl
-    refused-silent (Shown publication) is = refl
-    refused-silent (StatusIs n published rows) is = refl
-    refused-silent (DeckJob work) is = refl
-    refused-silent (LinkJob work) is = refl
-    refused-silent (Idle n) is = refl
-    refused-silent AllOut is = refl
-    refused-silent Stored is = refl
-    refused-silent Considered is = refl
-    refused-silent (Published before) is = refl
-    refused-silent Cleared is = refl
-    refused-silent (Refused why) is = refl
+  -- a reply that is told as refused is no change
+  refused-silent : (what : Reply) → tells_refusal what ≡ true → accepts what ≡ false
+  refused-silent (Changed n) is = cc
+  refused-silent (Carried n seen edits) is = cc
+  refused-silent (Unkept n) is = refl
+  refused-silent (CardsAre n cards) is = refl
+  refused-silent (ChangesAre n edits) is = refl
+  refused-silent (CardsBefore n cards backs) is = refl
+  refused-silent (Shown publication) is = refl
+  refused-silent (StatusIs n published rows) is = refl
+  refused-silent (DeckJob work) is = refl
+  refused-silent (LinkJob work) is = refl
+  refused-silent (Idle n) is = refl
+  refused-silent AllOut is = refl
+  refused-silent Stored is = refl
+  refused-silent Considered is = refl
+  refused-silent (Published before) is = refl
+  refused-silent Cleared is = refl
+  refused-silent (Refused why) is = refl
 
-    pub refused-unchanged : (call : Call) (old new : Desk × K) (what : Reply) → is_session_call call ≡ true → MakesKept Steps begins keeps who opens old (asked_of call) what new → tells_refusal what ≡ true → IsUnchanged old.0 new.0
-    refused-unchanged (AddDeck deck) old new what session made is = change-made (change.Added deck) old new what made is
-    refused-unchanged (PutDeck deck seen) old new what session made is = change-made (change.Put deck seen) old new what made is
-    refused-unchanged (DropDeck name seen) old new what session made is = change-made (change.Dropped name seen) old new what made is
-    refused-unchanged (EditDeck name seen edit by) old new what session made is = change-made (change.Edited name seen edit) old new what made is
-    refused-unchanged (Batch name seen edits by) old new what session made is = change-made (change.Batch name seen edits) old new what made is
-    refused-unchanged (EditSince name seen edit by) old new what session made is = carry-made (carry.Edited name seen edit) old new what made is
-    refused-unchanged (BatchSince name seen edits by) old new what session made is = carry-made (carry.Batch name seen edits) old new what made is
-    refused-unchanged (Undo name version by) old new what session made is = carry-made (carry.Undone name version) old new what made is
-    refused-unchanged (Changes name since) old new what session made is = session-quiet old.0 new.0 (Changes name since) what refl made.0 (refused-silent what is)
-    refused-unchanged (CardsAt name version) old new what session made is = session-quiet old.0 new.0 (CardsAt name version) what refl made.0 (refused-silent what is)
-    refused-unchanged (Cards name) old new what session made is = session-quiet old.0 new.0 (Cards name) what refl made.0 (refused-silent what is)
-    refused-unchanged Show old new what session made is = session-quiet old.0 new.0 Show what refl made.0 (refused-silent what is)
-    refused-unchanged Status old new what session made is = session-quiet old.0 new.0 Status what refl made.0 (refused-silent what is)
-    refused-unchanged Claim old new what session made is = cc
-    refused-unchanged (DeliverDeck done) old new what session made is = cc
-    refused-unchanged (DeliverLink lease publication) old new what session made is = cc
-    refused-unchanged (OfferObject lease place object) old new what session made is = cc
-    refused-unchanged (Publish lease) old new what session made is = cc
-    refused-unchanged (GiveUp lease) old new what session made is = cc
+  pub refused-unchanged : (call : Call) (old new : Desk × K) (what : Reply) → is_session_call call ≡ true → MakesKept Steps records old (asked_of call) what new → tells_refusal what ≡ true → IsUnchanged old.0 new.0
+  refused-unchanged (AddDeck deck) old new what session made is = change-made (change.Added deck) old new what made is
+  refused-unchanged (PutDeck deck seen) old new what session made is = change-made (change.Put deck seen) old new what made is
+  refused-unchanged (DropDeck name seen) old new what session made is = change-made (change.Dropped name seen) old new what made is
+  refused-unchanged (EditDeck name seen edit by) old new what session made is = change-made (change.Edited name seen edit) old new what made is
+  refused-unchanged (Batch name seen edits by) old new what session made is = change-made (change.Batch name seen edits) old new what made is
+  refused-unchanged (EditSince name seen edit by) old new what session made is = carry-made (carry.Edited name seen edit) old new what made is
+  refused-unchanged (BatchSince name seen edits by) old new what session made is = carry-made (carry.Batch name seen edits) old new what made is
+  refused-unchanged (Undo name version by) old new what session made is = carry-made (carry.Undone name version) old new what made is
+  refused-unchanged (Changes name since) old new what session made is = session-quiet old.0 new.0 (Changes name since) what refl made.0 (refused-silent what is)
+  refused-unchanged (CardsAt name version) old new what session made is = session-quiet old.0 new.0 (CardsAt name version) what refl made.0 (refused-silent what is)
+  refused-unchanged (Cards name) old new what session made is = session-quiet old.0 new.0 (Cards name) what refl made.0 (refused-silent what is)
+  refused-unchanged Show old new what session made is = session-quiet old.0 new.0 Show what refl made.0 (refused-silent what is)
+  refused-unchanged Status old new what session made is = session-quiet old.0 new.0 Status what refl made.0 (refused-silent what is)
+  refused-unchanged Claim old new what session made is = cc
+  refused-unchanged (DeliverDeck done) old new what session made is = cc
+  refused-unchanged (DeliverLink lease publication) old new what session made is = cc
+  refused-unchanged (OfferObject lease place object) old new what session made is = cc
+  refused-unchanged (Publish lease) old new what session made is = cc
+  refused-unchanged (GiveUp lease) old new what session made is = cc
 
-    -- and no question is a change
-    pub asked-unchanged : (call : Call) (old new : Desk × K) (what : Reply) → is_question call ≡ true → MakesKept Steps begins keeps who opens old (asked_of call) what new → IsUnchanged old.0 new.0
-    asked-unchanged (AddDeck deck) old new what question made = cc
-    asked-unchanged (PutDeck deck seen) old new what question made = cc
-    asked-unchanged (DropDeck name seen) old new what question made = cc
-    asked-unchanged (EditDeck name seen edit by) old new what question made = cc
-    asked-unchanged (Batch name seen edits by) old new what question made = cc
-    asked-unchanged (EditSince name seen edit by) old new what question made = cc
-    asked-unchanged (BatchSince name seen edits by) old new what question made = cc
-    asked-unchanged (Undo name version by) old new what question made = cc
-    asked-unchanged (Changes name since) old new what question made = cc
-    asked-unchanged (CardsAt name version) old new what question made = session-quiet old.0 new.0 (CardsAt name version) what refl made.0 (question-silent old.0 new.0 (CardsAt name version) what refl made.0)
-    asked-unchanged (Cards name) old new what question made = session-quiet old.0 new.0 (Cards name) what refl made.0 (question-silent old.0 new.0 (Cards name) what refl made.0)
-    asked-unchanged Show old new what question made = session-quiet old.0 new.0 Show what refl made.0 (question-silent old.0 new.0 Show what refl made.0)
-    asked-unchanged Status old new what question made = session-quiet old.0 new.0 Status what refl made.0 (question-silent old.0 new.0 Status what refl made.0)
-    asked-unchanged Claim old new what question made = cc
-    asked-unchanged (DeliverDeck done) old new what question made = cc
-    asked-unchanged (DeliverLink lease publication) old new what question made = cc
-    asked-unchanged (OfferObject lease place object) old new what question made = cc
-    asked-unchanged (Publish lease) old new what question made = cc
-    asked-unchanged (GiveUp lease) old new what question made = cc
+  -- and no question is a change
+  pub asked-unchanged : (call : Call) (old new : Desk × K) (what : Reply) → is_question call ≡ true → MakesKept Steps records old (asked_of call) what new → IsUnchanged old.0 new.0
+  asked-unchanged (AddDeck deck) old new what question made = cc
+  asked-unchanged (PutDeck deck seen) old new what question made = cc
+  asked-unchanged (DropDeck name seen) old new what question made = cc
+  asked-unchanged (EditDeck name seen edit by) old new what question made = cc
+  asked-unchanged (Batch name seen edits by) old new what question made = cc
+  asked-unchanged (EditSince name seen edit by) old new what question made = cc
+  asked-unchanged (BatchSince name seen edits by) old new what question made = cc
+  asked-unchanged (Undo name version by) old new what question made = cc
+  asked-unchanged (Changes name since) old new what question made = cc
+  asked-unchanged (CardsAt name version) old new what question made = session-quiet old.0 new.0 (CardsAt name version) what refl made.0 (question-silent old.0 new.0 (CardsAt name version) what refl made.0)
+  asked-unchanged (Cards name) old new what question made = session-quiet old.0 new.0 (Cards name) what refl made.0 (question-silent old.0 new.0 (Cards name) what refl made.0)
+  asked-unchanged Show old new what question made = session-quiet old.0 new.0 Show what refl made.0 (question-silent old.0 new.0 Show what refl made.0)
+  asked-unchanged Status old new what question made = session-quiet old.0 new.0 Status what refl made.0 (question-silent old.0 new.0 Status what refl made.0)
+  asked-unchanged Claim old new what question made = cc
+  asked-unchanged (DeliverDeck done) old new what question made = cc
+  asked-unchanged (DeliverLink lease publication) old new what question made = cc
+  asked-unchanged (OfferObject lease place object) old new what question made = cc
+  asked-unchanged (Publish lease) old new what question made = cc
+  asked-unchanged (GiveUp lease) old new what question made = cc

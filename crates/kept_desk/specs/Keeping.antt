@@ -13,6 +13,7 @@ use Rattle.journal.specs.declared.drafts.Stamp.{Stamp}
 use Rattle.journal.specs.Drafts.{carried_text}
 use Rattle.journal.specs.Asking.{call_of_carry, carried_deck}
 use Rattle.journal.specs.Replaying.{call_of}
+use Rattle.kept_desk.specs.KeeperRelations.{KeeperRelations}
 
 -- what is told of a change whose record was kept, or was not: then it stands on the desk alone
 abbrev pub told_of : ℕ → Bool → Reply
@@ -20,16 +21,16 @@ told_of version true = Changed version
 told_of version false = Unkept version
 
 -- what is told of a reply: a change is told as made only where its record was kept; one that was carried is none that was asked for; anything else is told as it is, and the keeper is not asked
-abbrev pub TellsKept : {K : Type 0} → (K → ℕ → List ℕ → Bool → K → Type 0) → List ℕ → Reply → K → Reply → K → Type 0
-TellsKept keeps draft (Changed version) old told new = (kept : Bool) × (keeps old version draft kept new × (told ≡ told_of version kept))
-TellsKept keeps draft (Carried version seen edits) old told new = (told ≡ Refused Foreign) × (new ≡ old)
-TellsKept keeps draft reply old told new = (told ≡ reply) × (new ≡ old)
+abbrev pub TellsKept : {K : Type 0} → KeeperRelations K → List ℕ → Reply → K → Reply → K → Type 0
+TellsKept records draft (Changed version) old told new = (kept : Bool) × (records.keeps old version draft kept new × (told ≡ told_of version kept))
+TellsKept records draft (Carried version seen edits) old told new = (told ≡ Refused Foreign) × (new ≡ old)
+TellsKept records draft reply old told new = (told ≡ reply) × (new ≡ old)
 
 -- what is told of a reply to a change that is carried: it is told as made only where its record was kept, which has the edits as they were made
-abbrev pub TellsCarried : {K : Type 0} → (K → ℕ → List ℕ → Bool → K → Type 0) → Stamp → List ℕ → Reply → K → Reply → K → Type 0
-TellsCarried keeps stamp name (Carried version seen edits) old told new = (kept : Bool) × (keeps old version (carried_text stamp name seen edits) kept new × (told ≡ told_of version kept))
-TellsCarried keeps stamp name (Changed version) old told new = (told ≡ Refused Foreign) × (new ≡ old)
-TellsCarried keeps stamp name reply old told new = (told ≡ reply) × (new ≡ old)
+abbrev pub TellsCarried : {K : Type 0} → KeeperRelations K → Stamp → List ℕ → Reply → K → Reply → K → Type 0
+TellsCarried records stamp name (Carried version seen edits) old told new = (kept : Bool) × (records.keeps old version (carried_text stamp name seen edits) kept new × (told ≡ told_of version kept))
+TellsCarried records stamp name (Changed version) old told new = (told ≡ Refused Foreign) × (new ≡ old)
+TellsCarried records stamp name reply old told new = (told ≡ reply) × (new ≡ old)
 
 -- the version of a change that a reply tells as made
 abbrev pub version_told : Reply → Option ℕ
@@ -37,23 +38,22 @@ version_told (Changed version) = Some version
 version_told (Carried version seen edits) = Some version
 version_told _ = None
 
-module _ {C K : Type 0} (makes : C → Call → Reply → C → Type 0) (begins : K → Change → Result (List ℕ) Refusal → K → Type 0) (keeps : K → ℕ → List ℕ → Bool → K → Type 0) (who : K → List ℕ)
-    (opens : K → Result Stamp Refusal → K → Type 0) where
+module _ {C K : Type 0} (makes : C → Call → Reply → C → Type 0) (records : KeeperRelations K) where
   -- what a change makes
   pub data MakesChange (change : Change) (desk : C) (keeper : K) (told : Reply) (desk_after : C) (keeper_after : K) : Type 0 where
     -- no record can be made: the desk is not called
-    refused : (refusal : Refusal) → begins keeper change (Err refusal) keeper_after → told ≡ Refused refusal → desk_after ≡ desk → MakesChange change desk keeper told desk_after keeper_after
+    refused : (refusal : Refusal) → records.begins keeper change (Err refusal) keeper_after → told ≡ Refused refusal → desk_after ≡ desk → MakesChange change desk keeper told desk_after keeper_after
     -- the desk is called by the name that the keeper tells, and a change that it makes is told as made only where its record is kept
-    called : (draft : List ℕ) (between : K) (reply : Reply) → begins keeper change (Ok draft) between → makes desk (call_of (who between) change) reply desk_after →
-        TellsKept keeps draft reply between told keeper_after → MakesChange change desk keeper told desk_after keeper_after
+    called : (draft : List ℕ) (between : K) (reply : Reply) → records.begins keeper change (Ok draft) between → makes desk (call_of (records.who between) change) reply desk_after →
+        TellsKept records draft reply between told keeper_after → MakesChange change desk keeper told desk_after keeper_after
 
   -- what a change makes that is carried
   pub data MakesCarried (carry : Carry) (desk : C) (keeper : K) (told : Reply) (desk_after : C) (keeper_after : K) : Type 0 where
     -- no change may be made: the desk is not called
-    not_opened : (refusal : Refusal) → opens keeper (Err refusal) keeper_after → told ≡ Refused refusal → desk_after ≡ desk → MakesCarried carry desk keeper told desk_after keeper_after
+    not_opened : (refusal : Refusal) → records.opens keeper (Err refusal) keeper_after → told ≡ Refused refusal → desk_after ≡ desk → MakesCarried carry desk keeper told desk_after keeper_after
     -- the desk is called by the name that the keeper tells, and a change that it makes is told as made only where its record is kept
-    opened : (stamp : Stamp) (between : K) (reply : Reply) → opens keeper (Ok stamp) between → makes desk (call_of_carry (who between) carry) reply desk_after →
-        TellsCarried keeps stamp (carried_deck carry) reply between told keeper_after → MakesCarried carry desk keeper told desk_after keeper_after
+    opened : (stamp : Stamp) (between : K) (reply : Reply) → records.opens keeper (Ok stamp) between → makes desk (call_of_carry (records.who between) carry) reply desk_after →
+        TellsCarried records stamp (carried_deck carry) reply between told keeper_after → MakesCarried carry desk keeper told desk_after keeper_after
 
   -- one call of such a desk, by what it asks for: what is no change is the desk's, and the keeper is not asked
   abbrev pub MakesKept : C × K → Asked → Reply → C × K → Type 0

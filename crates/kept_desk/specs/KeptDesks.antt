@@ -1,26 +1,16 @@
--- A desk that one session has for itself, and whose changes are kept (ours): what its calls, a wait and a greeting make of the desk and of the keeper.
-use Rattle.std.specs.Prelude.{ℕ, ◌≡◌, List, Bool, Option, Some, Result}
-use Rattle.desk_core.specs.Desks.{Desk}
-use Rattle.desk_core.specs.Steps.{Steps}
-use Rattle.desk_core.specs.declared.calls.Call.{Call}
-use Rattle.desk_core.specs.declared.calls.Call.TheVariants.{Status}
-use Rattle.desk_core.specs.declared.replies.Refusal.{Refusal}
-use Rattle.desk_core.specs.declared.replies.Reply.{Reply}
-use Rattle.session_line.specs.declared.greetings.Greeting.{Greeting}
-use Rattle.session_line.specs.Greetings.{MeetsAlone, WhereMet, is_met}
-use Rattle.journal.specs.declared.changes.Change.{Change}
-use Rattle.journal.specs.declared.drafts.Stamp.{Stamp}
+-- A desk whose changes are kept (ours): what its calls, a wait and a greeting make of whoever answers for it, and of the keeper of its records.
+use Rattle.std.specs.Prelude.{◌≡◌, Some, None}
+use Rattle.session_line.specs.DeskRelations.{DeskRelations}
+use Rattle.session_line.specs.Greetings.{WhereMet, is_met}
 use Rattle.journal.specs.Asking.{asked_of}
+use Rattle.kept_desk.specs.KeeperRelations.{KeeperRelations}
 use Rattle.kept_desk.specs.Keeping.{MakesKept}
 
--- one call
-abbrev pub makes_kept : {K : Type 0} → (K → Change → Result (List ℕ) Refusal → K → Type 0) → (K → ℕ → List ℕ → Bool → K → Type 0) → (K → List ℕ) → (K → Result Stamp Refusal → K → Type 0) → Desk × K → Call → Reply → Desk × K → Type 0
-makes_kept begins keeps who opens old call told new = MakesKept Steps begins keeps who opens old (asked_of call) told new
-
--- a wait: nobody publishes meanwhile, so the status is asked for at once
-abbrev pub awaits_kept : {K : Type 0} → Desk × K → ℕ → Reply → Desk × K → Type 0
-awaits_kept old version reply new = Steps old.0 Status reply new.0 × (new.1 ≡ old.1)
-
--- a greeting: the status is asked for, and the keeper is told the name where it holds
-abbrev pub greets_kept : {K : Type 0} → (K → Option (List ℕ) → K → Type 0) → Desk × K → List ℕ → Greeting → Desk × K → Type 0
-greets_kept names old name greeting new = MeetsAlone Steps old.0 greeting new.0 × WhereMet (λ keeper after. names keeper (Some name) after) (is_met greeting) old.1 new.1
+-- a wait is the desk's; of a greeting the keeper is told the name where it holds; a session that begins has told none
+abbrev pub kept_with : {C K : Type 0} → DeskRelations C → KeeperRelations K → DeskRelations (C × K)
+kept_with calls records = record {
+  makes = λ old call reply new. MakesKept calls.makes records old (asked_of call) reply new;
+  awaits = λ old version reply new. calls.awaits old.0 version reply new.0 × (new.1 ≡ old.1);
+  greets = λ old name greeting new. calls.greets old.0 name greeting new.0 × WhereMet (λ keeper after. records.names keeper (Some name) after) (is_met greeting) old.1 new.1;
+  begins = λ old new. calls.begins old.0 new.0 × records.names old.1 None new.1
+}

@@ -1,2 +1,3 @@
+pub mod KeeperRelations
 pub mod Keeping
 pub mod KeptDesks

@@ -10,50 +10,32 @@ use session_line::{Calls, Greeting};
 use std::alloc::Global;
 use std::marker::Model;
 
-/// Who keeps the records of changes. The members say what its calls make of it.
+/// Who keeps the records of changes. The relations say what its calls make of it.
 pub trait Keep {
-    ghost use Rattle.std.specs.Prelude.{◌≡◌, ℕ, List, Bool, Option, Result, option_map};
-    ghost use Rattle.desk_core.specs.declared.replies.Refusal.{Refusal as Reason};
-    ghost use Rattle.journal.specs.declared.changes.Change.{Change as Asking};
-    ghost use Rattle.journal.specs.declared.drafts.Stamp.{Stamp as Stamped};
+    ghost use Rattle.std.specs.Prelude.{◌≡◌, option_map};
+    ghost use Rattle.kept_desk.specs.KeeperRelations.{KeeperRelations};
 
-    // The keeper before, the change, its record or why none may be made, and the keeper after.
-    ghost begins: { Self → Asking → Result (List ℕ) Reason → Self → Type 0 };
-
-    // The keeper before, version and record, whether the record is kept with all before it, and the
-    // keeper after.
-    ghost keeps: { Self → ℕ → List ℕ → Bool → Self → Type 0 };
-
-    // The keeper before, when and by which session a change is made, or why none may be, and the keeper
-    // after.
-    ghost opens: { Self → Result Stamped Reason → Self → Type 0 };
-
-    // The name of who asks for changes here.
-    ghost who: { Self → List ℕ };
-
-    // The keeper before, the name by which changes are asked for from now on, or that none is told, and the
-    // keeper after.
-    ghost names: { Self → Option (List ℕ) → Self → Type 0 };
+    ghost relations: { KeeperRelations Self };
 
     /// Makes the record of a change that is asked for, or refuses the change.
     fn begin(&mut self, change: &Change) -> Result<Draft, Refusal>
-        ensures { begins self.old change.now result self.new };
+        ensures { relations.begins self.old change.now result self.new };
 
     /// When and by which session a change is made whose record is known once it is; or refuses the change.
     fn open(&mut self) -> Result<Stamp, Refusal>
-        ensures { opens self.old result self.new };
+        ensures { relations.opens self.old result self.new };
 
     /// Keeps the record of a change that was made: whether it is kept, with all records before it.
     fn keep(&mut self, version: u64, draft: Draft) -> bool
-        ensures { keeps self.old version draft result self.new };
+        ensures { relations.keeps self.old version draft result self.new };
 
     /// The name of who asks for changes here.
     fn who(&self) -> DeckName
-        ensures { result ≡ who self.now };
+        ensures { result ≡ relations.who self.now };
 
     /// By this name changes are asked for from now on; or by the one of who has told none.
     fn be_named(&mut self, name: Option<&DeckName>)
-        ensures { names self.old (option_map (λ name. name.now) name.entry) self.new };
+        ensures { relations.names self.old (option_map (λ name. name.now) name.entry) self.new };
 }
 
 /// A desk with a keeper of its changes, who tells by which name they are asked for. A change for whose record there is no memory, or that the keeper
@@ -92,7 +74,7 @@ fn told_of(made: Accepted, kept: bool) -> Reply
 
 /// What is told of a call that asked for a change, whose record this is.
 fn kept_reply<K: Keep>(keeper: &mut K, reply: Reply, draft: Draft) -> Reply
-    ensures { TellsKept K.keeps draft reply keeper.old result keeper.new }
+    ensures { TellsKept K.relations draft reply keeper.old result keeper.new }
 {
     match reply {
         Reply::Changed(made) => {
@@ -106,7 +88,7 @@ fn kept_reply<K: Keep>(keeper: &mut K, reply: Reply, draft: Draft) -> Reply
 
 /// What is told of a call that asked for a change of this deck that is carried.
 fn carried_reply<K: Keep>(keeper: &mut K, reply: Reply, stamp: Stamp, name: DeckName) -> Reply
-    ensures { TellsCarried K.keeps stamp name reply keeper.old result keeper.new }
+    ensures { TellsCarried K.relations stamp name reply keeper.old result keeper.new }
 {
     match reply {
         Reply::Carried {
@@ -125,7 +107,7 @@ fn carried_reply<K: Keep>(keeper: &mut K, reply: Reply, stamp: Stamp, name: Deck
 
 /// Makes a change.
 fn make_change<C: Calls, K: Keep>(desk: &mut C, keeper: &mut K, change: Change) -> Reply
-    ensures { MakesChange C.makes K.begins K.keeps K.who K.opens change desk.old keeper.old result desk.new keeper.new }
+    ensures { MakesChange C.relations.makes K.relations change desk.old keeper.old result desk.new keeper.new }
 {
     match keeper.begin(&change) {
         Ok(draft) => {
@@ -138,7 +120,7 @@ fn make_change<C: Calls, K: Keep>(desk: &mut C, keeper: &mut K, change: Change) 
 
 /// Makes a change that is carried.
 fn make_carried<C: Calls, K: Keep>(desk: &mut C, keeper: &mut K, carry: Carry) -> Reply
-    ensures { MakesCarried C.makes K.begins K.keeps K.who K.opens carry desk.old keeper.old result desk.new keeper.new }
+    ensures { MakesCarried C.relations.makes K.relations carry desk.old keeper.old result desk.new keeper.new }
 {
     match keeper.open() {
         Ok(stamp) => {
@@ -152,7 +134,7 @@ fn make_carried<C: Calls, K: Keep>(desk: &mut C, keeper: &mut K, carry: Carry) -
 
 /// Tells a keeper a name, where it holds.
 fn name_where<K: Keep>(keeper: &mut K, holds: bool, name: &DeckName)
-    ensures { WhereMet (λ before after. K.names before (Some name.now) after) holds keeper.old keeper.new }
+    ensures { WhereMet (λ before after. K.relations.names before (Some name.now) after) holds keeper.old keeper.new }
 {
     if holds {
         keeper.be_named(Some(name));
@@ -162,18 +144,9 @@ fn name_where<K: Keep>(keeper: &mut K, holds: bool, name: &DeckName)
 /// The calls are the desk's, but for changes that are refused, or not kept. Who waits is answered by the
 /// desk, and so is who greets; the keeper is told the name where it holds.
 impl<C: Calls, K: Keep> Calls for Keeping<C, K> {
-    ghost use Rattle.std.specs.Prelude.{◌≡◌, None, Some};
-    ghost use Rattle.journal.specs.Asking.{asked_of};
-    ghost use Rattle.kept_desk.specs.Keeping.{MakesKept};
-    ghost use Rattle.session_line.specs.Greetings.{WhereMet, is_met};
+    ghost use Rattle.kept_desk.specs.KeptDesks.{kept_with};
 
-    ghost makes = { λ old call reply new. MakesKept C.makes K.begins K.keeps K.who K.opens old (asked_of call) reply new };
-
-    ghost awaits = { λ old version reply new. C.awaits old.0 version reply new.0 × (new.1 ≡ old.1) };
-
-    ghost greets = { λ old name greeting new. C.greets old.0 name greeting new.0 × WhereMet (λ keeper after. K.names keeper (Some name) after) (is_met greeting) old.1 new.1 };
-
-    ghost begins = { λ old new. C.begins old.0 new.0 × K.names old.1 None new.1 };
+    ghost relations = { kept_with C.relations K.relations };
 
     fn call(&mut self, call: Call) -> Reply {
         match asked_of(call) {

@@ -1,11 +1,9 @@
 -- A command of a session that is refused changes nothing of a desk of which no refused call, no question, no wait and no greeting changes anything.
-use Rattle.std.proofs.Common.{ℕ, ◌≡◌, Bool, true, false, cond, inl, inr, List, [], ◌∷◌, Option, Some, Result, Ok, Err, refl, sym, ap, subst, ◌∙◌}
+use Rattle.std.proofs.Common.{ℕ, ◌≡◌, Bool, true, false, cond, inl, inr, List, [], ◌∷◌, Option, Result, Ok, Err, refl, sym, ap, subst, ◌∙◌}
 use Rattle.definitions.specs.Cards.{Card}
 use Rattle.definitions.specs.DeckInput.{Deck}
 use Rattle.deck_files.specs.declared.deck_shelf.ShelfLoadFault.{ShelfLoadFault}
-use Rattle.deck_files.specs.declared.deck_shelf.ShelfSaveFault.{ShelfSaveFault}
-use Rattle.deck_files.specs.declared.file_rows.FileRow.{FileRow}
-use Rattle.deck_files.specs.Savings.{Saving}
+use Rattle.deck_files.specs.ShelfRelations.{ShelfRelations}
 use Rattle.desk_core.specs.declared.calls.Call.{Call}
 use Rattle.desk_core.specs.declared.calls.Call.TheVariants.{AddDeck, Cards, CardsAt, PutDeck, Show, Status}
 use Rattle.desk_core.specs.declared.replies.Reply.{Reply}
@@ -41,6 +39,7 @@ use Rattle.session_line.specs.Serving.{Sides}
 use Rattle.session_line.specs.DeckCuts.{decks_in}
 use Rattle.session_line.specs.LoadingAll.{TellsAdds, added_all, not_added, no_memory, AddsTold, AddsCut, AddsFile, cut, uncut, AddsLoadedDecks}
 use Rattle.session_line.specs.SavingAll.{SavesRow, SavesRows, is_saved, unsaved, no_row, next_row, TellsSaves, told_all, lacking, SavesAllTold}
+use Rattle.session_line.specs.DeskRelations.{DeskRelations}
 
 -- a question of a session
 abbrev pub is_question : Call → Bool
@@ -51,13 +50,13 @@ is_question Status = true
 is_question _ = false
 
 -- in a sense in which two states of a desk are the same, no call of a session changes it that is told as refused, and no question, wait or greeting does
-pub record IsSteady {C : Type 0} (makes : C → Call → Reply → C → Type 0) (awaits : C → ℕ → Reply → C → Type 0) (greets : C → List ℕ → Greeting → C → Type 0) (IsSame : C → C → Type 0) : Type 0 where
+pub record IsSteady {C : Type 0} (calls : DeskRelations C) (IsSame : C → C → Type 0) : Type 0 where
   pub same : (desk : C) → IsSame desk desk
   pub joined : (first second third : C) → IsSame first second → IsSame second third → IsSame first third
-  pub refused : (desk next : C) (call : Call) (reply : Reply) → is_session_call call ≡ true → makes desk call reply next → tells_refusal reply ≡ true → IsSame desk next
-  pub asked : (desk next : C) (call : Call) (reply : Reply) → is_question call ≡ true → makes desk call reply next → IsSame desk next
-  pub awaited : (desk next : C) (version : ℕ) (reply : Reply) → awaits desk version reply next → IsSame desk next
-  pub greeted : (desk next : C) (name : List ℕ) (greeting : Greeting) → greets desk name greeting next → IsSame desk next
+  pub refused : (desk next : C) (call : Call) (reply : Reply) → is_session_call call ≡ true → calls.makes desk call reply next → tells_refusal reply ≡ true → IsSame desk next
+  pub asked : (desk next : C) (call : Call) (reply : Reply) → is_question call ≡ true → calls.makes desk call reply next → IsSame desk next
+  pub awaited : (desk next : C) (version : ℕ) (reply : Reply) → calls.awaits desk version reply next → IsSame desk next
+  pub greeted : (desk next : C) (name : List ℕ) (greeting : Greeting) → calls.greets desk name greeting next → IsSame desk next
 
 -- whether a task asks the desk only for what a session asks
 abbrev asks_session : Task → Bool
@@ -84,78 +83,74 @@ where-same (told.Help version) Made Other P made other holds = other holds
 where-same (told.Refused reason) Made Other P made other holds = other holds
 where-same told.Bye Made Other P made other holds = other holds
 
-module _ {C S : Type 0} (makes : C → Call → Reply → C → Type 0) (awaits : C → ℕ → Reply → C → Type 0) (greets : C → List ℕ → Greeting → C → Type 0) (loads : S → List ℕ → List Card → S → Type 0)
-    (refuses_to_load : S → List ℕ → ShelfLoadFault → S → Type 0)
-    (saves : S → Saving → S → Type 0) (refuses_to_save : S → Saving → ShelfSaveFault → S → Type 0)
-    (lists : S → Result (List FileRow) ShelfLoadFault → S → Type 0)
-    (notes : S → List ℕ → ℕ → S → Type 0) (tells_saved : S → List ℕ → ℕ → Bool → S → Type 0)
-    (IsSame : C → C → Type 0) (steady : IsSteady makes awaits greets IsSame) where
+module _ {C S : Type 0} (calls : DeskRelations C) (files : ShelfRelations S)
+    (IsSame : C → C → Type 0) (steady : IsSteady calls IsSame) where
   -- a desk that was not called
   uncalled-same : (desk next : C) → next ≡ desk → IsSame desk next
   uncalled-same desk next is = subst (λ (d : C). IsSame desk d) (sym is) (steady.same desk)
 
   -- one call, of which a refusal is told
-  asks-same : (call : Call) (desk next : C) (answer : Answer) → is_session_call call ≡ true → Asks makes call told_of_call desk next answer → is_refusal answer.told ≡ true → IsSame desk next
+  asks-same : (call : Call) (desk next : C) (answer : Answer) → is_session_call call ≡ true → Asks calls.makes call told_of_call desk next answer → is_refusal answer.told ≡ true → IsSame desk next
   asks-same call desk next answer session asks refused = steady.refused desk next call asks.reply session asks.made (sym (ap (λ (a : Answer). is_refusal a.told) asks.answered) ∙ refused)
 
-  adds-same : (name : List ℕ) (loaded : Result (List Card) ShelfLoadFault) (desk next : C) (answer : Answer) → AddsLoaded makes name loaded desk next answer → is_refusal answer.told ≡ true → IsSame desk next
+  adds-same : (name : List ℕ) (loaded : Result (List Card) ShelfLoadFault) (desk next : C) (answer : Answer) → AddsLoaded calls.makes name loaded desk next answer → is_refusal answer.told ≡ true → IsSame desk next
   adds-same name (Ok cards) desk next answer adds refused = asks-same (AddDeck (record { name = name; cards = cards })) desk next answer refl adds refused
   adds-same name (Err fault) desk next answer adds refused = uncalled-same desk next adds.0
 
   -- a deck that was put over another, of which a refusal is told
-  put-same : (deck : Deck) (version : Result ℕ Refusal) (desk next : C) (answer : Answer) → PutsBy makes deck version desk next answer → is_refusal answer.told ≡ true → IsSame desk next
+  put-same : (deck : Deck) (version : Result ℕ Refusal) (desk next : C) (answer : Answer) → PutsBy calls.makes deck version desk next answer → is_refusal answer.told ≡ true → IsSame desk next
   put-same deck (Ok version) desk next answer puts refused = asks-same (PutDeck deck version) desk next answer refl puts refused
   put-same deck (Err refusal) desk next answer puts refused = uncalled-same desk next puts.0
 
-  puts-same : (name : List ℕ) (loaded : Result (List Card) ShelfLoadFault) (desk next : C) (answer : Answer) → PutsLoaded makes name loaded desk next answer → is_refusal answer.told ≡ true → IsSame desk next
+  puts-same : (name : List ℕ) (loaded : Result (List Card) ShelfLoadFault) (desk next : C) (answer : Answer) → PutsLoaded calls.makes name loaded desk next answer → is_refusal answer.told ≡ true → IsSame desk next
   puts-same name (Ok cards) desk next answer puts refused =
       let deck : Deck = record { name = name; cards = cards } in
       steady.joined desk puts.between next (steady.asked desk puts.between Status puts.reply refl puts.made) (put-same deck (version_told name puts.reply) puts.between next answer puts.put refused)
   puts-same name (Err fault) desk next answer puts refused = uncalled-same desk next puts.0
 
-  row-same : (row : Row) (desk next : C) (shelf after : S) (line : Option ToldDeck) → SavesRow makes saves refuses_to_save tells_saved row desk next shelf after line → IsSame desk next
+  row-same : (row : Row) (desk next : C) (shelf after : S) (line : Option ToldDeck) → SavesRow calls.makes files row desk next shelf after line → IsSame desk next
   row-same row desk next shelf after _ (is_saved stays tells) = uncalled-same desk next stays
   row-same row desk next shelf after _ (unsaved between answer tells saves) = steady.asked desk next (Cards row.name) saves.reply refl saves.made
 
-  rows-same : (first : C) (start : S) (rows : List Row) (saved : List ToldDeck) (last : C) (end : S) → SavesRows makes saves refuses_to_save tells_saved first start rows saved last end → IsSame first last
+  rows-same : (first : C) (start : S) (rows : List Row) (saved : List ToldDeck) (last : C) (end : S) → SavesRows calls.makes files first start rows saved last end → IsSame first last
   rows-same first start _ _ _ _ no_row = steady.same first
   rows-same first start _ _ _ _ (next_row rows saved desk next shelf after row line before now) = steady.joined first desk next (rows-same first start rows saved desk shelf before) (row-same row desk next shelf after line now)
 
-  saves-same : (version : ℕ) (rows : List Row) (desk next : C) (shelf after : S) (answer : Answer) → TellsSaves makes saves refuses_to_save tells_saved version rows desk next shelf after answer → IsSame desk next
+  saves-same : (version : ℕ) (rows : List Row) (desk next : C) (shelf after : S) (answer : Answer) → TellsSaves calls.makes files version rows desk next shelf after answer → IsSame desk next
   saves-same version rows desk next shelf after answer (told_all saved each answered) = rows-same desk shelf rows saved next after each
   saves-same version rows desk next shelf after answer (lacking stays same answered) = uncalled-same desk next stays
 
-  all-same : (what : Told) (desk next : C) (shelf after : S) (answer : Answer) → SavesAllTold makes saves refuses_to_save tells_saved what desk next shelf after answer → IsSame desk next
+  all-same : (what : Told) (desk next : C) (shelf after : S) (answer : Answer) → SavesAllTold calls.makes files what desk next shelf after answer → IsSame desk next
   all-same what desk next shelf after answer =
-      where-same what (λ version published rows. TellsSaves makes saves refuses_to_save tells_saved version rows desk next shelf after answer) ((next ≡ desk) × (after ≡ shelf) × (answer ≡ called what)) (IsSame desk next)
+      where-same what (λ version published rows. TellsSaves calls.makes files version rows desk next shelf after answer) ((next ≡ desk) × (after ≡ shelf) × (answer ≡ called what)) (IsSame desk next)
       (λ version published rows saves. saves-same version rows desk next shelf after answer saves) (λ same. uncalled-same desk next same.0)
 
   -- decks of which a refusal is told were not added
-  adds-told-same : (version : ℕ) (rows : List Row) (decks : List Deck) (desk next : C) (answer : Answer) → TellsAdds makes version rows decks desk next answer → is_refusal answer.told ≡ true → IsSame desk next
+  adds-told-same : (version : ℕ) (rows : List Row) (decks : List Deck) (desk next : C) (answer : Answer) → TellsAdds calls.makes version rows decks desk next answer → is_refusal answer.told ≡ true → IsSame desk next
   adds-told-same version rows decks desk next answer (added_all lines room each answered) refused = let not : false ≡ true = sym (ap (λ (a : Answer). is_refusal a.told) answered) ∙ refused in cc
   adds-told-same version rows decks desk next answer (not_added refusal why stays answered) refused = uncalled-same desk next stays
   adds-told-same version rows decks desk next answer (no_memory stays answered) refused = uncalled-same desk next stays
 
-  adds-all-same : (what : Told) (decks : List Deck) (desk next : C) (answer : Answer) → AddsTold makes decks what desk next answer → is_refusal answer.told ≡ true → IsSame desk next
+  adds-all-same : (what : Told) (decks : List Deck) (desk next : C) (answer : Answer) → AddsTold calls.makes decks what desk next answer → is_refusal answer.told ≡ true → IsSame desk next
   adds-all-same what decks desk next answer adds refused =
-      where-same what (λ version published rows. TellsAdds makes version rows decks desk next answer) ((next ≡ desk) × (answer ≡ called what)) (IsSame desk next)
+      where-same what (λ version published rows. TellsAdds calls.makes version rows decks desk next answer) ((next ≡ desk) × (answer ≡ called what)) (IsSame desk next)
       (λ version published rows adds. adds-told-same version rows decks desk next answer adds refused) (λ same. uncalled-same desk next same.0) adds
 
-  cut-same : (decks : Result (List Deck) Refusal) (desk next : C) (answer : Answer) → AddsCut makes decks desk next answer → is_refusal answer.told ≡ true → IsSame desk next
+  cut-same : (decks : Result (List Deck) Refusal) (desk next : C) (answer : Answer) → AddsCut calls.makes decks desk next answer → is_refusal answer.told ≡ true → IsSame desk next
   cut-same (Ok decks) desk next answer adds refused =
       steady.joined desk adds.between next (steady.asked desk adds.between Status adds.reply refl adds.made) (adds-all-same (told_of_call adds.reply) decks adds.between next answer adds.kept refused)
   cut-same (Err refusal) desk next answer adds refused = uncalled-same desk next adds.0
 
-  file-same : (cards : List Card) (desk next : C) (answer : Answer) → AddsFile makes cards desk next answer → is_refusal answer.told ≡ true → IsSame desk next
+  file-same : (cards : List Card) (desk next : C) (answer : Answer) → AddsFile calls.makes cards desk next answer → is_refusal answer.told ≡ true → IsSame desk next
   file-same cards desk next answer (cut adds) refused = cut-same (decks_in cards) desk next answer adds refused
   file-same cards desk next answer (uncut stays answered) refused = uncalled-same desk next stays
 
-  loaded-same : (loaded : Result (List Card) ShelfLoadFault) (desk next : C) (answer : Answer) → AddsLoadedDecks makes loaded desk next answer → is_refusal answer.told ≡ true → IsSame desk next
+  loaded-same : (loaded : Result (List Card) ShelfLoadFault) (desk next : C) (answer : Answer) → AddsLoadedDecks calls.makes loaded desk next answer → is_refusal answer.told ≡ true → IsSame desk next
   loaded-same (Ok cards) desk next answer adds refused = file-same cards desk next answer adds refused
   loaded-same (Err fault) desk next answer adds refused = uncalled-same desk next adds.0
 
   refused-same : (task : Task) (desk next : C) (shelf after : S) (answer : Answer) → asks_session task ≡ true →
-      Executes makes awaits greets loads refuses_to_load saves refuses_to_save lists notes tells_saved task desk next shelf after answer → is_refusal answer.told ≡ true → IsSame desk next
+      Executes calls files task desk next shelf after answer → is_refusal answer.told ≡ true → IsSame desk next
   refused-same (Ask call) desk next shelf after answer session is refused = asks-same call desk next answer session is.0 refused
   refused-same (AwaitVersion version) desk next shelf after answer session is refused = steady.awaited desk next version is.0.reply is.0.awaited
   refused-same (ShowCards name view) desk next shelf after answer session is refused = steady.asked desk next (Cards name) is.0.reply refl is.0.made
@@ -245,12 +240,8 @@ allowed-session : (rights : Rights) (task : Task) → asks_session task ≡ true
 allowed-session Edits task session = session
 allowed-session Reads task session = either-session (changes task) task session
 
-module _ {C S : Type 0} (makes : C → Call → Reply → C → Type 0) (awaits : C → ℕ → Reply → C → Type 0) (greets : C → List ℕ → Greeting → C → Type 0) (loads : S → List ℕ → List Card → S → Type 0)
-    (refuses_to_load : S → List ℕ → ShelfLoadFault → S → Type 0)
-    (saves : S → Saving → S → Type 0) (refuses_to_save : S → Saving → ShelfSaveFault → S → Type 0)
-    (lists : S → Result (List FileRow) ShelfLoadFault → S → Type 0)
-    (notes : S → List ℕ → ℕ → S → Type 0) (tells_saved : S → List ℕ → ℕ → Bool → S → Type 0)
-    (IsSame : C → C → Type 0) (steady : IsSteady makes awaits greets IsSame) where
-  pub command-same : (rights : Rights) (old new : Sides C S) → RefusesCommand rights makes awaits greets loads refuses_to_load saves refuses_to_save lists notes tells_saved old new → IsSame old.desk new.desk
-  command-same rights old new is = refused-same makes awaits greets loads refuses_to_load saves refuses_to_save lists notes tells_saved IsSame steady (allowed rights is.task) old.desk new.desk old.shelf new.shelf is.answer
+module _ {C S : Type 0} (calls : DeskRelations C) (files : ShelfRelations S)
+    (IsSame : C → C → Type 0) (steady : IsSteady calls IsSame) where
+  pub command-same : (rights : Rights) (old new : Sides C S) → RefusesCommand rights calls files old new → IsSame old.desk new.desk
+  command-same rights old new is = refused-same calls files IsSame steady (allowed rights is.task) old.desk new.desk old.shelf new.shelf is.answer
       (allowed-session rights is.task (taken-session (task_of is.taken.first is.taken.others) is.task (task-session (command_of is.taken.first) is.taken.others) is.taken.asked)) is.executed is.refused

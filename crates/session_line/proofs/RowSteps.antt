@@ -4,8 +4,7 @@ use Rattle.std.proofs.lemmas.List.{take_more}
 use Rattle.desk_core.specs.declared.replies.Row.{Row}
 use Rattle.session_line.specs.declared.marked_rows.MarkedRow.{MarkedRow}
 use Rattle.session_line.specs.FileStatus.{MarksRows, marked, no_row, next_row}
-use Rattle.deck_files.specs.declared.deck_shelf.ShelfSaveFault.{ShelfSaveFault}
-use Rattle.deck_files.specs.Savings.{Saving}
+use Rattle.deck_files.specs.ShelfRelations.{ShelfRelations}
 use Rattle.desk_core.specs.declared.calls.Call.{Call}
 use Rattle.desk_core.specs.declared.replies.Reply.{Reply}
 use Rattle.session_line.specs.declared.told_decks.ToldDeck.{ToldDeck}
@@ -15,18 +14,18 @@ use Rattle.session_line.specs.SavingAll.{SavesRow, SavesRows, no_row as nothing_
 pub rows-more : (rows : List Row) (index : ℕ) (row : Row) → index < length rows → row ≡ get_or rows index row → take (index + 1) rows ≡ take index rows ++ row ∷ []
 rows-more rows index row within is = take_more rows index row within ∙ ap (λ (r : Row). take index rows ++ r ∷ []) (sym is)
 
-module _ {S : Type 0} (tells_saved : S → List ℕ → ℕ → Bool → S → Type 0) where
+module _ {S : Type 0} (files : ShelfRelations S) where
   -- no deck is marked
-  pub marks-none : (first : S) (marks : List MarkedRow) → marks ≡ [] → MarksRows tells_saved first [] marks first
-  marks-none first marks none = subst (λ (m : List MarkedRow). MarksRows tells_saved first [] m first) (sym none) no_row
+  pub marks-none : (first : S) (marks : List MarkedRow) → marks ≡ [] → MarksRows files first [] marks first
+  marks-none first marks none = subst (λ (m : List MarkedRow). MarksRows files first [] m first) (sym none) no_row
 
   -- one deck more is marked
   pub marks-more : (first middle last : S) (rows : List Row) (marks after : List MarkedRow) (index : ℕ) (row : Row) (saved : Bool) → index < length rows → row ≡ get_or rows index row →
-      MarksRows tells_saved first (take index rows) marks middle → tells_saved middle row.name row.version saved last → after ≡ marks ++ marked row saved ∷ [] →
-      MarksRows tells_saved first (take (index + 1) rows) after last
+      MarksRows files first (take index rows) marks middle → files.tells_saved middle row.name row.version saved last → after ≡ marks ++ marked row saved ∷ [] →
+      MarksRows files first (take (index + 1) rows) after last
   marks-more first middle last rows marks after index row saved within is sofar told put =
-      subst (λ (l : List Row). MarksRows tells_saved first l after last) (sym (rows-more rows index row within is))
-      (subst (λ (m : List MarkedRow). MarksRows tells_saved first (take index rows ++ row ∷ []) m last) (sym put)
+      subst (λ (l : List Row). MarksRows files first l after last) (sym (rows-more rows index row within is))
+      (subst (λ (m : List MarkedRow). MarksRows files first (take index rows ++ row ∷ []) m last) (sym put)
       (next_row (take index rows) marks middle last row saved sofar told))
 
 -- at most one line more
@@ -34,17 +33,16 @@ pub line-few : {X : Type 0} (lines : List X) (line : Option X) → length (lines
 line-few lines None = let all = length-append lines [] in omega (arith, all)
 line-few lines (Some x) = let all = length-append lines (x ∷ []) in omega (arith, all)
 
-module _ {C S : Type 0} (makes : C → Call → Reply → C → Type 0) (saves : S → Saving → S → Type 0) (refuses_to_save : S → Saving → ShelfSaveFault → S → Type 0)
-    (tells_saved : S → List ℕ → ℕ → Bool → S → Type 0) where
+module _ {C S : Type 0} (makes : C → Call → Reply → C → Type 0) (files : ShelfRelations S) where
   -- no deck was saved
-  pub saves-none : (first : C) (start : S) (saved : List ToldDeck) → saved ≡ [] → SavesRows makes saves refuses_to_save tells_saved first start [] saved first start
-  saves-none first start saved none = subst (λ (d : List ToldDeck). SavesRows makes saves refuses_to_save tells_saved first start [] d first start) (sym none) nothing_saved
+  pub saves-none : (first : C) (start : S) (saved : List ToldDeck) → saved ≡ [] → SavesRows makes files first start [] saved first start
+  saves-none first start saved none = subst (λ (d : List ToldDeck). SavesRows makes files first start [] d first start) (sym none) nothing_saved
 
   -- one deck more, where it was to be saved
   pub saves-more : (first desk next : C) (start shelf last : S) (rows : List Row) (saved after : List ToldDeck) (index : ℕ) (row : Row) (line : Option ToldDeck) → index < length rows → row ≡ get_or rows index row →
-      SavesRows makes saves refuses_to_save tells_saved first start (take index rows) saved desk shelf → SavesRow makes saves refuses_to_save tells_saved row desk next shelf last line → after ≡ saved ++ option_to_list line →
-      SavesRows makes saves refuses_to_save tells_saved first start (take (index + 1) rows) after next last
+      SavesRows makes files first start (take index rows) saved desk shelf → SavesRow makes files row desk next shelf last line → after ≡ saved ++ option_to_list line →
+      SavesRows makes files first start (take (index + 1) rows) after next last
   saves-more first desk next start shelf last rows saved after index row line within is sofar one put =
-      subst (λ (l : List Row). SavesRows makes saves refuses_to_save tells_saved first start l after next last) (sym (rows-more rows index row within is))
-      (subst (λ (d : List ToldDeck). SavesRows makes saves refuses_to_save tells_saved first start (take index rows ++ row ∷ []) d next last) (sym put)
+      subst (λ (l : List Row). SavesRows makes files first start l after next last) (sym (rows-more rows index row within is))
+      (subst (λ (d : List ToldDeck). SavesRows makes files first start (take index rows ++ row ∷ []) d next last) (sym put)
       (row_saved (take index rows) saved desk next shelf last row line sofar one))

@@ -2,6 +2,7 @@
 use Rattle.std.specs.Prelude.{ℕ, ◌≡◌, List, Result, Ok, Err}
 use Rattle.definitions.specs.Cards.{Card}
 use Rattle.deck_files.specs.declared.deck_shelf.ShelfLoadFault.{ShelfLoadFault}
+use Rattle.deck_files.specs.ShelfRelations.{ShelfRelations}
 use Rattle.desk_core.specs.declared.calls.Call.{Call}
 use Rattle.desk_core.specs.declared.replies.Reply.{Reply}
 use Rattle.session_line.specs.declared.answers.Told.{Told}
@@ -16,15 +17,15 @@ module _ {C : Type 0} (makes : C → Call → Reply → C → Type 0) where
     pub made : makes desk call reply next
     pub answered : answer ≡ called (telling reply)
 
-module _ {S : Type 0} (loads : S → List ℕ → List Card → S → Type 0) (refuses_to_load : S → List ℕ → ShelfLoadFault → S → Type 0) where
+module _ {S : Type 0} (files : ShelfRelations S) where
   -- what the shelf answers to one load
   abbrev pub ShelfLoads : List ℕ → S → Result (List Card) ShelfLoadFault → S → Type 0
-  ShelfLoads name shelf (Ok cards) after = loads shelf name cards after
-  ShelfLoads name shelf (Err fault) after = refuses_to_load shelf name fault after
+  ShelfLoads name shelf (Ok cards) after = files.loads shelf name cards after
+  ShelfLoads name shelf (Err fault) after = files.refuses_to_load shelf name fault after
 
-module _ {S : Type 0} (notes : S → List ℕ → ℕ → S → Type 0) where
+module _ {S : Type 0} (files : ShelfRelations S) where
   -- the shelf notes the version that is told, if one is
   abbrev pub NotesTold : List ℕ → Told → S → S → Type 0
-  NotesTold name (told.Done version) shelf after = notes shelf name version after
-  NotesTold name (told.Unkept version) shelf after = notes shelf name version after
+  NotesTold name (told.Done version) shelf after = files.notes shelf name version after
+  NotesTold name (told.Unkept version) shelf after = files.notes shelf name version after
   NotesTold name what shelf after = after ≡ shelf

@@ -1,10 +1,8 @@
 -- What one command makes of the desk and the shelf, and its answer (ours). The relations are those that the desk and the shelf name for one call.
-use Rattle.std.specs.Prelude.{ℕ, ◌≡◌, Bool, List, Result, Ok, Err}
+use Rattle.std.specs.Prelude.{ℕ, ◌≡◌, List, Result, Ok, Err}
 use Rattle.definitions.specs.Cards.{Card}
 use Rattle.deck_files.specs.declared.deck_shelf.ShelfLoadFault.{ShelfLoadFault}
-use Rattle.deck_files.specs.declared.deck_shelf.ShelfSaveFault.{ShelfSaveFault}
-use Rattle.deck_files.specs.Savings.{Saving}
-use Rattle.deck_files.specs.declared.file_rows.FileRow.{FileRow}
+use Rattle.deck_files.specs.ShelfRelations.{ShelfRelations}
 use Rattle.desk_core.specs.declared.calls.Call.{Call}
 use Rattle.desk_core.specs.declared.replies.Reply.{Reply}
 use Rattle.desk_core.specs.declared.calls.Call.TheVariants.{AddDeck, Cards, CardsAt, Show, Status}
@@ -24,6 +22,7 @@ use Rattle.session_line.specs.LoadingAll.{LoadsAll}
 use Rattle.session_line.specs.Asking.{Asks, NotesTold, ShelfLoads}
 use Rattle.session_line.specs.Reloading.{ReloadsDeck}
 use Rattle.session_line.specs.Answers.{told_of_call, told_of_wait, told_of_greeting, told_of_help, told_of_cards, told_of_publication, told_of_part, told_of_errors, IsToldAt, called, uncalled}
+use Rattle.session_line.specs.DeskRelations.{DeskRelations}
 
 module _ {C : Type 0} (makes : C → Call → Reply → C → Type 0) where
   -- CARDS AT: one call of the desk for the cards of now and the changes since, and what is told of that
@@ -47,15 +46,14 @@ module _ {C : Type 0} (makes : C → Call → Reply → C → Type 0) where
   AddsLoaded name (Ok cards) desk next answer = Asks makes (AddDeck (record { name = name; cards = cards })) told_of_call desk next answer
   AddsLoaded name (Err fault) desk next answer = (next ≡ desk) × (answer ≡ uncalled (told.Refused (load_reason fault)))
 
-module _ {C S : Type 0} (makes : C → Call → Reply → C → Type 0) (loads : S → List ℕ → List Card → S → Type 0) (refuses_to_load : S → List ℕ → ShelfLoadFault → S → Type 0)
-    (notes : S → List ℕ → ℕ → S → Type 0) where
+module _ {C S : Type 0} (makes : C → Call → Reply → C → Type 0) (files : ShelfRelations S) where
   -- LOAD: one load of the shelf, and then one addition to the desk, whose version the shelf notes
   pub record LoadsDeck (name : List ℕ) (desk next : C) (shelf after : S) (answer : Answer) : Type 0 where
     pub loaded : Result (List Card) ShelfLoadFault
     pub between : S
-    pub shelved : ShelfLoads loads refuses_to_load name shelf loaded between
+    pub shelved : ShelfLoads files name shelf loaded between
     pub added : AddsLoaded makes name loaded desk next answer
-    pub noted : NotesTold notes name answer.told between after
+    pub noted : NotesTold files name answer.told between after
 
 module _ {C : Type 0} (awaits : C → ℕ → Reply → C → Type 0) where
   -- WAIT: the desk answers who waits for a version, and what is told of that
@@ -71,35 +69,31 @@ module _ {C : Type 0} (greets : C → List ℕ → Greeting → C → Type 0) wh
     pub greeted : greets desk name greeting next
     pub answered : answer ≡ called (told_of_greeting greeting)
 
-module _ {C S : Type 0} (makes : C → Call → Reply → C → Type 0) (awaits : C → ℕ → Reply → C → Type 0) (greets : C → List ℕ → Greeting → C → Type 0) (loads : S → List ℕ → List Card → S → Type 0)
-    (refuses_to_load : S → List ℕ → ShelfLoadFault → S → Type 0)
-    (saves : S → Saving → S → Type 0) (refuses_to_save : S → Saving → ShelfSaveFault → S → Type 0)
-    (lists : S → Result (List FileRow) ShelfLoadFault → S → Type 0)
-    (notes : S → List ℕ → ℕ → S → Type 0) (tells_saved : S → List ℕ → ℕ → Bool → S → Type 0) where
+module _ {C S : Type 0} (calls : DeskRelations C) (files : ShelfRelations S) where
   -- nothing is called, and this is told
   abbrev pub OnlyTells : Answer → C → C → S → S → Answer → Type 0
   OnlyTells what desk next shelf after answer = (next ≡ desk) × (after ≡ shelf) × (answer ≡ what)
 
   -- a task is executed once
   abbrev pub Executes : Task → C → C → S → S → Answer → Type 0
-  Executes (Ask call) desk next shelf after answer = Asks makes call told_of_call desk next answer × (after ≡ shelf)
-  Executes (AwaitVersion version) desk next shelf after answer = AwaitsVersion awaits version desk next answer × (after ≡ shelf)
-  Executes (ShowCards name view) desk next shelf after answer = Asks makes (Cards name) (told_of_cards view) desk next answer × (after ≡ shelf)
-  Executes (ShowCardsAt name version) desk next shelf after answer = AsksAt makes name version desk next answer × (after ≡ shelf)
-  Executes (ShowText text) desk next shelf after answer = Asks makes Show (told_of_publication text) desk next answer × (after ≡ shelf)
-  Executes (ShowPart text name) desk next shelf after answer = Asks makes Show (told_of_part text name) desk next answer × (after ≡ shelf)
-  Executes (ShowErrors view) desk next shelf after answer = Asks makes Show (told_of_errors view) desk next answer × (after ≡ shelf)
-  Executes (ShowWords name) desk next shelf after answer = AsksShown makes (IsToldWords name) desk next answer × (after ≡ shelf)
-  Executes ShowNames desk next shelf after answer = AsksShown makes IsToldNames desk next answer × (after ≡ shelf)
-  Executes (ShowSymbols name) desk next shelf after answer = AsksShown makes (IsToldSymbols name) desk next answer × (after ≡ shelf)
-  Executes (LoadDeck name) desk next shelf after answer = LoadsDeck makes loads refuses_to_load notes name desk next shelf after answer
-  Executes (LoadAll name) desk next shelf after answer = LoadsAll makes loads refuses_to_load name desk next shelf after answer
-  Executes (ReloadDeck name) desk next shelf after answer = ReloadsDeck makes loads refuses_to_load notes name desk next shelf after answer
-  Executes (SaveDeck name over) desk next shelf after answer = SavesDeck makes saves refuses_to_save name over desk next shelf after answer
-  Executes SaveAll desk next shelf after answer = SavesAll makes saves refuses_to_save tells_saved desk next shelf after answer
-  Executes ShowFiles desk next shelf after answer = ShowsFiles makes lists desk next shelf after answer
-  Executes ShowFileStatus desk next shelf after answer = ShowsFileStatus makes tells_saved desk next shelf after answer
-  Executes (Greet name) desk next shelf after answer = Greets greets name desk next answer × (after ≡ shelf)
-  Executes ShowHelp desk next shelf after answer = Asks makes Status told_of_help desk next answer × (after ≡ shelf)
+  Executes (Ask call) desk next shelf after answer = Asks calls.makes call told_of_call desk next answer × (after ≡ shelf)
+  Executes (AwaitVersion version) desk next shelf after answer = AwaitsVersion calls.awaits version desk next answer × (after ≡ shelf)
+  Executes (ShowCards name view) desk next shelf after answer = Asks calls.makes (Cards name) (told_of_cards view) desk next answer × (after ≡ shelf)
+  Executes (ShowCardsAt name version) desk next shelf after answer = AsksAt calls.makes name version desk next answer × (after ≡ shelf)
+  Executes (ShowText text) desk next shelf after answer = Asks calls.makes Show (told_of_publication text) desk next answer × (after ≡ shelf)
+  Executes (ShowPart text name) desk next shelf after answer = Asks calls.makes Show (told_of_part text name) desk next answer × (after ≡ shelf)
+  Executes (ShowErrors view) desk next shelf after answer = Asks calls.makes Show (told_of_errors view) desk next answer × (after ≡ shelf)
+  Executes (ShowWords name) desk next shelf after answer = AsksShown calls.makes (IsToldWords name) desk next answer × (after ≡ shelf)
+  Executes ShowNames desk next shelf after answer = AsksShown calls.makes IsToldNames desk next answer × (after ≡ shelf)
+  Executes (ShowSymbols name) desk next shelf after answer = AsksShown calls.makes (IsToldSymbols name) desk next answer × (after ≡ shelf)
+  Executes (LoadDeck name) desk next shelf after answer = LoadsDeck calls.makes files name desk next shelf after answer
+  Executes (LoadAll name) desk next shelf after answer = LoadsAll calls.makes files name desk next shelf after answer
+  Executes (ReloadDeck name) desk next shelf after answer = ReloadsDeck calls.makes files name desk next shelf after answer
+  Executes (SaveDeck name over) desk next shelf after answer = SavesDeck calls.makes files name over desk next shelf after answer
+  Executes SaveAll desk next shelf after answer = SavesAll calls.makes files desk next shelf after answer
+  Executes ShowFiles desk next shelf after answer = ShowsFiles calls.makes files desk next shelf after answer
+  Executes ShowFileStatus desk next shelf after answer = ShowsFileStatus calls.makes files desk next shelf after answer
+  Executes (Greet name) desk next shelf after answer = Greets calls.greets name desk next answer × (after ≡ shelf)
+  Executes ShowHelp desk next shelf after answer = Asks calls.makes Status told_of_help desk next answer × (after ≡ shelf)
   Executes Leave desk next shelf after answer = OnlyTells (uncalled told.Bye) desk next shelf after answer
   Executes (Refuse reason) desk next shelf after answer = OnlyTells (uncalled (told.Refused reason)) desk next shelf after answer

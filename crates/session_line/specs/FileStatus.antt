@@ -10,16 +10,17 @@ use Rattle.session_line.specs.declared.answers.Told.{Told}
 use Rattle.session_line.specs.declared.answers.Told.TheVariants as told
 use Rattle.session_line.specs.declared.answers.Answer.{Answer}
 use Rattle.session_line.specs.Answers.{WhereStatus, told_of_call, called}
+use Rattle.deck_files.specs.ShelfRelations.{ShelfRelations}
 
 -- the row of a deck, marked so
 abbrev pub marked : Row → Bool → MarkedRow
 marked row saved = record { row = row; saved = saved }
 
-module _ {S : Type 0} (tells_saved : S → List ℕ → ℕ → Bool → S → Type 0) where
+module _ {S : Type 0} (files : ShelfRelations S) where
   -- the shelf told of these decks, one after the other, whether the file of each has the cards of its version
   pub data MarksRows (first : S) : List Row → List MarkedRow → S → Type 0 where
     no_row : MarksRows first [] [] first
-    next_row : (rows : List Row) (marks : List MarkedRow) (middle last : S) (row : Row) (saved : Bool) → MarksRows first rows marks middle → tells_saved middle row.name row.version saved last →
+    next_row : (rows : List Row) (marks : List MarkedRow) (middle last : S) (row : Row) (saved : Bool) → MarksRows first rows marks middle → files.tells_saved middle row.name row.version saved last →
         MarksRows first (rows ++ row ∷ []) (marks ++ marked row saved ∷ []) last
 
   -- the status is told with its decks marked; or there was no memory for the marks, and the shelf was not called
@@ -31,9 +32,9 @@ module _ {S : Type 0} (tells_saved : S → List ℕ → ℕ → Bool → S → T
   abbrev pub MarksTold : Told → S → S → Answer → Type 0
   MarksTold what shelf after answer = WhereStatus what (λ version published rows. TellsMarks version published rows shelf after answer) ((after ≡ shelf) × (answer ≡ called what))
 
-module _ {C S : Type 0} (makes : C → Call → Reply → C → Type 0) (tells_saved : S → List ℕ → ℕ → Bool → S → Type 0) where
+module _ {C S : Type 0} (makes : C → Call → Reply → C → Type 0) (files : ShelfRelations S) where
   -- STATUS FILES: one call of the desk for the status, and then one of the shelf for each deck
   pub record ShowsFileStatus (desk next : C) (shelf after : S) (answer : Answer) : Type 0 where
     pub reply : Reply
     pub made : makes desk Status reply next
-    pub kept : MarksTold tells_saved (told_of_call reply) shelf after answer
+    pub kept : MarksTold files (told_of_call reply) shelf after answer

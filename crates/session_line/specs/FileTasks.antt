@@ -2,6 +2,7 @@
 use Rattle.std.specs.Prelude.{ℕ, ◌≡◌, List, Result, Ok, Err}
 use Rattle.deck_files.specs.declared.deck_shelf.ShelfLoadFault.{ShelfLoadFault}
 use Rattle.deck_files.specs.declared.file_rows.FileRow.{FileRow}
+use Rattle.deck_files.specs.ShelfRelations.{ShelfRelations}
 use Rattle.desk_core.specs.declared.calls.Call.{Call}
 use Rattle.desk_core.specs.declared.calls.Call.TheVariants.{Status}
 use Rattle.desk_core.specs.declared.replies.Reply.{Reply}
@@ -16,11 +17,11 @@ abbrev pub told_of_files : ℕ → Result (List FileRow) ShelfLoadFault → Told
 told_of_files version (Ok rows) = told.Files version rows
 told_of_files version (Err fault) = told.Refused (load_reason fault)
 
-module _ {S : Type 0} (lists : S → Result (List FileRow) ShelfLoadFault → S → Type 0) where
+module _ {S : Type 0} (files : ShelfRelations S) where
   -- what the shelf lists is told with this version
   pub record TellsFiles (version : ℕ) (shelf after : S) (answer : Answer) : Type 0 where
     pub listed : Result (List FileRow) ShelfLoadFault
-    pub shelved : lists shelf listed after
+    pub shelved : files.lists shelf listed after
     pub answered : answer ≡ called (told_of_files version listed)
 
   -- the files are told with the version that would be; what else would be told is, and the shelf is not called
@@ -28,9 +29,9 @@ module _ {S : Type 0} (lists : S → Result (List FileRow) ShelfLoadFault → S 
   FilesTold (told.Standing version published) shelf after answer = TellsFiles version shelf after answer
   FilesTold what shelf after answer = (after ≡ shelf) × (answer ≡ called what)
 
-module _ {C S : Type 0} (makes : C → Call → Reply → C → Type 0) (lists : S → Result (List FileRow) ShelfLoadFault → S → Type 0) where
+module _ {C S : Type 0} (makes : C → Call → Reply → C → Type 0) (files : ShelfRelations S) where
   -- FILES: one call of the desk for the status, and then one of the shelf
   pub record ShowsFiles (desk next : C) (shelf after : S) (answer : Answer) : Type 0 where
     pub reply : Reply
     pub made : makes desk Status reply next
-    pub kept : FilesTold lists (told_of_wait reply) shelf after answer
+    pub kept : FilesTold files (told_of_wait reply) shelf after answer

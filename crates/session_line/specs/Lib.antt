@@ -4,6 +4,7 @@ pub mod Errors
 pub mod ChangeLines
 pub mod FileLines
 pub mod Greetings
+pub mod DeskRelations
 pub mod Help
 pub mod Replies
 pub mod Tasks

@@ -4,6 +4,7 @@ use Rattle.std.specs.List.{list_any}
 use Rattle.definitions.specs.Cards.{Card}
 use Rattle.definitions.specs.DeckInput.{Deck, is_taken}
 use Rattle.deck_files.specs.declared.deck_shelf.ShelfLoadFault.{ShelfLoadFault}
+use Rattle.deck_files.specs.ShelfRelations.{ShelfRelations}
 use Rattle.desk_core.specs.declared.calls.Call.{Call}
 use Rattle.desk_core.specs.declared.calls.Call.TheVariants.{AddDeck, Status}
 use Rattle.desk_core.specs.declared.replies.Reply.{Reply}
@@ -72,9 +73,9 @@ module _ {C : Type 0} (makes : C → Call → Reply → C → Type 0) where
   AddsLoadedDecks (Ok cards) desk next answer = AddsFile cards desk next answer
   AddsLoadedDecks (Err fault) desk next answer = (next ≡ desk) × (answer ≡ uncalled (told.Refused (load_reason fault)))
 
-module _ {C S : Type 0} (makes : C → Call → Reply → C → Type 0) (loads : S → List ℕ → List Card → S → Type 0) (refuses_to_load : S → List ℕ → ShelfLoadFault → S → Type 0) where
+module _ {C S : Type 0} (makes : C → Call → Reply → C → Type 0) (files : ShelfRelations S) where
   -- LOADALL: one load of the shelf, and then the calls of the desk; the shelf knows nothing of it afterwards
   pub record LoadsAll (name : List ℕ) (desk next : C) (shelf after : S) (answer : Answer) : Type 0 where
     pub loaded : Result (List Card) ShelfLoadFault
-    pub shelved : ShelfLoads loads refuses_to_load name shelf loaded after
+    pub shelved : ShelfLoads files name shelf loaded after
     pub added : AddsLoadedDecks makes loaded desk next answer

@@ -5,6 +5,7 @@ use Rattle.definitions.specs.Cards.{Card}
 use Rattle.definitions.specs.Characters.{same_text}
 use Rattle.definitions.specs.DeckInput.{Deck}
 use Rattle.deck_files.specs.declared.deck_shelf.ShelfLoadFault.{ShelfLoadFault}
+use Rattle.deck_files.specs.ShelfRelations.{ShelfRelations}
 use Rattle.desk_core.specs.declared.calls.Call.{Call}
 use Rattle.desk_core.specs.declared.calls.Call.TheVariants.{PutDeck, Status}
 use Rattle.desk_core.specs.declared.replies.Reply.{Reply}
@@ -51,12 +52,11 @@ module _ {C : Type 0} (makes : C → Call → Reply → C → Type 0) where
   PutsLoaded name (Ok cards) desk next answer = PutsOver (record { name = name; cards = cards }) desk next answer
   PutsLoaded name (Err fault) desk next answer = (next ≡ desk) × (answer ≡ uncalled (told.Refused (load_reason fault)))
 
-module _ {C S : Type 0} (makes : C → Call → Reply → C → Type 0) (loads : S → List ℕ → List Card → S → Type 0) (refuses_to_load : S → List ℕ → ShelfLoadFault → S → Type 0)
-    (notes : S → List ℕ → ℕ → S → Type 0) where
+module _ {C S : Type 0} (makes : C → Call → Reply → C → Type 0) (files : ShelfRelations S) where
   -- RELOAD: one load of the shelf, and then the calls of the desk; the shelf notes the version that the deck has then
   pub record ReloadsDeck (name : List ℕ) (desk next : C) (shelf after : S) (answer : Answer) : Type 0 where
     pub loaded : Result (List Card) ShelfLoadFault
     pub between : S
-    pub shelved : ShelfLoads loads refuses_to_load name shelf loaded between
+    pub shelved : ShelfLoads files name shelf loaded between
     pub put : PutsLoaded makes name loaded desk next answer
-    pub noted : NotesTold notes name answer.told between after
+    pub noted : NotesTold files name answer.told between after

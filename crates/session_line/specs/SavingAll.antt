@@ -1,8 +1,7 @@
 -- SAVEALL (ours): the desk is asked for its status, and then, deck by deck, the shelf whether its file has its cards; where it has not, the deck is saved as SAVE does.
-use Rattle.std.specs.Prelude.{ℕ, ◌≡◌, Bool, true, false, List, [], ◌∷◌, ◌++◌, Option, Some, None, option_to_list}
-use Rattle.deck_files.specs.declared.deck_shelf.ShelfSaveFault.{ShelfSaveFault}
+use Rattle.std.specs.Prelude.{ℕ, ◌≡◌, true, false, List, [], ◌∷◌, ◌++◌, Option, Some, None, option_to_list}
 use Rattle.deck_files.specs.declared.deck_shelf.SaveOver.TheVariants.{Known}
-use Rattle.deck_files.specs.Savings.{Saving}
+use Rattle.deck_files.specs.ShelfRelations.{ShelfRelations}
 use Rattle.desk_core.specs.declared.calls.Call.{Call}
 use Rattle.desk_core.specs.declared.calls.Call.TheVariants.{Status}
 use Rattle.desk_core.specs.declared.replies.Reply.{Reply}
@@ -16,12 +15,11 @@ use Rattle.session_line.specs.Answers.{WhereStatus, told_of_call, called}
 use Rattle.session_line.specs.SavingDecks.{SavesDeck}
 use Rattle.session_line.specs.ToldDecks.{told_deck}
 
-module _ {C S : Type 0} (makes : C → Call → Reply → C → Type 0) (saves : S → Saving → S → Type 0) (refuses_to_save : S → Saving → ShelfSaveFault → S → Type 0)
-    (tells_saved : S → List ℕ → ℕ → Bool → S → Type 0) where
+module _ {C S : Type 0} (makes : C → Call → Reply → C → Type 0) (files : ShelfRelations S) where
   -- nothing is done where the deck's file has its cards; else what SAVE does, and that is told
   pub data SavesRow (row : Row) (desk next : C) (shelf after : S) : Option ToldDeck → Type 0 where
-    is_saved : next ≡ desk → tells_saved shelf row.name row.version true after → SavesRow row desk next shelf after None
-    unsaved : (between : S) (answer : Answer) → tells_saved shelf row.name row.version false between → SavesDeck makes saves refuses_to_save row.name Known desk next between after answer →
+    is_saved : next ≡ desk → files.tells_saved shelf row.name row.version true after → SavesRow row desk next shelf after None
+    unsaved : (between : S) (answer : Answer) → files.tells_saved shelf row.name row.version false between → SavesDeck makes files row.name Known desk next between after answer →
         SavesRow row desk next shelf after (Some (told_deck row.name answer.told))
 
   -- these decks one after the other, and what became of those that were to be saved

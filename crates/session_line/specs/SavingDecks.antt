@@ -3,7 +3,8 @@ use Rattle.std.specs.Prelude.{ℕ, ◌≡◌, List}
 use Rattle.definitions.specs.Cards.{Card}
 use Rattle.deck_files.specs.declared.deck_shelf.ShelfSaveFault.{ShelfSaveFault}
 use Rattle.deck_files.specs.declared.deck_shelf.SaveOver.{SaveOver}
-use Rattle.deck_files.specs.Savings.{Saving, saving}
+use Rattle.deck_files.specs.Savings.{saving}
+use Rattle.deck_files.specs.ShelfRelations.{ShelfRelations}
 use Rattle.desk_core.specs.declared.calls.Call.{Call}
 use Rattle.desk_core.specs.declared.calls.Call.TheVariants.{Cards}
 use Rattle.desk_core.specs.declared.replies.Reply.{Reply}
@@ -14,20 +15,20 @@ use Rattle.session_line.specs.declared.answers.Answer.{Answer}
 use Rattle.session_line.specs.Reasons.{save_reason}
 use Rattle.session_line.specs.Answers.{told_of_cards, called}
 
-module _ {S : Type 0} (saves : S → Saving → S → Type 0) (refuses_to_save : S → Saving → ShelfSaveFault → S → Type 0) where
+module _ {S : Type 0} (files : ShelfRelations S) where
   -- one save on the shelf of the version that the desk replied with: it is told, or the fault
   pub data SavesCards (name : List ℕ) (over : SaveOver) (version : ℕ) (cards : List Card) (shelf after : S) (answer : Answer) : Type 0 where
-    saved : saves shelf (saving name over version cards) after → answer ≡ called (told.Done version) → SavesCards name over version cards shelf after answer
-    refused : (fault : ShelfSaveFault) → refuses_to_save shelf (saving name over version cards) fault after → answer ≡ called (told.Refused (save_reason fault)) → SavesCards name over version cards shelf after answer
+    saved : files.saves shelf (saving name over version cards) after → answer ≡ called (told.Done version) → SavesCards name over version cards shelf after answer
+    refused : (fault : ShelfSaveFault) → files.refuses_to_save shelf (saving name over version cards) fault after → answer ≡ called (told.Refused (save_reason fault)) → SavesCards name over version cards shelf after answer
 
   -- the cards that would be told are saved; what else would be told is, and the shelf is not called
   abbrev pub SavesTold : List ℕ → SaveOver → Told → S → S → Answer → Type 0
   SavesTold name over (told.Cards version cards view) shelf after answer = SavesCards name over version cards shelf after answer
   SavesTold name over what shelf after answer = (after ≡ shelf) × (answer ≡ called what)
 
-module _ {C S : Type 0} (makes : C → Call → Reply → C → Type 0) (saves : S → Saving → S → Type 0) (refuses_to_save : S → Saving → ShelfSaveFault → S → Type 0) where
+module _ {C S : Type 0} (makes : C → Call → Reply → C → Type 0) (files : ShelfRelations S) where
   -- SAVE: the desk is asked for the cards, and then the shelf saves them
   pub record SavesDeck (name : List ℕ) (over : SaveOver) (desk next : C) (shelf after : S) (answer : Answer) : Type 0 where
     pub reply : Reply
     pub made : makes desk (Cards name) reply next
-    pub kept : SavesTold saves refuses_to_save name over (told_of_cards All reply) shelf after answer
+    pub kept : SavesTold files name over (told_of_cards All reply) shelf after answer

@@ -1,21 +1,14 @@
 -- One line of a session is served (ours): what its bytes in, its call of the desk with that of the shelf, and its bytes out have to do with each other.
-use Rattle.std.specs.Prelude.{ℕ, ◌≡◌, ◌<◌, ◌⊎◌, Bool, true, false, List, Option, Result, length, take}
+use Rattle.std.specs.Prelude.{ℕ, ◌≡◌, ◌<◌, ◌⊎◌, true, false, List, Option, length, take}
 use Rattle.std.specs.Io.KnownBytes.{Appends}
-use Rattle.definitions.specs.Cards.{Card}
 use Rattle.text_ports.specs.Faults.{count_up}
-use Rattle.deck_files.specs.declared.deck_shelf.ShelfLoadFault.{ShelfLoadFault}
-use Rattle.deck_files.specs.declared.deck_shelf.ShelfSaveFault.{ShelfSaveFault}
-use Rattle.deck_files.specs.Savings.{Saving}
-use Rattle.deck_files.specs.declared.file_rows.FileRow.{FileRow}
-use Rattle.desk_core.specs.declared.calls.Call.{Call}
-use Rattle.desk_core.specs.declared.replies.Reply.{Reply}
+use Rattle.deck_files.specs.ShelfRelations.{ShelfRelations}
 use Rattle.session_line.specs.declared.tasks.Task.{Task}
 use Rattle.session_line.specs.declared.reading.Stop.{Stop}
 use Rattle.session_line.specs.declared.reading.Stop.TheVariants.{InputEnded, InputFailed}
 use Rattle.session_line.specs.declared.answers.Answer.{Answer}
 use Rattle.session_line.specs.declared.serving.Outcome.{Outcome}
 use Rattle.session_line.specs.declared.serving.Outcome.TheVariants.{Served, Ended, ReadFault, WriteFault}
-use Rattle.session_line.specs.declared.greetings.Greeting.{Greeting}
 use Rattle.session_line.specs.Answers.{told_text, is_bye}
 use Rattle.session_commands.specs.Commands.{command_of}
 use Rattle.session_line.specs.Tasks.{lines_due}
@@ -23,6 +16,7 @@ use Rattle.session_line.specs.Taking.{TakesTask, TakesBehind, Stops, StopsWithin
 use Rattle.session_line.specs.Executing.{Executes}
 use Rattle.session_line.specs.Rights.{allowed}
 use Rattle.session_line.specs.declared.rights.Rights.{Rights}
+use Rattle.session_line.specs.DeskRelations.{DeskRelations}
 
 -- what a session stands between: the bytes that its reader has left and that its writer took, where they are known; the desk and the shelf
 pub record Sides (C S : Type 0) : Type 0 where
@@ -69,17 +63,13 @@ module _ {C S : Type 0} where
     pub desk : new.desk ≡ old.desk
     pub shelf : new.shelf ≡ old.shelf
 
-module _ {C S : Type 0} (rights : Rights) (makes : C → Call → Reply → C → Type 0) (awaits : C → ℕ → Reply → C → Type 0) (greets : C → List ℕ → Greeting → C → Type 0) (loads : S → List ℕ → List Card → S → Type 0)
-    (refuses_to_load : S → List ℕ → ShelfLoadFault → S → Type 0)
-    (saves : S → Saving → S → Type 0) (refuses_to_save : S → Saving → ShelfSaveFault → S → Type 0)
-    (lists : S → Result (List FileRow) ShelfLoadFault → S → Type 0)
-    (notes : S → List ℕ → ℕ → S → Type 0) (tells_saved : S → List ℕ → ℕ → Bool → S → Type 0) where
+module _ {C S : Type 0} (rights : Rights) (calls : DeskRelations C) (files : ShelfRelations S) where
   -- one command is taken whole, and what the session may do of it is executed once and answered
   pub record ServesCommand (old new : Sides C S) (outcome : Outcome) : Type 0 where
     pub task : Task
     pub answer : Answer
     pub taken : TakesTask old.input new.input task
-    pub executed : Executes makes awaits greets loads refuses_to_load saves refuses_to_save lists notes tells_saved (allowed rights task) old.desk new.desk old.shelf new.shelf answer
+    pub executed : Executes calls files (allowed rights task) old.desk new.desk old.shelf new.shelf answer
     pub sent : GoesOut old.output new.output answer outcome
 
   -- one line of a session is served
@@ -91,7 +81,7 @@ module _ {C S : Type 0} (rights : Rights) (makes : C → Call → Reply → C �
     pub task : Task
     pub answer : Answer
     pub taken : TakesBehind first old.input new.input task
-    pub executed : Executes makes awaits greets loads refuses_to_load saves refuses_to_save lists notes tells_saved (allowed rights task) old.desk new.desk old.shelf new.shelf answer
+    pub executed : Executes calls files (allowed rights task) old.desk new.desk old.shelf new.shelf answer
     pub sent : GoesOut old.output new.output answer outcome
 
   -- one line of a session that was taken already is served

@@ -50,7 +50,7 @@ pub(crate) fn uncalled(told: Told) -> Answer
 
 /// One call of the desk that shows neither cards nor a publication.
 pub(crate) fn ask<C: Calls>(desk: &mut C, call: Call) -> Answer
-    ensures asks { Asks C.makes call told_of_call desk.old desk.new result }
+    ensures asks { Asks C.relations.makes call told_of_call desk.old desk.new result }
     ensures fits { IsTellable result.told }
 {
     called(told_of_call(desk.call(call)))
@@ -58,7 +58,7 @@ pub(crate) fn ask<C: Calls>(desk: &mut C, call: Call) -> Answer
 
 /// The desk answers who waits for a version.
 fn await_version<C: Calls>(desk: &mut C, version: u64) -> Answer
-    ensures awaits { AwaitsVersion C.awaits version desk.old desk.new result }
+    ensures awaits { AwaitsVersion C.relations.awaits version desk.old desk.new result }
     ensures fits { IsTellable result.told }
 {
     called(told_of_wait(desk.await_version(version)))
@@ -66,7 +66,7 @@ fn await_version<C: Calls>(desk: &mut C, version: u64) -> Answer
 
 /// The desk is told the name of the session.
 fn greet<C: Calls>(alloc: Global, desk: &mut C, name: &DeckName) -> Answer
-    ensures greets { Greets C.greets name.now desk.old desk.new result }
+    ensures greets { Greets C.relations.greets name.now desk.old desk.new result }
     ensures fits { IsTellable result.told }
 {
     called(told_of_greeting(desk.greet(alloc, name)))
@@ -74,7 +74,7 @@ fn greet<C: Calls>(alloc: Global, desk: &mut C, name: &DeckName) -> Answer
 
 /// The desk is asked for its version, and what may be asked is shown.
 fn show_help<C: Calls>(desk: &mut C) -> Answer
-    ensures asks { Asks C.makes Status told_of_help desk.old desk.new result }
+    ensures asks { Asks C.relations.makes Status told_of_help desk.old desk.new result }
     ensures fits { IsTellable result.told }
 {
     called(told_of_help(desk.call(Call::Status)))
@@ -82,7 +82,7 @@ fn show_help<C: Calls>(desk: &mut C) -> Answer
 
 /// The desk is asked for the cards of the deck.
 fn show_cards<C: Calls>(desk: &mut C, name: DeckName, view: CardsView) -> Answer
-    ensures asks { Asks C.makes (Cards name) (told_of_cards view) desk.old desk.new result }
+    ensures asks { Asks C.relations.makes (Cards name) (told_of_cards view) desk.old desk.new result }
     ensures fits { IsTellable result.told }
 {
     called(told_of_cards(view, desk.call(Call::Cards(name))))
@@ -90,7 +90,7 @@ fn show_cards<C: Calls>(desk: &mut C, name: DeckName, view: CardsView) -> Answer
 
 /// The desk is asked for the cards of now and the changes since a version, and these are taken back.
 fn show_cards_at<C: Calls>(alloc: Global, desk: &mut C, name: DeckName, version: u64) -> Answer
-    ensures asks { AsksAt C.makes name version desk.old desk.new result }
+    ensures asks { AsksAt C.relations.makes name version desk.old desk.new result }
     ensures fits { IsTellable result.told }
 {
     let reply = desk.call(Call::CardsAt { name, version });
@@ -99,7 +99,7 @@ fn show_cards_at<C: Calls>(alloc: Global, desk: &mut C, name: DeckName, version:
 
 /// The desk is asked for the publication.
 fn show_text<C: Calls>(desk: &mut C, text: PublishedText) -> Answer
-    ensures asks { Asks C.makes Show (told_of_publication text) desk.old desk.new result }
+    ensures asks { Asks C.relations.makes Show (told_of_publication text) desk.old desk.new result }
     ensures fits { IsTellable result.told }
 {
     called(told_of_publication(text, desk.call(Call::Show)))
@@ -107,7 +107,7 @@ fn show_text<C: Calls>(desk: &mut C, text: PublishedText) -> Answer
 
 /// The desk is asked for the publication, and a text of one deck is shown.
 fn show_part<C: Calls>(desk: &mut C, text: DeckText, name: DeckName) -> Answer
-    ensures asks { Asks C.makes Show (told_of_part text name) desk.old desk.new result }
+    ensures asks { Asks C.relations.makes Show (told_of_part text name) desk.old desk.new result }
     ensures fits { IsTellable result.told }
 {
     called(told_of_part(text, name, desk.call(Call::Show)))
@@ -115,7 +115,7 @@ fn show_part<C: Calls>(desk: &mut C, text: DeckText, name: DeckName) -> Answer
 
 /// The desk is asked for the publication, and what is flagged in it is shown.
 fn show_errors<C: Calls>(desk: &mut C, view: ErrorsView) -> Answer
-    ensures asks { Asks C.makes Show (told_of_errors view) desk.old desk.new result }
+    ensures asks { Asks C.relations.makes Show (told_of_errors view) desk.old desk.new result }
     ensures fits { IsTellable result.told }
 {
     called(told_of_errors(view, desk.call(Call::Show)))
@@ -123,7 +123,7 @@ fn show_errors<C: Calls>(desk: &mut C, view: ErrorsView) -> Answer
 
 /// The desk is asked for the publication, and what is said of what is flagged in one deck is shown.
 fn show_words<C: Calls>(alloc: Global, keys: RandomState, desk: &mut C, name: &DeckName) -> Answer
-    ensures asks { AsksShown C.makes (IsToldWords name.now) desk.old desk.new result }
+    ensures asks { AsksShown C.relations.makes (IsToldWords name.now) desk.old desk.new result }
     ensures fits { IsTellable result.told }
 {
     called(told_of_words(alloc, keys, name, desk.call(Call::Show)))
@@ -131,7 +131,7 @@ fn show_words<C: Calls>(alloc: Global, keys: RandomState, desk: &mut C, name: &D
 
 /// The desk is asked for the publication, and the names are shown that decks enter or have as externals.
 fn show_names<C: Calls>(alloc: Global, desk: &mut C) -> Answer
-    ensures asks { AsksShown C.makes IsToldNames desk.old desk.new result }
+    ensures asks { AsksShown C.relations.makes IsToldNames desk.old desk.new result }
     ensures fits { IsTellable result.told }
 {
     called(told_of_names(alloc, desk.call(Call::Show)))
@@ -139,7 +139,7 @@ fn show_names<C: Calls>(alloc: Global, desk: &mut C) -> Answer
 
 /// The desk is asked for the publication, and the symbols of one deck are shown.
 fn show_symbols<C: Calls>(alloc: Global, keys: RandomState, desk: &mut C, name: &DeckName) -> Answer
-    ensures asks { AsksShown C.makes (IsToldSymbols name.now) desk.old desk.new result }
+    ensures asks { AsksShown C.relations.makes (IsToldSymbols name.now) desk.old desk.new result }
     ensures fits { IsTellable result.told }
 {
     called(told_of_symbols(alloc, keys, name, desk.call(Call::Show)))
@@ -147,7 +147,7 @@ fn show_symbols<C: Calls>(alloc: Global, keys: RandomState, desk: &mut C, name: 
 
 /// The shelf notes the version that is told of the deck, if one is.
 pub(crate) fn note_told<S: Shelf>(shelf: &mut S, name: &DeckName, told: &Told)
-    ensures { NotesTold S.notes name.now told.now shelf.old shelf.new }
+    ensures { NotesTold S.relations name.now told.now shelf.old shelf.new }
 {
     match told {
         Told::Done(version) | Told::Unkept(version) => shelf.note(name, *version),
@@ -157,7 +157,7 @@ pub(crate) fn note_told<S: Shelf>(shelf: &mut S, name: &DeckName, told: &Told)
 
 /// One load of the shelf, then the addition of its cards to the desk, and the version of that goes to the shelf.
 fn load_deck<C: Calls, S: Shelf>(desk: &mut C, shelf: &mut S, name: DeckName) -> Answer
-    ensures loads { LoadsDeck C.makes S.loads S.refuses_to_load S.notes name desk.old desk.new shelf.old shelf.new result }
+    ensures loads { LoadsDeck C.relations.makes S.relations name desk.old desk.new shelf.old shelf.new result }
     ensures fits { IsTellable result.told }
 {
     match shelf.load(&name) {
@@ -179,7 +179,7 @@ fn save_cards<S: Shelf>(
     cards: &[Card],
 ) -> Answer
     requires { length cards.now ≤ most_cards }
-    ensures saves { SavesCards S.saves S.refuses_to_save name.now over version cards.now shelf.old shelf.new result }
+    ensures saves { SavesCards S.relations name.now over version cards.now shelf.old shelf.new result }
     ensures fits { IsTellable result.told }
 {
     match shelf.save(name, over, version, cards) {
@@ -195,7 +195,7 @@ pub(crate) fn save_deck<C: Calls, S: Shelf>(
     name: &DeckName,
     over: SaveOver,
 ) -> Answer
-    ensures saves { SavesDeck C.makes S.saves S.refuses_to_save name.now over desk.old desk.new shelf.old shelf.new result }
+    ensures saves { SavesDeck C.relations.makes S.relations name.now over desk.old desk.new shelf.old shelf.new result }
     ensures fits { IsTellable result.told }
 {
     match told_of_cards(CardsView::All, desk.call(Call::Cards(name.copied()))) {
@@ -215,7 +215,7 @@ pub(crate) fn execute<C: Calls, S: Shelf>(
     shelf: &mut S,
     task: Task,
 ) -> Answer
-    ensures executes { Executes C.makes C.awaits C.greets S.loads S.refuses_to_load S.saves S.refuses_to_save S.lists S.notes S.tells_saved task desk.old desk.new shelf.old shelf.new result }
+    ensures executes { Executes C.relations S.relations task desk.old desk.new shelf.old shelf.new result }
     ensures fits { IsTellable result.told }
 {
     match task {

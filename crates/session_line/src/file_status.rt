@@ -19,7 +19,7 @@ fn mark_rows<S: Shelf>(
     shelf: &mut S,
     rows: &[Row],
 ) -> Result<Vec<MarkedRow>, AllocError>
-    ensures marks { IfOk result (λ marks. MarksRows S.tells_saved shelf.old rows.now marks.items shelf.new) }
+    ensures marks { IfOk result (λ marks. MarksRows S.relations shelf.old rows.now marks.items shelf.new) }
     ensures len { IfOk result (λ marks. length marks.items ≡ length rows.now) }
     ensures lacking { OnErr result (shelf.new ≡ shelf.old) }
 {
@@ -40,7 +40,7 @@ fn tell_marks<S: Shelf>(
     rows: &[Row],
 ) -> Answer
     requires { length rows.now ≤ most_decks }
-    ensures tells { TellsMarks S.tells_saved version published rows.now shelf.old shelf.new result }
+    ensures tells { TellsMarks S.relations version published rows.now shelf.old shelf.new result }
     ensures fits { IsTellable result.told }
 {
     match mark_rows(alloc, shelf, rows) {
@@ -55,7 +55,7 @@ pub(crate) fn show_file_status<C: Calls, S: Shelf>(
     desk: &mut C,
     shelf: &mut S,
 ) -> Answer
-    ensures shows { ShowsFileStatus C.makes S.tells_saved desk.old desk.new shelf.old shelf.new result }
+    ensures shows { ShowsFileStatus C.relations.makes S.relations desk.old desk.new shelf.old shelf.new result }
     ensures fits { IsTellable result.told }
 {
     match told_of_call(desk.call(Call::Status)) {

@@ -12,7 +12,7 @@ use desk_core::{Call, Listed};
 
 /// One call of the shelf for its files, which are told with this version.
 fn tell_files<S: Shelf>(shelf: &mut S, version: u64) -> Answer
-    ensures tells { TellsFiles S.lists version shelf.old shelf.new result }
+    ensures tells { TellsFiles S.relations version shelf.old shelf.new result }
     ensures fits { IsTellable result.told }
 {
     match shelf.list() {
@@ -23,7 +23,7 @@ fn tell_files<S: Shelf>(shelf: &mut S, version: u64) -> Answer
 
 /// The desk is asked for its version, and then the shelf for its files.
 pub(crate) fn show_files<C: Calls, S: Shelf>(desk: &mut C, shelf: &mut S) -> Answer
-    ensures shows { ShowsFiles C.makes S.lists desk.old desk.new shelf.old shelf.new result }
+    ensures shows { ShowsFiles C.relations.makes S.relations desk.old desk.new shelf.old shelf.new result }
     ensures fits { IsTellable result.told }
 {
     match told_of_wait(desk.call(Call::Status)) {

@@ -41,7 +41,7 @@ fn refusal_to_add(rows: &[Row], decks: &[Deck]) -> Option<Refusal>
 
 /// The desk is asked to add a deck: what became of it.
 fn add_deck<C: Calls>(desk: &mut C, deck: Deck) -> ToldDeck
-    ensures { AddsDeck C.makes deck desk.old desk.new result }
+    ensures { AddsDeck C.relations.makes deck desk.old desk.new result }
 {
     let (name, cards) = deck.into_parts();
     let added = name.copied();
@@ -58,7 +58,7 @@ fn add_decks<C: Calls>(
     desk: &mut C,
     decks: Vec<Deck>,
 ) -> Result<Vec<ToldDeck>, AllocError>
-    ensures adds { IfOk result (λ lines. AddsDecks C.makes desk.old decks.items lines.items desk.new) }
+    ensures adds { IfOk result (λ lines. AddsDecks C.relations.makes desk.old decks.items lines.items desk.new) }
     ensures each { IfOk result (λ lines. length lines.items ≡ length decks.items) }
     ensures lacking { OnErr result (desk.new ≡ desk.old) }
 {
@@ -79,7 +79,7 @@ fn tell_adds<C: Calls>(
     decks: Vec<Deck>,
 ) -> Answer
     requires { length rows.now ≤ most_decks }
-    ensures tells { TellsAdds C.makes version rows.now decks.items desk.old desk.new result }
+    ensures tells { TellsAdds C.relations.makes version rows.now decks.items desk.old desk.new result }
     ensures fits { IsTellable result.told }
 {
     if let Some(refusal) = refusal_to_add(rows, decks.as_slice()) {
@@ -93,7 +93,7 @@ fn tell_adds<C: Calls>(
 
 /// The desk is asked for its status, and then to add the decks.
 fn add_all<C: Calls>(alloc: Global, desk: &mut C, decks: Vec<Deck>) -> Answer
-    ensures adds { AddsAll C.makes decks.items desk.old desk.new result }
+    ensures adds { AddsAll C.relations.makes decks.items desk.old desk.new result }
     ensures fits { IsTellable result.told }
 {
     match told_of_call(desk.call(Call::Status)) {
@@ -123,7 +123,7 @@ pub(crate) fn load_all<C: Calls, S: Shelf>(
     shelf: &mut S,
     name: &DeckName,
 ) -> Answer
-    ensures loads { LoadsAll C.makes S.loads S.refuses_to_load name.now desk.old desk.new shelf.old shelf.new result }
+    ensures loads { LoadsAll C.relations.makes S.relations name.now desk.old desk.new shelf.old shelf.new result }
     ensures fits { IsTellable result.told }
 {
     match shelf.load(name) {

@@ -48,7 +48,7 @@ fn version_told(name: &DeckName, reply: Reply) -> Result<u64, Refusal>
 /// The desk is asked for its status, and then to put these cards in the place of those of the deck, by the
 /// version that it has there.
 fn put_over<C: Calls>(desk: &mut C, name: &DeckName, cards: Vec<Card>) -> Answer
-    ensures puts { PutsOver C.makes (record { name = name.now; cards = cards.items }) desk.old desk.new result }
+    ensures puts { PutsOver C.relations.makes (record { name = name.now; cards = cards.items }) desk.old desk.new result }
     ensures fits { IsTellable result.told }
 {
     match version_told(name, desk.call(Call::Status)) {
@@ -70,7 +70,7 @@ pub(crate) fn reload_deck<C: Calls, S: Shelf>(
     shelf: &mut S,
     name: &DeckName,
 ) -> Answer
-    ensures reloads { ReloadsDeck C.makes S.loads S.refuses_to_load S.notes name.now desk.old desk.new shelf.old shelf.new result }
+    ensures reloads { ReloadsDeck C.relations.makes S.relations name.now desk.old desk.new shelf.old shelf.new result }
     ensures fits { IsTellable result.told }
 {
     match shelf.load(name) {

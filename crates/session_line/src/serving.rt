@@ -63,7 +63,7 @@ pub fn serve_one<R: Read, W: Write, C: Calls, S: Shelf>(
     desk: &mut C,
     shelf: &mut S,
 ) -> Outcome
-    ensures serves { Serves rights C.makes C.awaits C.greets S.loads S.refuses_to_load S.saves S.refuses_to_save S.lists S.notes S.tells_saved
+    ensures serves { Serves rights C.relations S.relations
         (sides (R.remaining input.old.0) (W.contents output.old.0) desk.old shelf.old)
         (sides (R.remaining input.new.0) (W.contents output.new.0) desk.new shelf.new) result }
     ensures read_faults { input.new.1 ≡ read_faults_after result input.old.1 }

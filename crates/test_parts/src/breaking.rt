@@ -15,19 +15,15 @@ pub struct BreakingShelf {
 impl Shelf for BreakingShelf {
     ghost use Rattle.std.specs.Prelude.{⊤};
 
-    ghost loads = { λ _ _ _ _. ⊤ };
-
-    ghost refuses_to_load = { λ _ _ _ _. ⊤ };
-
-    ghost saves = { λ _ _ _. ⊤ };
-
-    ghost refuses_to_save = { λ _ _ _ _. ⊤ };
-
-    ghost lists = { λ _ _ _. ⊤ };
-
-    ghost notes = { λ _ _ _ _. ⊤ };
-
-    ghost tells_saved = { λ _ _ _ _ _. ⊤ };
+    ghost relations = { record {
+        loads = λ _ _ _ _. ⊤;
+        refuses_to_load = λ _ _ _ _. ⊤;
+        saves = λ _ _ _. ⊤;
+        refuses_to_save = λ _ _ _ _. ⊤;
+        lists = λ _ _ _. ⊤;
+        notes = λ _ _ _ _. ⊤;
+        tells_saved = λ _ _ _ _ _. ⊤
+    } };
 
     fn load(&mut self, _name: &DeckName) -> Result<Vec<Card>, ShelfLoadFault> {
         Err(ShelfLoadFault::CannotOpen)

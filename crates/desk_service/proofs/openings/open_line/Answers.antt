@@ -21,7 +21,7 @@ returns-in-Some-clause-write_faults g c = writes-without c.next_line-answer.resu
 pub returns-then-is_turned_away-clause-line : goal.returns-then-is_turned_away-clause-line
 returns-then-is_turned_away-clause-line g c =
     let taken = c.next_line-answer in
-    opens-turned c.args.rights g.C.Calls.makes g.C.Calls.awaits g.C.Calls.greets g.S.Shelf.loads g.S.Shelf.refuses_to_load g.S.Shelf.saves g.S.Shelf.refuses_to_save g.S.Shelf.lists g.S.Shelf.notes g.S.Shelf.tells_saved c.args.is_first taken.result taken.new.line c.as_slice-line.result.now _ _ c.is_turned_away.result
+    opens-turned c.args.rights g.C.Calls.relations g.S.Shelf.relations c.args.is_first taken.result taken.new.line c.as_slice-line.result.now _ _ c.is_turned_away.result
     (record { input = taken.ensures.reads; output = refl; desk = refl; shelf = refl; reader = taken.ensures.count; writer = refl })
     (sym c.ending_without.ensures ∙ c.in_default.is) c.as_slice-line.ensures.value c.is_turned_away.ensures c.if-is_turned_away.true
 
@@ -33,7 +33,7 @@ pub returns-clause-line : goal.returns-clause-line
 returns-clause-line g c =
     let taken = c.next_line-answer in
     let middle = standing (sides (g.R.Read.remaining taken.new.input.0) (g.W.Write.contents c.args.output.now.0) c.args.desk.now c.args.shelf.now) taken.new.input.1 c.args.output.now.1 in
-    opens-served c.args.rights g.C.Calls.makes g.C.Calls.awaits g.C.Calls.greets g.S.Shelf.loads g.S.Shelf.refuses_to_load g.S.Shelf.saves g.S.Shelf.refuses_to_save g.S.Shelf.lists g.S.Shelf.notes g.S.Shelf.tells_saved c.args.is_first taken.result taken.new.line c.as_slice-line.result.now _ middle _ c.is_turned_away.result c.is_command.result c.serve_taken_line-told.result c.opening_of.result
+    opens-served c.args.rights g.C.Calls.relations g.S.Shelf.relations c.args.is_first taken.result taken.new.line c.as_slice-line.result.now _ middle _ c.is_turned_away.result c.is_command.result c.serve_taken_line-told.result c.opening_of.result
     (record { input = taken.ensures.reads; output = refl; desk = refl; shelf = refl; reader = taken.ensures.count; writer = refl })
     (sym c.ending_without.ensures ∙ c.in_default.is) c.as_slice-line.ensures.value c.is_turned_away.ensures c.if-is_turned_away.false
     c.serve_taken_line-told.ensures.line c.is_command.ensures c.opening_of.ensures

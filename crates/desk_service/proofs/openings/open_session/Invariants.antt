@@ -6,7 +6,7 @@ use Rattle.desk_service.proofs.openings.open_session.Given as goal
 -- so many lines that are no commands, none of which ended the session, and no port failed
 abbrev pub invariant-loop-number : goal.invariant-loop-number
 invariant-loop-number g l = record {
-  lines : OpensLines l.rights g.C.Calls.makes g.C.Calls.awaits g.C.Calls.greets g.S.Shelf.loads g.S.Shelf.refuses_to_load g.S.Shelf.saves g.S.Shelf.refuses_to_save g.S.Shelf.lists g.S.Shelf.notes g.S.Shelf.tells_saved
+  lines : OpensLines l.rights g.C.Calls.relations g.S.Shelf.relations
       (standing (sides (g.R.Read.remaining l.fn.input.0) (g.W.Write.contents l.fn.output.0) l.fn.desk l.fn.shelf) l.fn.input.1 l.fn.output.1)
       (standing (sides (g.R.Read.remaining l.input.0) (g.W.Write.contents l.output.0) l.desk l.shelf) l.input.1 l.output.1) l.number;
   reader : l.input.1 ≡ l.fn.input.1;

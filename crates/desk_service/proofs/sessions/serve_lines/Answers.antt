@@ -14,7 +14,7 @@ returns-in-Some-clause-session g c =
     let after = c.serve_line.new in
     let last = standing (sides (g.R.Read.remaining after.input.0) (g.W.Write.contents after.output.0) after.desk after.shelf) after.input.1 after.output.1 in
     let fewer : c.loop.counter < most_commands = omega (arith, c.loop-test.true) in
-    session_ended c.args.rights g.C.Calls.makes g.C.Calls.awaits g.C.Calls.greets g.S.Shelf.loads g.S.Shelf.refuses_to_load g.S.Shelf.saves g.S.Shelf.refuses_to_save g.S.Shelf.lists g.S.Shelf.notes g.S.Shelf.tells_saved first middle last c.loop.counter c.serve_line.result c.in-Some.ending
+    session_ended c.args.rights g.C.Calls.relations g.S.Shelf.relations first middle last c.loop.counter c.serve_line.result c.in-Some.ending
     c.loop.invariant.lines fewer c.serve_line.ensures.line c.in-Some.is
 
 pub returns-in-Some-clause-read_faults : goal.returns-in-Some-clause-read_faults
@@ -32,7 +32,7 @@ loop-preserved g c =
     let after = c.serve_line.new in
     let last = standing (sides (g.R.Read.remaining after.input.0) (g.W.Write.contents after.output.0) after.desk after.shelf) after.input.1 after.output.1 in
     record {
-      lines = lines_more c.args.rights g.C.Calls.makes g.C.Calls.awaits g.C.Calls.greets g.S.Shelf.loads g.S.Shelf.refuses_to_load g.S.Shelf.saves g.S.Shelf.refuses_to_save g.S.Shelf.lists g.S.Shelf.notes g.S.Shelf.tells_saved first middle last c.loop.counter c.serve_line.result
+      lines = lines_more c.args.rights g.C.Calls.relations g.S.Shelf.relations first middle last c.loop.counter c.serve_line.result
           c.loop.invariant.lines c.serve_line.ensures.line c.in_default.is;
       reader = c.serve_line.ensures.read_faults ∙ ap (λ told. read_faults_at told c.loop.input.1) c.in_default.is ∙ c.loop.invariant.reader;
       writer = c.serve_line.ensures.write_faults ∙ ap (λ told. write_faults_at told c.loop.output.1) c.in_default.is ∙ c.loop.invariant.writer;
@@ -43,5 +43,5 @@ returns-clause-session g c =
     let first = standing (sides (g.R.Read.remaining c.args.input.now.0) (g.W.Write.contents c.args.output.now.0) c.args.desk.now c.args.shelf.now) c.args.input.now.1 c.args.output.now.1 in
     let last = standing (sides (g.R.Read.remaining c.loop.input.0) (g.W.Write.contents c.loop.output.0) c.loop.desk c.loop.shelf) c.loop.input.1 c.loop.output.1 in
     let all : c.loop.counter ≡ most_commands = omega (arith, c.loop.auto.counter-end, c.loop-test.false) in
-    let P : ℕ → Type 0 = λ (n : ℕ). ServesLines c.args.rights g.C.Calls.makes g.C.Calls.awaits g.C.Calls.greets g.S.Shelf.loads g.S.Shelf.refuses_to_load g.S.Shelf.saves g.S.Shelf.refuses_to_save g.S.Shelf.lists g.S.Shelf.notes g.S.Shelf.tells_saved first last n in
+    let P : ℕ → Type 0 = λ (n : ℕ). ServesLines c.args.rights g.C.Calls.relations g.S.Shelf.relations first last n in
     full (subst P all c.loop.invariant.lines)

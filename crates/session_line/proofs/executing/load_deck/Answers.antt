@@ -9,7 +9,7 @@ use Rattle.session_line.proofs.executing.load_deck.Goals as goal
 
 pub returns-in-Ok-clause-loads : goal.returns-in-Ok-clause-loads
 returns-in-Ok-clause-loads g c =
-    let P : Deck → Type 0 = λ (deck : Deck). Asks g.C.Calls.makes (AddDeck deck) told_of_call c.args.desk.now c.ask-answer.new.desk c.ask-answer.result in
+    let P : Deck → Type 0 = λ (deck : Deck). Asks g.C.Calls.relations.makes (AddDeck deck) told_of_call c.args.desk.now c.ask-answer.new.desk c.ask-answer.result in
     let Q : List ℕ → Type 0 = λ (name : List ℕ). P (record { name = name; cards = c.in-Ok.cards.items }) in
     record {
       loaded = Ok c.in-Ok.cards.items;
@@ -27,5 +27,5 @@ returns-in-Err-clause-loads g c =
       between = c.load.new.self;
       shelved = c.in-Err.ensures.fault;
       added = (refl, told);
-      noted = subst (λ (answer : Answer). NotesTold g.S.Shelf.notes c.args.name answer.told c.load.new.self c.load.new.self) (sym told) refl;
+      noted = subst (λ (answer : Answer). NotesTold g.S.Shelf.relations c.args.name answer.told c.load.new.self c.load.new.self) (sym told) refl;
     }

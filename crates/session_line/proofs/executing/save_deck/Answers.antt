@@ -9,9 +9,9 @@ use Rattle.session_line.proofs.executing.save_deck.Goals as goal
 
 pub returns-in-Cards-clause-saves : goal.returns-in-Cards-clause-saves
 returns-in-Cards-clause-saves g c =
-    let M : List ℕ → Type 0 = λ (name : List ℕ). g.C.Calls.makes c.args.desk.now (Cards name) c.call.result c.call.new.self in
-    let P : List Card → Type 0 = λ (cards : List Card). SavesCards g.S.Shelf.saves g.S.Shelf.refuses_to_save c.args.name.now c.args.over c.in-Cards.version cards c.args.shelf.now c.save_cards.new.shelf c.save_cards.result in
-    let Q : Told → Type 0 = λ (what : Told). SavesTold g.S.Shelf.saves g.S.Shelf.refuses_to_save c.args.name.now c.args.over what c.args.shelf.now c.save_cards.new.shelf c.save_cards.result in
+    let M : List ℕ → Type 0 = λ (name : List ℕ). g.C.Calls.relations.makes c.args.desk.now (Cards name) c.call.result c.call.new.self in
+    let P : List Card → Type 0 = λ (cards : List Card). SavesCards g.S.Shelf.relations c.args.name.now c.args.over c.in-Cards.version cards c.args.shelf.now c.save_cards.new.shelf c.save_cards.result in
+    let Q : Told → Type 0 = λ (what : Told). SavesTold g.S.Shelf.relations c.args.name.now c.args.over what c.args.shelf.now c.save_cards.new.shelf c.save_cards.result in
     record {
       reply = c.call.result;
       made = subst M c.copied.ensures c.call.ensures;

@@ -7,8 +7,8 @@ use Rattle.session_line.proofs.file_status.show_file_status.Goals as goal
 
 pub returns-in-Status-clause-shows : goal.returns-in-Status-clause-shows
 returns-in-Status-clause-shows g c =
-    let P : List Row → Type 0 = λ (rows : List Row). TellsMarks g.S.Shelf.tells_saved c.in-Status.version c.in-Status.published rows c.args.shelf.now c.tell_marks.new.shelf c.tell_marks.result in
-    let Q : Told → Type 0 = λ (what : Told). MarksTold g.S.Shelf.tells_saved what c.args.shelf.now c.tell_marks.new.shelf c.tell_marks.result in
+    let P : List Row → Type 0 = λ (rows : List Row). TellsMarks g.S.Shelf.relations c.in-Status.version c.in-Status.published rows c.args.shelf.now c.tell_marks.new.shelf c.tell_marks.result in
+    let Q : Told → Type 0 = λ (what : Told). MarksTold g.S.Shelf.relations what c.args.shelf.now c.tell_marks.new.shelf c.tell_marks.result in
     record {
       reply = c.call.result;
       made = c.call.ensures;

@@ -6,7 +6,7 @@ use Rattle.session_line.proofs.file_tasks.show_files.Goals as goal
 
 pub returns-in-Standing-clause-shows : goal.returns-in-Standing-clause-shows
 returns-in-Standing-clause-shows g c =
-    let Q : Told → Type 0 = λ (what : Told). FilesTold g.S.Shelf.lists what c.args.shelf.now c.tell_files.new.shelf c.tell_files.result in
+    let Q : Told → Type 0 = λ (what : Told). FilesTold g.S.Shelf.relations what c.args.shelf.now c.tell_files.new.shelf c.tell_files.result in
     record {
       reply = c.call.result;
       made = c.call.ensures;

@@ -7,8 +7,8 @@ use Rattle.session_line.proofs.loading_all.add_all.Goals as goal
 
 pub returns-in-Status-clause-adds : goal.returns-in-Status-clause-adds
 returns-in-Status-clause-adds g c =
-    let P : List Row → Type 0 = λ (rows : List Row). TellsAdds g.C.Calls.makes c.in-Status.version rows c.args.decks.items c.call.new.self c.tell_adds.new.desk c.tell_adds.result in
-    let Q : Told → Type 0 = λ (what : Told). AddsTold g.C.Calls.makes c.args.decks.items what c.call.new.self c.tell_adds.new.desk c.tell_adds.result in
+    let P : List Row → Type 0 = λ (rows : List Row). TellsAdds g.C.Calls.relations.makes c.in-Status.version rows c.args.decks.items c.call.new.self c.tell_adds.new.desk c.tell_adds.result in
+    let Q : Told → Type 0 = λ (what : Told). AddsTold g.C.Calls.relations.makes c.args.decks.items what c.call.new.self c.tell_adds.new.desk c.tell_adds.result in
     record {
       reply = c.call.result;
       between = c.call.new.self;

@@ -22,5 +22,5 @@ returns-in-Err-clause-reloads g c =
       between = c.load.new.self;
       shelved = c.in-Err.ensures.fault;
       put = (refl, told);
-      noted = subst (λ (answer : Answer). NotesTold g.S.Shelf.notes c.args.name.now answer.told c.load.new.self c.load.new.self) (sym told) refl;
+      noted = subst (λ (answer : Answer). NotesTold g.S.Shelf.relations c.args.name.now answer.told c.load.new.self c.load.new.self) (sym told) refl;
     }

@@ -8,10 +8,10 @@ use Rattle.session_line.proofs.saving_all.save_all.Goals as goal
 pub returns-in-Status-clause-saves : goal.returns-in-Status-clause-saves
 returns-in-Status-clause-saves g c =
     let P : List Row → Type 0 =
-    λ (rows : List Row). TellsSaves g.C.Calls.makes g.S.Shelf.saves g.S.Shelf.refuses_to_save g.S.Shelf.tells_saved c.in-Status.version rows c.call.new.self c.tell_saves.new.desk c.args.shelf.now c.tell_saves.new.shelf
+    λ (rows : List Row). TellsSaves g.C.Calls.relations.makes g.S.Shelf.relations c.in-Status.version rows c.call.new.self c.tell_saves.new.desk c.args.shelf.now c.tell_saves.new.shelf
     c.tell_saves.result in
     let Q : Told → Type 0 =
-    λ (what : Told). SavesAllTold g.C.Calls.makes g.S.Shelf.saves g.S.Shelf.refuses_to_save g.S.Shelf.tells_saved what c.call.new.self c.tell_saves.new.desk c.args.shelf.now c.tell_saves.new.shelf c.tell_saves.result in
+    λ (what : Told). SavesAllTold g.C.Calls.relations.makes g.S.Shelf.relations what c.call.new.self c.tell_saves.new.desk c.args.shelf.now c.tell_saves.new.shelf c.tell_saves.result in
     record {
       reply = c.call.result;
       between = c.call.new.self;

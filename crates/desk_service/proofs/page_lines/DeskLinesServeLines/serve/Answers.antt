@@ -5,7 +5,7 @@ use Rattle.desk_service.proofs.page_lines.DeskLinesServeLines.serve.Goals as goa
 pub returns : goal.returns
 returns g c =
     let ended = c.serve_session-ending.new in
-    body-served g.C.Calls.makes g.C.Calls.awaits g.C.Calls.greets g.C.Calls.begins g.S.Shelf.loads g.S.Shelf.refuses_to_load g.S.Shelf.saves g.S.Shelf.refuses_to_save g.S.Shelf.lists g.S.Shelf.notes g.S.Shelf.tells_saved c.args.self.now (ended.desk, ended.shelf) c.args.lines.now
+    body-served g.C.Calls.relations g.S.Shelf.relations c.args.self.now (ended.desk, ended.shelf) c.args.lines.now
     ended.input.0.now ended.output.0 c.into_inner.result _ _ _ _ _ _ ended.input.1 ended.output.1 c.is_whole.result c.serve_session-ending.result
     (ap (λ port. Some port.0.now) c.new-input.ensures) (ap (λ port. Some port.0) c.new-output.ensures ∙ ap Some c.requires)
     (ap (λ pair. pair.0) c.self.view_is) (ap (λ pair. pair.1) c.self.view_is) (ap (λ port. port.1) c.new-input.ensures) (ap (λ port. port.1) c.new-output.ensures)
