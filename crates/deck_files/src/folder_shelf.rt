@@ -238,13 +238,13 @@ impl<'a, R: Wait, F: Folder, K: SaveTurns> Shelf for FolderShelf<'a, R, F, K> {
     ghost use Rattle.deck_files.specs.FolderShelves.{ListsDecks, LoadsDeck, LoadsNoDeck, NotesDeck, SavesDeck, SavesNoDeck, TellsSaved};
 
     ghost relations = { record {
-        loads = LoadsDeck F.has_done K.tells_newest K.places;
-        refuses_to_load = LoadsNoDeck F.has_done K.tells_newest K.lacks;
-        saves = SavesDeck F.has_done K.turns K.lacks K.notes;
-        refuses_to_save = SavesNoDeck F.has_done K.turns K.lacks K.notes;
-        lists = ListsDecks F.has_done;
-        notes = NotesDeck K.notes_loaded;
-        tells_saved = TellsSaved K.tells_saved
+      loads = LoadsDeck F.has_done K.tells_newest K.places;
+      refuses_to_load = LoadsNoDeck F.has_done K.tells_newest K.lacks;
+      saves = SavesDeck F.has_done K.turns K.lacks K.notes;
+      refuses_to_save = SavesNoDeck F.has_done K.turns K.lacks K.notes;
+      lists = ListsDecks F.has_done;
+      notes = NotesDeck K.notes_loaded;
+      tells_saved = TellsSaved K.tells_saved;
     } };
 
     fn load(&mut self, name: &DeckName) -> Result<Vec<Card>, ShelfLoadFault> {

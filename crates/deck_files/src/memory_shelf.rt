@@ -107,13 +107,13 @@ impl Shelf for MemoryShelf {
     ghost use Rattle.deck_files.specs.declared.deck_shelf.ShelfSaveFault.TheVariants.{OutOfMemory};
 
     ghost relations = { record {
-        loads = λ old name cards new. (new ≡ old) × LoadsFrom (bytes_of (named name old)) cards;
-        refuses_to_load = λ old name fault new. (new ≡ old) × LoadsNotFrom (bytes_of (named name old)) fault;
-        saves = λ old saving new. new ≡ with_named saving.name (kept_file (file_of saving.cards) saving.version) old;
-        refuses_to_save = λ old saving fault new. (new ≡ old) × (fault ≡ OutOfMemory);
-        lists = λ old listed new. (new ≡ old) × (listed ≡ Err CannotOpen);
-        notes = λ old name version new. new ≡ after_note name version old;
-        tells_saved = λ old name version saved new. (new ≡ old) × (saved ≡ is_at version (version_of (named name old)))
+      loads = λ old name cards new. (new ≡ old) × LoadsFrom (bytes_of (named name old)) cards;
+      refuses_to_load = λ old name fault new. (new ≡ old) × LoadsNotFrom (bytes_of (named name old)) fault;
+      saves = λ old saving new. new ≡ with_named saving.name (kept_file (file_of saving.cards) saving.version) old;
+      refuses_to_save = λ old saving fault new. (new ≡ old) × (fault ≡ OutOfMemory);
+      lists = λ old listed new. (new ≡ old) × (listed ≡ Err CannotOpen);
+      notes = λ old name version new. new ≡ after_note name version old;
+      tells_saved = λ old name version saved new. (new ≡ old) × (saved ≡ is_at version (version_of (named name old)));
     } };
 
     fn load(&mut self, name: &DeckName) -> Result<Vec<Card>, ShelfLoadFault> {

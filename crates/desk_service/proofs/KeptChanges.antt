@@ -1,9 +1,11 @@
 -- What a session with a journal is told as made is kept.
 use Rattle.std.proofs.Common.{ℕ, ◌≡◌, List, Bool, true, false, Option, Some, None, IfSome, IsSomeAnd, refl, sym, ap, subst, ◌∙◌}
 use Rattle.cards.specs.declared.edits.Edit.{Edit}
+use Rattle.desk_core.specs.Runs.{accepts}
 use Rattle.desk_core.specs.declared.calls.Call.{Call}
 use Rattle.desk_core.specs.declared.replies.Reply.{Reply}
 use Rattle.desk_core.specs.declared.replies.Reply.TheVariants.{Changed, Carried, Unkept, CardsAre, ChangesAre, CardsBefore, Shown, StatusIs, DeckJob, LinkJob, Idle, AllOut, Stored, Considered, Published, Cleared, Refused}
+use Rattle.session_line.specs.Greetings.{WhereMet}
 use Rattle.journal.specs.declared.changes.Asked.TheVariants as asked
 use Rattle.journal.specs.declared.changes.Carry.{Carry}
 use Rattle.journal.specs.declared.changes.Change.{Change}
@@ -15,7 +17,7 @@ use Rattle.journal.specs.JournalFiles.{Step, IsKeptAs}
 use Rattle.kept_desk.specs.Keeping.{TellsKept, TellsCarried, MakesKept, refused, called, not_opened, opened, told_of, version_told}
 use Rattle.journal.specs.Records.{text_behind_version}
 use Rattle.journal.specs.Replaying.{call_of}
-use Rattle.desk_service.specs.SessionKeepers.{SessionKeeper, IsCarriedAndKept, IsMadeAndKept, KeepsRecord, keeper_relations}
+use Rattle.desk_service.specs.SessionEnds.{SessionEnds, IsCarriedAndKept, IsMadeAndKept, KeepsRecord, ends_relations}
 
 module _ {F : Type 0} (has_done : F → List Step → Type 0) where
   -- the record that is kept has the text that who asks has of its own
@@ -24,7 +26,7 @@ module _ {F : Type 0} (has_done : F → List Step → Type 0) where
   own-kept (Some own) draft version same kept = subst (λ (d : List ℕ). IsKeptAs has_done version d) same kept
 
   -- whether the record was kept decides what is told
-  answered : (P : Type 0) (kept : Bool) (draft : List ℕ) (made version : ℕ) (told : Reply) (between after : SessionKeeper) → between.journaled ≡ true → KeepsRecord has_done between made draft kept after → told ≡ told_of made kept →
+  answered : (P : Type 0) (kept : Bool) (draft : List ℕ) (made version : ℕ) (told : Reply) (between after : SessionEnds) → between.journaled ≡ true → KeepsRecord has_done between made draft kept after → told ≡ told_of made kept →
       version_told told ≡ Some version → (made ≡ version → IsKeptAs has_done made draft → P) → P
   answered P true draft made version told between after journaled keeps is tells then =
       let all : Some version ≡ Some made = sym tells ∙ ap version_told is in
@@ -36,7 +38,7 @@ module _ {F : Type 0} (has_done : F → List Step → Type 0) where
   untold : (P : Type 0) (what reply : Reply) (version : ℕ) → what ≡ reply → version_told reply ≡ None → version_told what ≡ Some version → P
   untold P what reply version is none tells = let not : Some version ≡ None = sym tells ∙ ap version_told is ∙ none in cc
 
-  kept : (P : Type 0) (reply what : Reply) (draft : List ℕ) (version : ℕ) (between after : SessionKeeper) → between.journaled ≡ true → TellsKept (keeper_relations has_done) draft reply between what after → version_told what ≡ Some version →
+  kept : (P : Type 0) (reply what : Reply) (draft : List ℕ) (version : ℕ) (between after : SessionEnds) → between.journaled ≡ true → TellsKept (ends_relations has_done) draft reply between what after → version_told what ≡ Some version →
       (reply ≡ Changed version → IsKeptAs has_done version draft → P) → P
   kept P (Changed made) what draft version between after journaled tells is then =
       answered P tells.0 draft made version what between after journaled tells.1.0 tells.1.1 is (λ same keeps. then (ap Changed same) (subst (λ (n : ℕ). IsKeptAs has_done n draft) same keeps))
@@ -57,7 +59,7 @@ module _ {F : Type 0} (has_done : F → List Step → Type 0) where
   kept P Cleared what draft version between after journaled tells is then = untold P what _ version tells.0 refl is
   kept P (Refused refusal) what draft version between after journaled tells is then = untold P what _ version tells.0 refl is
 
-  carried : (P : Type 0) (reply what : Reply) (stamp : Stamp) (name : List ℕ) (version : ℕ) (between after : SessionKeeper) → between.journaled ≡ true → TellsCarried (keeper_relations has_done) stamp name reply between what after →
+  carried : (P : Type 0) (reply what : Reply) (stamp : Stamp) (name : List ℕ) (version : ℕ) (between after : SessionEnds) → between.journaled ≡ true → TellsCarried (ends_relations has_done) stamp name reply between what after →
       version_told what ≡ Some version → ((seen : ℕ) (edits : List Edit) → reply ≡ Carried version seen edits → IsKeptAs has_done version (carried_text stamp name seen edits) → P) → P
   carried P (Carried made seen edits) what stamp name version between after journaled tells is then =
       answered P tells.0 (carried_text stamp name seen edits) made version what between after journaled tells.1.0 tells.1.1 is
@@ -79,28 +81,33 @@ module _ {F : Type 0} (has_done : F → List Step → Type 0) where
   carried P Cleared what stamp name version between after journaled tells is then = untold P what _ version tells.0 refl is
   carried P (Refused refusal) what stamp name version between after journaled tells is then = untold P what _ version tells.0 refl is
 
-  pub changes-kept : {C : Type 0} (makes : C → Call → Reply → C → Type 0) (old new : C × SessionKeeper) (change : Change) (told : Reply) (version : ℕ) → old.1.journaled ≡ true → version_told told ≡ Some version →
-      MakesKept makes (keeper_relations has_done) old (asked.Change change) told new → IsMadeAndKept has_done makes old.1.name change version old.0 new.0
+  -- a bell leaves what is known of the ends
+  rung-same : (holds : Bool) (begun rung : SessionEnds) → WhereMet (λ (old new : SessionEnds). new ≡ old) holds begun rung → rung ≡ begun
+  rung-same true begun rung is = is
+  rung-same false begun rung is = is
+
+  pub changes-kept : {C : Type 0} (makes : C → Call → Reply → C → Type 0) (old new : C × SessionEnds) (change : Change) (told : Reply) (version : ℕ) → old.1.journaled ≡ true → version_told told ≡ Some version →
+      MakesKept makes (ends_relations has_done) old (asked.Change change) told new → IsMadeAndKept has_done makes old.1.name change version old.0 new.0
   changes-kept makes old new change told version journaled is (refused refusal begins same stays) = untold (IsMadeAndKept has_done makes old.1.name change version old.0 new.0) told _ version same refl is
-  changes-kept makes old new change told version journaled is (called draft between reply begins made tells) =
-      let name : between.name ≡ old.1.name = ap (λ (k : SessionKeeper). k.name) begins.0 in
-      let begun = begins.1 journaled in
-      kept (IsMadeAndKept has_done makes old.1.name change version old.0 new.0) reply told draft version between new.1 (ap (λ (k : SessionKeeper). k.journaled) begins.0 ∙ journaled) tells is
+  changes-kept makes old new change told version journaled is (called draft begun rung reply begins made rings tells) =
+      let name : begun.name ≡ old.1.name = ap (λ (k : SessionEnds). k.name) begins.0 in
+      let drafted = begins.1 journaled in
+      kept (IsMadeAndKept has_done makes old.1.name change version old.0 new.0) reply told draft version rung new.1 (ap (λ (k : SessionEnds). k.journaled) (rung-same (accepts reply) begun rung rings ∙ begins.0) ∙ journaled) tells is
       (λ changed keeps. record {
-        made = subst (λ (by : List ℕ). makes old.0 (call_of by change) (Changed version) new.0) name (subst (λ (r : Reply). makes old.0 (call_of between.name change) r new.0) changed made);
-        kept = (begun.1.0, subst (λ (text : List ℕ). IsKeptAs has_done version text) begun.1.1 keeps);
+        made = subst (λ (by : List ℕ). makes old.0 (call_of by change) (Changed version) new.0) name (subst (λ (r : Reply). makes old.0 (call_of begun.name change) r new.0) changed made);
+        kept = (drafted.1.0, subst (λ (text : List ℕ). IsKeptAs has_done version text) drafted.1.1 keeps);
       })
 
-  pub carried-kept : {C : Type 0} (makes : C → Call → Reply → C → Type 0) (old new : C × SessionKeeper) (carry : Carry) (told : Reply) (version : ℕ) → old.1.journaled ≡ true → version_told told ≡ Some version →
-      MakesKept makes (keeper_relations has_done) old (asked.Carry carry) told new → IsCarriedAndKept has_done makes old.1.name carry version old.0 new.0
+  pub carried-kept : {C : Type 0} (makes : C → Call → Reply → C → Type 0) (old new : C × SessionEnds) (carry : Carry) (told : Reply) (version : ℕ) → old.1.journaled ≡ true → version_told told ≡ Some version →
+      MakesKept makes (ends_relations has_done) old (asked.Carry carry) told new → IsCarriedAndKept has_done makes old.1.name carry version old.0 new.0
   carried-kept makes old new carry told version journaled is (not_opened refusal opens same stays) = untold (IsCarriedAndKept has_done makes old.1.name carry version old.0 new.0) told _ version same refl is
-  carried-kept makes old new carry told version journaled is (opened stamp between reply opens made tells) =
-      let name : between.name ≡ old.1.name = ap (λ (k : SessionKeeper). k.name) opens.0 in
+  carried-kept makes old new carry told version journaled is (opened stamp begun rung reply opens made rings tells) =
+      let name : begun.name ≡ old.1.name = ap (λ (k : SessionEnds). k.name) opens.0 in
       let by : stamp.by ≡ old.1.name = (opens.1 journaled).1 in
-      carried (IsCarriedAndKept has_done makes old.1.name carry version old.0 new.0) reply told stamp (carried_deck carry) version between new.1 (ap (λ (k : SessionKeeper). k.journaled) opens.0 ∙ journaled) tells is
+      carried (IsCarriedAndKept has_done makes old.1.name carry version old.0 new.0) reply told stamp (carried_deck carry) version rung new.1 (ap (λ (k : SessionEnds). k.journaled) (rung-same (accepts reply) begun rung rings ∙ opens.0) ∙ journaled) tells is
       (λ seen edits told keeps. record {
         seen = seen;
         edits = edits;
-        made = subst (λ (who : List ℕ). makes old.0 (call_of_carry who carry) (Carried version seen edits) new.0) name (subst (λ (r : Reply). makes old.0 (call_of_carry between.name carry) r new.0) told made);
+        made = subst (λ (who : List ℕ). makes old.0 (call_of_carry who carry) (Carried version seen edits) new.0) name (subst (λ (r : Reply). makes old.0 (call_of_carry begun.name carry) r new.0) told made);
         kept = (stamp.moment, subst (λ (who : List ℕ). IsKeptAs has_done version (text_behind_version stamp.moment who (Batch (carried_deck carry) seen edits))) by keeps);
       })

@@ -1,7 +1,6 @@
-pub mod Bells
-pub mod Waiting
+pub mod Deliveries
 pub mod Company
-pub mod SessionKeepers
+pub mod SessionEnds
 pub mod FaultTexts
 pub mod Sessions
 pub mod Services

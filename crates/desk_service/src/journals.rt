@@ -9,19 +9,12 @@
 //! That records can't be written is told on standard error once, and once that they can be again. Locks tell
 //! contracts nothing of what they hold, so a session looks whether what was kept is its own record before it
 //! says so.
-ghost use Rattle.std.specs.Prelude.{◌≡◌, ◌<◌, is_some, true, IfOk, IfSome, IsSomeAnd, None};
+ghost use Rattle.std.specs.Prelude.{◌≡◌, true, IfOk, IsSomeAnd};
 ghost use Rattle.journal.specs.JournalFiles.{IsKeptAs};
-ghost use Rattle.desk_service.specs.SessionKeepers.{IsMadeUp, news_of};
-ghost use Rattle.journal.specs.Names.{session_name};
+ghost use Rattle.desk_service.specs.SessionEnds.{IsMadeUp, news_of};
 
-use cards::DeckName;
 use deck_files::Moment;
-use desk_core::Refusal;
-use journal::{
-    Batch, Change, Draft, JournalFile, KeptBatch, Queue, RecordsFile, SharedText, Stamp,
-    draft_change, session_name,
-};
-use kept_desk::Keep;
+use journal::{Batch, Draft, JournalFile, KeptBatch, Queue, RecordsFile, SharedText};
 use std::alloc::{AllocError, Global};
 use std::marker::Model;
 use std::sync::{Condvar, Mutex, MutexGuard, Wait};
@@ -181,7 +174,7 @@ impl<F: RecordsFile + Drop> Journal<F> {
 
     /// Whether a change may be made: no record was given up, or all such are kept now, that of this version
     /// among them.
-    fn may_change<R: Wait + Eprint>(&self, rt: &R, missed: Option<u64>) -> bool
+    pub(crate) fn may_change<R: Wait + Eprint>(&self, rt: &R, missed: Option<u64>) -> bool
         ensures { result ≡ true → IsMadeUp F.has_done missed }
     {
         let mut shared = self.shared.lock(rt);
@@ -220,7 +213,13 @@ impl<F: RecordsFile + Drop> Journal<F> {
     }
 
     /// Keeps the record of a session: whether it is kept, and no other in its place, with all before it.
-    fn keep<R: Wait + Eprint>(&self, rt: &R, session: usize, version: u64, draft: Draft) -> bool
+    pub(crate) fn keep<R: Wait + Eprint>(
+        &self,
+        rt: &R,
+        session: usize,
+        version: u64,
+        draft: Draft,
+    ) -> bool
         ensures { result ≡ true → IsKeptAs F.has_done version draft }
     {
         let (draft, text) = draft.with_text(self.alloc);
@@ -241,107 +240,4 @@ pub(crate) fn moment_now<R: Clock>(rt: &R) -> Moment {
         Err(_) => 0,
     };
     Moment::of_seconds(seconds)
-}
-
-/// The end of the journal that a session has; without a journal all changes pass, and none is kept.
-/// Contracts see whether there is a journal, the number of the session, the version of its latest change
-/// that was told as not kept: until that record is kept, it makes no other; and the name by which it asks for
-/// changes: the one that it told, or its number.
-#[derive(Drop)]
-pub struct SessionKeeper<'a, R, F: RecordsFile> {
-    rt: &'a R,
-    alloc: Global,
-    journal: Option<&'a Journal<F>>,
-    session: usize,
-    missed: Option<u64>,
-    /// By which name it asks for changes.
-    name: DeckName,
-}
-
-impl<'a, R, F: RecordsFile> Model for SessionKeeper<'a, R, F> {
-    ghost use Rattle.std.specs.Prelude.{is_some};
-    ghost use Rattle.desk_service.specs.SessionKeepers as keepers;
-
-    ghost Value = { keepers.SessionKeeper };
-
-    ghost view = { λ k. record { journaled = is_some k.journal; session = k.session; missed = k.missed; name = k.name } };
-}
-
-impl<'a, R, F: RecordsFile> SessionKeeper<'a, R, F> {
-    /// The end of a session that has a place in the journal, if there is one.
-    pub fn new(
-        rt: &'a R,
-        alloc: Global,
-        journal: Option<&'a Journal<F>>,
-        session: usize,
-    ) -> SessionKeeper<'a, R, F>
-        requires { IfSome journal (λ journal. session < journal.now) }
-        ensures journaled { result.journaled ≡ is_some journal.entry }
-        ensures session { result.session ≡ session }
-        ensures missed { result.missed ≡ None }
-        ensures name { result.name ≡ session_name session }
-    {
-        SessionKeeper {
-            rt,
-            alloc,
-            journal,
-            session,
-            missed: None,
-            name: session_name(session as u64),
-        }
-    }
-}
-
-impl<R: Wait + Clock + Eprint, F: RecordsFile + Drop> Keep for SessionKeeper<'_, R, F> {
-    ghost use Rattle.desk_service.specs.SessionKeepers.{keeper_relations};
-
-    ghost relations = { keeper_relations F.has_done };
-
-    fn begin(&mut self, change: &Change) -> Result<Draft, Refusal> {
-        let Some(journal) = self.journal else {
-            return Ok(Draft::empty());
-        };
-        if !journal.may_change(self.rt, self.missed) {
-            return Err(Refusal::NotKept);
-        }
-        let moment = moment_now(self.rt);
-        match draft_change(self.alloc, &moment, &self.name, change) {
-            Ok(draft) => Ok(draft),
-            Err(_) => Err(Refusal::OutOfMemory),
-        }
-    }
-
-    fn open(&mut self) -> Result<Stamp, Refusal> {
-        if let Some(journal) = self.journal {
-            if !journal.may_change(self.rt, self.missed) {
-                return Err(Refusal::NotKept);
-            }
-        }
-        Ok(Stamp {
-            moment: moment_now(self.rt),
-            by: self.name.copied(),
-        })
-    }
-
-    fn keep(&mut self, version: u64, draft: Draft) -> bool {
-        let Some(journal) = self.journal else {
-            return true;
-        };
-        if journal.keep(self.rt, self.session, version, draft) {
-            return true;
-        }
-        self.missed = Some(version);
-        false
-    }
-
-    fn who(&self) -> DeckName {
-        self.name.copied()
-    }
-
-    fn be_named(&mut self, name: Option<&DeckName>) {
-        self.name = match name {
-            Some(name) => name.copied(),
-            None => session_name(self.session as u64),
-        };
-    }
 }

@@ -1,7 +1,7 @@
 //! What a client may rest on, as the contract of a function that does nothing.
 ghost use Rattle.std.specs.Prelude.{ℕ, ◌≡◌, Some, true};
 ghost use Rattle.desk_core.specs.declared.replies.Reply.{Reply};
-ghost use Rattle.desk_service.specs.SessionKeepers.{IsCarriedAndKept, IsMadeAndKept, SessionKeeper, keeper_relations};
+ghost use Rattle.desk_service.specs.SessionEnds.{IsCarriedAndKept, IsMadeAndKept, SessionEnds, ends_relations};
 ghost use Rattle.kept_desk.specs.Keeping.{MakesKept, version_told};
 ghost use Rattle.journal.specs.declared.changes.Asked.TheVariants as asked;
 ghost use Rattle.journal.specs.declared.changes.Carry.{Carry};
@@ -15,8 +15,8 @@ use session_line::Calls;
 /// of who asked for it, and all records before it: whatever desk makes the changes, and whatever file has the
 /// journal.
 pub fn told_changes_are_kept<C: Calls, F: RecordsFile>()
-    ensures changes { (old new : C × SessionKeeper) (change : Change) (told : Reply) (version : ℕ) → old.1.journaled ≡ true → version_told told ≡ Some version →
-        MakesKept C.relations.makes (keeper_relations F.has_done) old (asked.Change change) told new → IsMadeAndKept F.has_done C.relations.makes old.1.name change version old.0 new.0 }
-    ensures carried { (old new : C × SessionKeeper) (carry : Carry) (told : Reply) (version : ℕ) → old.1.journaled ≡ true → version_told told ≡ Some version →
-        MakesKept C.relations.makes (keeper_relations F.has_done) old (asked.Carry carry) told new → IsCarriedAndKept F.has_done C.relations.makes old.1.name carry version old.0 new.0 }
+    ensures changes { (old new : C × SessionEnds) (change : Change) (told : Reply) (version : ℕ) → old.1.journaled ≡ true → version_told told ≡ Some version →
+        MakesKept C.relations.makes (ends_relations F.has_done) old (asked.Change change) told new → IsMadeAndKept F.has_done C.relations.makes old.1.name change version old.0 new.0 }
+    ensures carried { (old new : C × SessionEnds) (carry : Carry) (told : Reply) (version : ℕ) → old.1.journaled ≡ true → version_told told ≡ Some version →
+        MakesKept C.relations.makes (ends_relations F.has_done) old (asked.Carry carry) told new → IsCarriedAndKept F.has_done C.relations.makes old.1.name carry version old.0 new.0 }
 {}

@@ -44,12 +44,9 @@
 #![tactic(auto)]
 
 // One session, over any ports.
-mod attending;
-mod bells;
 mod openings;
 mod page_lines;
 mod sessions;
-mod waiting;
 
 // What a service begins with, and keeps.
 mod faults;
@@ -77,18 +74,17 @@ mod publications;
 mod running;
 mod seating;
 mod service_end;
+mod session_ends;
 mod timed_stream;
 
-pub use attending::{Attend, Attending};
-pub use bells::{Ring, Ringing};
 pub use control::stop;
 pub use faults::ServeFault;
-pub use journals::{Journal, SessionKeeper};
+pub use journals::Journal;
 pub use laws::told_changes_are_kept;
 pub use page_lines::DeskLines;
 pub use running::{serve, serve_on};
+pub use session_ends::SessionEnds;
 pub use session_line::VERSION;
 pub use sessions::{Ending, serve_session};
 pub use settings::{Journaling, Settings};
 pub use system_file::SystemFile;
-pub use waiting::{Sleep, Waiting, Woken};

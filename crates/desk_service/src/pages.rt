@@ -9,13 +9,12 @@ ghost use Rattle.std.specs.List.{range_with_len};
 ghost use Rattle.turn_office.specs.Seats.{AreOf};
 ghost use Rattle.desk_service.specs.PageThreads.{page_threads};
 
-use crate::attending::{Attending, CompanyEnd};
-use crate::bells::{Ringing, WorkBell};
-use crate::journals::{Journal, SessionKeeper};
+use crate::journals::Journal;
 use crate::lobby::{Guest, Heard, Lobby, Speak};
 use crate::page_lines::DeskLines;
-use crate::places::{Serve, take_seat};
+use crate::places::{Serve, SessionDoor, session_door, take_seat};
 use crate::service_end::ServiceEnd;
+use crate::session_ends::Others;
 use crate::settings::Settings;
 use crate::timed_stream::TimedStream;
 use crossbeam_channel::Sender;
@@ -23,9 +22,8 @@ use deck_files::{FolderShelf, KnownFiles, Shelf};
 use deck_workers::Bell;
 use desk_core::Desk;
 use journal::RecordsFile;
-use kept_desk::Keeping;
 use page::{PageService, serve_page};
-use session_line::{Calls, SeatCalls};
+use session_line::Calls;
 use std::alloc::{AllocError, AllocGlobal, Global};
 use std::fs::File;
 use std::hash::RandomState;
@@ -80,7 +78,7 @@ impl Speak for Browser {
 /// Where browsers come in: the listener, those who have said nothing yet, and the keys by which the names of
 /// their fields are spread.
 #[derive(Clone, Copy)]
-pub(crate) struct Door<'a> {
+pub(crate) struct Entrance<'a> {
     pub(crate) listener: &'a TcpListener,
     pub(crate) silent: &'a Mutex<Lobby<Browser>>,
     pub(crate) port: u16,
@@ -88,20 +86,14 @@ pub(crate) struct Door<'a> {
 }
 
 /// What page threads do their work at: a desk whose changes are kept, and a shelf.
-type PageDesk<'a, R, F> = DeskLines<
-    Attending<
-        Keeping<Ringing<SeatCalls<'a, R>, WorkBell<'a, R>>, SessionKeeper<'a, R, F>>,
-        CompanyEnd<'a, R>,
-    >,
-    FolderShelf<'a, R>,
->;
+type PageDesk<'a, R, F> = DeskLines<SessionDoor<'a, R, F>, FolderShelf<'a, R>>;
 
 /// What a page thread works with.
 #[derive(Drop)]
 pub(crate) struct PagePlace<'a, R, F: RecordsFile> {
     rt: &'a R,
     alloc: Global,
-    door: Door<'a>,
+    door: Entrance<'a>,
     session: usize,
     end: &'a ServiceEnd,
     page: PageService<PageDesk<'a, R, F>>,
@@ -155,7 +147,11 @@ fn let_browser_in<R: Wait + Clock>(rt: &R, listener: &TcpListener, silent: &mut 
 
 /// Keeps the door until a connection says something; none where the end of the service is asked for. Others
 /// who serve nobody wait for the door meanwhile.
-fn next_browser<R: Wait + Clock>(rt: &R, door: Door<'_>, end: &ServiceEnd) -> Option<TcpStream> {
+fn next_browser<R: Wait + Clock>(
+    rt: &R,
+    door: Entrance<'_>,
+    end: &ServiceEnd,
+) -> Option<TcpStream> {
     let mut silent = door.silent.lock(rt);
     for _ in rt.forever() {
         if end.is_asked(rt) {
@@ -174,7 +170,7 @@ fn next_browser<R: Wait + Clock>(rt: &R, door: Door<'_>, end: &ServiceEnd) -> Op
 fn serve_next<R: Wait + Clock, C: Calls, S: Shelf>(
     rt: &R,
     alloc: Global,
-    door: Door<'_>,
+    door: Entrance<'_>,
     session: usize,
     end: &ServiceEnd,
     page: &mut PageService<DeskLines<C, S>>,
@@ -216,7 +212,7 @@ where
 }
 
 /// How many threads a page has, if there is a door.
-pub(crate) fn page_threads(door: Option<Door<'_>>) -> usize
+pub(crate) fn page_threads(door: Option<Entrance<'_>>) -> usize
     ensures count { result ≡ page_threads door.entry }
     ensures few { result ≤ 4 }
 {
@@ -234,7 +230,7 @@ pub(crate) fn page_places<'a, R, F: RecordsFile>(
     office: &'a Office<Desk>,
     seats: &mut SeatList<Desk>,
     settings: &Settings<'a>,
-    door: Option<Door<'a>>,
+    door: Option<Entrance<'a>>,
     bells: &Sender<Bell>,
     known: &'a KnownFiles,
     end: &'a ServiceEnd,
@@ -248,9 +244,9 @@ pub(crate) fn page_places<'a, R, F: RecordsFile>(
     ensures left { OnOk result (length seats.new.items ≡ length seats.old.items - page_threads door.entry) }
     ensures all { IfOk result (λ places. length places.items ≡ page_threads door.entry) }
     ensures number { IfOk result (λ places. map (λ place. place.page.1.1.number) places.items ≡ range_with_len (settings.now.sessions + settings.now.readers) (page_threads door.entry)) }
-    ensures keeper { IfOk result (λ places. map (λ place. place.page.1.0.0.1.session) places.items ≡ range_with_len (settings.now.sessions + settings.now.readers) (page_threads door.entry)) }
+    ensures ends { IfOk result (λ places. map (λ place. place.page.1.0.1.session) places.items ≡ range_with_len (settings.now.sessions + settings.now.readers) (page_threads door.entry)) }
     ensures folder { IfOk result (λ places. All (λ place. place.page.1.1.folder ≡ settings.now.root.now) places.items) }
-    ensures office { IfOk result (λ places. All (λ place. place.page.1.0.0.0.0.seat.office ≡ office.now.id) places.items) }
+    ensures office { IfOk result (λ places. All (λ place. place.page.1.0.0.seat.office ≡ office.now.id) places.items) }
     ensures port { IfSome door.entry (λ door. IfOk result (λ places. All (λ place. place.page.0 ≡ door.port) places.items)) }
 {
     let mut places = Vec::new(alloc);
@@ -259,11 +255,13 @@ pub(crate) fn page_places<'a, R, F: RecordsFile>(
     };
     for turn in 0..PAGE_THREADS {
         let session = settings.sessions + settings.readers + turn;
-        let seat = SeatCalls::new(rt, office, take_seat(office, seats));
-        let ringing = Ringing::new(seat, WorkBell::new(rt, bells.clone()?));
-        let keeper = SessionKeeper::new(rt, alloc, journal, session);
-        let keeping = Keeping::new(ringing, keeper);
-        let desk = Attending::new(keeping, CompanyEnd::new(rt, end, session));
+        let others = Others {
+            bells: bells.clone()?,
+            end,
+            may_sleep: false,
+        };
+        let seat = take_seat(office, seats);
+        let desk = session_door(rt, alloc, office, seat, session, others, journal);
         let shelf = FolderShelf::new(rt, alloc, settings.root, session, known);
         let lines = DeskLines::new(alloc, entrance.keys, desk, shelf);
         let page = PageService::new(alloc, entrance.port, lines);

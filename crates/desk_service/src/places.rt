@@ -4,21 +4,19 @@ ghost use Rattle.std.specs.List.{range_with_len};
 ghost use Rattle.desk_service.specs.Company.{rights_at};
 ghost use Rattle.turn_office.specs.Seats.{AreOf};
 
-use crate::attending::{Attending, CompanyEnd};
-use crate::bells::{Ringing, WorkBell};
 use crate::company::rights_at;
 use crate::connections::{Serving, serve_connections};
-use crate::journals::{Journal, SessionKeeper};
+use crate::journals::Journal;
 use crate::publications::PublicationsEnd;
 use crate::service_end::ServiceEnd;
+use crate::session_ends::{Others, SessionEnds};
 use crate::settings::Settings;
-use crate::waiting::Waiting;
 use crossbeam_channel::{Receiver, Sender};
 use deck_files::{FolderShelf, KnownFiles};
 use deck_workers::{Bell, OpenGate, worker};
 use desk_core::Desk;
 use journal::RecordsFile;
-use kept_desk::Keeping;
+use kept_desk::Door;
 use session_line::{Rights, SeatCalls};
 use std::alloc::{AllocError, AllocGlobal, Global};
 use std::fs::File;
@@ -76,16 +74,8 @@ impl<R: Wait + Clock + Sync> Serve for WorkerPlace<'_, R> {
     }
 }
 
-/// The desk of a session: its changes are kept, it is waited at, and its name is known to the others.
-type SessionDesk<'a, R, F> = Attending<
-    Waiting<
-        'a,
-        Keeping<Ringing<SeatCalls<'a, R>, WorkBell<'a, R>>, SessionKeeper<'a, R, F>>,
-        PublicationsEnd<'a, R>,
-        R,
-    >,
-    CompanyEnd<'a, R>,
->;
+/// The door of a session.
+pub(crate) type SessionDoor<'a, R, F> = Door<'a, R, SeatCalls<'a, R>, SessionEnds<'a, R, F>>;
 
 /// What a session thread works with: a desk, and a shelf.
 #[derive(Drop)]
@@ -94,7 +84,7 @@ pub(crate) struct SessionPlace<'a, R, F: RecordsFile> {
     alloc: Global,
     arrivals: Receiver<TcpStream>,
     serving: Serving<'a>,
-    desk: SessionDesk<'a, R, F>,
+    desk: SessionDoor<'a, R, F>,
     shelf: FolderShelf<'a, R>,
 }
 
@@ -167,31 +157,24 @@ pub(crate) fn worker_places<'a, R>(
     Ok(places)
 }
 
-/// The desk of the session of this number, at a seat of the office.
-fn session_desk<'a, R, F: RecordsFile>(
+/// The door of the session of this number, at a seat of the office.
+pub(crate) fn session_door<'a, R, F: RecordsFile>(
     rt: &'a R,
     alloc: Global,
     office: &'a Office<Desk>,
     seat: Seat<Desk>,
     number: usize,
-    bells: Sender<Bell>,
-    end: &'a ServiceEnd,
+    others: Others<'a>,
     journal: Option<&'a Journal<F>>,
-) -> SessionDesk<'a, R, F>
+) -> SessionDoor<'a, R, F>
     requires own { seat.office ≡ office.now.id }
     requires place { IfSome journal (λ journal. number < journal.now) }
-    ensures office { result.0.0.0.0.seat.office ≡ office.now.id }
-    ensures keeper { result.0.0.1.session ≡ number }
-    ensures company { result.1 ≡ number }
+    ensures office { result.0.seat.office ≡ office.now.id }
+    ensures session { result.1.session ≡ number }
 {
     let calls = SeatCalls::new(rt, office, seat);
-    let bell = WorkBell::new(rt, bells);
-    let ringing = Ringing::new(calls, bell);
-    let keeper = SessionKeeper::new(rt, alloc, journal, number);
-    let keeping = Keeping::new(ringing, keeper);
-    let published = PublicationsEnd::new(rt, end.publications());
-    let waiting = Waiting::new(rt, keeping, published);
-    Attending::new(waiting, CompanyEnd::new(rt, end, number))
+    let ends = SessionEnds::new(rt, alloc, journal, number).among(others);
+    Door::new(rt, calls, ends)
 }
 
 /// Where the connections come from of a session that may do this.
@@ -233,26 +216,22 @@ pub(crate) fn session_places<'a, R, F: RecordsFile>(
     ensures all { IfOk result (λ places. length places.items ≡ settings.now.sessions + settings.now.readers) }
     ensures number { IfOk result (λ places. map (λ place. place.shelf.number) places.items ≡ range_with_len 0 (settings.now.sessions + settings.now.readers)) }
     ensures session { IfOk result (λ places. map (λ place. place.serving.session) places.items ≡ range_with_len 0 (settings.now.sessions + settings.now.readers)) }
-    ensures keeper { IfOk result (λ places. map (λ place. place.desk.0.0.1.session) places.items ≡ range_with_len 0 (settings.now.sessions + settings.now.readers)) }
-    ensures company { IfOk result (λ places. map (λ place. place.desk.1) places.items ≡ range_with_len 0 (settings.now.sessions + settings.now.readers)) }
+    ensures ends { IfOk result (λ places. map (λ place. place.desk.1.session) places.items ≡ range_with_len 0 (settings.now.sessions + settings.now.readers)) }
     ensures rights { IfOk result (λ places. All (λ place. place.serving.rights ≡ rights_at settings.now.sessions place.serving.session) places.items) }
     ensures folder { IfOk result (λ places. All (λ place. place.shelf.folder ≡ settings.now.root.now) places.items) }
     ensures once { IfOk result (λ places. All (λ place. place.serving.once ≡ settings.now.once) places.items) }
-    ensures office { IfOk result (λ places. All (λ place. place.desk.0.0.0.0.seat.office ≡ office.now.id) places.items) }
+    ensures office { IfOk result (λ places. All (λ place. place.desk.0.seat.office ≡ office.now.id) places.items) }
 {
     let mut places = Vec::new(alloc);
     for number in 0..settings.sessions + settings.readers {
         let rights = rights_at(settings.sessions, number);
-        let desk = session_desk(
-            rt,
-            alloc,
-            office,
-            take_seat(office, seats),
-            number,
-            bells.clone()?,
+        let others = Others {
+            bells: bells.clone()?,
             end,
-            journal,
-        );
+            may_sleep: true,
+        };
+        let seat = take_seat(office, seats);
+        let desk = session_door(rt, alloc, office, seat, number, others, journal);
         let shelf = FolderShelf::new(rt, alloc, settings.root, number, known);
         places.push(SessionPlace {
             rt,

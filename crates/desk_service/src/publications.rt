@@ -1,9 +1,9 @@
 //! What a service knows of its publications: who waits for one sleeps here until a worker delivered it.
 ghost use Rattle.std.specs.Prelude.{◌≡◌, Some};
-ghost use Rattle.desk_service.specs.Waiting.{later_of};
+ghost use Rattle.desk_service.specs.Deliveries.{later_of};
 
-use crate::waiting::{Sleep, Woken, is_reached};
 use deck_workers::Subscriber;
+use kept_desk::{Woken, is_reached};
 use std::sync::{Condvar, Mutex, Wait};
 use std::time::{Clock, Duration};
 
@@ -72,7 +72,7 @@ impl Publications {
     }
 
     /// Sleeps until this version or a later one was delivered, for a minute at most.
-    fn sleep<R: Wait + Clock>(&self, rt: &R, version: u64) -> Woken {
+    pub(crate) fn sleep<R: Wait + Clock>(&self, rt: &R, version: u64) -> Woken {
         let (known, slept) = self.told.wait_timeout_while(
             rt,
             self.known.lock(rt),
@@ -87,7 +87,7 @@ impl Publications {
     }
 }
 
-/// The end of the publications that a worker or a session has, and the runtime by which it is waited for.
+/// The end of the publications that a worker has, and the runtime by which it is waited for.
 /// Contracts see nothing of what is known there.
 #[derive(Drop)]
 pub(crate) struct PublicationsEnd<'a, R> {
@@ -109,16 +109,5 @@ impl<R: Wait> Subscriber for PublicationsEnd<'_, R> {
 
     fn hear(&mut self, version: u64) {
         self.publications.deliver(self.rt, version);
-    }
-}
-
-/// A session's end.
-impl<R: Wait + Clock> Sleep for PublicationsEnd<'_, R> {
-    ghost use Rattle.std.specs.Prelude.{◌≡◌};
-
-    ghost sleeps = { λ old version woken new. new ≡ old };
-
-    fn sleep(&mut self, version: u64) -> Woken {
-        self.publications.sleep(self.rt, version)
     }
 }

@@ -8,7 +8,7 @@ use crate::control::{Control, hear, try_path};
 use crate::faults::ServeFault;
 use crate::lobby::Lobby;
 use crate::opening::{Opened, open};
-use crate::pages::{Door, PAGE_THREADS, PagePlace, page_threads};
+use crate::pages::{Entrance, PAGE_THREADS, PagePlace, page_threads};
 use crate::places::{Serve, SessionPlace, WorkerPlace};
 use crate::root::{JournalLock, take_folder, take_journal, try_files};
 use crate::seating::{Places, open_channels, seat_all};
@@ -275,7 +275,7 @@ where
 }
 
 /// The port of a page, if there is one.
-fn page_port(door: Option<Door<'_>>) -> Option<u16> {
+fn page_port(door: Option<Entrance<'_>>) -> Option<u16> {
     match door {
         Some(door) => Some(door.port),
         None => None,
@@ -284,7 +284,7 @@ fn page_port(door: Option<Door<'_>>) -> Option<u16> {
 
 /// How many threads of a service change decks: those of its sessions and readers, and of the page, if there is a
 /// door for browsers.
-fn changing_threads(settings: &Settings<'_>, door: Option<Door<'_>>) -> usize
+fn changing_threads(settings: &Settings<'_>, door: Option<Entrance<'_>>) -> usize
     requires { AreInRange settings.now }
     ensures count { result ≡ settings.now.sessions + settings.now.readers + page_threads door.entry }
     ensures few { result ≤ 36 }
@@ -299,7 +299,7 @@ fn serve_opened<'a, R>(
     alloc: Global,
     keys: RandomState,
     listener: &'a TcpListener,
-    door: Option<Door<'a>>,
+    door: Option<Entrance<'a>>,
     control: Option<&'a Control>,
     settings: &'a Settings<'a>,
     opened: Opened<SystemFile<R::File>>,
@@ -443,7 +443,7 @@ fn serve_folder<'a, R>(
     alloc: Global,
     keys: RandomState,
     listener: &'a TcpListener,
-    door: Option<Door<'a>>,
+    door: Option<Entrance<'a>>,
     settings: &'a Settings<'a>,
     lock: &mut JournalLock,
 ) -> Result<(), ServeFault>
@@ -533,7 +533,7 @@ where
         return Err(ServeFault::PageFault);
     };
     let silent = Mutex::new(Lobby::new(alloc));
-    let door = Door {
+    let door = Entrance {
         listener: &browsers,
         silent: &silent,
         port: port_of(&browsers, port),

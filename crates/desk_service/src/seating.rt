@@ -5,7 +5,7 @@ ghost use Rattle.turn_office.specs.Seats.{AreOf};
 
 use crate::arrivals::Arrivals;
 use crate::journals::Journal;
-use crate::pages::{Door, PagePlace, page_places};
+use crate::pages::{Entrance, PagePlace, page_places};
 use crate::places::{SessionPlace, WorkerPlace, session_places, worker_places};
 use crate::service_end::ServiceEnd;
 use crate::settings::Settings;
@@ -69,7 +69,7 @@ pub(crate) fn seat_all<'a, R, F: RecordsFile>(
     office: &'a Office<Desk>,
     seats: SeatList<Desk>,
     settings: &Settings<'a>,
-    door: Option<Door<'a>>,
+    door: Option<Entrance<'a>>,
     channels: &Channels,
     known: &'a KnownFiles,
     end: &'a ServiceEnd,

@@ -21,7 +21,7 @@ use Rattle.journal.specs.declared.changes.Change.{Change}
 use Rattle.journal.specs.declared.changes.Change.TheVariants as change
 use Rattle.journal.specs.declared.drafts.Stamp.{Stamp}
 use Rattle.journal.specs.Asking.{asked_of, call_of_carry, carried_deck}
-use Rattle.kept_desk.specs.KeeperRelations.{KeeperRelations}
+use Rattle.kept_desk.specs.EndsRelations.{EndsRelations}
 use Rattle.kept_desk.specs.Keeping.{TellsKept, TellsCarried, MakesKept, refused, called, not_opened, opened, told_of}
 use Rattle.journal.specs.Replaying.{call_of}
 
@@ -96,7 +96,7 @@ quiet-outcome desk next call reply silent unpublished (by_publishing by) = let n
 pub session-quiet : (desk next : Desk) (call : Call) (reply : Reply) → is_session_call call ≡ true → Steps desk call reply next → accepts reply ≡ false → IsUnchanged desk next
 session-quiet desk next call reply session steps silent = quiet-outcome desk next call reply silent (no-publishing call reply session (session_fits desk next call reply session steps)) (step_comes desk call reply next steps)
 
-stays-unchanged : (desk next : Desk) → next ≡ desk → IsUnchanged desk next
+pub stays-unchanged : (desk next : Desk) → next ≡ desk → IsUnchanged desk next
 stays-unchanged desk next is = subst (λ (d : Desk). IsUnchanged desk d) (sym is) (unchanged_itself desk)
 
 -- no question is answered as a change is
@@ -213,9 +213,9 @@ carry-fits by (carry.Edited name before edit) version = refl
 carry-fits by (carry.Batch name before edits) version = refl
 carry-fits by (carry.Undone name before) version = refl
 
-module _ {K : Type 0} (records : KeeperRelations K) where
-  change-unchanged : (by draft : List ℕ) (change : Change) (reply what : Reply) (desk next : Desk) (between after : K) → Steps desk (call_of by change) reply next →
-      TellsKept records draft reply between what after → tells_refusal what ≡ true → IsUnchanged desk next
+module _ {E : Type 0} (ends : EndsRelations E) where
+  change-unchanged : (by draft : List ℕ) (change : Change) (reply what : Reply) (desk next : Desk) (between after : E) → Steps desk (call_of by change) reply next →
+      TellsKept ends draft reply between what after → tells_refusal what ≡ true → IsUnchanged desk next
   change-unchanged by draft change (Changed version) what desk next between after steps tells told = not-refused tells.0 version what tells.1.1 told
   change-unchanged by draft change (Carried version seen edits) what desk next between after steps tells told =
       let not : false ≡ true = sym (change-fits by change version seen edits) ∙ session_fits desk next (call_of by change) (Carried version seen edits) (change-session by change) steps in cc
@@ -235,8 +235,8 @@ module _ {K : Type 0} (records : KeeperRelations K) where
   change-unchanged by draft change Cleared what desk next between after steps tells told = session-quiet desk next (call_of by change) Cleared (change-session by change) steps refl
   change-unchanged by draft change (Refused why) what desk next between after steps tells told = session-quiet desk next (call_of by change) (Refused why) (change-session by change) steps refl
 
-  carry-unchanged : (by name : List ℕ) (stamp : Stamp) (carry : Carry) (reply what : Reply) (desk next : Desk) (between after : K) → Steps desk (call_of_carry by carry) reply next →
-      TellsCarried records stamp name reply between what after → tells_refusal what ≡ true → IsUnchanged desk next
+  carry-unchanged : (by name : List ℕ) (stamp : Stamp) (carry : Carry) (reply what : Reply) (desk next : Desk) (between after : E) → Steps desk (call_of_carry by carry) reply next →
+      TellsCarried ends stamp name reply between what after → tells_refusal what ≡ true → IsUnchanged desk next
   carry-unchanged by name stamp carry (Carried version seen edits) what desk next between after steps tells told = not-refused tells.0 version what tells.1.1 told
   carry-unchanged by name stamp carry (Changed version) what desk next between after steps tells told =
       let not : false ≡ true = sym (carry-fits by carry version) ∙ session_fits desk next (call_of_carry by carry) (Changed version) (carry-session by carry) steps in cc
@@ -256,13 +256,13 @@ module _ {K : Type 0} (records : KeeperRelations K) where
   carry-unchanged by name stamp carry Cleared what desk next between after steps tells told = session-quiet desk next (call_of_carry by carry) Cleared (carry-session by carry) steps refl
   carry-unchanged by name stamp carry (Refused why) what desk next between after steps tells told = session-quiet desk next (call_of_carry by carry) (Refused why) (carry-session by carry) steps refl
 
-  change-made : (change : Change) (old new : Desk × K) (what : Reply) → MakesKept Steps records old (asked.Change change) what new → tells_refusal what ≡ true → IsUnchanged old.0 new.0
+  change-made : (change : Change) (old new : Desk × E) (what : Reply) → MakesKept Steps ends old (asked.Change change) what new → tells_refusal what ≡ true → IsUnchanged old.0 new.0
   change-made change old new what (refused why begins told stays) is = stays-unchanged old.0 new.0 stays
-  change-made change old new what (called draft between reply begins made tells) is = change-unchanged (records.who between) draft change reply what old.0 new.0 between new.1 made tells is
+  change-made change old new what (called draft begun rung reply begins made rings tells) is = change-unchanged (ends.who begun) draft change reply what old.0 new.0 rung new.1 made tells is
 
-  carry-made : (carry : Carry) (old new : Desk × K) (what : Reply) → MakesKept Steps records old (asked.Carry carry) what new → tells_refusal what ≡ true → IsUnchanged old.0 new.0
+  carry-made : (carry : Carry) (old new : Desk × E) (what : Reply) → MakesKept Steps ends old (asked.Carry carry) what new → tells_refusal what ≡ true → IsUnchanged old.0 new.0
   carry-made carry old new what (not_opened why opens told stays) is = stays-unchanged old.0 new.0 stays
-  carry-made carry old new what (opened stamp between reply opens made tells) is = carry-unchanged (records.who between) (carried_deck carry) stamp carry reply what old.0 new.0 between new.1 made tells is
+  carry-made carry old new what (opened stamp begun rung reply opens made rings tells) is = carry-unchanged (ends.who begun) (carried_deck carry) stamp carry reply what old.0 new.0 rung new.1 made tells is
 
   -- a reply that is told as refused is no change
   refused-silent : (what : Reply) → tells_refusal what ≡ true → accepts what ≡ false
@@ -284,7 +284,7 @@ module _ {K : Type 0} (records : KeeperRelations K) where
   refused-silent Cleared is = refl
   refused-silent (Refused why) is = refl
 
-  pub refused-unchanged : (call : Call) (old new : Desk × K) (what : Reply) → is_session_call call ≡ true → MakesKept Steps records old (asked_of call) what new → tells_refusal what ≡ true → IsUnchanged old.0 new.0
+  pub refused-unchanged : (call : Call) (old new : Desk × E) (what : Reply) → is_session_call call ≡ true → MakesKept Steps ends old (asked_of call) what new → tells_refusal what ≡ true → IsUnchanged old.0 new.0
   refused-unchanged (AddDeck deck) old new what session made is = change-made (change.Added deck) old new what made is
   refused-unchanged (PutDeck deck seen) old new what session made is = change-made (change.Put deck seen) old new what made is
   refused-unchanged (DropDeck name seen) old new what session made is = change-made (change.Dropped name seen) old new what made is
@@ -306,7 +306,7 @@ module _ {K : Type 0} (records : KeeperRelations K) where
   refused-unchanged (GiveUp lease) old new what session made is = cc
 
   -- and no question is a change
-  pub asked-unchanged : (call : Call) (old new : Desk × K) (what : Reply) → is_question call ≡ true → MakesKept Steps records old (asked_of call) what new → IsUnchanged old.0 new.0
+  pub asked-unchanged : (call : Call) (old new : Desk × E) (what : Reply) → is_question call ≡ true → MakesKept Steps ends old (asked_of call) what new → IsUnchanged old.0 new.0
   asked-unchanged (AddDeck deck) old new what question made = cc
   asked-unchanged (PutDeck deck seen) old new what question made = cc
   asked-unchanged (DropDeck name seen) old new what question made = cc

@@ -1,5 +1,6 @@
--- A desk whose changes are kept (ours): what one call makes of the desk and of the keeper of its records.
+-- A desk whose changes are kept (ours): what one call makes of the desk and of the keeper of its ends.
 use Rattle.std.specs.Prelude.{ℕ, ◌≡◌, List, Bool, true, false, Option, Some, None, Result, Ok, Err}
+use Rattle.desk_core.specs.Runs.{accepts}
 use Rattle.desk_core.specs.declared.calls.Call.{Call}
 use Rattle.desk_core.specs.declared.replies.Reply.{Reply}
 use Rattle.desk_core.specs.declared.replies.Reply.TheVariants.{Changed, Carried, Unkept, Refused}
@@ -13,24 +14,25 @@ use Rattle.journal.specs.declared.drafts.Stamp.{Stamp}
 use Rattle.journal.specs.Drafts.{carried_text}
 use Rattle.journal.specs.Asking.{call_of_carry, carried_deck}
 use Rattle.journal.specs.Replaying.{call_of}
-use Rattle.kept_desk.specs.KeeperRelations.{KeeperRelations}
+use Rattle.kept_desk.specs.EndsRelations.{EndsRelations}
+use Rattle.session_line.specs.Greetings.{WhereMet}
 
 -- what is told of a change whose record was kept, or was not: then it stands on the desk alone
 abbrev pub told_of : ℕ → Bool → Reply
 told_of version true = Changed version
 told_of version false = Unkept version
 
--- what is told of a reply: a change is told as made only where its record was kept; one that was carried is none that was asked for; anything else is told as it is, and the keeper is not asked
-abbrev pub TellsKept : {K : Type 0} → KeeperRelations K → List ℕ → Reply → K → Reply → K → Type 0
-TellsKept records draft (Changed version) old told new = (kept : Bool) × (records.keeps old version draft kept new × (told ≡ told_of version kept))
-TellsKept records draft (Carried version seen edits) old told new = (told ≡ Refused Foreign) × (new ≡ old)
-TellsKept records draft reply old told new = (told ≡ reply) × (new ≡ old)
+-- what is told of a reply: a change is told as made only where its record was kept; one that was carried is none that was asked for; anything else is told as it is, and the ends are not asked
+abbrev pub TellsKept : {E : Type 0} → EndsRelations E → List ℕ → Reply → E → Reply → E → Type 0
+TellsKept ends draft (Changed version) old told new = (kept : Bool) × (ends.keeps old version draft kept new × (told ≡ told_of version kept))
+TellsKept ends draft (Carried version seen edits) old told new = (told ≡ Refused Foreign) × (new ≡ old)
+TellsKept ends draft reply old told new = (told ≡ reply) × (new ≡ old)
 
 -- what is told of a reply to a change that is carried: it is told as made only where its record was kept, which has the edits as they were made
-abbrev pub TellsCarried : {K : Type 0} → KeeperRelations K → Stamp → List ℕ → Reply → K → Reply → K → Type 0
-TellsCarried records stamp name (Carried version seen edits) old told new = (kept : Bool) × (records.keeps old version (carried_text stamp name seen edits) kept new × (told ≡ told_of version kept))
-TellsCarried records stamp name (Changed version) old told new = (told ≡ Refused Foreign) × (new ≡ old)
-TellsCarried records stamp name reply old told new = (told ≡ reply) × (new ≡ old)
+abbrev pub TellsCarried : {E : Type 0} → EndsRelations E → Stamp → List ℕ → Reply → E → Reply → E → Type 0
+TellsCarried ends stamp name (Carried version seen edits) old told new = (kept : Bool) × (ends.keeps old version (carried_text stamp name seen edits) kept new × (told ≡ told_of version kept))
+TellsCarried ends stamp name (Changed version) old told new = (told ≡ Refused Foreign) × (new ≡ old)
+TellsCarried ends stamp name reply old told new = (told ≡ reply) × (new ≡ old)
 
 -- the version of a change that a reply tells as made
 abbrev pub version_told : Reply → Option ℕ
@@ -38,25 +40,25 @@ version_told (Changed version) = Some version
 version_told (Carried version seen edits) = Some version
 version_told _ = None
 
-module _ {C K : Type 0} (makes : C → Call → Reply → C → Type 0) (records : KeeperRelations K) where
+module _ {C E : Type 0} (makes : C → Call → Reply → C → Type 0) (ends : EndsRelations E) where
   -- what a change makes
-  pub data MakesChange (change : Change) (desk : C) (keeper : K) (told : Reply) (desk_after : C) (keeper_after : K) : Type 0 where
+  pub data MakesChange (change : Change) (desk : C) (before : E) (told : Reply) (desk_after : C) (after : E) : Type 0 where
     -- no record can be made: the desk is not called
-    refused : (refusal : Refusal) → records.begins keeper change (Err refusal) keeper_after → told ≡ Refused refusal → desk_after ≡ desk → MakesChange change desk keeper told desk_after keeper_after
-    -- the desk is called by the name that the keeper tells, and a change that it makes is told as made only where its record is kept
-    called : (draft : List ℕ) (between : K) (reply : Reply) → records.begins keeper change (Ok draft) between → makes desk (call_of (records.who between) change) reply desk_after →
-        TellsKept records draft reply between told keeper_after → MakesChange change desk keeper told desk_after keeper_after
+    refused : (refusal : Refusal) → ends.begins before change (Err refusal) after → told ≡ Refused refusal → desk_after ≡ desk → MakesChange change desk before told desk_after after
+    -- the desk is called by the name that the ends tell; the bell rings where it accepts; and the change is told as made only where its record is kept
+    called : (draft : List ℕ) (begun rung : E) (reply : Reply) → ends.begins before change (Ok draft) begun → makes desk (call_of (ends.who begun) change) reply desk_after → WhereMet ends.rings (accepts reply) begun rung →
+        TellsKept ends draft reply rung told after → MakesChange change desk before told desk_after after
 
   -- what a change makes that is carried
-  pub data MakesCarried (carry : Carry) (desk : C) (keeper : K) (told : Reply) (desk_after : C) (keeper_after : K) : Type 0 where
+  pub data MakesCarried (carry : Carry) (desk : C) (before : E) (told : Reply) (desk_after : C) (after : E) : Type 0 where
     -- no change may be made: the desk is not called
-    not_opened : (refusal : Refusal) → records.opens keeper (Err refusal) keeper_after → told ≡ Refused refusal → desk_after ≡ desk → MakesCarried carry desk keeper told desk_after keeper_after
-    -- the desk is called by the name that the keeper tells, and a change that it makes is told as made only where its record is kept
-    opened : (stamp : Stamp) (between : K) (reply : Reply) → records.opens keeper (Ok stamp) between → makes desk (call_of_carry (records.who between) carry) reply desk_after →
-        TellsCarried records stamp (carried_deck carry) reply between told keeper_after → MakesCarried carry desk keeper told desk_after keeper_after
+    not_opened : (refusal : Refusal) → ends.opens before (Err refusal) after → told ≡ Refused refusal → desk_after ≡ desk → MakesCarried carry desk before told desk_after after
+    -- the desk is called by the name that the ends tell; the bell rings where it accepts; and the change is told as made only where its record is kept
+    opened : (stamp : Stamp) (begun rung : E) (reply : Reply) → ends.opens before (Ok stamp) begun → makes desk (call_of_carry (ends.who begun) carry) reply desk_after → WhereMet ends.rings (accepts reply) begun rung →
+        TellsCarried ends stamp (carried_deck carry) reply rung told after → MakesCarried carry desk before told desk_after after
 
-  -- one call of such a desk, by what it asks for: what is no change is the desk's, and the keeper is not asked
-  abbrev pub MakesKept : C × K → Asked → Reply → C × K → Type 0
+  -- one call at such a door, by what it asks for: what is no change is the desk's, and the ends are not asked
+  abbrev pub MakesKept : C × E → Asked → Reply → C × E → Type 0
   MakesKept old (asked.Other call) told new = makes old.0 call told new.0 × (new.1 ≡ old.1)
   MakesKept old (asked.Change change) told new = MakesChange change old.0 old.1 told new.0 new.1
   MakesKept old (asked.Carry carry) told new = MakesCarried carry old.0 old.1 told new.0 new.1

@@ -1,3 +1,5 @@
-pub mod KeeperRelations
+pub mod EndsRelations
 pub mod Keeping
-pub mod KeptDesks
+pub mod Waiting
+pub mod Greeting
+pub mod Doors

@@ -1,12 +1,14 @@
-//! A desk whose changes are kept: whoever keeps their records, and whoever answers the calls of the desk.
+//! The door of a session: a desk whose changes are kept, with whatever ends the session has at its service.
 //! What a record has, `journal` says, and `session_line` what a session asks; here both meet. Nothing here
-//! opens a file, and nothing waits.
+//! opens a file.
 #![tactic(auto)]
 
-mod keeping;
+mod door;
+mod ends;
 
 // What a client may rest on.
 mod laws;
 
-pub use keeping::{Keep, Keeping};
+pub use door::{Door, is_reached};
+pub use ends::{Ends, Woken};
 pub use laws::refusals_change_nothing;

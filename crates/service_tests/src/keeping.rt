@@ -7,9 +7,9 @@
 use cards::Edit;
 use deck_files::Moment;
 use desk_core::{Call, Desk, NewDeck, Refusal, Reply};
-use desk_service::{Journal, SessionKeeper, SystemFile};
+use desk_service::{Journal, SessionEnds, SystemFile};
 use journal::{Batch, Change, Ending, JournalFile, Mark, Queue, RecordsFile, draft_change, replay};
-use kept_desk::Keeping;
+use kept_desk::Door;
 use session_line::Calls;
 use std::alloc::{AllocError, AllocGlobal, Global};
 use std::fs::{Metadata, OpenFile};
@@ -194,8 +194,8 @@ fn make_on_disk<R: Wait + Clock + Eprint>(
 ) -> Result<Versions, AllocError> {
     let file = JournalFile::new(DiskFile { rt, disk }, Mark::first(), 1);
     let journal = Journal::new(alloc, file, 1)?;
-    let keeper = SessionKeeper::new(rt, alloc, Some(&journal), 0);
-    let mut desk = Keeping::new(Desk::new(alloc, fixed_keys()?), keeper);
+    let ends = SessionEnds::new(rt, alloc, Some(&journal), 0);
+    let mut desk = Door::new(rt, Desk::new(alloc, fixed_keys()?), ends);
     let mut versions = Versions {
         seen: 0,
         made: 0,

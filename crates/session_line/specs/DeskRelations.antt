@@ -24,5 +24,5 @@ desk_alone = record {
   makes = Steps;
   awaits = λ old version reply new. Steps old Status reply new;
   greets = λ old name greeting new. MeetsAlone Steps old greeting new;
-  begins = λ old new. new ≡ old
+  begins = λ old new. new ≡ old;
 }

@@ -48,13 +48,13 @@ impl<R: Wait> Calls for SeatCalls<'_, R> {
     ghost use Rattle.turn_office.specs.Histories.{Answers};
 
     ghost relations = { record {
-        makes = λ old call reply new. (new.office.now ≡ old.office.now) × (new.seat.office ≡ old.seat.office) × (new.seat.number ≡ old.seat.number)
-        × Answers Steps old.office.now.seats old.office.now.first old.seat.number call reply old.seat.seen new.seat.seen;
-        awaits = λ old version reply new. (new.office.now ≡ old.office.now) × (new.seat.office ≡ old.seat.office) × (new.seat.number ≡ old.seat.number)
-        × Answers Steps old.office.now.seats old.office.now.first old.seat.number Status reply old.seat.seen new.seat.seen;
-        greets = λ old name greeting new. (new.office.now ≡ old.office.now) × (new.seat.office ≡ old.seat.office) × (new.seat.number ≡ old.seat.number)
-        × Answers Steps old.office.now.seats old.office.now.first old.seat.number Status greeting.status old.seat.seen new.seat.seen × (greeting.sessions ≡ []);
-        begins = λ old new. new ≡ old
+      makes = λ old call reply new. (new.office.now ≡ old.office.now) × (new.seat.office ≡ old.seat.office) × (new.seat.number ≡ old.seat.number)
+          × Answers Steps old.office.now.seats old.office.now.first old.seat.number call reply old.seat.seen new.seat.seen;
+      awaits = λ old version reply new. (new.office.now ≡ old.office.now) × (new.seat.office ≡ old.seat.office) × (new.seat.number ≡ old.seat.number)
+          × Answers Steps old.office.now.seats old.office.now.first old.seat.number Status reply old.seat.seen new.seat.seen;
+      greets = λ old name greeting new. (new.office.now ≡ old.office.now) × (new.seat.office ≡ old.seat.office) × (new.seat.number ≡ old.seat.number)
+          × Answers Steps old.office.now.seats old.office.now.first old.seat.number Status greeting.status old.seat.seen new.seat.seen × (greeting.sessions ≡ []);
+      begins = λ old new. new ≡ old;
     } };
 
     fn call(&mut self, call: Call) -> Reply {

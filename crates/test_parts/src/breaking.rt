@@ -16,13 +16,13 @@ impl Shelf for BreakingShelf {
     ghost use Rattle.std.specs.Prelude.{⊤};
 
     ghost relations = { record {
-        loads = λ _ _ _ _. ⊤;
-        refuses_to_load = λ _ _ _ _. ⊤;
-        saves = λ _ _ _. ⊤;
-        refuses_to_save = λ _ _ _ _. ⊤;
-        lists = λ _ _ _. ⊤;
-        notes = λ _ _ _ _. ⊤;
-        tells_saved = λ _ _ _ _ _. ⊤
+      loads = λ _ _ _ _. ⊤;
+      refuses_to_load = λ _ _ _ _. ⊤;
+      saves = λ _ _ _. ⊤;
+      refuses_to_save = λ _ _ _ _. ⊤;
+      lists = λ _ _ _. ⊤;
+      notes = λ _ _ _ _. ⊤;
+      tells_saved = λ _ _ _ _ _. ⊤;
     } };
 
     fn load(&mut self, _name: &DeckName) -> Result<Vec<Card>, ShelfLoadFault> {

@@ -10,14 +10,12 @@ loop-turn-preserved g c =
     let four : page_threads c.args.door ≡ 4 = ap page_threads c.in-Some.is in
     let page = c.new-page.ensures ∙ ap (λ lines. (c.in-Some.entrance.port, lines)) c.new-lines.ensures in
     record {
-      own = c.take_seat.ensures.own;
-      left = omega (arith, c.take_seat.ensures.left, before.left, c.loop-turn-test.true, c.requires.enough, four);
+      own = c.take_seat-seat.ensures.own;
+      left = omega (arith, c.take_seat-seat.ensures.left, before.left, c.loop-turn-test.true, c.requires.enough, four);
       all = ap length pushed ∙ (length-append c.loop-turn.places.items _ ∙ ap (λ n. n + 1) before.all);
       number = numbers-more-from (c.args.settings.now.sessions + c.args.settings.now.readers) _ _ _ _ _ before.number pushed (ap (λ p. p.1.1.number) page ∙ c.new-shelf.ensures.number);
-      keeper = numbers-more-from (c.args.settings.now.sessions + c.args.settings.now.readers) _ _ _ _ _ before.keeper pushed (ap (λ p. p.1.0.0.1.session) page ∙ (ap (λ desk. desk.0.1.session) c.new-desk.ensures ∙ (ap (λ keeping. keeping.1.session) c.new-keeping.ensures ∙ c.new-keeper.ensures.session)));
+      ends = numbers-more-from (c.args.settings.now.sessions + c.args.settings.now.readers) _ _ _ _ _ before.ends pushed (ap (λ p. p.1.0.1.session) page ∙ c.session_door-desk.ensures.session);
       folder = all-more (λ place. place.page.1.1.folder ≡ c.args.settings.now.root.now) _ _ _ before.folder pushed (ap (λ p. p.1.1.folder) page ∙ c.new-shelf.ensures.folder);
-      office =
-          all-more (λ place. place.page.1.0.0.0.0.seat.office ≡ c.args.office.now.id) _ _ _ before.office pushed
-          (ap (λ p. p.1.0.0.0.0.seat.office) page ∙ (ap (λ desk. desk.0.0.0.seat.office) c.new-desk.ensures ∙ (ap (λ keeping. keeping.0.0.seat.office) c.new-keeping.ensures ∙ (ap (λ ringing. ringing.0.seat.office) c.new-ringing.ensures ∙ (ap (λ seat. seat.office) c.new-seat.ensures.seat ∙ c.take_seat.ensures.seat)))));
+      office = all-more (λ place. place.page.1.0.0.seat.office ≡ c.args.office.now.id) _ _ _ before.office pushed (ap (λ p. p.1.0.0.seat.office) page ∙ c.session_door-desk.ensures.office);
       port = all-more (λ place. place.page.0 ≡ c.in-Some.entrance.port) _ _ _ before.port pushed (ap (λ p. p.0) page);
     }

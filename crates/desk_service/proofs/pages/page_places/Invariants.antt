@@ -10,8 +10,8 @@ invariant-loop-turn g l = record {
   left : length l.seats.items + l.turn ≡ length l.fn.seats.items;
   all : length l.places.items ≡ l.turn;
   number : map (λ place. place.page.1.1.number) l.places.items ≡ range_with_len (l.settings.sessions + l.settings.readers) l.turn;
-  keeper : map (λ place. place.page.1.0.0.1.session) l.places.items ≡ range_with_len (l.settings.sessions + l.settings.readers) l.turn;
+  ends : map (λ place. place.page.1.0.1.session) l.places.items ≡ range_with_len (l.settings.sessions + l.settings.readers) l.turn;
   folder : All (λ place. place.page.1.1.folder ≡ l.settings.root.now) l.places.items;
-  office : All (λ place. place.page.1.0.0.0.0.seat.office ≡ l.office.id) l.places.items;
+  office : All (λ place. place.page.1.0.0.seat.office ≡ l.office.id) l.places.items;
   port : All (λ place. place.page.0 ≡ l.entrance.port) l.places.items;
 }

@@ -12,10 +12,9 @@ invariant-loop-number g l = record {
   all : length l.places.items ≡ l.number;
   number : map (λ place. place.shelf.number) l.places.items ≡ range_with_len 0 l.number;
   session : map (λ place. place.serving.session) l.places.items ≡ range_with_len 0 l.number;
-  keeper : map (λ place. place.desk.0.0.1.session) l.places.items ≡ range_with_len 0 l.number;
-  company : map (λ place. place.desk.1) l.places.items ≡ range_with_len 0 l.number;
+  ends : map (λ place. place.desk.1.session) l.places.items ≡ range_with_len 0 l.number;
   rights : All (λ place. place.serving.rights ≡ rights_at l.settings.sessions place.serving.session) l.places.items;
   folder : All (λ place. place.shelf.folder ≡ l.settings.root.now) l.places.items;
   once : All (λ place. place.serving.once ≡ l.settings.once) l.places.items;
-  office : All (λ place. place.desk.0.0.0.0.seat.office ≡ l.office.id) l.places.items;
+  office : All (λ place. place.desk.0.seat.office ≡ l.office.id) l.places.items;
 }

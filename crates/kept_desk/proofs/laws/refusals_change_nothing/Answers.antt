@@ -3,4 +3,4 @@ use Rattle.kept_desk.proofs.laws.refusals_change_nothing.Goals as goal
 
 pub returns : goal.returns
 returns g c = λ rights old new refused.
-    command-unchanged g.K.Keep.relations g.S.Shelf.relations rights old new refused
+    command-unchanged g.E.Ends.relations g.S.Shelf.relations rights old new refused

@@ -1,0 +1,98 @@
+-- The ends that a session has at its service (ours): what its calls answer.
+use Rattle.std.specs.Prelude.{ℕ, ◌≡◌, ⊤, ◌⊎◌, List, Bool, true, false, Option, Some, None, Result, Ok, Err}
+use Rattle.cards.specs.declared.edits.Edit.{Edit}
+use Rattle.desk_core.specs.declared.calls.Call.{Call}
+use Rattle.desk_core.specs.declared.replies.Refusal.{Refusal}
+use Rattle.desk_core.specs.declared.replies.Refusal.TheVariants.{NotKept, OutOfMemory}
+use Rattle.desk_core.specs.declared.replies.Reply.{Reply}
+use Rattle.desk_core.specs.declared.replies.Reply.TheVariants.{Changed, Carried}
+use Rattle.desk_service.specs.declared.journals.News.{News}
+use Rattle.desk_service.specs.declared.journals.News.TheVariants.{Fails, GoesOn}
+use Rattle.journal.specs.declared.changes.Carry.{Carry}
+use Rattle.journal.specs.declared.changes.Change.{Change}
+use Rattle.journal.specs.declared.changes.Change.TheVariants.{Batch}
+use Rattle.journal.specs.declared.drafts.Stamp.{Stamp}
+use Rattle.journal.specs.Asking.{call_of_carry, carried_deck}
+use Rattle.journal.specs.Drafts.{takes_memory}
+use Rattle.journal.specs.JournalFiles.{Step, IsKept, IsKeptAs}
+use Rattle.journal.specs.Names.{session_name}
+use Rattle.journal.specs.Records.{text_behind_version}
+use Rattle.journal.specs.Replaying.{call_of}
+use Rattle.kept_desk.specs.EndsRelations.{EndsRelations}
+use Rattle.desk_service.specs.Company.{AreListed}
+
+-- whether there is a journal, the number of the session, the version of its latest change that was told as not kept, and the name by which it asks for changes
+pub record SessionEnds : Type 0 where
+  pub journaled : Bool
+  pub session : ℕ
+  pub missed : Option ℕ
+  pub name : List ℕ
+
+-- the name by which the session asks for changes
+abbrev pub asking_name : SessionEnds → List ℕ
+asking_name ends = ends.name
+
+-- by this name it asks for changes from now on; or by its number, where it told none
+abbrev pub IsNamed : SessionEnds → Option (List ℕ) → SessionEnds → Type 0
+IsNamed old (Some name) new = new ≡ record old { name = name }
+IsNamed old None new = new ≡ record old { name = session_name old.session }
+
+-- what is told of a journal behind a write, by whether the one before failed, and whether this one did: each time only that it is otherwise than before
+abbrev pub news_of : Bool → Bool → Option News
+news_of false true = Some Fails
+news_of true false = Some GoesOn
+news_of failed fails = None
+
+-- the record of a change that a session of this name asks for at some moment
+abbrev pub IsDraft : List ℕ → Change → List ℕ → Type 0
+IsDraft name change draft = (moment : List ℕ) × (draft ≡ text_behind_version moment name change)
+
+module _ {F : Type 0} (has_done : F → List Step → Type 0) where
+  -- the record of this change is kept with this version, as who has this name asked for it at some moment; with all before it, in the order of versions
+  abbrev pub IsChangeKept : ℕ → List ℕ → Change → Type 0
+  IsChangeKept version name change = (moment : List ℕ) × IsKeptAs has_done version (text_behind_version moment name change)
+
+  -- for what was told as not kept some record is kept now
+  abbrev pub IsMadeUp : Option ℕ → Type 0
+  IsMadeUp None = ⊤
+  IsMadeUp (Some version) = IsKept has_done version
+
+  -- what is answered where a change is asked for: its record, once what the session was told as not kept is kept; or a refusal, which tells want of memory of no drop
+  abbrev pub BeginsRecord : SessionEnds → Change → Result (List ℕ) Refusal → SessionEnds → Type 0
+  BeginsRecord old change (Ok draft) new = (new ≡ old) × (old.journaled ≡ true → IsMadeUp old.missed × IsDraft old.name change draft)
+  BeginsRecord old change (Err refusal) new = (new ≡ old) × ((refusal ≡ NotKept) ⊎ ((refusal ≡ OutOfMemory) × (takes_memory change ≡ true)))
+
+  -- what is answered where a change is asked for whose record is known once it is made: the name of the session, once what it was told as not kept is kept; or a refusal
+  abbrev pub OpensRecord : SessionEnds → Result Stamp Refusal → SessionEnds → Type 0
+  OpensRecord old (Ok stamp) new = (new ≡ old) × (old.journaled ≡ true → IsMadeUp old.missed × (stamp.by ≡ old.name))
+  OpensRecord old (Err refusal) new = (new ≡ old) × (refusal ≡ NotKept)
+
+  -- what is answered where a change was made: that its record is kept, this one with this version, or that it is not, which the session remembers
+  abbrev pub KeepsRecord : SessionEnds → ℕ → List ℕ → Bool → SessionEnds → Type 0
+  KeepsRecord old version draft true new = (new ≡ old) × (old.journaled ≡ true → IsKeptAs has_done version draft)
+  KeepsRecord old version draft false new = (new ≡ record old { missed = Some version }) × (old.journaled ≡ true)
+
+  -- what its calls make of the ends: bells, sleeps and other sessions leave what is known of them
+  abbrev pub ends_relations : EndsRelations SessionEnds
+  ends_relations = record {
+    begins = BeginsRecord;
+    opens = OpensRecord;
+    rings = λ old new. new ≡ old;
+    keeps = KeepsRecord;
+    sleeps = λ old version woken new. new ≡ old;
+    lists = λ old name sessions new. (new ≡ old) × AreListed old.session name sessions;
+    names = IsNamed;
+    who = asking_name;
+  }
+
+  -- the desk makes a change that who has a name asks for, with this version, and the record of just that change is kept
+  pub record IsMadeAndKept {C : Type 0} (makes : C → Call → Reply → C → Type 0) (name : List ℕ) (change : Change) (version : ℕ) (old new : C) : Type 0 where
+    pub made : makes old (call_of name change) (Changed version) new
+    pub kept : IsChangeKept version name change
+
+  -- the desk makes a change that is carried, with this version and these edits, and the record of just these edits is kept
+  pub record IsCarriedAndKept {C : Type 0} (makes : C → Call → Reply → C → Type 0) (name : List ℕ) (carry : Carry) (version : ℕ) (old new : C) : Type 0 where
+    pub seen : ℕ
+    pub edits : List Edit
+    pub made : makes old (call_of_carry name carry) (Carried version seen edits) new
+    pub kept : IsChangeKept version name (Batch (carried_deck carry) seen edits)

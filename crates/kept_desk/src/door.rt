@@ -1,0 +1,225 @@
+//! The door of a session: a desk whose changes are kept, and the ends that the session has at its service.
+ghost use Rattle.std.specs.Prelude.{◌≡◌, Some};
+ghost use Rattle.desk_core.specs.Runs.{accepts};
+ghost use Rattle.session_line.specs.Greetings.{WhereMet};
+ghost use Rattle.kept_desk.specs.Greeting.{GreetsAmong};
+ghost use Rattle.kept_desk.specs.Keeping.{MakesCarried, MakesChange, TellsCarried, TellsKept, told_of};
+ghost use Rattle.kept_desk.specs.Waiting.{AwaitsPublication, is_reached, is_shown};
+
+use crate::ends::{Ends, Woken};
+use cards::DeckName;
+use desk_core::{Accepted, Call, Listed, Refusal, Reply};
+use journal::{Asked, Carry, Change, Draft, Stamp, asked_of, draft_carried};
+use session_line::{Calls, Greeting};
+use std::alloc::Global;
+use std::marker::Model;
+use std::sync::Wait;
+
+/// A desk, and the ends that a session has at its service. A change for whose record there is no memory, or that the
+/// journal does not take, is not asked of the desk. One that the desk makes is told as made where its record is kept,
+/// and else as `Unkept`. Contracts see the two as a pair.
+#[derive(Drop)]
+pub struct Door<'a, R, C, E> {
+    rt: &'a R,
+    desk: C,
+    ends: E,
+}
+
+impl<'a, R, C, E> Model for Door<'a, R, C, E> {
+    ghost Value = { C × E };
+
+    ghost view = { λ d. (d.desk, d.ends) };
+}
+
+impl<'a, R, C, E> Door<'a, R, C, E> {
+    pub fn new(rt: &'a R, desk: C, ends: E) -> Door<'a, R, C, E>
+        ensures { result ≡ (desk, ends) }
+    {
+        Door { rt, desk, ends }
+    }
+}
+
+/// Rings where a reply accepts a change.
+fn ring_after<E: Ends>(ends: &mut E, reply: &Reply)
+    ensures { WhereMet E.relations.rings (accepts reply.now) ends.old ends.new }
+{
+    match reply {
+        Reply::Changed(_) | Reply::Carried { .. } => ends.ring(),
+        _ => {}
+    }
+}
+
+/// What is told of a change whose record was kept, or was not.
+fn told_of(made: Accepted, kept: bool) -> Reply
+    ensures { result ≡ told_of made kept }
+{
+    if kept {
+        Reply::Changed(made)
+    } else {
+        Reply::Unkept(made.version())
+    }
+}
+
+/// What is told of a call that asked for a change, whose record this is.
+fn kept_reply<E: Ends>(ends: &mut E, reply: Reply, draft: Draft) -> Reply
+    ensures { TellsKept E.relations draft reply ends.old result ends.new }
+{
+    match reply {
+        Reply::Changed(made) => {
+            let kept = ends.keep(made.version(), draft);
+            told_of(made, kept)
+        }
+        Reply::Carried { .. } => Reply::Refused(Refusal::Foreign),
+        reply => reply,
+    }
+}
+
+/// What is told of a call that asked for a change of this deck that is carried.
+fn carried_reply<E: Ends>(ends: &mut E, reply: Reply, stamp: Stamp, name: DeckName) -> Reply
+    ensures { TellsCarried E.relations stamp name reply ends.old result ends.new }
+{
+    match reply {
+        Reply::Carried {
+            version,
+            seen,
+            edits,
+        } => {
+            let draft = draft_carried(stamp, name, seen, edits);
+            let kept = ends.keep(version, draft);
+            told_of(Accepted::new(version), kept)
+        }
+        Reply::Changed(_) => Reply::Refused(Refusal::Foreign),
+        reply => reply,
+    }
+}
+
+/// Makes a change, in five steps: may the journal take it; the desk makes it; the bell rings; the record is kept; it is
+/// told.
+fn make_change<C: Calls, E: Ends>(desk: &mut C, ends: &mut E, change: Change) -> Reply
+    ensures { MakesChange C.relations.makes E.relations change desk.old ends.old result desk.new ends.new }
+{
+    match ends.begin(&change) {
+        Ok(draft) => {
+            let reply = desk.call(change.into_call(ends.who()));
+            ring_after(ends, &reply);
+            kept_reply(ends, reply, draft)
+        }
+        Err(refusal) => Reply::Refused(refusal),
+    }
+}
+
+/// Makes a change that is carried, in the same steps: its record has the edits as the desk made them.
+fn make_carried<C: Calls, E: Ends>(desk: &mut C, ends: &mut E, carry: Carry) -> Reply
+    ensures { MakesCarried C.relations.makes E.relations carry desk.old ends.old result desk.new ends.new }
+{
+    match ends.open() {
+        Ok(stamp) => {
+            let name = carry.deck_name().copied();
+            let carried = desk.call(carry.into_call(ends.who()));
+            ring_after(ends, &carried);
+            carried_reply(ends, carried, stamp, name)
+        }
+        Err(refusal) => Reply::Refused(refusal),
+    }
+}
+
+/// Whether a version or a later one is published.
+pub fn is_reached(version: u64, published: Option<u64>) -> bool
+    ensures { result ≡ is_reached version published }
+{
+    match published {
+        Some(published) => version <= published,
+        None => false,
+    }
+}
+
+/// Whether nothing is to be waited for behind a reply.
+fn is_shown(version: u64, reply: &Reply) -> bool
+    ensures { result ≡ is_shown version reply.now }
+{
+    match reply {
+        Reply::StatusIs(_, published, _) => is_reached(version, *published),
+        _ => true,
+    }
+}
+
+/// The status of a desk once a version or a later one is published, or when a sleep's time is up.
+fn await_publication<R: Wait, C: Calls, E: Ends>(
+    rt: &R,
+    desk: &mut C,
+    ends: &mut E,
+    version: u64,
+) -> Reply
+    ensures { AwaitsPublication C.relations.makes E.relations.sleeps version desk.old ends.old result desk.new ends.new }
+{
+    for _ in rt.forever() {
+        let reply = desk.call(Call::Status);
+        if is_shown(version, &reply) {
+            return reply;
+        }
+        drop(reply);
+        let woken = ends.sleep(version);
+        if let Woken::TimeUp = woken {
+            return desk.call(Call::Status);
+        }
+    }
+    unreachable!()
+}
+
+/// Notes the name of the session, where it holds.
+fn name_where<E: Ends>(ends: &mut E, holds: bool, name: &DeckName)
+    ensures { WhereMet (λ before after. E.relations.names before (Some name.now) after) holds ends.old ends.new }
+{
+    if holds {
+        ends.be_named(Some(name));
+    }
+}
+
+/// Greets a desk among others.
+fn greet_among<C: Calls, E: Ends>(
+    alloc: Global,
+    desk: &mut C,
+    ends: &mut E,
+    name: &DeckName,
+) -> Greeting
+    ensures { GreetsAmong C.relations.greets E.relations name.now desk.old ends.old result desk.new ends.new }
+{
+    let Ok(sessions) = ends.list(alloc, name) else {
+        return Greeting::alone(alloc, Reply::Refused(Refusal::OutOfMemory));
+    };
+    let greeting = desk.greet(alloc, name);
+    name_where(ends, greeting.is_met(), name);
+    Greeting {
+        status: greeting.status,
+        sessions: Listed::new(sessions),
+    }
+}
+
+/// The calls are the desk's, but for changes that are refused, or not kept. Who waits asks the desk for the status,
+/// and sleeps between two questions; who greets is told who is connected, and the name is noted where it holds.
+impl<R: Wait, C: Calls, E: Ends> Calls for Door<'_, R, C, E> {
+    ghost use Rattle.kept_desk.specs.Doors.{door_of};
+
+    ghost relations = { door_of C.relations E.relations };
+
+    fn call(&mut self, call: Call) -> Reply {
+        match asked_of(call) {
+            Asked::Change(change) => make_change(&mut self.desk, &mut self.ends, change),
+            Asked::Carry(carry) => make_carried(&mut self.desk, &mut self.ends, carry),
+            Asked::Other(call) => self.desk.call(call),
+        }
+    }
+
+    fn await_version(&mut self, version: u64) -> Reply {
+        await_publication(self.rt, &mut self.desk, &mut self.ends, version)
+    }
+
+    fn greet(&mut self, alloc: Global, name: &DeckName) -> Greeting {
+        greet_among(alloc, &mut self.desk, &mut self.ends, name)
+    }
+
+    fn begin_session(&mut self) {
+        self.desk.begin_session();
+        self.ends.be_named(None);
+    }
+}
