@@ -14,7 +14,8 @@ ghost use Rattle.journal.specs.JournalFiles.{IsKeptAs};
 ghost use Rattle.desk_service.specs.SessionEnds.{IsMadeUp, news_of};
 
 use deck_files::Moment;
-use journal::{Batch, Draft, JournalFile, KeptBatch, Queue, RecordsFile, SharedText};
+use deck_listing::SharedText;
+use journal::{Batch, Draft, JournalFile, KeptBatch, Queue, RecordsFile};
 use std::alloc::{AllocError, Global};
 use std::marker::Model;
 use std::sync::{Condvar, Mutex, MutexGuard, Wait};

@@ -84,7 +84,6 @@ pub use laws::told_changes_are_kept;
 pub use page_lines::DeskLines;
 pub use running::{serve, serve_on};
 pub use session_ends::SessionEnds;
-pub use session_line::VERSION;
 pub use sessions::{Ending, serve_session};
 pub use settings::{Journaling, Settings};
 pub use system_file::SystemFile;

@@ -3,6 +3,10 @@
 //! comes of it. It is proved beside the journal and the service, and not behind them.
 #![tactic(auto)]
 
+// A shelf and a folder that fail where they are to.
+mod breaking;
+mod refusing;
+
 // Steps, lowest first.
 mod faults;
 mod files;

@@ -8,6 +8,7 @@
 //! `bytes LINES`: these are the file; `times NUMBER LINES`: they are put behind it so many times.
 //! `shelf NAME`: the file is that of the deck on the shelf; `file NAME`: the deck's file there.
 
+use crate::breaking::BreakingShelf;
 use crate::jobs::Jobs;
 use deck_files::{MemoryShelf, Shelf};
 use desk_core::Desk;
@@ -15,7 +16,7 @@ use session_line::{Calls, Outcome, Rights, serve_one};
 use std::alloc::{AllocError, Global};
 use std::hash::RandomState;
 use std::io::{Read, Write};
-use test_parts::{Answer, BreakingShelf, Failing, cut_number, fixed_keys, name_of};
+use test_parts::{Answer, Failing, cut_number, fixed_keys, name_of};
 use text_ports::Counted;
 
 /// How many commands a session has at most.

@@ -9,6 +9,7 @@
 //! folder: which it was; `clear_folder PATH JOURNAL`: what saves have left there.
 
 use crate::files::push_lines;
+use crate::refusing::Refusing;
 use cards::{Card, DeckName, MOST_CARDS};
 use deck_files::{FileRow, FolderShelf, KnownFiles, SaveOver, Shelf, SystemFolder, clear_folder};
 use std::alloc::{AllocError, AllocGlobal, Global};
@@ -16,7 +17,7 @@ use std::fs::{self, File};
 use std::io::{self, ErrorKind};
 use std::rt::Files;
 use std::sync::Wait;
-use test_parts::{Answer, Refusing, cards_of, cut, cut_line, cut_number, name_of, number};
+use test_parts::{Answer, cards_of, cut, cut_line, cut_number, name_of, number};
 
 /// Makes a step of this word, if it is one of folders, and answers whether it is.
 pub fn make<R: AllocGlobal + Files<File = File> + Wait + Clone + Drop>(

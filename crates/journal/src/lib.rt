@@ -49,7 +49,6 @@ mod laws;
 
 pub use changes::{Asked, Carry, Change, asked_of};
 pub use compacting::compacted_text;
-pub use deck_listing::SharedText;
 pub use drafts::{Draft, Stamp, draft_carried, draft_change};
 pub use journal_file::JournalFile;
 pub use kept_records::{KeptBatch, KeptRecords};

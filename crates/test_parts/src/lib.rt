@@ -1,30 +1,26 @@
 //! What tests and measurements begin with: keys that are the same in each run, the words of a row, the decks that are
-//! written there, and names and blocks that stand where a row says; ports, shelves and folders that fail where they are
-//! to; records and objects; and the answer that is put together from parts.
+//! written there, and names and blocks that stand where a row says; ports that fail where they are to; records and
+//! objects; and the answer that is put together from parts.
 #![tactic(auto)]
 
 mod answers;
 mod assembling;
-mod breaking;
 mod decks;
 mod failing;
 mod keys;
 mod known_bases;
 mod known_names;
-mod refusing;
 mod words;
 
 pub use answers::Answer;
 pub use assembling::{
     asm_answer, assembled, counted_record, new_object, new_record, object_of, record_of,
 };
-pub use breaking::BreakingShelf;
 pub use decks::{card_of, cards_of, name_of};
 pub use failing::Failing;
 pub use keys::fixed_keys;
 pub use known_bases::{NoBases, OneBlock};
 pub use known_names::KnownNames;
-pub use refusing::Refusing;
 pub use words::{
     bytes_of, cut, cut_line, cut_number, number, octal, plain_text, signed, size, small,
 };
