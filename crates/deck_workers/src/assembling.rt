@@ -53,11 +53,17 @@ pub(crate) fn assembled(
     ensures due { CountsDue start edits.now (start_deck name start).cards meter.old meter.new }
 {
     if let Some(fault) = edits_fault(&start, edits) {
+        drop(start);
         return Err(fault);
     }
     let mut kept = begun(alloc, keys, name, start, meter)?;
-    kept.edit_in_order(alloc, keys, edits, meter)?;
-    finished(alloc, kept)
+    match kept.edit_in_order(alloc, keys, edits, meter) {
+        Ok(()) => finished(alloc, kept),
+        Err(fault) => {
+            drop(kept);
+            Err(fault)
+        }
+    }
 }
 
 /// The record that a job begins with.
@@ -127,10 +133,15 @@ fn finished(alloc: Global, kept: Kept) -> Result<(Held, ListedObject), RecordFau
     ensures object { IfOk result (λ made. made.1 ≡ record { name = kept.name; cards = kept.cards }) }
     ensures fault { IfErr result (λ fault. fault ≡ RecordFault.OutOfMemory) }
 {
-    let object = listed(alloc, &kept)?;
-    match Held::new(kept) {
-        Some(held) => Ok((held, object)),
-        None => unreachable!(),
+    match listed(alloc, &kept) {
+        Ok(object) => match Held::new(kept) {
+            Some(held) => Ok((held, object)),
+            None => unreachable!(),
+        },
+        Err(fault) => {
+            drop(kept);
+            Err(fault)
+        }
     }
 }
 

@@ -56,20 +56,9 @@ pub fn job_in(reply: Reply) -> Option<Job>
     match reply {
         Reply::DeckJob(work) => Some(Job::Deck(work)),
         Reply::LinkJob(work) => Some(Job::Link(work)),
-        Reply::Changed(_)
-        | Reply::Carried { .. }
-        | Reply::Unkept(_)
-        | Reply::CardsAre(..)
-        | Reply::ChangesAre(..)
-        | Reply::CardsBefore(..)
-        | Reply::Shown(_)
-        | Reply::StatusIs(..)
-        | Reply::Idle(_)
-        | Reply::AllOut
-        | Reply::Stored
-        | Reply::Considered
-        | Reply::Published(_)
-        | Reply::Cleared
-        | Reply::Refused(_) => None,
+        other => {
+            drop(other);
+            None
+        }
     }
 }

@@ -73,7 +73,9 @@ fn end_job(desk: &mut Desk, made: Made) -> Option<Settled>
     ensures { (answered : Reply) × Steps desk.old (call_of made) answered desk.new × (result ≡ option_map Settled.Refused (refusal_in answered)) }
 {
     let answered = desk.step(made.into_call());
-    end_of_delivery(&answered)
+    let end = end_of_delivery(&answered);
+    drop(answered);
+    end
 }
 
 /// What the answer to the call that ends a job ends settling with: a refusal.

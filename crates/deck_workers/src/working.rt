@@ -90,7 +90,9 @@ fn make_round<R: Wait, G: Gate, S: Subscriber>(
             let answered = deliver(rt, office, seat, made);
             tell_after(subscriber, published, &answered);
             drop(before);
-            Round::with_job(went_well(is_result, &answered))
+            let is_well = went_well(is_result, &answered);
+            drop(answered);
+            Round::with_job(is_well)
         }
         None => Round::without_job(is_refused),
     }
@@ -150,7 +152,7 @@ fn publish_at_desk<R: Wait>(
     offer_objects(rt, office, seat, lease, publication.publication().objects());
     let answered = seat.call(rt, office, Call::Publish(lease));
     if is_starved(&answered) {
-        let_go(seat.call(rt, office, Call::GiveUp(lease)));
+        drop(seat.call(rt, office, Call::GiveUp(lease)));
     }
     answered
 }
@@ -192,13 +194,8 @@ fn offer<R: Wait>(
             place,
             object,
         };
-        let_go(seat.call(rt, office, offered));
+        drop(seat.call(rt, office, offered));
     }
-}
-
-/// Lets a reply go that nobody looks at.
-fn let_go(reply: Reply) {
-    let _ = reply;
 }
 
 /// Whether something was made of a job, and the desk had the memory that it takes to publish.

@@ -28,7 +28,10 @@ impl Desk {
         ensures { MayAnswer self.old (add_deck deck self.old) result self.new }
     {
         match self.against_add(&deck) {
-            Some(refusal) => Reply::Refused(refusal),
+            Some(refusal) => {
+                drop(deck);
+                Reply::Refused(refusal)
+            }
             None => self.add(deck),
         }
     }
@@ -192,7 +195,10 @@ impl Desk {
         let object = self.decks.object_at(place);
         match self.edit_at(place, by, edit) {
             Ok(version) => Reply::Changed(Accepted::behind(version, object)),
-            Err(_) => Reply::Refused(Refusal::OutOfMemory),
+            Err(_) => {
+                drop(object);
+                Reply::Refused(Refusal::OutOfMemory)
+            }
         }
     }
 
@@ -248,7 +254,10 @@ impl Desk {
         let object = self.decks.object_at(place);
         match self.edit_all_at(place, by, edits) {
             Ok(version) => Reply::Changed(Accepted::behind(version, object)),
-            Err(_) => Reply::Refused(Refusal::OutOfMemory),
+            Err(_) => {
+                drop(object);
+                Reply::Refused(Refusal::OutOfMemory)
+            }
         }
     }
 

@@ -25,7 +25,10 @@ impl Desk {
     {
         match self.place_leased(done.lease) {
             Some(place) => self.take_result(place, done),
-            None => Reply::Refused(Refusal::UnknownJob),
+            None => {
+                drop(done);
+                Reply::Refused(Refusal::UnknownJob)
+            }
         }
     }
 
@@ -40,6 +43,7 @@ impl Desk {
         ensures { ForSome (slice_get self.old.decks place) (λ deck. IsAnswer (result_at place done self.old deck) result self.new) }
     {
         if !self.decks.deck_at(place).is_for(&done) {
+            drop(done);
             return self.lose_foreign(place);
         }
         let Done {
@@ -49,7 +53,10 @@ impl Desk {
             ..
         } = done;
         match kept {
-            None => self.lose_foreign(place),
+            None => {
+                drop(object);
+                self.lose_foreign(place)
+            }
             Some(kept) => self.take_record(place, version, kept, object),
         }
     }
@@ -61,9 +68,12 @@ impl Desk {
         let current = self.decks.deck_at(place).version();
         if version != current {
             self.decks.give_back_at(place, kept);
+            drop(object);
             return Reply::Refused(Refusal::Stale(current));
         }
         if !self.is_sound(place, &kept, &object) {
+            drop(kept);
+            drop(object);
             return self.lose_foreign(place);
         }
         self.decks.store_at(self.alloc, place, kept, object);

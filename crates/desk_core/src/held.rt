@@ -32,6 +32,7 @@ impl Held {
         ensures { result ≡ (if kept.is_spent then None else Some (record { deck = record { name = kept.name; cards = kept.cards } })) }
     {
         if kept.is_spent() {
+            drop(kept);
             return None;
         }
         Some(Held { kept })

@@ -386,7 +386,7 @@ impl StoredDeck {
         ensures { self.new ≡ self.old }
     {
         if self.object.is_some() {
-            self.object = Some(object);
+            drop(replace(&mut self.object, Some(object)));
         }
     }
 
@@ -445,7 +445,7 @@ impl StoredDeck {
     pub(crate) fn lose(&mut self)
         ensures { self.new ≡ lost self.old }
     {
-        self.kept = None;
+        drop(self.kept.take());
         self.waiting.clear();
         self.lease = None;
     }
@@ -454,7 +454,7 @@ impl StoredDeck {
     pub(crate) fn give_back(&mut self, kept: Held)
         ensures { self.new ≡ given_back (Some kept) self.old }
     {
-        self.kept = Some(kept);
+        drop(replace(&mut self.kept, Some(kept)));
         self.lease = None;
     }
 
@@ -483,8 +483,8 @@ impl StoredDeck {
         ensures { self.new ≡ stored (Some kept) self.old }
     {
         self.lie_in(alloc, &object);
-        self.kept = Some(kept);
-        self.object = Some(object);
+        drop(replace(&mut self.kept, Some(kept)));
+        drop(replace(&mut self.object, Some(object)));
         self.lease = None;
     }
 }

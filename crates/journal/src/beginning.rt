@@ -119,7 +119,10 @@ fn begun_by(alloc: Global, command: Result<Command, Refusal>) -> Option<Begun>
         Ok(Command::Edit { name, seen, edit }) => edit_seen(name, seen, edit),
         Ok(Command::Batch(head)) => batch_seen(alloc, head.name, head.seen, head.count),
         Ok(Command::Put(head)) => put_named(alloc, head.name, head.version, head.count),
-        Ok(_) => None,
+        Ok(other) => {
+            drop(other);
+            None
+        }
         Err(_) => None,
     }
 }

@@ -90,14 +90,19 @@ fn make_again(
 {
     match desk.step(change.into_call(by)) {
         Reply::Changed(made) => {
-            if made.version() == version {
+            let found = made.version();
+            drop(made);
+            if found == version {
                 Ok(())
             } else {
                 Err(unmade)
             }
         }
         Reply::Refused(Refusal::OutOfMemory) => Err(ReplayFault::OutOfMemory),
-        _ => Err(unmade),
+        other => {
+            drop(other);
+            Err(unmade)
+        }
     }
 }
 

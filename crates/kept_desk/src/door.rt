@@ -56,7 +56,9 @@ fn told_of(made: Accepted, kept: bool) -> Reply
     if kept {
         Reply::Changed(made)
     } else {
-        Reply::Unkept(made.version())
+        let version = made.version();
+        drop(made);
+        Reply::Unkept(version)
     }
 }
 
@@ -69,7 +71,10 @@ fn kept_reply<E: Ends>(ends: &mut E, reply: Reply, draft: Draft) -> Reply
             let kept = ends.keep(made.version(), draft);
             told_of(made, kept)
         }
-        Reply::Carried { .. } => Reply::Refused(Refusal::Foreign),
+        Reply::Carried { edits, .. } => {
+            drop(edits);
+            Reply::Refused(Refusal::Foreign)
+        }
         reply => reply,
     }
 }
@@ -88,7 +93,10 @@ fn carried_reply<E: Ends>(ends: &mut E, reply: Reply, stamp: Stamp, name: DeckNa
             let kept = ends.keep(version, draft);
             told_of(Accepted::new(version), kept)
         }
-        Reply::Changed(_) => Reply::Refused(Refusal::Foreign),
+        Reply::Changed(made) => {
+            drop(made);
+            Reply::Refused(Refusal::Foreign)
+        }
         reply => reply,
     }
 }
@@ -104,7 +112,10 @@ fn make_change<C: Calls, E: Ends>(desk: &mut C, ends: &mut E, change: Change) ->
             ring_after(ends, &reply);
             kept_reply(ends, reply, draft)
         }
-        Err(refusal) => Reply::Refused(refusal),
+        Err(refusal) => {
+            drop(change);
+            Reply::Refused(refusal)
+        }
     }
 }
 
@@ -119,7 +130,10 @@ fn make_carried<C: Calls, E: Ends>(desk: &mut C, ends: &mut E, carry: Carry) -> 
             ring_after(ends, &carried);
             carried_reply(ends, carried, stamp, name)
         }
-        Err(refusal) => Reply::Refused(refusal),
+        Err(refusal) => {
+            drop(carry);
+            Reply::Refused(refusal)
+        }
     }
 }
 

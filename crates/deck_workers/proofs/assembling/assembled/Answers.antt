@@ -10,8 +10,8 @@ always : {T E P : Type 0} (result : Result T E) → P → OnOk result P
 always (Ok value) holds = holds
 always (Err error) holds = tt
 
-pub returns-clause-all : goal.returns-clause-all
-returns-clause-all c =
+pub returns-in-Ok-clause-all : goal.returns-in-Ok-clause-all
+returns-in-Ok-clause-all c =
     let begins = c.begun.ensures.meter in
     let sized = c.edit_in_order.ensures.sized in
     let sized_rises = c.edit_in_order.ensures.sized_rises in
@@ -30,8 +30,8 @@ returns-clause-all c =
       coded_all = λ room. let first = all.1 (omega (arith, room)) in omega (arith, first, coded_rises);
     })
 
-pub returns-in_err-edit_in_order-clause-due : goal.returns-in_err-edit_in_order-clause-due
-returns-in_err-edit_in_order-clause-due c =
+pub returns-in-Err-clause-due : goal.returns-in-Err-clause-due
+returns-in-Err-clause-due c =
     let none : edits_fault c.args.edits.now (start_cards c.args.start) ≡ None = first_of (search rules, cc) in
     let kept = c.in_ok-kept.kept in
     let counted = c.edit_in_order.ensures in
@@ -42,8 +42,8 @@ returns-in_err-edit_in_order-clause-due c =
           c.in_ok-kept.ensures.unspent none counted.counts,
     )
 
-pub returns-clause-due : goal.returns-clause-due
-returns-clause-due c =
+pub returns-in-Ok-clause-due : goal.returns-in-Ok-clause-due
+returns-in-Ok-clause-due c =
     let none : edits_fault c.args.edits.now (start_cards c.args.start) ≡ None = first_of (search rules, cc) in
     let kept = c.in_ok-kept.kept in
     let counted = c.edit_in_order.ensures in

@@ -25,5 +25,5 @@ returns-in-Some-clause-round g c =
     let both = worked-round g.S.Subscriber.hears c.args.seat.now.number c.call-reply.new.self.number c.call-reply.result c.deliver-answered.result c.in-Some.job c.run-made.result c.args.seat.now.seen c.call-reply.new.self.seen c.deliver-answered.new.seat.seen
     c.args.subscriber.now c.tell_after.new.subscriber c.call-reply.ensures.same.1 (sym c.job_in.ensures ∙ c.in-Some.is) c.run-made.ensures (one-call _ _ _ _ _ _ _ c.call-reply.ensures.history) c.deliver-answered.ensures.delivered
     (subst P c.published-published.ensures c.tell_after.ensures) in
-    let well = c.went_well.ensures ∙ ap (λ (made : Bool). went_well made c.deliver-answered.result) c.is_result-is_result.ensures in
+    let well = c.went_well-is_well.ensures ∙ ap (λ (made : Bool). went_well made c.deliver-answered.result) c.is_result-is_result.ensures in
     (both.0, c.with_job.ensures ∙ ap round_with_job well ∙ sym both.1)
