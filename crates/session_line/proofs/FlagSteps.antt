@@ -1,6 +1,6 @@
 -- The flagged statements of a deck, statement by statement.
 use Rattle.std.proofs.Common.{ℕ, ◌≡◌, ◌+◌, ◌<◌, ◌≤◌, Bool, true, false, List, [], ◌∷◌, ◌++◌, ◌⊎◌, inl, inr, ⊎_elim, length, take, drop, get_or, reverse, refl, sym, ap, ap₂, ◌∙◌, arith, append-nil, append_assoc, length-append, if◌then◌else◌}
-use Rattle.std.specs.Prelude.{All, ◌&&◌, Option, None, Some, codes, filter, flat_map, is_none, map}
+use Rattle.std.specs.Prelude.{All, ◌&&◌, codes, filter, flat_map, is_none, map}
 use Rattle.std.specs.List.{AllByRecursion, count_by}
 use Rattle.std.proofs.lemmas.Grind.{flat_map-append}
 use Rattle.std.proofs.lemmas.List.{drop_all, drop_more, reverse-append, take_all, take_more}
@@ -17,10 +17,8 @@ use Rattle.definitions.specs.Settled.{Settled}
 use Rattle.definitions.specs.Settling.{settled_all}
 use Rattle.definitions.specs.StatementItems.{Context}
 use Rattle.definitions.specs.Statements.{Statement, statements_of}
-use Rattle.definitions.specs.Words.{Coded}
-use Rattle.deck_objects.specs.Joins.CodedLines.{AreShown, IsStored}
+use Rattle.deck_objects.specs.Joins.CodedLines.{AreShown}
 use Rattle.deck_objects.specs.Joins.PartsOf.{ArePartsOf}
-use Rattle.deck_objects.specs.declared.lines.CodedLine.{CodedLine}
 use Rattle.deck_objects.specs.declared.lines.Line.{Line}
 use Rattle.deck_objects.specs.declared.object.ObjectParts.{ObjectParts}
 use Rattle.deck_listing.proofs.BehindLaws.{behind-same}

@@ -1,6 +1,6 @@
 -- Lines of messages, letter by letter and statement by statement.
 use Rattle.std.proofs.Common.{ℕ, ◌≡◌, ◌+◌, ◌<◌, ◌≤◌, Bool, true, false, List, [], ◌∷◌, ◌++◌, length, take, drop, get_or, refl, sym, ap, ap₂, subst, ◌∙◌, arith, append-nil, append_assoc, if◌then◌else◌}
-use Rattle.std.specs.Prelude.{◌&&◌, flat_map, is_none, map}
+use Rattle.std.specs.Prelude.{◌&&◌, flat_map, is_none}
 use Rattle.std.proofs.lemmas.Grind.{flat_map-append}
 use Rattle.std.proofs.lemmas.List.{drop_all, drop_more}
 use Rattle.definitions.specs.Cards.{Card}

@@ -1,5 +1,5 @@
 -- A command of a session that is refused changes nothing of a desk of which no refused call, no question, no wait and no greeting changes anything.
-use Rattle.std.proofs.Common.{ℕ, ◌≡◌, Bool, true, false, cond, inl, inr, List, [], ◌∷◌, Option, Result, Ok, Err, refl, sym, ap, subst, ◌∙◌}
+use Rattle.std.proofs.Common.{ℕ, ◌≡◌, Bool, true, false, cond, inl, inr, List, Option, Result, Ok, Err, refl, sym, ap, subst, ◌∙◌}
 use Rattle.definitions.specs.Cards.{Card}
 use Rattle.definitions.specs.DeckInput.{Deck}
 use Rattle.deck_files.specs.declared.deck_shelf.ShelfLoadFault.{ShelfLoadFault}
@@ -22,8 +22,8 @@ use Rattle.session_line.specs.Executing.{AddsLoaded, Executes}
 use Rattle.session_line.specs.Reloading.{PutsBy, PutsLoaded, version_told}
 use Rattle.session_line.specs.Rights.{allowed, changes}
 use Rattle.session_line.specs.Joins.Kinds.{is_session_call}
-use Rattle.session_line.specs.Taking.{IsTaskFor, TakesTask}
-use Rattle.session_line.specs.Tasks.{task_by, task_of, task_of_command, batch_named, batch_of, batch_call, put_named, put_of, edit_call, edits_of, cards_of}
+use Rattle.session_line.specs.Taking.{IsTaskFor}
+use Rattle.session_line.specs.Tasks.{task_by, task_of, task_of_command, batch_named, batch_call, put_named, edit_call, edits_of, cards_of}
 use Rattle.session_commands.specs.Commands.{command_of}
 use Rattle.session_commands.specs.declared.commands.Command.{Command}
 use Rattle.session_commands.specs.declared.commands.Command.TheVariants as command
@@ -34,7 +34,6 @@ use Rattle.session_commands.specs.declared.words.Seen.{Seen}
 use Rattle.session_commands.specs.declared.words.Seen.TheVariants.{Exactly, Since}
 use Rattle.cards.specs.declared.edits.Edit.{Edit}
 use Rattle.session_line.specs.Refusing.{is_refusal, tells_refusal, RefusesCommand}
-use Rattle.session_line.specs.SavingDecks.{SavesDeck}
 use Rattle.session_line.specs.Serving.{Sides}
 use Rattle.session_line.specs.DeckCuts.{decks_in}
 use Rattle.session_line.specs.LoadingAll.{TellsAdds, added_all, not_added, no_memory, AddsTold, AddsCut, AddsFile, cut, uncut, AddsLoadedDecks}

@@ -1,11 +1,12 @@
 -- What a command is answered, and the text of that (ours).
-use Rattle.std.specs.Prelude.{ℕ, ◌≡◌, ◌+◌, ◌≤◌, ◌⊎◌, ⊤, IsTrue, Bool, true, false, nat_le, List, [], ◌++◌, Option, Some, None, length, codes, if◌then◌else◌}
+use Rattle.std.specs.Prelude.{ℕ, ◌≡◌, ◌+◌, ◌≤◌, ◌⊎◌, ⊤, IsTrue, Bool, true, false, nat_le, List, [], ◌++◌, Option, Some, None, Result, Ok, Err, length, codes, if◌then◌else◌}
 use Rattle.definitions.specs.Cards.{Card}
 use Rattle.definitions.specs.DeckInput.{Deck}
 use Rattle.deck_linker.specs.Publishing.{map_of}
+use Rattle.desk_core.specs.Desks.{Publication}
 use Rattle.desk_core.specs.declared.replies.Reply.{Reply}
 use Rattle.desk_core.specs.declared.replies.Row.{Row}
-use Rattle.desk_core.specs.declared.replies.Reply.TheVariants.{Changed, Carried, Unkept, CardsAre, ChangesAre, CardsBefore, Shown, StatusIs, Refused}
+use Rattle.desk_core.specs.declared.replies.Reply.TheVariants.{Changed, Carried, Unkept, CardsAre, ChangesAre, CardsBefore, StatusIs, Refused}
 use Rattle.deck_files.specs.DeckFiles.{file_of}
 use Rattle.deck_files.specs.FileRows.{most_files}
 use Rattle.session_commands.specs.declared.refusals.Refusal.{Refusal}
@@ -14,6 +15,8 @@ use Rattle.session_commands.specs.Refusals.{refusal_text}
 use Rattle.session_line.specs.Replies.{line_of, ok_text, unkept_text, counted_text, published_text, rows_text, marks_text, told_decks_text, sessions_text, numbers_text, text_of_lines}
 use Rattle.session_line.specs.FileLines.{files_text}
 use Rattle.session_line.specs.Reasons.{desk_reason}
+use Rattle.session_line.specs.Replied.{shown_in, status_in}
+use Rattle.session_line.specs.declared.replied.Status.{Status}
 use Rattle.session_line.specs.Greetings.{service_text}
 use Rattle.session_line.specs.Help.{help_text}
 use Rattle.session_line.specs.declared.greetings.Connected.{Connected}
@@ -68,17 +71,18 @@ abbrev pub WhereStatus : Told → (ℕ → Option ℕ → List Row → Type 0) �
 WhereStatus (told.Status version published rows) Made Other = Made version published rows
 WhereStatus _ Made Other = Other
 
+-- what is told of what a reply gives; or why it gives nothing
+abbrev pub told_by : {T : Type 0} → (T → Told) → Result T Refusal → Told
+told_by tells (Ok given) = tells given
+told_by tells (Err reason) = told.Refused reason
+
 -- what is told of the reply to a call for the status that was waited for: the status without its decks
 abbrev pub told_of_wait : Reply → Told
-told_of_wait (StatusIs version published rows) = told.Standing version published
-told_of_wait (Refused reason) = told.Refused (desk_reason reason)
-told_of_wait _ = foreign
+told_of_wait reply = told_by (λ (status : Status). told.Standing status.version status.published) (status_in reply)
 
 -- what is told of a status to who greets; no more sessions than may be connected
 abbrev pub told_of_sessions : Reply → List Connected → Told
-told_of_sessions (StatusIs version published rows) sessions = if nat_le (length sessions) most_sessions then told.Sessions version sessions else foreign
-told_of_sessions (Refused reason) sessions = told.Refused (desk_reason reason)
-told_of_sessions _ sessions = foreign
+told_of_sessions reply sessions = told_by (λ (status : Status). if nat_le (length sessions) most_sessions then told.Sessions status.version sessions else foreign) (status_in reply)
 
 -- what is told of the answer to who greets
 abbrev pub told_of_greeting : Greeting → Told
@@ -86,9 +90,7 @@ told_of_greeting greeting = told_of_sessions greeting.status greeting.sessions
 
 -- what is told of a status to who asks for what may be asked
 abbrev pub told_of_help : Reply → Told
-told_of_help (StatusIs version published rows) = told.Help version
-told_of_help (Refused reason) = told.Refused (desk_reason reason)
-told_of_help _ = foreign
+told_of_help reply = told_by (λ (status : Status). told.Help status.version) (status_in reply)
 
 -- what is told of the reply to a call for the cards of a deck, of which this is shown; no more than a deck may have
 abbrev pub told_of_cards : CardsView → Reply → Told
@@ -120,21 +122,15 @@ IsToldAt reply what = (what ≡ told_of_cards_at reply) ⊎ (IsTrue (has_backs r
 
 -- what is told of the reply to a call for the publication, of which this text is shown
 abbrev pub told_of_publication : PublishedText → Reply → Told
-told_of_publication text (Shown publication) = told.Published publication text
-told_of_publication text (Refused reason) = told.Refused (desk_reason reason)
-told_of_publication text _ = foreign
+told_of_publication text reply = told_by (λ (publication : Publication). told.Published publication text) (shown_in reply)
 
 -- what is told of the reply to a call for the publication, of which this text of the deck of a name is shown
 abbrev pub told_of_part : DeckText → List ℕ → Reply → Told
-told_of_part text name (Shown publication) = told.Part publication text name
-told_of_part text name (Refused reason) = told.Refused (desk_reason reason)
-told_of_part text name _ = foreign
+told_of_part text name reply = told_by (λ (publication : Publication). told.Part publication text name) (shown_in reply)
 
 -- what is told of the reply to a call for the publication, of which the flagged statements and LINK lines are shown; no more decks than a desk may have
 abbrev pub told_of_errors : ErrorsView → Reply → Told
-told_of_errors view (Shown publication) = if nat_le (length publication.decks) most_decks then told.Errors publication view else foreign
-told_of_errors view (Refused reason) = told.Refused (desk_reason reason)
-told_of_errors view _ = foreign
+told_of_errors view reply = told_by (λ (publication : Publication). if nat_le (length publication.decks) most_decks then told.Errors publication view else foreign) (shown_in reply)
 
 -- a first line, and what follows it
 abbrev pub with_body : List ℕ → List ℕ → List ℕ

@@ -11,6 +11,7 @@ pub mod Tasks
 pub mod Rights
 pub mod Taking
 pub mod Reasons
+pub mod Replied
 pub mod Messages
 pub mod Answers
 pub mod Asking

@@ -1,14 +1,15 @@
 -- What is told of a publication that no definition fixes whole (ours): what is said of the flagged statements of a deck, and symbols. Of a flagged statement there is a line for each letter. Which of the statement's cards it is about, in which column, and the words are those of `card_messages`; no definition fixes them.
-use Rattle.std.specs.Prelude.{ℕ, ◌≡◌, ◌+◌, ◌≤◌, ◌&&◌, ◌⊎◌, List, [], ◌∷◌, ◌++◌, Option, Some, None, codes, decimal, flat_map, map, nat_le, if◌then◌else◌}
+use Rattle.std.specs.Prelude.{ℕ, ◌≡◌, ◌+◌, ◌≤◌, ◌&&◌, ◌⊎◌, List, [], ◌∷◌, ◌++◌, Option, Some, None, Result, Ok, Err, codes, decimal, flat_map, map, nat_le, if◌then◌else◌}
 use Rattle.definitions.specs.Characters.{line_feed}
 use Rattle.definitions.specs.DeckInput.{Deck}
+use Rattle.desk_core.specs.Desks.{Publication}
 use Rattle.desk_core.specs.declared.replies.Reply.{Reply}
-use Rattle.desk_core.specs.declared.replies.Reply.TheVariants.{Shown, Refused}
 use Rattle.session_line.specs.Errors.{Flag, Flagged, Begins, deck_named, flags_of}
-use Rattle.session_line.specs.Reasons.{desk_reason}
+use Rattle.session_line.specs.Replied.{shown_in}
 use Rattle.session_line.specs.Replies.{line_of}
 use Rattle.session_line.specs.declared.answers.Told.{Told}
 use Rattle.session_line.specs.declared.answers.Told.TheVariants as told
+use Rattle.session_commands.specs.declared.refusals.Refusal.{Refusal}
 use Rattle.session_commands.specs.declared.refusals.Refusal.TheVariants as refusal
 
 -- a letter of a flagged statement, with the number of that statement's first card
@@ -75,11 +76,14 @@ abbrev pub IsSaidOf : ℕ → Option Deck → Told → Type 0
 IsSaidOf version (Some deck) what = IsSaid version deck what
 IsSaidOf version None what = what ≡ told.Refused refusal.NoDeck
 
+-- what is told of the publication that a reply shows; or why it shows none
+abbrev pub IsToldBy : (Publication → Told → Type 0) → Result Publication Refusal → Told → Type 0
+IsToldBy telling (Ok publication) what = telling publication what
+IsToldBy telling (Err reason) what = what ≡ told.Refused reason
+
 -- what is told of the reply to a call for the publication, of whose deck of this name it is asked what is said
 abbrev pub IsToldWords : List ℕ → Reply → Told → Type 0
-IsToldWords name (Shown publication) what = IsSaidOf publication.version (deck_named name publication.decks) what
-IsToldWords name (Refused reason) what = what ≡ told.Refused (desk_reason reason)
-IsToldWords name _ what = what ≡ told.Refused refusal.Foreign
+IsToldWords name reply what = IsToldBy (λ publication. IsSaidOf publication.version (deck_named name publication.decks)) (shown_in reply) what
 
 -- a text whose last line has its line feed
 pub record EndsLine (lines : List ℕ) : Type 0 where
@@ -103,12 +107,8 @@ IsLinesOf version None what = what ≡ told.Refused refusal.NoDeck
 
 -- what is told of the reply to a call for the publication, of whose deck of this name the symbols are asked for
 abbrev pub IsToldSymbols : List ℕ → Reply → Told → Type 0
-IsToldSymbols name (Shown publication) what = IsLinesOf publication.version (deck_named name publication.decks) what
-IsToldSymbols name (Refused reason) what = what ≡ told.Refused (desk_reason reason)
-IsToldSymbols name _ what = what ≡ told.Refused refusal.Foreign
+IsToldSymbols name reply what = IsToldBy (λ publication. IsLinesOf publication.version (deck_named name publication.decks)) (shown_in reply) what
 
 -- and of whose decks the names are asked for that they enter or have as externals
 abbrev pub IsToldNames : Reply → Told → Type 0
-IsToldNames (Shown publication) what = IsLines publication.version what
-IsToldNames (Refused reason) what = what ≡ told.Refused (desk_reason reason)
-IsToldNames _ what = what ≡ told.Refused refusal.Foreign
+IsToldNames reply what = IsToldBy (λ publication. IsLines publication.version) (shown_in reply) what

@@ -9,15 +9,15 @@ use Rattle.deck_files.specs.ShelfRelations.{ShelfRelations}
 use Rattle.desk_core.specs.declared.calls.Call.{Call}
 use Rattle.desk_core.specs.declared.calls.Call.TheVariants.{PutDeck, Status}
 use Rattle.desk_core.specs.declared.replies.Reply.{Reply}
-use Rattle.desk_core.specs.declared.replies.Reply.TheVariants.{StatusIs, Refused}
 use Rattle.desk_core.specs.declared.replies.Row.{Row}
 use Rattle.session_commands.specs.declared.refusals.Refusal.{Refusal}
-use Rattle.session_commands.specs.declared.refusals.Refusal.TheVariants.{Foreign, NoDeck}
+use Rattle.session_commands.specs.declared.refusals.Refusal.TheVariants.{NoDeck}
 use Rattle.session_line.specs.declared.answers.Told.TheVariants as told
 use Rattle.session_line.specs.declared.answers.Answer.{Answer}
 use Rattle.session_line.specs.Answers.{called, told_of_call, uncalled}
 use Rattle.session_line.specs.Asking.{Asks, NotesTold, ShelfLoads}
-use Rattle.session_line.specs.Reasons.{desk_reason, load_reason}
+use Rattle.session_line.specs.Reasons.{load_reason}
+use Rattle.session_line.specs.Replied.{status_in}
 
 -- the version of a deck, if there is one
 abbrev pub version_of_row : Option Row → Result ℕ Refusal
@@ -30,9 +30,10 @@ version_in name rows = version_of_row (find (λ (row : Row). same_text row.name 
 
 -- the version of the deck of a name that is told, or why none is
 abbrev pub version_told : List ℕ → Reply → Result ℕ Refusal
-version_told name (StatusIs version published rows) = version_in name rows
-version_told name (Refused reason) = Err (desk_reason reason)
-version_told name _ = Err Foreign
+version_told name reply = elim (status_in reply) [
+  | Ok status ↦ version_in name status.rows
+  | Err reason ↦ Err reason
+]
 
 module _ {C : Type 0} (makes : C → Call → Reply → C → Type 0) where
   -- a deck is put by a version; without one nothing more is called, and the reason is told

@@ -15,6 +15,7 @@ use crate::marked_rows::MarkedRow;
 use crate::messages::{object_named, told_of_messages};
 use crate::published_texts::{DeckText, PublishedText, shown_part};
 use crate::reasons::desk_reason;
+use crate::replied::{shown_in, status_in};
 use crate::symbol_lines::{told_of_deck_symbols, told_of_entered};
 use crate::told_decks::ToldDeck;
 use crate::views::cards_from;
@@ -95,8 +96,15 @@ pub(crate) fn told_of_call(reply: Reply) -> Told
     ensures fits { IsTellable result }
 {
     match reply {
-        Reply::Changed(made) => Told::Done(made.version()),
-        Reply::Carried { version, .. } => Told::Done(version),
+        Reply::Changed(made) => {
+            let version = made.version();
+            drop(made);
+            Told::Done(version)
+        }
+        Reply::Carried { version, edits, .. } => {
+            drop(edits);
+            Told::Done(version)
+        }
         Reply::Unkept(version) => Told::Unkept(version),
         Reply::ChangesAre(version, kept) => {
             if kept.as_slice().len() <= MOST_KEPT {
@@ -113,7 +121,10 @@ pub(crate) fn told_of_call(reply: Reply) -> Told
             }
         }
         Reply::Refused(refusal) => Told::Refused(desk_reason(refusal)),
-        _ => foreign(),
+        other => {
+            drop(other);
+            foreign()
+        }
     }
 }
 
@@ -122,10 +133,9 @@ pub(crate) fn told_of_wait(reply: Reply) -> Told
     ensures told { result ≡ told_of_wait reply }
     ensures fits { IsTellable result }
 {
-    match reply {
-        Reply::StatusIs(version, published, _) => Told::Standing(version, published),
-        Reply::Refused(refusal) => Told::Refused(desk_reason(refusal)),
-        _ => foreign(),
+    match status_in(reply) {
+        Ok(status) => Told::Standing(status.version, status.published),
+        Err(refusal) => Told::Refused(refusal),
     }
 }
 
@@ -143,16 +153,15 @@ fn told_of_sessions(status: Reply, sessions: Listed<Connected>) -> Told
     ensures told { result ≡ told_of_sessions status sessions }
     ensures fits { IsTellable result }
 {
-    match status {
-        Reply::StatusIs(version, _, _) => {
+    match status_in(status) {
+        Ok(status) => {
             if sessions.as_slice().len() <= MOST_SESSIONS {
-                Told::Sessions(version, sessions)
+                Told::Sessions(status.version, sessions)
             } else {
                 foreign()
             }
         }
-        Reply::Refused(refusal) => Told::Refused(desk_reason(refusal)),
-        _ => foreign(),
+        Err(refusal) => Told::Refused(refusal),
     }
 }
 
@@ -161,10 +170,9 @@ pub(crate) fn told_of_help(reply: Reply) -> Told
     ensures told { result ≡ told_of_help reply }
     ensures fits { IsTellable result }
 {
-    match reply {
-        Reply::StatusIs(version, _, _) => Told::Help(version),
-        Reply::Refused(refusal) => Told::Refused(desk_reason(refusal)),
-        _ => foreign(),
+    match status_in(reply) {
+        Ok(status) => Told::Help(status.version),
+        Err(refusal) => Told::Refused(refusal),
     }
 }
 
@@ -176,7 +184,10 @@ pub(crate) fn told_of_cards(view: CardsView, reply: Reply) -> Told
     match reply {
         Reply::CardsAre(version, cards) => told_of_list(version, cards.into_items(), view),
         Reply::Refused(refusal) => Told::Refused(desk_reason(refusal)),
-        _ => foreign(),
+        other => {
+            drop(other);
+            foreign()
+        }
     }
 }
 
@@ -217,7 +228,10 @@ pub(crate) fn told_of_cards_at(alloc: Global, reply: Reply) -> Told
             told_of_backs(alloc, version, backs.as_slice(), &cards.into_items())
         }
         Reply::Refused(refusal) => Told::Refused(desk_reason(refusal)),
-        _ => foreign(),
+        other => {
+            drop(other);
+            foreign()
+        }
     }
 }
 
@@ -226,10 +240,9 @@ pub(crate) fn told_of_publication(text: PublishedText, reply: Reply) -> Told
     ensures told { result ≡ told_of_publication text reply }
     ensures fits { IsTellable result }
 {
-    match reply {
-        Reply::Shown(publication) => Told::Published(publication, text),
-        Reply::Refused(refusal) => Told::Refused(desk_reason(refusal)),
-        _ => foreign(),
+    match shown_in(reply) {
+        Ok(publication) => Told::Published(publication, text),
+        Err(refusal) => Told::Refused(refusal),
     }
 }
 
@@ -239,10 +252,9 @@ pub(crate) fn told_of_part(text: DeckText, name: DeckName, reply: Reply) -> Told
     ensures told { result ≡ told_of_part text name reply }
     ensures fits { IsTellable result }
 {
-    match reply {
-        Reply::Shown(publication) => Told::Part(publication, text, name),
-        Reply::Refused(refusal) => Told::Refused(desk_reason(refusal)),
-        _ => foreign(),
+    match shown_in(reply) {
+        Ok(publication) => Told::Part(publication, text, name),
+        Err(refusal) => Told::Refused(refusal),
     }
 }
 
@@ -252,16 +264,15 @@ pub(crate) fn told_of_errors(view: ErrorsView, reply: Reply) -> Told
     ensures told { result ≡ told_of_errors view reply }
     ensures fits { IsTellable result }
 {
-    match reply {
-        Reply::Shown(publication) => {
+    match shown_in(reply) {
+        Ok(publication) => {
             if publication.publication().objects().len() <= MOST_DECKS {
                 Told::Errors(publication, view)
             } else {
                 foreign()
             }
         }
-        Reply::Refused(refusal) => Told::Refused(desk_reason(refusal)),
-        _ => foreign(),
+        Err(refusal) => Told::Refused(refusal),
     }
 }
 
@@ -287,10 +298,9 @@ pub(crate) fn told_of_words(alloc: Global, keys: RandomState, name: &DeckName, r
     ensures told { IsToldWords name.now reply result }
     ensures fits { IsTellable result }
 {
-    match reply {
-        Reply::Shown(publication) => told_of_words_in(alloc, keys, publication.publication(), name),
-        Reply::Refused(refusal) => Told::Refused(desk_reason(refusal)),
-        _ => foreign(),
+    match shown_in(reply) {
+        Ok(publication) => told_of_words_in(alloc, keys, publication.publication(), name),
+        Err(refusal) => Told::Refused(refusal),
     }
 }
 
@@ -326,15 +336,9 @@ pub(crate) fn told_of_symbols(
     ensures told { IsToldSymbols name.now reply result }
     ensures fits { IsTellable result }
 {
-    match reply {
-        Reply::Shown(publication) => told_of_symbols_in(
-            alloc,
-            keys,
-            publication.publication(),
-            name,
-        ),
-        Reply::Refused(refusal) => Told::Refused(desk_reason(refusal)),
-        _ => foreign(),
+    match shown_in(reply) {
+        Ok(publication) => told_of_symbols_in(alloc, keys, publication.publication(), name),
+        Err(refusal) => Told::Refused(refusal),
     }
 }
 
@@ -344,13 +348,12 @@ pub(crate) fn told_of_names(alloc: Global, reply: Reply) -> Told
     ensures told { IsToldNames reply result }
     ensures fits { IsTellable result }
 {
-    match reply {
-        Reply::Shown(shared) => {
+    match shown_in(reply) {
+        Ok(shared) => {
             let publication = shared.publication();
             told_of_entered(alloc, publication.version(), publication.objects())
         }
-        Reply::Refused(refusal) => Told::Refused(desk_reason(refusal)),
-        _ => foreign(),
+        Err(refusal) => Told::Refused(refusal),
     }
 }
 

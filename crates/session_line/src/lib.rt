@@ -52,6 +52,7 @@ mod file_tasks;
 mod loading_all;
 mod reasons;
 mod reloading;
+mod replied;
 mod saving_all;
 mod serving;
 mod taken_lines;

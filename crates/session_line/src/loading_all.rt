@@ -46,9 +46,11 @@ fn add_deck<C: Calls>(desk: &mut C, deck: Deck) -> ToldDeck
     let (name, cards) = deck.into_parts();
     let added = name.copied();
     let told = told_of_call(desk.call(Call::AddDeck(NewDeck::new(name, cards))));
+    let outcome = outcome_of(&told);
+    drop(told);
     ToldDeck {
         name: added,
-        outcome: outcome_of(&told),
+        outcome,
     }
 }
 

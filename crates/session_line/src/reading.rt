@@ -69,11 +69,21 @@ pub(crate) fn read_behind<R: Read>(
     let command = read_command(first);
     let count = lines_due(&command);
     if is_put(&command) {
-        let cards = read_items(alloc, input, count)?;
-        return Ok(put_by(command, cards));
+        return match read_items(alloc, input, count) {
+            Ok(cards) => Ok(put_by(command, cards)),
+            Err(stop) => {
+                drop(command);
+                Err(stop)
+            }
+        };
     }
-    let edits = read_items(alloc, input, count)?;
-    Ok(task_by(alloc, command, edits))
+    match read_items(alloc, input, count) {
+        Ok(edits) => Ok(task_by(alloc, command, edits)),
+        Err(stop) => {
+            drop(command);
+            Err(stop)
+        }
+    }
 }
 
 /// Reads one command whole. No line is looked at before all are read.

@@ -9,7 +9,8 @@ ghost use Rattle.session_line.specs.Reloading.{PutsOver, ReloadsDeck, version_in
 use crate::answers::{Answer, Told};
 use crate::calls::Calls;
 use crate::executing::{ask, called, note_told, uncalled};
-use crate::reasons::{desk_reason, load_reason};
+use crate::reasons::load_reason;
+use crate::replied::status_in;
 use cards::{Card, DeckName};
 use deck_files::Shelf;
 use definitions::is_same_text;
@@ -38,10 +39,9 @@ fn version_in(name: &DeckName, rows: &[Row]) -> Result<u64, Refusal>
 fn version_told(name: &DeckName, reply: Reply) -> Result<u64, Refusal>
     ensures { result ≡ version_told name.now reply }
 {
-    match reply {
-        Reply::StatusIs(_, _, rows) => version_in(name, rows.as_slice()),
-        Reply::Refused(refusal) => Err(desk_reason(refusal)),
-        _ => Err(Refusal::Foreign),
+    match status_in(reply) {
+        Ok(status) => version_in(name, status.rows.as_slice()),
+        Err(refusal) => Err(refusal),
     }
 }
 

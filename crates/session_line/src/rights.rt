@@ -44,7 +44,10 @@ pub(crate) fn allowed(rights: Rights, task: Task) -> Task
     ensures { result ≡ allowed rights task }
 {
     match rights {
-        Rights::Reads if changes(&task) => Task::Refuse(Refusal::ReadOnly),
+        Rights::Reads if changes(&task) => {
+            drop(task);
+            Task::Refuse(Refusal::ReadOnly)
+        }
         _ => task,
     }
 }

@@ -20,9 +20,11 @@ fn save_row<C: Calls, S: Shelf>(desk: &mut C, shelf: &mut S, row: &Row) -> Optio
         return None;
     }
     let answer = save_deck(desk, shelf, &row.name, SaveOver::Known);
+    let outcome = outcome_of(&answer.told);
+    drop(answer);
     Some(ToldDeck {
         name: row.name.copied(),
-        outcome: outcome_of(&answer.told),
+        outcome,
     })
 }
 

@@ -34,7 +34,9 @@ pub fn serve_taken<R: Read, W: Write, C: Calls, S: Shelf>(
     match read_behind(alloc, first, input) {
         Ok(task) => {
             let answer = execute(alloc, keys, desk, shelf, allowed(rights, task));
-            send(output, &answer)
+            let outcome = send(output, &answer);
+            drop(answer);
+            outcome
         }
         Err(Stop::InputEnded) => Outcome::Ended,
         Err(Stop::InputFailed) => Outcome::ReadFault,

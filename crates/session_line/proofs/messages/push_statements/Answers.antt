@@ -1,4 +1,4 @@
-use Rattle.std.proofs.Common.{◌+◌, List, ap, drop, length, subst, arith, ◌∙◌}
+use Rattle.std.proofs.Common.{◌+◌, List, drop, length, subst, arith, ◌∙◌}
 use Rattle.std.specs.Prelude.{flat_map}
 use Rattle.session_line.specs.Joins.FlagWalks.{flags_in}
 use Rattle.session_line.specs.Joins.MessageWalks.{told_letters}

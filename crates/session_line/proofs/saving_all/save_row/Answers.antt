@@ -17,4 +17,4 @@ returns g c =
     let Q : DeckOutcome → Type 0 =
     λ (outcome : DeckOutcome). SavesRow g.C.Calls.relations.makes g.S.Shelf.relations c.args.row.now c.args.desk.now c.save_deck-answer.new.desk c.args.shelf.now
     c.save_deck-answer.new.shelf (Some (record { name = c.copied.result; outcome = outcome })) in
-    subst Q (sym c.outcome_of.ensures) (subst P (sym c.copied.ensures) (unsaved c.is_saved.new.self c.save_deck-answer.result c.if-is_saved.ensures c.save_deck-answer.ensures.saves))
+    subst Q (sym c.outcome_of-outcome.ensures) (subst P (sym c.copied.ensures) (unsaved c.is_saved.new.self c.save_deck-answer.result c.if-is_saved.ensures c.save_deck-answer.ensures.saves))

@@ -1,0 +1,13 @@
+use Rattle.std.proofs.Common.{Result, sym, subst, ◌∙◌}
+use Rattle.desk_core.specs.Desks.{Publication}
+use Rattle.session_commands.specs.declared.refusals.Refusal.{Refusal}
+use Rattle.session_line.specs.Errors.{deck_named}
+use Rattle.session_line.specs.Messages.{IsLinesOf, IsToldBy}
+use Rattle.session_line.proofs.answers.told_of_symbols.Goals as goal
+
+-- the publication is shown
+pub returns-in-Ok-clause-told : goal.returns-in-Ok-clause-told
+returns-in-Ok-clause-told c =
+    let P : Result Publication Refusal → Type 0 = λ (given : Result Publication Refusal). IsToldBy (λ publication. IsLinesOf publication.version (deck_named c.args.name.now publication.decks)) given c.told_of_symbols_in.result in
+    let Q : Publication → Type 0 = λ (publication : Publication). IsLinesOf publication.version (deck_named c.args.name.now publication.decks) c.told_of_symbols_in.result in
+    subst P (sym c.in-Ok.is ∙ c.shown_in.ensures) (subst Q (sym c.publication-in-Ok.ensures) c.told_of_symbols_in.ensures.told)
