@@ -2,12 +2,12 @@
 //!
 //! `serve_all`: the session without a fault; `fail_reads`, `fail_writes`: with how many it ended as wanted.
 
-use crate::place::{push_outcome, serve};
+use crate::place::{push_outcome, put_file, serve_up_to};
 use deck_files::MemoryShelf;
 use desk_core::Desk;
 use session_line::Outcome;
 use std::alloc::{AllocError, Global};
-use test_parts::{Answer, Failing, fixed_keys, name_of};
+use test_parts::{Answer, Failing, fixed_keys};
 use text_ports::{Counted, FaultyWriter};
 
 /// Makes a step of this word, if it is one of this session, and answers whether it is.
@@ -58,8 +58,13 @@ fn all(alloc: Global, is_replies: bool) -> Result<String, AllocError> {
 /// A shelf with a deck N of one card.
 fn shelf_with_n(alloc: Global) -> Result<MemoryShelf, AllocError> {
     let mut shelf = MemoryShelf::new(alloc);
-    shelf.put(&name_of("N")?, b"*D\n".to_vec(alloc)?)?;
-    Ok(shelf)
+    match put_file(alloc, &mut shelf, "N", b"*D\n") {
+        Ok(()) => Ok(shelf),
+        Err(error) => {
+            drop(shelf);
+            Err(error)
+        }
+    }
 }
 
 /// What is left of a session: its outcome, what went out, and the desk's version.
@@ -79,16 +84,15 @@ fn serve_failing(alloc: Global, lines: &str, read: u64, write: u64) -> Result<Le
     let failing = Failing { piece, read, write };
     let mut input = Counted::new(failing.reader(lines.as_bytes()));
     let mut output = failing.writer(alloc);
-    let mut outcome = Outcome::Served;
-    for _ in &ROWS {
-        if outcome == Outcome::Served {
-            outcome = serve(alloc, &mut input, &mut output, &mut desk, &mut shelf);
-        }
-    }
+    let most = ROWS.len();
+    let outcome = serve_up_to(alloc, &mut input, &mut output, &mut desk, &mut shelf, most);
+    let version = desk.version();
+    drop(desk);
+    drop(shelf);
     Ok(Left {
         outcome,
         writer: output.into_inner(),
-        version: desk.version(),
+        version,
     })
 }
 

@@ -50,7 +50,7 @@ impl Jobs {
             "claim" => self.claim(desk, answer),
             "deliver" => self.deliver(desk, answer),
             "settle" => self.settle(desk, number(rest), answer),
-            "image" => push_image(answer, &ask(desk, Call::Show)),
+            "image" => push_image(desk, answer),
             "meter" => push_pair(answer, self.meter.sized(), self.meter.coded()),
             "lost" => push_lost(self.alloc, self.keys, answer),
             "giveup" | "result" | "link" | "offer" | "publish" | "batch" => {
@@ -67,19 +67,20 @@ impl Jobs {
     fn claim(&mut self, desk: &mut Desk, answer: &mut Answer) {
         let reply = ask(desk, Call::Claim);
         push_reply(answer, &reply);
-        if let Some(job) = job_in(reply) {
-            self.out = Some(job);
+        match job_in(reply) {
+            Some(job) => drop(self.out.replace(job)),
+            None => {}
         }
     }
 
     /// Runs the job that is out, and hands in what it makes.
     fn deliver(&mut self, desk: &mut Desk, answer: &mut Answer) {
-        if let Some(job) = self.out.take() {
-            hand_in(
-                desk,
-                run(self.alloc, self.keys, job, &mut self.meter),
-                answer,
-            );
+        match self.out.take() {
+            Some(job) => {
+                let made = run(self.alloc, self.keys, job, &mut self.meter);
+                hand_in(desk, made, answer);
+            }
+            None => {}
         }
     }
 
@@ -110,7 +111,7 @@ fn make_call(
     answer: &mut Answer,
 ) -> Result<(), AllocError> {
     let call = call_of(alloc, word, rest)?;
-    push_reply(answer, &ask(desk, call));
+    push_asked(desk, call, answer);
     Ok(())
 }
 
@@ -126,6 +127,13 @@ pub fn ask<C: Calls>(desk: &mut C, call: Call) -> Reply {
     desk.call(call)
 }
 
+/// Asks a desk, and tells what it answers.
+fn push_asked(desk: &mut Desk, call: Call, answer: &mut Answer) {
+    let reply = ask(desk, call);
+    push_reply(answer, &reply);
+    drop(reply);
+}
+
 /// Runs a job, in the same way.
 fn run(alloc: Global, keys: RandomState, job: Job, meter: &mut Meter) -> Made {
     job.run(alloc, keys, meter)
@@ -134,7 +142,7 @@ fn run(alloc: Global, keys: RandomState, job: Job, meter: &mut Meter) -> Made {
 /// Hands in what was made of a job.
 fn hand_in(desk: &mut Desk, made: Made, answer: &mut Answer) {
     push_whether_lost(answer, &made);
-    push_reply(answer, &ask(desk, made.into_call()));
+    push_asked(desk, made.into_call(), answer);
 }
 
 fn push_whether_lost(answer: &mut Answer, made: &Made) {
@@ -168,12 +176,14 @@ fn push_publication(answer: &mut Answer, publication: &ListedPublication) {
     }
 }
 
-/// A reply that shows a publication.
-fn push_image(answer: &mut Answer, reply: &Reply) {
-    match reply {
+/// The publication that a desk shows.
+fn push_image(desk: &mut Desk, answer: &mut Answer) {
+    let reply = ask(desk, Call::Show);
+    match &reply {
         Reply::Shown(shown) => push_publication(answer, shown.publication()),
         other => push_reply(answer, other),
     }
+    drop(reply);
 }
 
 /// A reply of the desk.
@@ -194,28 +204,17 @@ pub fn push_reply(answer: &mut Answer, reply: &Reply) {
     }
 }
 
-/// The version and the cards in a reply, if it has cards.
-fn cards_in(reply: Reply) -> Option<(u64, Vec<Card>)> {
-    match reply {
-        Reply::CardsAre(version, cards) => Some((version, cards.into_items())),
-        _ => None,
-    }
-}
-
-/// What a reply tells that has no cards.
-fn push_without_cards(answer: &mut Answer, reply: &Reply) {
-    match reply {
-        Reply::CardsAre(..) => {}
-        other => push_reply(answer, other),
-    }
-}
-
 /// A reply to a call for the cards of a deck.
 pub fn push_told(answer: &mut Answer, reply: Reply) {
-    push_without_cards(answer, &reply);
-    if let Some((version, cards)) = cards_in(reply) {
-        answer.number("cards ", version);
-        push_cards(answer, &cards);
+    match reply {
+        Reply::CardsAre(version, cards) => {
+            answer.number("cards ", version);
+            push_cards(answer, &cards.into_items());
+        }
+        other => {
+            push_reply(answer, &other);
+            drop(other);
+        }
     }
 }
 
@@ -293,14 +292,19 @@ fn result_of(alloc: Global, text: &str) -> Result<Call, AllocError> {
     let (version, rest) = cut_number(rest);
     let (record, object) = cut(rest);
     let kept = held_of(alloc, record)?;
-    let object = listed_of(alloc, object)?;
-    Ok(Call::DeliverDeck(Done {
-        lease,
-        deck,
-        version,
-        kept,
-        object,
-    }))
+    match listed_of(alloc, object) {
+        Ok(object) => Ok(Call::DeliverDeck(Done {
+            lease,
+            deck,
+            version,
+            kept,
+            object,
+        })),
+        Err(error) => {
+            drop(kept);
+            Err(error)
+        }
+    }
 }
 
 /// The objects of decks of these cards, one each.
@@ -391,7 +395,9 @@ fn push_lost(alloc: Global, keys: RandomState, answer: &mut Answer) {
     match job_that_does_not_apply(alloc) {
         Ok(job) => {
             let mut meter = work_meter::begin();
-            push_made(answer, &run(alloc, keys, job, &mut meter));
+            let made = run(alloc, keys, job, &mut meter);
+            push_made(answer, &made);
+            drop(made);
         }
         Err(error) => answer.keep(Err(error)),
     }

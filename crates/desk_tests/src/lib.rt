@@ -29,7 +29,7 @@ use std::rt::Files;
 use std::sync::Wait;
 use std::thread::Threads;
 use std::time::Clock;
-pub use sweeps::{Ended, run_chosen};
+pub use sweeps::{Ended, run_chosen, text_of};
 use test_parts::Answer;
 
 /// Makes a step that stands in no place, and answers whether there is one of this word.

@@ -21,13 +21,15 @@ pub fn make(word: &str, rest: &str, answer: &mut Answer) -> bool {
 
 /// What a line asks for, or its refusal.
 fn push_line(answer: &mut Answer, line: &str) {
-    match &read_command(line.as_bytes()) {
+    let command = read_command(line.as_bytes());
+    match &command {
         Ok(command) => push_change(answer, command),
         Err(Refusal::UnknownCommand(word)) => {
             push_named(answer, "UnknownCommand ", word.as_slice());
         }
         Err(refusal) => answer.debug(refusal),
     }
+    drop(command);
 }
 
 /// What a line of a batch asks for, or its refusal.

@@ -123,14 +123,21 @@ fn add_from_all<R: Threads + Wait + Sync>(
     thread::map_vec(rt, seats, &|seat| add_ones(rt, office, seat, CALLS))
 }
 
-/// An office over a sum, and its seats.
-fn open(alloc: Global, total: u64, seats: usize) -> Result<(Office<Sum>, SeatList<Sum>), AllocError>
+/// An office over an object, and its seats.
+pub fn open<T: Sequential + Drop>(
+    alloc: Global,
+    object: T,
+    seats: usize,
+) -> Result<(Office<T>, SeatList<T>), AllocError>
     requires { (1 ≤ seats) × (seats ≤ 64) }
     ensures { IfOk result (λ opened. AreOf opened.0.id opened.1.items) }
 {
-    match Office::open(alloc, Sum { total }, seats) {
+    match Office::open(alloc, object, seats) {
         Ok(opened) => Ok(opened),
-        Err(_) => Err(AllocError),
+        Err(failed) => {
+            drop(failed);
+            Err(AllocError)
+        }
     }
 }
 
@@ -141,7 +148,7 @@ fn meet<R: AllocGlobal + Wait>(
     amount: u64,
     answer: &mut Answer,
 ) -> Result<(), AllocError> {
-    let (office, mut seats) = open(rt.alloc(), total, 2)?;
+    let (office, mut seats) = open(rt.alloc(), Sum { total }, 2)?;
     let (Some(mut second), Some(mut first)) = (seats.pop(), seats.pop()) else {
         return Err(AllocError);
     };
@@ -157,8 +164,14 @@ fn close<T: Told + Drop>(office: Office<T>, seats: SeatList<T>, answer: &mut Ans
     requires { AreOf office.id seats.items }
 {
     match office.close(seats) {
-        Ok(object) => object.tell(answer),
-        Err(_) => answer.push(", not closed"),
+        Ok(object) => {
+            object.tell(answer);
+            drop(object);
+        }
+        Err(fault) => {
+            drop(fault);
+            answer.push(", not closed");
+        }
     }
 }
 
@@ -189,12 +202,18 @@ fn close_without<T: Told + Drop>(
     requires last { last.office ≡ office.id }
 {
     match office.close(seats) {
-        Ok(_) => Ok(()),
+        Ok(object) => {
+            drop(object);
+            Ok(())
+        }
         Err(CloseFault::SeatsOut { office, seats }) => {
             answer.number(", not closed with ", seats.len() as u64);
             close_with(office, seats, last, answer)
         }
-        Err(CloseFault::OutOfMemory { .. }) => Err(AllocError),
+        Err(fault) => {
+            drop(fault);
+            Err(AllocError)
+        }
     }
 }
 
@@ -205,7 +224,7 @@ fn close_twice<R: AllocGlobal + Wait>(
     amount: u64,
     answer: &mut Answer,
 ) -> Result<(), AllocError> {
-    let (office, mut seats) = open(rt.alloc(), total, 2)?;
+    let (office, mut seats) = open(rt.alloc(), Sum { total }, 2)?;
     let Some(mut second) = seats.pop() else {
         return Err(AllocError);
     };
@@ -218,7 +237,7 @@ fn add_in_threads<R: AllocGlobal + Threads + Wait + Sync>(
     rt: &R,
     answer: &mut Answer,
 ) -> Result<(), AllocError> {
-    let (office, seats) = open(rt.alloc(), 0, 8)?;
+    let (office, seats) = open(rt.alloc(), Sum { total: 0 }, 8)?;
     let seats = add_from_all(rt, &office, seats)?;
     answer.debug(&(size_of::<Seat<Sum>>() == size_of::<usize>()));
     close(office, seats, answer);
@@ -260,7 +279,9 @@ fn add_and_show<R: Wait>(
     ensures same { (first.new.office ≡ first.old.office) × (second.new.office ≡ second.old.office) }
 {
     let call = addition(answer.alloc, "M", "*A")?;
-    push_reply(answer, &ask_from(rt, office, first, call));
+    let reply = ask_from(rt, office, first, call);
+    push_reply(answer, &reply);
+    drop(reply);
     answer.push(", ");
     second.meet(rt, office, first)?;
     show_cards(rt, office, second, answer)
@@ -271,9 +292,7 @@ fn open_desk(alloc: Global) -> Result<(Office<Desk>, Seat<Desk>, Seat<Desk>), Al
     ensures { IfOk result (λ r. (r.1.office ≡ r.0.id) × (r.2.office ≡ r.0.id)) }
 {
     let desk = Desk::new(alloc, fixed_keys()?);
-    let Ok((office, mut seats)) = Office::open(alloc, desk, 2) else {
-        return Err(AllocError);
-    };
+    let (office, mut seats) = open(alloc, desk, 2)?;
     match (seats.pop(), seats.pop()) {
         (Some(second), Some(first)) => Ok((office, first, second)),
         _ => Err(AllocError),
@@ -319,6 +338,7 @@ fn serve_seated<R: Wait>(
         serve_ports(&mut desk, &mut shelf, line, Failing::never(1), answer);
     }
     answer.number("seat ", desk.into_seat().number() as u64);
+    drop(shelf);
 }
 
 fn say_all<R: AllocGlobal + Wait>(
@@ -328,5 +348,6 @@ fn say_all<R: AllocGlobal + Wait>(
 ) -> Result<(), AllocError> {
     let (office, _, seat) = open_desk(rt.alloc())?;
     serve_seated(rt, &office, seat, lines, answer);
+    drop(office);
     Ok(())
 }

@@ -20,7 +20,7 @@ use test_parts::{Answer, Failing, cut_number, fixed_keys, name_of};
 use text_ports::Counted;
 
 /// How many commands a session has at most.
-const MOST_COMMANDS: u64 = 20;
+const MOST_COMMANDS: usize = 20;
 
 /// A desk, a shelf and a file, and the job that is out.
 #[derive(Drop)]
@@ -136,22 +136,12 @@ impl Place {
         &mut self,
         input: &mut Counted<R>,
         failing: Failing,
-        most: u64,
+        most: usize,
         answer: &mut Answer,
     ) {
         let mut output = failing.writer(self.alloc);
-        let mut last = Outcome::Served;
-        for _ in 0..most {
-            if last == Outcome::Served {
-                last = serve(
-                    self.alloc,
-                    input,
-                    &mut output,
-                    &mut self.desk,
-                    &mut self.shelf,
-                );
-            }
-        }
+        let (desk, shelf) = (&mut self.desk, &mut self.shelf);
+        let last = serve_up_to(self.alloc, input, &mut output, desk, shelf, most);
         answer.bytes(output.into_inner().taken());
         push_outcome(answer, last);
     }
@@ -185,7 +175,7 @@ impl Place {
 }
 
 /// Puts a file on a shelf.
-fn put_file(
+pub fn put_file(
     alloc: Global,
     shelf: &mut MemoryShelf,
     of: &str,
@@ -213,6 +203,24 @@ pub fn serve<R: Read, W: Write, C: Calls, S: Shelf>(
         Ok(keys) => serve_one(alloc, keys, Rights::Edits, input, output, desk, shelf),
         Err(_) => Outcome::ReadFault,
     }
+}
+
+/// Serves commands of a session up to its end, so many at most: how the last one ended.
+pub fn serve_up_to<R: Read, W: Write, C: Calls, S: Shelf>(
+    alloc: Global,
+    input: &mut Counted<R>,
+    output: &mut Counted<W>,
+    desk: &mut C,
+    shelf: &mut S,
+    most: usize,
+) -> Outcome {
+    let mut last = Outcome::Served;
+    for _ in 0..most {
+        if last == Outcome::Served {
+            last = serve(alloc, input, output, desk, shelf);
+        }
+    }
+    last
 }
 
 /// Serves one command: what goes out, how it ends where it is not served, and how many faults the ports

@@ -7,6 +7,7 @@ ghost use Rattle.std.specs.Prelude.{◌≡◌, IfOk};
 ghost use Rattle.std.specs.Thread.{IsSync};
 
 use crate::jobs::{addition, ask, push_reply};
+use crate::offices::open;
 use crossbeam_channel::Receiver;
 use deck_workers::{Bell, Gate, NoSubscriber, OpenGate, worker};
 use desk_core::{Call, Desk, Reply};
@@ -119,9 +120,7 @@ fn open_three(alloc: Global) -> Result<Opened, AllocError>
     ensures { IfOk result (λ r. (r.1.office ≡ r.0.id) × (r.2.office ≡ r.0.id) × (r.3.office ≡ r.0.id)) }
 {
     let desk = Desk::new(alloc, fixed_keys()?);
-    let Ok((office, mut seats)) = Office::open(alloc, desk, 3) else {
-        return Err(AllocError);
-    };
+    let (office, mut seats) = open(alloc, desk, 3)?;
     match (seats.pop(), seats.pop(), seats.pop()) {
         (Some(third), Some(second), Some(first)) => Ok((office, first, second, third)),
         _ => Err(AllocError),
@@ -134,15 +133,10 @@ const CARD: &str = "          BX6    X1";
 /// How many cards a deck has of which two have more than are delivered at once.
 const MANY: u32 = 10_001;
 
-/// A reply at which nobody looks; it is dropped here alone.
-fn pass_over(reply: Reply) {
-    let _ = reply;
-}
-
 /// Adds a deck of this name.
 fn add<C: Calls>(desk: &mut C, alloc: Global, of: &str, lines: &str) -> Result<(), AllocError> {
     let call = addition(alloc, of, lines)?;
-    pass_over(ask(desk, call));
+    drop(ask(desk, call));
     Ok(())
 }
 
@@ -161,13 +155,11 @@ fn push_shown(reply: &Reply, answer: &mut Answer) {
 }
 
 /// What a call answers, and how many decks it shows.
-fn push_both(answer: &mut Answer, reply: &Reply) {
-    push_reply(answer, reply);
-    push_shown(reply, answer);
-}
-
 fn push_asked<C: Calls>(desk: &mut C, call: Call, answer: &mut Answer) {
-    push_both(answer, &ask(desk, call));
+    let reply = ask(desk, call);
+    push_reply(answer, &reply);
+    push_shown(&reply, answer);
+    drop(reply);
 }
 
 /// What a claim finds to do, and how many decks the publication has.
@@ -207,6 +199,8 @@ fn work_both<R: Threads + Wait + Clock + Sync>(
     answer.number(", left ", gate.left.into_inner());
     answer.push(", ");
     push_published(&mut desk, answer);
+    drop(desk);
+    drop(office);
     Ok(())
 }
 
@@ -232,6 +226,8 @@ fn work_alone<R: Wait + Clock>(
     answer.number("seat ", first.number() as u64);
     answer.push(", ");
     push_published(&mut desk, answer);
+    drop(desk);
+    drop(office);
     Ok(())
 }
 

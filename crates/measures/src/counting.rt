@@ -118,7 +118,10 @@ pub fn count_by_turns<R: Threads + Wait + Sync + Clock>(
     let time = start.elapsed(rt)?;
     match office.close(seats) {
         Ok(Counter { count }) => Ok(Counted { count, time }),
-        Err(_) => Err(io::Error::from(AllocError)),
+        Err(fault) => {
+            drop(fault);
+            Err(io::Error::from(AllocError))
+        }
     }
 }
 

@@ -88,12 +88,13 @@ struct Timed {
 impl Timed {
     fn new(alloc: Global) -> Result<Timed, AllocError> {
         let keys = fixed_keys()?;
+        let rows = all_rows(alloc)?;
         Ok(Timed {
             alloc,
             keys,
             desk: Desk::new(alloc, keys),
             meter: work_meter::begin(),
-            rows: all_rows(alloc)?,
+            rows,
         })
     }
 
@@ -134,11 +135,23 @@ impl Timed {
     /// Does a job, and hands in what is made of it. What the job began with is held until it is answered, as a
     /// worker does.
     fn end<R: CpuClock>(&mut self, rt: &R, job: Job) -> Result<(), AllocError> {
-        let _before = job.cards_before(self.alloc);
-        match job.run(self.alloc, self.keys, &mut self.meter) {
-            Made::Link { lease, publication } => self.publish(rt, lease, &publication),
+        let before = job.cards_before(self.alloc);
+        let made = job.run(self.alloc, self.keys, &mut self.meter);
+        let done = self.hand_in(rt, made);
+        drop(before);
+        done
+    }
+
+    /// Hands in what was made of a job.
+    fn hand_in<R: CpuClock>(&mut self, rt: &R, made: Made) -> Result<(), AllocError> {
+        match made {
+            Made::Link { lease, publication } => {
+                let published = self.publish(rt, lease, &publication);
+                drop(publication);
+                published
+            }
             made => {
-                let_go(self.ask(rt, "delivery", made.into_call()));
+                drop(self.ask(rt, "delivery", made.into_call()));
                 Ok(())
             }
         }
@@ -158,9 +171,9 @@ impl Timed {
                 place,
                 object,
             };
-            let_go(self.ask(rt, "offer", offer));
+            drop(self.ask(rt, "offer", offer));
         }
-        let_go(self.ask(rt, "publish", Call::Publish(lease)));
+        drop(self.ask(rt, "publish", Call::Publish(lease)));
         Ok(())
     }
 }
@@ -170,22 +183,23 @@ fn ask(desk: &mut Desk, call: Call) -> Reply {
     desk.step(call)
 }
 
-/// Lets a reply go that nobody looks at.
-fn let_go(reply: Reply) {
-    let _ = reply;
-}
-
 /// The name of a deck.
 fn name_at(alloc: Global, number: usize) -> Result<DeckName, AllocError> {
     let name = format!(in alloc; "D{number}")?;
     name_of(name.as_str())
 }
 
+/// The first card of a deck.
+fn first_card(alloc: Global, number: usize) -> Result<Card, AllocError> {
+    let first = format!(in alloc; "          IDENT  D{number}")?;
+    card_of(first.as_str())
+}
+
 /// The cards of a deck.
 fn cards_at(alloc: Global, number: usize) -> Result<Vec<Card>, AllocError> {
-    let first = format!(in alloc; "          IDENT  D{number}")?;
+    let first = first_card(alloc, number)?;
     let mut cards = Vec::with_capacity(alloc, CARDS)?;
-    cards.push(card_of(first.as_str())?)?;
+    cards.push(first)?;
     for statement in STATEMENTS.iter().cycle().take(CARDS - 2) {
         cards.push(card_of(statement)?)?;
     }
@@ -307,7 +321,7 @@ fn add_all<R: CpuClock>(rt: &R, timed: &mut Timed) -> Result<Vec<u64>, AllocErro
     let mut seen = Vec::with_capacity(timed.alloc, DECKS)?;
     for number in 0..DECKS {
         let deck = deck_at(timed.alloc, number)?;
-        let_go(timed.ask(rt, "deck added", Call::AddDeck(deck)));
+        drop(timed.ask(rt, "deck added", Call::AddDeck(deck)));
         seen.push(timed.desk.version())?;
         if number % 2 == 1 {
             timed.settle(rt)?;
@@ -330,7 +344,7 @@ fn ask_once<R: CpuClock>(
     };
     let before = timed.desk.version();
     let call = call_of(timed.alloc, asked, number, *version)?;
-    let_go(timed.ask(rt, kind, call));
+    drop(timed.ask(rt, kind, call));
     if timed.desk.version() != before {
         *version = timed.desk.version();
     }
@@ -351,14 +365,23 @@ fn ask_often<R: CpuClock>(
     Ok(())
 }
 
+/// Goes through all rounds.
+fn go_through<R: CpuClock>(rt: &R, timed: &mut Timed) -> Result<(), AllocError> {
+    let mut seen = add_all(rt, timed)?;
+    for round in &ROUNDS {
+        ask_often(rt, timed, round, seen.as_mut_slice())?;
+    }
+    Ok(())
+}
+
 /// Measures, and prints the table.
 pub fn measure<R: AllocGlobal + CpuClock + Print>(rt: &R) -> io::Result<()> {
     let mut timed = Timed::new(rt.alloc())?;
-    let mut seen = add_all(rt, &mut timed)?;
-    for round in &ROUNDS {
-        ask_often(rt, &mut timed, round, seen.as_mut_slice())?;
-    }
-    for row in &timed.rows {
+    let done = go_through(rt, &mut timed);
+    let Timed { desk, rows, .. } = timed;
+    drop(desk);
+    done?;
+    for row in &rows {
         let Row {
             kind,
             count,

@@ -30,6 +30,9 @@ fn find_all(symbols: &SymbolTable) -> u64 {
 /// Defines 20,000 names, and counts those that are found.
 pub fn define_and_find(alloc: Global) -> io::Result<u64> {
     let mut symbols = SymbolTable::new(alloc, fixed_keys()?);
-    define_all(&mut symbols)?;
-    Ok(find_all(&symbols))
+    let defined = define_all(&mut symbols);
+    let found = find_all(&symbols);
+    drop(symbols);
+    defined?;
+    Ok(found)
 }

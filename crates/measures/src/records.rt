@@ -67,9 +67,9 @@ fn new_cost<R: AllocGlobal + CpuClock>(rt: &R, cards: &[Card]) -> io::Result<Cos
     let mut meter = work_meter::begin();
     let before = rt.process_cpu_time()?;
     let kept = record_of(rt.alloc(), cards, &mut meter)?;
-    let time = rt.process_cpu_time()?.saturating_sub(before);
+    let behind = rt.process_cpu_time();
     drop(kept);
-    Ok(Cost::counted(time, &meter))
+    Ok(Cost::counted(behind?.saturating_sub(before), &meter))
 }
 
 /// What these edits of a record cost, made as a job makes them.
@@ -94,9 +94,11 @@ fn edit_cost<R: AllocGlobal + CpuClock>(
     spread: Spread,
 ) -> io::Result<Cost> {
     let mut meter = work_meter::begin();
-    let mut kept = record_of(rt.alloc(), cards, &mut meter)?;
     let edits = replacements(rt.alloc(), spread)?;
-    cost_of(rt, &mut kept, &edits)
+    let mut kept = record_of(rt.alloc(), cards, &mut meter)?;
+    let cost = cost_of(rt, &mut kept, &edits);
+    drop(kept);
+    cost
 }
 
 /// What a new record costs where no card is replaced, and else what the edits cost.

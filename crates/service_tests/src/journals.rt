@@ -8,7 +8,7 @@ use deck_files::Moment;
 use desk_core::Call;
 use desk_tests::{ask, push_told};
 use journal::{
-    Ending, JournalFault, Next, Place, ReplayFault, Replayed, compacted_text, next_record,
+    Ending, JournalFault, Next, Place, Record, ReplayFault, Replayed, compacted_text, next_record,
     record_text, replay,
 };
 use std::alloc::{AllocError, Global};
@@ -36,6 +36,13 @@ fn next<R: Read>(
     next_record(alloc, input, place)
 }
 
+/// Appends the text of a record.
+fn append_record(alloc: Global, record: Record, text: &mut Text) -> Result<(), AllocError> {
+    let written = record_text(alloc, &record);
+    drop(record);
+    text.append(written?)
+}
+
 /// Reads a journal to its end, ten records at most, and appends the text of each: how many there were, and the end.
 fn rewritten<R: Read>(
     alloc: Global,
@@ -45,7 +52,7 @@ fn rewritten<R: Read>(
     let mut place = Place::at_start();
     for count in 0..10 {
         match next(alloc, input, &mut place)? {
-            Next::Found(record) => text.append(record_text(alloc, &record)?)?,
+            Next::Found(record) => append_record(alloc, record, text)?,
             Next::Ended(ending) => return Ok((count, ending)),
         }
     }
@@ -78,21 +85,22 @@ fn replayed(alloc: Global, file: &[u8], last: u64) -> Result<Replayed, ReplayFau
 }
 
 /// The version of a desk, how many decks it has, how its journal ends, and the cards of M.
-fn push_desk(answer: &mut Answer, replayed: Replayed) -> Result<(), AllocError> {
+fn push_desk(answer: &mut Answer, replayed: &mut Replayed) -> Result<(), AllocError> {
     answer.number("version ", replayed.desk.version());
     answer.number(", decks ", replayed.desk.decks().len() as u64);
     answer.push(", ");
     answer.debug(&replayed.ending);
     answer.push(", M: ");
-    let mut desk = replayed.desk;
-    push_told(answer, ask(&mut desk, Call::Cards(name_of("M")?)));
+    let call = Call::Cards(name_of("M")?);
+    push_told(answer, ask(&mut replayed.desk, call));
     Ok(())
 }
 
 fn push_replayed(answer: &mut Answer, file: &[u8], last: u64) {
     match replayed(answer.alloc, file, last) {
-        Ok(replayed) => {
-            let done = push_desk(answer, replayed);
+        Ok(mut replayed) => {
+            let done = push_desk(answer, &mut replayed);
+            drop(replayed);
             answer.keep(done);
         }
         Err(fault) => answer.debug(&fault),
@@ -103,7 +111,11 @@ fn push_replayed(answer: &mut Answer, file: &[u8], last: u64) {
 /// The journal that begins with the decks of another.
 fn compacted(alloc: Global, file: &[u8]) -> Result<Text, AllocError> {
     match replayed(alloc, file, 9) {
-        Ok(replayed) => compacted_text(alloc, &Moment::of_seconds(0), 3, &replayed.desk),
+        Ok(replayed) => {
+            let text = compacted_text(alloc, &Moment::of_seconds(0), 3, &replayed.desk);
+            drop(replayed);
+            text
+        }
         Err(_) => Err(AllocError),
     }
 }

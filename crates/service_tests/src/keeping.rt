@@ -181,11 +181,6 @@ fn behind(versions: &mut Versions, reply: &Reply) {
     }
 }
 
-/// Makes a call. What it answers is looked at and no contract of it.
-fn ask<C: Calls>(desk: &mut C, call: Call) -> Reply {
-    desk.call(call)
-}
-
 /// Makes ten changes that are kept on a disk, and mends it behind the sixth.
 fn make_on_disk<R: Wait + Clock + Eprint>(
     rt: &R,
@@ -221,7 +216,9 @@ fn has_kept(alloc: Global, bytes: &[u8], versions: Versions) -> bool {
     match replay(alloc, keys, &mut input, u64::MAX) {
         Ok(again) => {
             let is_whole = again.ending == Some(Ending::Whole) && !versions.is_strange;
-            is_whole && 1 <= made && made <= again.desk.version()
+            let version = again.desk.version();
+            drop(again);
+            is_whole && 1 <= made && made <= version
         }
         Err(_) => false,
     }
@@ -267,10 +264,11 @@ fn put_dropped<F: RecordsFile>(
     session: usize,
     version: u64,
 ) -> Result<(), AllocError> {
-    let name = name_of("M")?;
+    let (name, by) = (name_of("M")?, name_of("2")?);
     let change = Change::Dropped { name, seen: 1 };
-    let record = draft_change(alloc, &Moment::of_seconds(0), &name_of("2")?, &change)?;
-    queue.put(session, version, record);
+    let draft = draft_change(alloc, &Moment::of_seconds(0), &by, &change);
+    drop(change);
+    queue.put(session, version, draft?);
     Ok(())
 }
 

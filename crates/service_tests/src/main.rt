@@ -27,7 +27,7 @@ use std::rt::{Env, Files};
 use std::sync::Wait;
 use std::thread::Threads;
 use std::time::Clock;
-use std::{env, fs, io};
+use std::{env, fs, io, mem};
 use test_parts::{Answer, cut, fixed_keys, plain_text};
 
 /// The transcripts, lowest first.
@@ -104,9 +104,11 @@ where
             }
         } else if line.starts_with("# ") {
             answer.line(line);
-            place = Place::new(rt.alloc(), keys);
+            drop(mem::replace(&mut place, Place::new(rt.alloc(), keys)));
         }
     }
+    drop(place);
+    drop(known);
     steps
 }
 

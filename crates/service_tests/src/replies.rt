@@ -3,15 +3,14 @@
 //! `replies`, `refusals`, `faults`: those of tables; `cards LINES`, `found TEXT|LINES`: replies that show
 //! cards; `status`, `saved`: replies that show two decks, and what became of them; `broken`: a reply whose
 //! writer fails at each byte in turn; `moment SECONDS`.
-ghost use Rattle.std.specs.Prelude.{◌≡◌, true};
-ghost use Rattle.session_line.specs.Replies.{IsWithinLimits};
 
-use cards::{Card, CardFault, EditFault, MOST_CARDS};
-use deck_files::{LoadFault, MOST_FILES, Moment};
+use cards::{Card, CardFault, EditFault};
+use deck_files::{LoadFault, Moment};
 use desk_core::{Row, State};
 use desk_service::ServeFault;
+use desk_tests::text_of;
 use session_commands::Refusal;
-use session_line::{DeckOutcome, MarkedRow, Reply, ToldDeck, reply_text, write_reply};
+use session_line::{DeckOutcome, MarkedRow, Reply, ToldDeck, write_reply};
 use std::alloc::{AllocError, Global};
 use test_parts::{Answer, cards_of, cut_line, name_of, number};
 use text_ports::{Counted, FaultyWriter};
@@ -33,32 +32,9 @@ pub fn make(word: &str, rest: &str, answer: &mut Answer) -> bool {
     true
 }
 
-/// Whether a reply has no more cards and no more decks than it may have.
-fn is_within(reply: &Reply<'_>) -> bool
-    ensures { result ≡ true → IsWithinLimits reply.now }
-{
-    match reply {
-        Reply::Cards { cards, .. } => cards.len() <= MOST_CARDS,
-        Reply::Changes { kept, .. } => kept.len() <= 2_000,
-        Reply::Found { cards, .. } => cards.len() <= MOST_CARDS,
-        Reply::Errors { decks, .. } => decks.len() <= 64,
-        Reply::Status { decks, .. } => decks.len() <= 64,
-        Reply::FileStatus { decks, .. } => decks.len() <= 64,
-        Reply::Decks { decks, .. } => decks.len() <= 64,
-        Reply::Files { files, .. } => files.len() <= MOST_FILES,
-        Reply::Sessions { sessions, .. } => sessions.len() <= 64,
-        Reply::Done { .. } | Reply::Unkept { .. } => true,
-        Reply::Text { .. } | Reply::Published(_, _) => true,
-        Reply::Bye | Reply::Refused(_) => true,
-    }
-}
-
 /// A reply as its text.
 fn push_reply(answer: &mut Answer, reply: &Reply<'_>) {
-    if !is_within(reply) {
-        return;
-    }
-    match reply_text(answer.alloc, reply) {
+    match text_of(answer.alloc, reply) {
         Ok(text) => answer.bytes(&text),
         Err(error) => answer.keep(Err(error)),
     }

@@ -144,6 +144,12 @@ fn list<S: Shelf>(scene: &mut Scene, shelf: &mut S) -> Result<(), AllocError> {
     Ok(())
 }
 
+/// Saves decks, and lists their files.
+fn save_and_list<S: Shelf>(scene: &mut Scene, shelf: &mut S) -> Result<(), AllocError> {
+    save_all(scene, shelf)?;
+    list(scene, shelf)
+}
+
 /// Three versions of a deck that are saved in the folder in which the program runs, one over the other; and
 /// the list of the files there.
 pub fn folder<R: AllocGlobal + Files<File = File> + Clone + Drop + Wait>(
@@ -152,6 +158,8 @@ pub fn folder<R: AllocGlobal + Files<File = File> + Clone + Drop + Wait>(
 ) -> Result<(), AllocError> {
     let known = KnownFiles::new(scene.alloc, fixed_keys()?);
     let mut shelf = FolderShelf::new(rt, scene.alloc, "", 0, &known);
-    save_all(scene, &mut shelf)?;
-    list(scene, &mut shelf)
+    let done = save_and_list(scene, &mut shelf);
+    drop(shelf);
+    drop(known);
+    done
 }

@@ -39,7 +39,10 @@ pub fn told_in(reply: &Reply) -> Told {
 
 /// What the reply to a call tells.
 fn told_to(desk: &mut Desk, call: Call) -> Told {
-    told_in(&ask(desk, call))
+    let reply = ask(desk, call);
+    let told = told_in(&reply);
+    drop(reply);
+    told
 }
 
 /// Notes a claim: names, versions and cards are as before, and there is a job where not all of the present
@@ -65,9 +68,12 @@ fn claim_once(scene: &mut Scene, before: &[u8], is_first: bool) -> (Told, Option
 /// Claims what is due, once more where that finds no memory.
 fn claim(scene: &mut Scene) -> Option<Job> {
     let before = scene.state();
-    match claim_once(scene, &before, true) {
-        (Told::Refused(Refusal::OutOfMemory), _) => claim_once(scene, &before, false).1,
-        (_, job) => job,
+    let (told, job) = claim_once(scene, &before, true);
+    if told == LACKING {
+        drop(job);
+        claim_once(scene, &before, false).1
+    } else {
+        job
     }
 }
 
@@ -96,15 +102,16 @@ fn publish(desk: &mut Desk, lease: u64) -> (Told, bool) {
 /// Offers an object of a publication, if there is memory to share it.
 fn offer(desk: &mut Desk, lease: u64, publication: &SharedPublication, place: usize) {
     if let Some(object) = publication.publication().objects().get(place) {
-        if let Ok(object) = object.share() {
-            told_to(
-                desk,
-                Call::OfferObject {
+        match object.share() {
+            Ok(object) => {
+                let offered = Call::OfferObject {
                     lease,
                     place,
                     object,
-                },
-            );
+                };
+                drop(ask(desk, offered));
+            }
+            Err(_) => {}
         }
     }
 }
@@ -121,7 +128,11 @@ fn offer_all(desk: &mut Desk, lease: u64, publication: &SharedPublication) -> (T
 /// many cards.
 fn end_made(desk: &mut Desk, made: Made) -> (Told, bool) {
     match made {
-        Made::Link { lease, publication } => offer_all(desk, lease, &publication),
+        Made::Link { lease, publication } => {
+            let ended = offer_all(desk, lease, &publication);
+            drop(publication);
+            ended
+        }
         other => (told_to(desk, other.into_call()), false),
     }
 }
@@ -185,10 +196,11 @@ fn made_of(scene: &Scene, job: Job, end: End) -> Made {
     match end {
         End::Delivered => run(scene, job),
         End::Foreign => run(scene, foreign(job)),
-        End::GivenUp => Made::Lost {
-            lease: job.lease(),
-            fault: RecordFault::Spent,
-        },
+        End::GivenUp => {
+            let (lease, fault) = (job.lease(), RecordFault::Spent);
+            drop(job);
+            Made::Lost { lease, fault }
+        }
     }
 }
 
@@ -204,8 +216,9 @@ fn end_once(scene: &mut Scene, job: Job, end: End) -> bool {
 /// Claims a job and ends it, once more where memory lacks for it; whether there was one.
 fn end_next(scene: &mut Scene, end: End) -> bool {
     for _ in 0..2 {
-        let Some(job) = claim(scene) else {
-            return false;
+        let job = match claim(scene) {
+            Some(job) => job,
+            None => return false,
         };
         if end_once(scene, job, end) {
             scene.journal.made("Job::run", true);

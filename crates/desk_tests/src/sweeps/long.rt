@@ -112,8 +112,12 @@ fn output_of(alloc: Global, whole: &Publication) -> Result<Vec<u8>, AllocError> 
 /// What a run of these lines is held against.
 fn run_of<'i>(scene: &mut Scene, input: &'i [u8]) -> Result<AsmRun<'i>, AllocError> {
     let whole = whole_of(scene)?;
-    let output = output_of(scene.alloc, &whole)?;
-    Ok(AsmRun { input, output })
+    let output = output_of(scene.alloc, &whole);
+    drop(whole);
+    Ok(AsmRun {
+        input,
+        output: output?,
+    })
 }
 
 /// A run in which no port fails.
@@ -203,9 +207,10 @@ impl<'p> Outputs<'p> {
 impl<'p> Tries for Outputs<'p> {
     fn try_once(&self, alloc: Global, failing: Failing) -> Result<Came, AllocError> {
         match build_of(alloc, &mut Counted::new(self.input)) {
-            Ok(built) => {
-                let mut built = built;
-                Ok(self.write(alloc, failing, &mut built))
+            Ok(mut built) => {
+                let came = self.write(alloc, failing, &mut built);
+                drop(built);
+                Ok(came)
             }
             Err(AsmFault::OutOfMemory) => Ok(Came::Lacking),
             Err(_) => Ok(Came::Wrong),
@@ -221,5 +226,7 @@ pub fn parts(scene: &mut Scene) -> Result<(), AllocError> {
         input: &input,
         whole: &whole,
     };
-    fail_each(scene, "asm_run", &outputs, MEGABYTE, false)
+    let done = fail_each(scene, "asm_run", &outputs, MEGABYTE, false);
+    drop(whole);
+    done
 }

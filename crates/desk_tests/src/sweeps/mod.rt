@@ -27,6 +27,7 @@ mod sessions;
 
 use crate::sweeps::notes::Journal;
 use crate::sweeps::scene::Scene;
+pub use replies::text_of;
 use std::alloc::{AllocError, AllocGlobal};
 use std::fs::File;
 use std::io;
@@ -144,7 +145,7 @@ fn journal_of<R: AllocGlobal + Files<File = File> + Clone + Drop + Wait>(
     let mut scene = Scene::new(rt.alloc(), keys);
     let done = go_through(rt, name, &mut scene);
     scene.journal.keep(done);
-    scene.journal
+    scene.into_journal()
 }
 
 /// Tells on standard error what was refused and what failed, each on a line.

@@ -24,7 +24,7 @@ fn open_once(scene: &mut Scene) -> Result<(Office<Desk>, SeatList<Desk>), AllocE
     match Office::open(scene.alloc, desk, 2) {
         Ok(opened) => Ok(opened),
         Err(failed) => {
-            scene.desk = failed.value;
+            drop(mem::replace(&mut scene.desk, failed.value));
             Err(AllocError)
         }
     }
@@ -50,7 +50,10 @@ fn ask<R: Wait>(rt: &R, office: &Office<Desk>, seat: &mut Seat<Desk>, call: Call
     requires { seat.old.office ≡ office.now.id }
     ensures { seat.new.office ≡ seat.old.office }
 {
-    told_in(&ask_from(rt, office, seat, call))
+    let reply = ask_from(rt, office, seat, call);
+    let told = told_in(&reply);
+    drop(reply);
+    told
 }
 
 /// The version of the desk, unless the scenario's own memory was refused.
@@ -147,7 +150,10 @@ fn use_office<R: Wait>(
     seats.push(second)?;
     match office.close(seats) {
         Ok(desk) => Ok(desk),
-        Err(_) => Err(AllocError),
+        Err(fault) => {
+            drop(fault);
+            Err(AllocError)
+        }
     }
 }
 
@@ -155,7 +161,8 @@ fn use_office<R: Wait>(
 pub fn office<R: Wait>(rt: &R, scene: &mut Scene) -> Result<(), AllocError> {
     scene.load_first();
     let (office, seats) = open(scene)?;
-    scene.desk = use_office(rt, scene, office, seats)?;
+    let desk = use_office(rt, scene, office, seats)?;
+    drop(mem::replace(&mut scene.desk, desk));
     scene.journal.made("close", true);
     scene.settle_as_asm(TURNS)
 }

@@ -12,6 +12,7 @@ use edit_core::{FinishFault, Kept, RecordFault};
 use session_commands::read_batch_line;
 use std::alloc::{AllocError, Global};
 use std::hash::RandomState;
+use std::mem;
 use test_parts::{asm_answer, cards_of, name_of, new_record};
 use text_ports::Text;
 
@@ -51,7 +52,9 @@ fn is_spent_with(
     cards: &[Card],
     edit: &Edit,
 ) -> bool {
-    let gives_nothing = matches!(kept.finish(), Err(FinishFault::Spent));
+    let finished = kept.finish();
+    let gives_nothing = matches!(&finished, Err(FinishFault::Spent));
+    drop(finished);
     let is_spent = kept.is_spent() && gives_nothing;
     let is_fault = fault_of_edit(alloc, keys, kept, edit) == Some(RecordFault::Spent);
     is_spent && is_fault && are_same(kept.cards(), cards)
@@ -67,7 +70,8 @@ fn renew(
     let holds = is_spent_with(scene.alloc, scene.keys, kept, before, edit);
     scene.journal.refused("edit", holds);
     let cards = copied_cards(scene.alloc, before)?;
-    *kept = new_record(scene.alloc, kept.name().copied(), cards)?;
+    let renewed = new_record(scene.alloc, kept.name().copied(), cards)?;
+    drop(mem::replace(kept, renewed));
     Ok(())
 }
 
@@ -137,16 +141,27 @@ fn edit_all(scene: &mut Scene, kept: &mut Kept) -> Result<(), AllocError> {
     Ok(())
 }
 
-/// A deck's record after all edits, and its cards behind those of the decks before.
+/// The object of a record after all edits, and its cards behind those of the decks before.
+fn finish_edited(
+    scene: &mut Scene,
+    kept: &mut Kept,
+    input: &mut Vec<u8>,
+) -> Result<SharedObject, AllocError> {
+    edit_all(scene, kept)?;
+    push_lines(input, kept.cards())?;
+    finish(scene, kept)
+}
+
+/// The object of a deck after all edits, and its cards behind those of the decks before.
 fn edited(
     scene: &mut Scene,
     deck: &DeckText,
     input: &mut Vec<u8>,
 ) -> Result<SharedObject, AllocError> {
     let mut kept = record(scene, deck)?;
-    edit_all(scene, &mut kept)?;
-    push_lines(input, kept.cards())?;
-    finish(scene, &kept)
+    let object = finish_edited(scene, &mut kept, input);
+    drop(kept);
+    object
 }
 
 /// What was made of objects holds what `asm_run` writes for these decks.
@@ -173,7 +188,9 @@ pub fn records(scene: &mut Scene) -> Result<(), AllocError> {
     let objects = all_edited(scene, &mut input)?;
     let found = link(scene.alloc, scene.keys, objects, 7);
     let found = scene.journal.got("link", found)?;
-    compare(scene, &found, &input)
+    let compared = compare(scene, &found, &input);
+    drop(found);
+    compared
 }
 
 /// Where a deck alone stands.
@@ -201,7 +218,9 @@ fn text_twice(scene: &mut Scene, call: Called, object: &SharedObject) -> Result<
 /// The object of a deck.
 fn object(scene: &mut Scene, deck: &DeckText) -> Result<SharedObject, AllocError> {
     let kept = record(scene, deck)?;
-    finish(scene, &kept)
+    let object = finish(scene, &kept);
+    drop(kept);
+    object
 }
 
 /// The texts of an object alone.
@@ -214,7 +233,9 @@ fn texts_of(scene: &mut Scene, object: &SharedObject) -> Result<(), AllocError> 
 pub fn texts(scene: &mut Scene) -> Result<(), AllocError> {
     for deck in &DECKS {
         let object = object(scene, deck)?;
-        texts_of(scene, &object)?;
+        let made = texts_of(scene, &object);
+        drop(object);
+        made?;
     }
     Ok(())
 }

@@ -66,7 +66,7 @@ fn written(alloc: Global, reply: &Reply<'_>) -> Result<Vec<u8>, AllocError> {
 }
 
 /// A reply as a text.
-fn text_of(alloc: Global, reply: &Reply<'_>) -> Result<Vec<u8>, AllocError> {
+pub fn text_of(alloc: Global, reply: &Reply<'_>) -> Result<Vec<u8>, AllocError> {
     if !is_within(reply) {
         return Err(AllocError);
     }

@@ -1,7 +1,7 @@
 //! What a scenario goes through: a desk and a shelf, the commands that a session says there, and the
 //! desk settled as `asm_run` has it.
 
-use crate::place::serve;
+use crate::place::{put_file, serve};
 use crate::sweeps::decks::DECKS;
 use crate::sweeps::notes::{Called, Journal, called};
 use deck_files::{MemoryShelf, Shelf};
@@ -74,17 +74,6 @@ fn is_settled(alloc: Global, keys: RandomState, desk: &mut Desk, turns: u32) -> 
     }
 }
 
-/// Puts a file on a shelf.
-fn put_file(
-    alloc: Global,
-    shelf: &mut MemoryShelf,
-    name: &str,
-    file: &str,
-) -> Result<(), AllocError> {
-    let file = Vec::from_slice(alloc, file.as_bytes())?;
-    shelf.put(&name_of(name)?, file)
-}
-
 /// A desk and a shelf, with the notes of a scenario.
 #[derive(Drop)]
 pub struct Scene {
@@ -106,9 +95,22 @@ impl Scene {
         }
     }
 
+    /// The notes alone.
+    pub fn into_journal(self) -> Journal {
+        let Scene {
+            journal,
+            desk,
+            shelf,
+            ..
+        } = self;
+        drop(desk);
+        drop(shelf);
+        journal
+    }
+
     /// Puts a file on the shelf.
     pub fn put(&mut self, name: &str, file: &str) {
-        let put = put_file(self.alloc, &mut self.shelf, name, file);
+        let put = put_file(self.alloc, &mut self.shelf, name, file.as_bytes());
         self.journal.keep(put);
     }
 

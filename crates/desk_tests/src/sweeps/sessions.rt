@@ -238,7 +238,9 @@ impl Tries for Dialogue {
         let mut place = Scene::new(alloc, keys);
         place.put("N", FILE);
         let came = self.came_in(&mut place, failing);
-        place.journal.own(came)
+        let found = place.journal.own(came);
+        drop(place);
+        found
     }
 }
 
