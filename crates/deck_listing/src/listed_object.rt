@@ -78,6 +78,11 @@ impl ListedObject {
         self.object.object()
     }
 
+    /// Frees it. Crates above call this in place of `drop` (CONTRIBUTING).
+    pub fn free(self) {
+        drop(self);
+    }
+
     /// The listing of its deck alone.
     pub fn listing(&self) -> &[u8]
         ensures { result.now ≡ deck_listing (object_of self.now) }

@@ -53,14 +53,14 @@ pub(crate) fn assembled(
     ensures due { CountsDue start edits.now (start_deck name start).cards meter.old meter.new }
 {
     if let Some(fault) = edits_fault(&start, edits) {
-        drop(start);
+        start.free();
         return Err(fault);
     }
     let mut kept = begun(alloc, keys, name, start, meter)?;
     match kept.edit_in_order(alloc, keys, edits, meter) {
         Ok(()) => finished(alloc, kept),
         Err(fault) => {
-            drop(kept);
+            kept.free();
             Err(fault)
         }
     }
@@ -139,7 +139,7 @@ fn finished(alloc: Global, kept: Kept) -> Result<(Held, ListedObject), RecordFau
             None => unreachable!(),
         },
         Err(fault) => {
-            drop(kept);
+            kept.free();
             Err(fault)
         }
     }

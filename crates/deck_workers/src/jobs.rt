@@ -57,7 +57,7 @@ pub fn job_in(reply: Reply) -> Option<Job>
         Reply::DeckJob(work) => Some(Job::Deck(work)),
         Reply::LinkJob(work) => Some(Job::Link(work)),
         other => {
-            drop(other);
+            other.free();
             None
         }
     }

@@ -74,7 +74,7 @@ fn end_job(desk: &mut Desk, made: Made) -> Option<Settled>
 {
     let answered = desk.step(made.into_call());
     let end = end_of_delivery(&answered);
-    drop(answered);
+    answered.free();
     end
 }
 

@@ -15,8 +15,8 @@ use crate::subscribers::{Subscriber, tell_after};
 use crate::{Job, Made, Runs, job_in};
 use crossbeam_channel::Receiver;
 use deck_listing::ListedObject;
-use desk_core::{Call, Desk, Refusal, Reply, SharedPublication};
-use std::alloc::Global;
+use desk_core::{Call, DeckCards, Desk, Refusal, Reply, SharedPublication};
+use std::alloc::{AllocError, Global};
 use std::hash::RandomState;
 use std::sync::Wait;
 use std::time::Clock;
@@ -89,12 +89,28 @@ fn make_round<R: Wait, G: Gate, S: Subscriber>(
             let published = made.published();
             let answered = deliver(rt, office, seat, made);
             tell_after(subscriber, published, &answered);
-            drop(before);
+            free_cards(before);
             let is_well = went_well(is_result, &answered);
-            drop(answered);
+            answered.free();
             Round::with_job(is_well)
         }
         None => Round::without_job(is_refused),
+    }
+}
+
+/// Frees the cards that a deck job began with, if they are held.
+fn free_cards(before: Result<Option<DeckCards>, AllocError>) {
+    match before {
+        Ok(Some(cards)) => cards.free(),
+        Ok(None) | Err(_) => {}
+    }
+}
+
+/// Frees the object of a deck, if it is held.
+fn free_object(object: Option<ListedObject>) {
+    match object {
+        Some(object) => object.free(),
+        None => {}
     }
 }
 
@@ -129,7 +145,7 @@ fn deliver<R: Wait>(rt: &R, office: &Office<Desk>, seat: &mut Seat<Desk>, made: 
         made => {
             let object = made.object();
             let answered = seat.call(rt, office, made.into_call());
-            drop(object);
+            free_object(object);
             answered
         }
     }
@@ -152,7 +168,7 @@ fn publish_at_desk<R: Wait>(
     offer_objects(rt, office, seat, lease, publication.publication().objects());
     let answered = seat.call(rt, office, Call::Publish(lease));
     if is_starved(&answered) {
-        drop(seat.call(rt, office, Call::GiveUp(lease)));
+        seat.call(rt, office, Call::GiveUp(lease)).free();
     }
     answered
 }
@@ -194,7 +210,7 @@ fn offer<R: Wait>(
             place,
             object,
         };
-        drop(seat.call(rt, office, offered));
+        seat.call(rt, office, offered).free();
     }
 }
 

@@ -62,4 +62,9 @@ impl Accepted {
     {
         self.version
     }
+
+    /// Frees it. Crates above call this in place of `drop` (CONTRIBUTING).
+    pub fn free(self) {
+        drop(self);
+    }
 }

@@ -105,3 +105,10 @@ pub enum Call {
     /// The lease ends without a result, and the record is lost.
     GiveUp(u64),
 }
+
+impl Call {
+    /// Frees it. Crates above call this in place of `drop` (CONTRIBUTING).
+    pub fn free(self) {
+        drop(self);
+    }
+}

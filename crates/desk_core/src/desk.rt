@@ -95,6 +95,11 @@ impl Desk {
     {
         self.version
     }
+
+    /// Frees it. Crates above call this in place of `drop` (CONTRIBUTING).
+    pub fn free(self) {
+        drop(self);
+    }
 }
 
 /// What speaks against one version more, or one lease more.

@@ -15,6 +15,13 @@ pub enum Start {
     FromCards(DeckCards),
 }
 
+impl Start {
+    /// Frees it. Crates above call this in place of `drop` (CONTRIBUTING).
+    pub fn free(self) {
+        drop(self);
+    }
+}
+
 /// A deck job: its lease, the deck's identity, version and name, what it begins with, and the edits
 /// that are to be made.
 #[derive(Drop)]

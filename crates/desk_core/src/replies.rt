@@ -134,3 +134,10 @@ pub enum Reply {
     /// Nothing is done.
     Refused(Refusal),
 }
+
+impl Reply {
+    /// Frees it. Crates above call this in place of `drop` (CONTRIBUTING).
+    pub fn free(self) {
+        drop(self);
+    }
+}

@@ -49,6 +49,11 @@ impl SharedPublication {
     {
         &self.publication
     }
+
+    /// Frees it. Crates above call this in place of `drop` (CONTRIBUTING).
+    pub fn free(self) {
+        drop(self);
+    }
 }
 
 /// The publication that was there before another one, if one was. Contracts see it.

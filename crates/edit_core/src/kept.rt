@@ -402,4 +402,9 @@ impl Kept {
     {
         self.pieces.as_slice()
     }
+
+    /// Frees it. Crates above call this in place of `drop` (CONTRIBUTING).
+    pub fn free(self) {
+        drop(self);
+    }
 }

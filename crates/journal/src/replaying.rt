@@ -91,7 +91,7 @@ fn make_again(
     match desk.step(change.into_call(by)) {
         Reply::Changed(made) => {
             let found = made.version();
-            drop(made);
+            made.free();
             if found == version {
                 Ok(())
             } else {
@@ -100,7 +100,7 @@ fn make_again(
         }
         Reply::Refused(Refusal::OutOfMemory) => Err(ReplayFault::OutOfMemory),
         other => {
-            drop(other);
+            other.free();
             Err(unmade)
         }
     }

@@ -57,7 +57,7 @@ fn told_of(made: Accepted, kept: bool) -> Reply
         Reply::Changed(made)
     } else {
         let version = made.version();
-        drop(made);
+        made.free();
         Reply::Unkept(version)
     }
 }
@@ -94,7 +94,7 @@ fn carried_reply<E: Ends>(ends: &mut E, reply: Reply, stamp: Stamp, name: DeckNa
             told_of(Accepted::new(version), kept)
         }
         Reply::Changed(made) => {
-            drop(made);
+            made.free();
             Reply::Refused(Refusal::Foreign)
         }
         reply => reply,
@@ -171,7 +171,7 @@ fn await_publication<R: Wait, C: Calls, E: Ends>(
         if is_shown(version, &reply) {
             return reply;
         }
-        drop(reply);
+        reply.free();
         let woken = ends.sleep(version);
         if let Woken::TimeUp = woken {
             return desk.call(Call::Status);

@@ -4,7 +4,7 @@
 
 use cards::{Card, DeckName, Edit};
 use deck_workers::{Job, Made, Runs, job_in};
-use desk_core::{Call, Desk, Listed, NewDeck, Reply, SharedPublication};
+use desk_core::{Call, DeckCards, Desk, Listed, NewDeck, Reply, SharedPublication};
 use std::alloc::{AllocError, AllocGlobal, Global};
 use std::hash::RandomState;
 use std::io;
@@ -75,6 +75,14 @@ fn time_of<R: CpuClock>(rt: &R) -> Duration {
     }
 }
 
+/// Frees the cards that a job began with, if they are held.
+fn free_cards(before: Result<Option<DeckCards>, AllocError>) {
+    match before {
+        Ok(Some(cards)) => cards.free(),
+        Ok(None) | Err(_) => {}
+    }
+}
+
 /// A desk, and what its turns take.
 #[derive(Drop)]
 struct Timed {
@@ -138,7 +146,7 @@ impl Timed {
         let before = job.cards_before(self.alloc);
         let made = job.run(self.alloc, self.keys, &mut self.meter);
         let done = self.hand_in(rt, made);
-        drop(before);
+        free_cards(before);
         done
     }
 
@@ -147,11 +155,11 @@ impl Timed {
         match made {
             Made::Link { lease, publication } => {
                 let published = self.publish(rt, lease, &publication);
-                drop(publication);
+                publication.free();
                 published
             }
             made => {
-                drop(self.ask(rt, "delivery", made.into_call()));
+                self.ask(rt, "delivery", made.into_call()).free();
                 Ok(())
             }
         }
@@ -171,9 +179,9 @@ impl Timed {
                 place,
                 object,
             };
-            drop(self.ask(rt, "offer", offer));
+            self.ask(rt, "offer", offer).free();
         }
-        drop(self.ask(rt, "publish", Call::Publish(lease)));
+        self.ask(rt, "publish", Call::Publish(lease)).free();
         Ok(())
     }
 }
@@ -321,7 +329,7 @@ fn add_all<R: CpuClock>(rt: &R, timed: &mut Timed) -> Result<Vec<u64>, AllocErro
     let mut seen = Vec::with_capacity(timed.alloc, DECKS)?;
     for number in 0..DECKS {
         let deck = deck_at(timed.alloc, number)?;
-        drop(timed.ask(rt, "deck added", Call::AddDeck(deck)));
+        timed.ask(rt, "deck added", Call::AddDeck(deck)).free();
         seen.push(timed.desk.version())?;
         if number % 2 == 1 {
             timed.settle(rt)?;
@@ -344,7 +352,7 @@ fn ask_once<R: CpuClock>(
     };
     let before = timed.desk.version();
     let call = call_of(timed.alloc, asked, number, *version)?;
-    drop(timed.ask(rt, kind, call));
+    timed.ask(rt, kind, call).free();
     if timed.desk.version() != before {
         *version = timed.desk.version();
     }
@@ -379,7 +387,7 @@ pub fn measure<R: AllocGlobal + CpuClock + Print>(rt: &R) -> io::Result<()> {
     let mut timed = Timed::new(rt.alloc())?;
     let done = go_through(rt, &mut timed);
     let Timed { desk, rows, .. } = timed;
-    drop(desk);
+    desk.free();
     done?;
     for row in &rows {
         let Row {

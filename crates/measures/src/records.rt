@@ -68,7 +68,7 @@ fn new_cost<R: AllocGlobal + CpuClock>(rt: &R, cards: &[Card]) -> io::Result<Cos
     let before = rt.process_cpu_time()?;
     let kept = record_of(rt.alloc(), cards, &mut meter)?;
     let behind = rt.process_cpu_time();
-    drop(kept);
+    kept.free();
     Ok(Cost::counted(behind?.saturating_sub(before), &meter))
 }
 
@@ -97,7 +97,7 @@ fn edit_cost<R: AllocGlobal + CpuClock>(
     let edits = replacements(rt.alloc(), spread)?;
     let mut kept = record_of(rt.alloc(), cards, &mut meter)?;
     let cost = cost_of(rt, &mut kept, &edits);
-    drop(kept);
+    kept.free();
     cost
 }
 

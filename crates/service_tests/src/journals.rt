@@ -100,7 +100,7 @@ fn push_replayed(answer: &mut Answer, file: &[u8], last: u64) {
     match replayed(answer.alloc, file, last) {
         Ok(mut replayed) => {
             let done = push_desk(answer, &mut replayed);
-            drop(replayed);
+            replayed.desk.free();
             answer.keep(done);
         }
         Err(fault) => answer.debug(&fault),
@@ -113,7 +113,7 @@ fn compacted(alloc: Global, file: &[u8]) -> Result<Text, AllocError> {
     match replayed(alloc, file, 9) {
         Ok(replayed) => {
             let text = compacted_text(alloc, &Moment::of_seconds(0), 3, &replayed.desk);
-            drop(replayed);
+            replayed.desk.free();
             text
         }
         Err(_) => Err(AllocError),

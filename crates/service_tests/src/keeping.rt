@@ -217,7 +217,7 @@ fn has_kept(alloc: Global, bytes: &[u8], versions: Versions) -> bool {
         Ok(again) => {
             let is_whole = again.ending == Some(Ending::Whole) && !versions.is_strange;
             let version = again.desk.version();
-            drop(again);
+            again.desk.free();
             is_whole && 1 <= made && made <= version
         }
         Err(_) => false,

@@ -104,10 +104,10 @@ where
             }
         } else if line.starts_with("# ") {
             answer.line(line);
-            drop(mem::replace(&mut place, Place::new(rt.alloc(), keys)));
+            mem::replace(&mut place, Place::new(rt.alloc(), keys)).free();
         }
     }
-    drop(place);
+    place.free();
     drop(known);
     steps
 }

@@ -98,7 +98,7 @@ pub(crate) fn told_of_call(reply: Reply) -> Told
     match reply {
         Reply::Changed(made) => {
             let version = made.version();
-            drop(made);
+            made.free();
             Told::Done(version)
         }
         Reply::Carried { version, edits, .. } => {
@@ -122,7 +122,7 @@ pub(crate) fn told_of_call(reply: Reply) -> Told
         }
         Reply::Refused(refusal) => Told::Refused(desk_reason(refusal)),
         other => {
-            drop(other);
+            other.free();
             foreign()
         }
     }
@@ -185,7 +185,7 @@ pub(crate) fn told_of_cards(view: CardsView, reply: Reply) -> Told
         Reply::CardsAre(version, cards) => told_of_list(version, cards.into_items(), view),
         Reply::Refused(refusal) => Told::Refused(desk_reason(refusal)),
         other => {
-            drop(other);
+            other.free();
             foreign()
         }
     }
@@ -229,7 +229,7 @@ pub(crate) fn told_of_cards_at(alloc: Global, reply: Reply) -> Told
         }
         Reply::Refused(refusal) => Told::Refused(desk_reason(refusal)),
         other => {
-            drop(other);
+            other.free();
             foreign()
         }
     }
@@ -484,5 +484,22 @@ impl Told {
         ensures { result ≡ is_bye self.now }
     {
         matches!(self, Told::Bye)
+    }
+    /// Frees what it shows.
+    pub(crate) fn free(self) {
+        match self {
+            Told::Published(shared, _) | Told::Part(shared, ..) => shared.free(),
+            Told::Errors(shared, _) => shared.free(),
+            Told::Cards(_, cards, _) => drop(cards),
+            Told::Changes(_, kept) => drop(kept),
+            Told::Lines(_, lines) => drop(lines),
+            Told::Status(_, _, rows) => drop(rows),
+            Told::FileStatus(_, _, rows) => drop(rows),
+            Told::Decks(_, decks) => drop(decks),
+            Told::Files(_, files) => drop(files),
+            Told::Sessions(_, sessions) => drop(sessions),
+            Told::Done(_) | Told::Unkept(_) | Told::Standing(..) => {}
+            Told::Help(_) | Told::Refused(_) | Told::Bye => {}
+        }
     }
 }

@@ -47,7 +47,7 @@ fn add_deck<C: Calls>(desk: &mut C, deck: Deck) -> ToldDeck
     let added = name.copied();
     let told = told_of_call(desk.call(Call::AddDeck(NewDeck::new(name, cards))));
     let outcome = outcome_of(&told);
-    drop(told);
+    told.free();
     ToldDeck {
         name: added,
         outcome,

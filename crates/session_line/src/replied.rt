@@ -22,7 +22,7 @@ pub(crate) fn shown_in(reply: Reply) -> Result<SharedPublication, Refusal>
         Reply::Shown(publication) => Ok(publication),
         Reply::Refused(refusal) => Err(desk_reason(refusal)),
         other => {
-            drop(other);
+            other.free();
             Err(Refusal::Foreign)
         }
     }
@@ -40,7 +40,7 @@ pub(crate) fn status_in(reply: Reply) -> Result<Status, Refusal>
         }),
         Reply::Refused(refusal) => Err(desk_reason(refusal)),
         other => {
-            drop(other);
+            other.free();
             Err(Refusal::Foreign)
         }
     }

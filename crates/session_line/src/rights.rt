@@ -1,6 +1,6 @@
 //! What a session may do: edit and ask, or ask alone.
 ghost use Rattle.std.specs.Prelude.{◌≡◌};
-ghost use Rattle.session_line.specs.Rights.{allowed, changes, makes_change};
+ghost use Rattle.session_line.specs.Rights.{allowed, makes_change};
 
 use crate::tasks::Task;
 use desk_core::Call;
@@ -27,15 +27,29 @@ fn makes_change(call: &Call) -> bool
     }
 }
 
-/// Whether a task changes a deck or a file.
-fn changes(task: &Task) -> bool
-    ensures { result ≡ changes task.now }
+/// What is done of a call by who may only ask.
+fn call_to_read(call: Call) -> Task
+    ensures { result ≡ allowed Rights.Reads (Task.Ask call) }
+{
+    if makes_change(&call) {
+        call.free();
+        Task::Refuse(Refusal::ReadOnly)
+    } else {
+        Task::Ask(call)
+    }
+}
+
+/// What is done of a task by who may only ask.
+fn task_to_read(task: Task) -> Task
+    ensures { result ≡ allowed Rights.Reads task }
 {
     match task {
-        Task::Ask(call) => makes_change(call),
-        Task::LoadDeck(_) | Task::LoadAll(_) | Task::ReloadDeck(_) => true,
-        Task::SaveDeck(..) | Task::SaveAll => true,
-        _ => false,
+        Task::Ask(call) => call_to_read(call),
+        Task::LoadDeck(_) | Task::LoadAll(_) | Task::ReloadDeck(_) => {
+            Task::Refuse(Refusal::ReadOnly)
+        }
+        Task::SaveDeck(..) | Task::SaveAll => Task::Refuse(Refusal::ReadOnly),
+        other => other,
     }
 }
 
@@ -44,10 +58,7 @@ pub(crate) fn allowed(rights: Rights, task: Task) -> Task
     ensures { result ≡ allowed rights task }
 {
     match rights {
-        Rights::Reads if changes(&task) => {
-            drop(task);
-            Task::Refuse(Refusal::ReadOnly)
-        }
-        _ => task,
+        Rights::Edits => task,
+        Rights::Reads => task_to_read(task),
     }
 }

@@ -21,7 +21,7 @@ fn save_row<C: Calls, S: Shelf>(desk: &mut C, shelf: &mut S, row: &Row) -> Optio
     }
     let answer = save_deck(desk, shelf, &row.name, SaveOver::Known);
     let outcome = outcome_of(&answer.told);
-    drop(answer);
+    answer.told.free();
     Some(ToldDeck {
         name: row.name.copied(),
         outcome,

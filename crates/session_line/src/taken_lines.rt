@@ -35,7 +35,7 @@ pub fn serve_taken<R: Read, W: Write, C: Calls, S: Shelf>(
         Ok(task) => {
             let answer = execute(alloc, keys, desk, shelf, allowed(rights, task));
             let outcome = send(output, &answer);
-            drop(answer);
+            answer.told.free();
             outcome
         }
         Err(Stop::InputEnded) => Outcome::Ended,
