@@ -13,9 +13,9 @@ syntax match compassPseudo /\%<30c\%(PERIPH\|EJECT\|ENTRY\|IDENT\|SPACE\|TITLE\|
 syntax match compassInstruction /\%<30c\%(ACN\|ADC\|ADD\|ADI\|ADM\|ADN\|AJM\|AOD\|AOI\|AOM\|CRD\|CRM\|CWD\|CWM\|DCN\|EJM\|EXN\|FAN\|FJM\|FNC\|IAM\|IAN\|IJM\|LCN\|LDC\|LDD\|LDI\|LDM\|LDN\|LJM\|LMC\|LMD\|LMI\|LMM\|LMN\|LPC\|LPN\|MJN\|NJN\|OAM\|OAN\|PJN\|PSN\|RAD\|RAI\|RAM\|RJM\|RPN\|SBD\|SBI\|SBM\|SBN\|SCN\|SHN\|SOD\|SOI\|SOM\|STD\|STI\|STM\|UJN\|ZJN\|DF\|EQ\|GE\|GT\|ID\|IR\|JP\|LE\|LT\|MI\|NE\|NG\|NO\|NZ\|OR\|PL\|PS\|RJ\|ZR\|\%(AX\|BX\|CX\|DX\|FX\|IX\|LX\|MX\|NX\|PX\|RX\|SA\|SB\|SX\|UX\|ZX\)[0-7]\)\%( \|$\)\@=/ contained nextgroup=compassOperand,compassRemark skipwhite
 syntax match compassOperand /\%<30c\S\+/ contained contains=compassNumber,compassText,compassRegister nextgroup=compassBehind
 syntax match compassBehind / .*/ contained
-syntax match compassNumber /\<[0-9]\+[BD]\?\%(S[0-9]\+\)\?\>/ contained
-syntax match compassText /\<[0-9]\+[HALRC][^, ]*/ contained
-syntax match compassRegister /\<[ABX][0-7]\>/ contained
+syntax match compassNumber /\<\%(\%<73c[0-9]\)\+\%(\%<73c[BDO]\)\?\%(\%<73cS\%(\%<73c[0-9]\)\+\)\?\%(\>\|\%73c\)/ contained
+syntax match compassText /\<\%(\%<73c[0-9]\)\+\%<73c[HALRC][^, ]*/ contained
+syntax match compassRegister /\<[ABX]\%<73c[0-7]\%(\>\|\%73c\)/ contained
 syntax match compassSequence /\%>72c.\+/ containedin=ALL
 highlight default link compassComment Comment
 highlight default link compassRemark Comment
