@@ -195,6 +195,11 @@ impl<'a> FlaggedStatement<'a> {
         self.begins().variable < self.columns.len()
     }
 
+    /// What stands on its first card from a place in the variable field on, with what is behind that field.
+    pub(crate) fn columns_at(&self, start: usize) -> &'a [u8] {
+        behind(self.columns, self.begins().variable.saturating_add(start))
+    }
+
     /// Whether something stands behind the location field.
     pub(crate) fn has_late_operation(&self) -> bool {
         self.begins().operation < self.columns.len()

@@ -15,7 +15,7 @@ pub(crate) fn location_words<'a>(flagged: &FlaggedStatement<'a>) -> Found<'a> {
     }
     let text = Shown { text: location };
     if is_same_text(location, b"-") && !is_equ {
-        let says = " may not stand here: a VFD begins at a word";
+        let says = " would go on inside a word, which is left out of this language";
         return Found {
             place: Place::Location(0),
             words: Words::Of(text, says),

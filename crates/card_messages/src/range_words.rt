@@ -310,6 +310,10 @@ fn reserving_words<'a>(flagged: &FlaggedStatement<'a>, value: &Expr<'_>) -> Opti
     let Ok(form) = flagged.values.of(value) else {
         return step_words(flagged, part);
     };
+    if flagged.statement.operation == Operation::Bss && form.number() < 0 {
+        let says = " is a negative count of words, which is left out of this language";
+        return Some(Found::about(part, says));
+    }
     let most = i64::from(flagged.kind().most_words()).saturating_sub(1);
     let says = match flagged.statement.operation {
         Operation::Bss | Operation::Bssz => ": a count of words goes from",

@@ -4,6 +4,7 @@ use crate::elements::{ElementText, Elements, MOST_CHARACTERS, Part, Parts};
 use crate::flagged_statement::{FlaggedStatement, Found, Place};
 use crate::seen_values::FaultLetter;
 use crate::words::Words;
+use definitions::DeckKind;
 use expr_forms::{Form, Part as FormPart, Relocation};
 use operations::Operation;
 
@@ -96,6 +97,19 @@ fn instruction_says(name: &[u8]) -> &'static str {
     }
 }
 
+/// What is said of an address that ORG does not take.
+fn address_says(kind: DeckKind, form: Form) -> &'static str {
+    match (kind, form.part()) {
+        (DeckKind::Rel, None) => {
+            " is an absolute address in a REL deck, which is left out of this language"
+        }
+        (_, None | Some(FormPart::Added(Relocation::Block(_)))) => {
+            " is an address in another block, which is left out of this language"
+        }
+        _ => " is no address in the block that is in use",
+    }
+}
+
 /// What is said of a relative value by itself.
 fn relative_fault<'a>(flagged: &FlaggedStatement<'a>, form: Form) -> Option<&'static str> {
     if form.is_absolute() && flagged.statement.operation != Operation::Org {
@@ -112,7 +126,7 @@ fn relative_fault<'a>(flagged: &FlaggedStatement<'a>, form: Form) -> Option<&'st
         Operation::Bss | Operation::Bssz => Some(
             " is relative, and a count of words is a plain number",
         ),
-        Operation::Org => Some(" is no address in the block that is in use"),
+        Operation::Org => Some(address_says(flagged.kind(), form)),
         Operation::Loc => Some(
             " is relative to an external or with minus; LOC takes a number or an address",
         ),

@@ -66,7 +66,7 @@ fn is_number(text: &[u8]) -> bool {
 }
 
 /// Whether a text begins with a digit and has no mark of expressions.
-fn is_unsigned(text: &[u8]) -> bool {
+pub(crate) fn is_unsigned(text: &[u8]) -> bool {
     for character in text {
         if matches!(*character, b'+' | b'-' | b'*' | b'/') {
             return false;
