@@ -3,7 +3,7 @@
 use crate::binaries::{may_hold_words, text_of, write_binary};
 use crate::flagged::{Telling, tell_flagged, tell_summary};
 use crate::input_files::{STANDARD_INPUT, input_of, shown_names, standard_input};
-use crate::input_lines::tell_lines;
+use crate::input_lines::{LineTelling, tell_lines};
 use crate::journal_files::{DecksFault, decks_at};
 use crate::manual_layout::manual_listings;
 use crate::outputs::{Clash, OutputNames, file_named, first_clash};
@@ -422,7 +422,10 @@ where
             let mut built = built;
             write_and_tell(rt, named, &mut built, reader.get_ref(), names)
         }
-        Err(fault) => Err(tell_lines(rt, fault, reader, &mut line, names)),
+        Err(fault) => {
+            let explain = named.explain;
+            Err(tell_lines(rt, fault, reader, &mut line, LineTelling { names, explain }))
+        }
     }
 }
 

@@ -67,6 +67,13 @@ impl<F: Read, S: Read> FileColumns for Given<F, S> {
             Given::WithTabs(filtered) => { filtered.reader().get_ref().file_column(line, column) }
         }
     }
+
+    fn tab_blanks(&self, line: u64, columns: usize) -> usize {
+        match self {
+            Given::Plain(_) | Given::Filtered(_) => 0,
+            Given::WithTabs(filtered) => { filtered.reader().get_ref().tab_blanks(line, columns) }
+        }
+    }
 }
 
 /// A file, behind a filter where one is asked for.

@@ -23,6 +23,7 @@ mod input_lines;
 mod manual_layout;
 mod outputs;
 mod run_faults;
+mod shown_lines;
 mod standard_output;
 mod symbols;
 

@@ -4,21 +4,19 @@ ghost use Rattle.std.specs.Process.{exit_status};
 ghost use Rattle.asm_main.specs.Runs.{run_status};
 
 use crate::input_files::InputFault;
-use crate::input_lines::character_of;
 use crate::journal_files::{JOURNAL_STATUS, JournalError};
 use crate::outputs::{Clash, FileName};
 use crate::tab_places::{FileColumns, column_at};
-use asm_main::{AsmFault, Chained, LinePlace, Tally, asm_status, column_of, line_of, words_of};
+use asm_main::{AsmFault, Chained, LinePlace, Tally, asm_status, column_of};
 use std::process::ExitCode;
 use std::{fmt, io};
-use text_ports::LineBuf;
 use thiserror::Error;
 
 /// The status of a fault of the command line.
 const COMMAND_LINE_STATUS: u8 = 2;
 
 /// A line of a file of the input that is refused, and why.
-#[derive(Clone, Copy, Debug, Error)]
+#[derive(Clone, Copy)]
 pub(crate) struct LineFault<'a> {
     pub name: &'a str,
     pub line: u64,
@@ -31,7 +29,7 @@ pub(crate) struct LineFault<'a> {
 }
 
 /// The character that a refused line is about, if it is about one.
-#[derive(Clone, Copy, Debug)]
+#[derive(Clone, Copy)]
 pub(crate) struct BadCharacter(pub Option<u8>);
 
 /// The character, and a comma behind it: one that can't be shown by its number. Of a tab and a carriage return
@@ -77,10 +75,7 @@ pub(crate) enum RunFault<'a> {
     /// A file of the input can't be read.
     #[error(transparent)]
     Input(#[from] InputFault<'a>),
-    /// A line of a file of the input is refused.
-    #[error(transparent)]
-    Line(LineFault<'a>),
-    /// The same, and it is told with those behind it.
+    /// A line of a file of the input is refused, and that is told.
     #[error(transparent)]
     Told(AsmFault),
     /// The journal has not what is asked for.
@@ -121,44 +116,8 @@ pub(crate) fn fault_column<I: FileColumns>(
     }
 }
 
-/// A fault of the input with the file and the line that it is about: `held` are the bytes of the files
-/// that no line was made of so far, and `line` was read last.
-pub(crate) fn placed<'a, I: FileColumns>(
-    fault: AsmFault,
-    chain: &Chained<I>,
-    held: &[u8],
-    line: &LineBuf,
-    names: &[&'a str],
-) -> RunFault<'a> {
-    match words_of(fault, line.as_slice()) {
-        Some(words) => {
-            let place = chain.place_of(line_of(fault, chain.lines_taken(held)));
-            match names.get(place.part) {
-                Some(name) => RunFault::Line(LineFault {
-                    name: *name,
-                    line: place.line,
-                    column: fault_column(fault, chain, place),
-                    words,
-                    character: character_at(fault, line.as_slice()),
-                    fault,
-                }),
-                None => RunFault::Asm(fault),
-            }
-        }
-        None => named(fault, chain, names),
-    }
-}
-
-/// The character that a fault of the input is about.
-fn character_at(fault: AsmFault, line: &[u8]) -> BadCharacter {
-    match fault {
-        AsmFault::BadLine { fault, .. } => character_of(fault, line),
-        _ => BadCharacter(None),
-    }
-}
-
 /// A read fault with the name of the file and what the system says.
-fn named<'a, I>(fault: AsmFault, chain: &Chained<I>, names: &[&'a str]) -> RunFault<'a> {
+pub(crate) fn named<'a, I>(fault: AsmFault, chain: &Chained<I>, names: &[&'a str]) -> RunFault<'a> {
     match (fault, chain.fault(), names.get(chain.asked())) {
         (AsmFault::ReadFault, Some(error), Some(name)) => {
             RunFault::Input(InputFault { name: *name, error })
@@ -172,9 +131,7 @@ fn status_of(fault: &RunFault<'_>) -> u8 {
     match fault {
         RunFault::Asm(fault) => asm_status(&Err(*fault)),
         RunFault::Input(_) => asm_status(&Err(AsmFault::ReadFault)),
-        RunFault::Line(LineFault { fault, .. }) | RunFault::Told(fault) => {
-            asm_status(&Err(*fault))
-        }
+        RunFault::Told(fault) => asm_status(&Err(*fault)),
         RunFault::Journal { .. } => JOURNAL_STATUS,
         RunFault::Output { .. } | RunFault::Beside { .. } => asm_status(&Err(AsmFault::WriteFault {
             sent: 0,
@@ -183,8 +140,7 @@ fn status_of(fault: &RunFault<'_>) -> u8 {
     }
 }
 
-/// The line of a fault on standard error, if there is one, and the status of a run. A line of the input begins
-/// with its file, as compilers tell one.
+/// The line of a fault on standard error, unless it is told, and the status of a run.
 pub(crate) fn tell_run<R: Eprint>(rt: &R, outcome: &Result<Tally, RunFault<'_>>) -> ExitCode {
     let fault = match outcome {
         Ok(tally) => return tell(rt, &Ok(*tally)),
@@ -192,7 +148,6 @@ pub(crate) fn tell_run<R: Eprint>(rt: &R, outcome: &Result<Tally, RunFault<'_>>)
     };
     let _ = match fault {
         RunFault::Told(_) => Ok(()),
-        RunFault::Line(fault) => eprintln!(rt; "{fault}"),
         fault => eprintln!(rt; "compass: {fault}"),
     };
     ExitCode::from(status_of(fault))

@@ -6,7 +6,7 @@ use std::alloc::{AllocError, Global};
 use std::io::{self, ErrorKind, Read};
 
 /// How many columns a card has: no message is about one behind the next.
-const CARD_COLUMNS: usize = 80;
+pub(crate) const CARD_COLUMNS: usize = 80;
 
 /// A tab of a file: its line, counted from 1, how many columns of the card stand before it, and for how many
 /// blanks it stands.
@@ -33,6 +33,9 @@ pub(crate) trait FileColumns {
     /// Where a column of a card stands in its line of the file, in which a tab is one column. All are counted
     /// from 1.
     fn file_column(&self, line: u64, column: usize) -> usize;
+
+    /// For how many blanks a tab stands behind so many columns of the card; 0 where none stands there.
+    fn tab_blanks(&self, line: u64, columns: usize) -> usize;
 }
 
 impl<R> Noting<R> {
@@ -88,11 +91,35 @@ fn columns_in_file(tabs: &[TabPlace], line: u64, columns: usize) -> usize {
     columns.saturating_sub(left_out)
 }
 
-impl<R> FileColumns for Noting<R> {
-    fn file_column(&self, line: u64, column: usize) -> usize {
+impl<R> Noting<R> {
+    /// The tabs from a line on.
+    fn tabs_from(&self, line: u64) -> &[TabPlace] {
         let tabs = self.tabs.as_slice();
         let before = tabs.partition_point(|tab| tab.line < line);
-        columns_in_file(tabs.split_at(before.min(tabs.len())).1, line, column)
+        tabs.split_at(before.min(tabs.len())).1
+    }
+}
+
+/// For how many blanks the one of these tabs stands that is behind so many columns of a line.
+fn blanks_behind(tabs: &[TabPlace], line: u64, columns: usize) -> usize {
+    for tab in tabs {
+        if tab.line != line || tab.columns > columns {
+            break;
+        }
+        if tab.columns == columns {
+            return tab.blanks;
+        }
+    }
+    0
+}
+
+impl<R> FileColumns for Noting<R> {
+    fn file_column(&self, line: u64, column: usize) -> usize {
+        columns_in_file(self.tabs_from(line), line, column)
+    }
+
+    fn tab_blanks(&self, line: u64, columns: usize) -> usize {
+        blanks_behind(self.tabs_from(line), line, columns)
     }
 }
 
@@ -116,5 +143,17 @@ pub(crate) fn column_at<I: FileColumns>(
     match chain.reader(place.part) {
         Some(file) => file.file_column(place.line, column),
         None => column,
+    }
+}
+
+/// For how many blanks a tab of a file stands behind so many columns of the card at this place.
+pub(crate) fn blanks_at<I: FileColumns>(
+    chain: &Chained<I>,
+    place: LinePlace,
+    columns: usize,
+) -> usize {
+    match chain.reader(place.part) {
+        Some(file) => file.tab_blanks(place.line, columns),
+        None => 0,
     }
 }
