@@ -71,7 +71,12 @@ fn kept_reply<E: Ends>(ends: &mut E, reply: Reply, draft: Draft) -> Reply
             let kept = ends.keep(made.version(), draft);
             told_of(made, kept)
         }
-        Reply::Carried { edits, .. } => {
+        Reply::Carried {
+            version,
+            seen,
+            edits,
+        } => {
+            let _ = (version, seen);
             drop(edits);
             Reply::Refused(Refusal::Foreign)
         }
@@ -203,8 +208,13 @@ fn greet_among<C: Calls, E: Ends>(
     };
     let greeting = desk.greet(alloc, name);
     name_where(ends, greeting.is_met(), name);
+    let Greeting {
+        status,
+        sessions: others,
+    } = greeting;
+    drop(others);
     Greeting {
-        status: greeting.status,
+        status,
         sessions: Listed::new(sessions),
     }
 }

@@ -101,7 +101,12 @@ pub(crate) fn told_of_call(reply: Reply) -> Told
             made.free();
             Told::Done(version)
         }
-        Reply::Carried { version, edits, .. } => {
+        Reply::Carried {
+            version,
+            seen,
+            edits,
+        } => {
+            let _ = seen;
             drop(edits);
             Told::Done(version)
         }

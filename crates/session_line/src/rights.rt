@@ -3,6 +3,7 @@ ghost use Rattle.std.specs.Prelude.{◌≡◌};
 ghost use Rattle.session_line.specs.Rights.{allowed, makes_change};
 
 use crate::tasks::Task;
+use cards::DeckName;
 use desk_core::Call;
 use session_commands::Refusal;
 
@@ -39,16 +40,23 @@ fn call_to_read(call: Call) -> Task
     }
 }
 
+/// What is done of a task that changes the deck or the file of this name.
+fn refused(name: DeckName) -> Task
+    ensures { result ≡ Task.Refuse Refusal.ReadOnly }
+{
+    drop(name);
+    Task::Refuse(Refusal::ReadOnly)
+}
+
 /// What is done of a task by who may only ask.
 fn task_to_read(task: Task) -> Task
     ensures { result ≡ allowed Rights.Reads task }
 {
     match task {
         Task::Ask(call) => call_to_read(call),
-        Task::LoadDeck(_) | Task::LoadAll(_) | Task::ReloadDeck(_) => {
-            Task::Refuse(Refusal::ReadOnly)
-        }
-        Task::SaveDeck(..) | Task::SaveAll => Task::Refuse(Refusal::ReadOnly),
+        Task::LoadDeck(name) | Task::LoadAll(name) | Task::ReloadDeck(name) => refused(name),
+        Task::SaveDeck(name, _) => refused(name),
+        Task::SaveAll => Task::Refuse(Refusal::ReadOnly),
         other => other,
     }
 }
