@@ -1,5 +1,5 @@
 -- The steps of reading a record: the lines so far leave the journal of what is left.
-use Rattle.std.proofs.Common.{ℕ, ◌≡◌, ◌+◌, ◌<◌, List, [], ◌∷◌, ◌++◌, Option, None, Some, length, refl, sym, ap, subst, ◌∙◌, arith, append_assoc, length-append}
+use Rattle.std.proofs.Common.{ℕ, ◌≡◌, ◌+◌, ◌-◌, ◌^◌, ◌<◌, ◌≤◌, List, [], ◌∷◌, ◌++◌, Option, None, Some, length, refl, sym, ap, subst, ◌∙◌, arith, append_assoc, length-append}
 use Rattle.std.specs.Io.KnownBytes.{Consumes}
 use Rattle.std.proofs.KnownBytes.{Consumes-nil, Consumes-trans}
 use Rattle.text_ports.specs.Lines.{line_feed, ReadsWholeLine}
@@ -16,7 +16,7 @@ use Rattle.journal.specs.declared.steps.Step.TheVariants as step
 use Rattle.journal.specs.Places.{advanced, behind_record}
 use Rattle.journal.specs.Steps.{line_step}
 use Rattle.journal.specs.Journals.{ends, cut_at, faulty_at, journal_from}
-use Rattle.journal.specs.Reading.{ReadsNext, EndsIn, EndsWrong, nothing, something}
+use Rattle.journal.specs.Reading.{ReadsNext, EndsIn, EndsWrong, GivesTooMuch, nothing, something}
 use Rattle.journal.proofs.JournalSteps.{stepped, journal-line, journal-nothing, journal-open, journal-cut, journal-long, wrong-something, wrong-nothing}
 
 -- how the journal ends where no line is left, or it is too long
@@ -60,27 +60,33 @@ EndsWrong-end old new place ending line e read =
     let P : List ℕ → Type 0 = λ l. Consumes old new l in
     nothing (subst P read.2.0 read.1) read.3 e
 
--- the lines so far leave the journal of what is left
-pub record IsWithin (old new : Option (List ℕ)) (first : Place) (current : Option Open) (place : Place) : Type 0 where
+-- the lines so far, of a byte each at least, leave the journal of what is left
+pub record IsWithin (old new : Option (List ℕ)) (first : Place) (current : Option Open) (place : Place) (lines : ℕ) : Type 0 where
   pub taken : List ℕ
   pub consumed : Consumes old new taken
+  pub many : lines ≤ length taken
   pub goes : (rest : List ℕ) → journal_from None first (taken ++ rest) ≡ journal_from current place rest
 
 -- no line yet
-pub IsWithin-none : (old : Option (List ℕ)) (place : Place) → IsWithin old old place None place
-IsWithin-none old place = record { taken = []; consumed = Consumes-nil old; goes = λ rest. refl }
+pub IsWithin-none : (old : Option (List ℕ)) (place : Place) → IsWithin old old place None place 0
+IsWithin-none old place = record { taken = []; consumed = Consumes-nil old; many = omega arith; goes = λ rest. refl }
 
 -- one line more, and the step that it makes
-pub record HasStepped (old new : Option (List ℕ)) (first place : Place) (step : Step) (count : ℕ) : Type 0 where
+pub record HasStepped (old new : Option (List ℕ)) (first place : Place) (step : Step) (count lines : ℕ) : Type 0 where
   pub taken : List ℕ
   pub consumed : Consumes old new taken
+  pub many : lines ≤ length taken
   pub goes : (rest : List ℕ) → journal_from None first (taken ++ rest) ≡ stepped step place count (pieces_of rest)
 
-pub HasStepped-line : (old new next : Option (List ℕ)) (first : Place) (current : Option Open) (place : Place) (line text : List ℕ) (step : Step) →
-    IsWithin old new first current place → ReadsWholeLine new next is.Line line → text ≡ line → step ≡ line_step current text → HasStepped old next first place step (length text + 1)
-HasStepped-line old new next first current place line text step within read same is = record {
+pub HasStepped-line : (old new next : Option (List ℕ)) (first : Place) (current : Option Open) (place : Place) (lines : ℕ) (line text : List ℕ) (step : Step) →
+    IsWithin old new first current place lines → ReadsWholeLine new next is.Line line → text ≡ line → step ≡ line_step current text → HasStepped old next first place step (length text + 1) (lines + 1)
+HasStepped-line old new next first current place lines line text step within read same is = record {
   taken = within.taken ++ read.0;
   consumed = Consumes-trans old new next within.taken read.0 within.consumed read.1;
+  many =
+      let own : length read.0 ≡ length line + 1 = ap length read.2.0 ∙ length-append line (line_feed ∷ []) in
+      let so_far : lines ≤ length within.taken = within.many in
+      omega (arith, own, so_far, length-append within.taken read.0);
   goes = λ rest.
       ap (journal_from None first) (append_assoc within.taken read.0 rest)
       ∙ within.goes (read.0 ++ rest)
@@ -92,37 +98,45 @@ HasStepped-line old new next first current place line text step within read same
 }
 
 -- the record goes on
-pub IsWithin-more : (old new : Option (List ℕ)) (first place next : Place) (more : Open) (count : ℕ) → HasStepped old new first place (step.Goes more) count → next ≡ advanced count place →
-    IsWithin old new first (Some more) next
-IsWithin-more old new first place next more count has e =
-    let P : Place → Type 0 = λ (p : Place). IsWithin old new first (Some more) p in
-    subst P (sym e) (record { taken = has.taken; consumed = has.consumed; goes = has.goes })
+pub IsWithin-more : (old new : Option (List ℕ)) (first place next : Place) (more : Open) (count lines : ℕ) → HasStepped old new first place (step.Goes more) count lines → next ≡ advanced count place →
+    IsWithin old new first (Some more) next lines
+IsWithin-more old new first place next more count lines has e =
+    let P : Place → Type 0 = λ (p : Place). IsWithin old new first (Some more) p lines in
+    subst P (sym e) (record { taken = has.taken; consumed = has.consumed; many = has.many; goes = has.goes })
+
+-- as many lines as can be counted
+pub GivesTooMuch-lines : (old new : Option (List ℕ)) (first : Place) (current : Option Open) (place : Place) (lines : ℕ) → IsWithin old new first current place lines → 2 ^ 64 - 1 ≤ lines → GivesTooMuch old new
+GivesTooMuch-lines old new first current place lines within all = record {
+  taken = within.taken;
+  consumed = within.consumed;
+  many = let so_far : lines ≤ length within.taken = within.many in omega (arith, so_far, all);
+}
 
 -- the record is whole
-pub ReadsNext-found : (old new : Option (List ℕ)) (first place mid next : Place) (whole : Record) (count : ℕ) → HasStepped old new first place (step.Ends whole) count →
+pub ReadsNext-found : (old new : Option (List ℕ)) (first place mid next : Place) (whole : Record) (count lines : ℕ) → HasStepped old new first place (step.Ends whole) count lines →
     mid ≡ advanced count place → next ≡ behind_record mid → ReadsNext old new first next (Found whole)
-ReadsNext-found old new first place mid next whole count has m e =
+ReadsNext-found old new first place mid next whole count lines has m e =
     let P : Place → Type 0 = λ (p : Place). ReadsNext old new first p (Found whole) in
     subst P (sym (e ∙ ap behind_record m)) (record { taken = has.taken; consumed = has.consumed; told = has.goes })
 
 -- the line belongs to no record
-pub ReadsNext-bad : (old new : Option (List ℕ)) (first place mid last : Place) (ending : Ending) (count : ℕ) → HasStepped old new first place step.Bad count →
+pub ReadsNext-bad : (old new : Option (List ℕ)) (first place mid last : Place) (ending : Ending) (count lines : ℕ) → HasStepped old new first place step.Bad count lines →
     mid ≡ advanced count place → ending ≡ faulty_at mid → ReadsNext old new first last (Ended ending)
-ReadsNext-bad old new first place mid last ending count has m e =
+ReadsNext-bad old new first place mid last ending count lines has m e =
     let P : Ending → Type 0 = λ (x : Ending). ReadsNext old new first last (Ended x) in
     subst P (sym (e ∙ ap faulty_at m)) (record { taken = has.taken; consumed = has.consumed; told = has.goes })
 
 -- the record is damaged
-pub ReadsNext-wrong : (old new next : Option (List ℕ)) (first place mid last : Place) (ending : Ending) (count : ℕ) → HasStepped old new first place step.Wrong count →
+pub ReadsNext-wrong : (old new next : Option (List ℕ)) (first place mid last : Place) (ending : Ending) (count lines : ℕ) → HasStepped old new first place step.Wrong count lines →
     mid ≡ advanced count place → EndsWrong new next mid ending → ReadsNext old next first last (Ended ending)
-ReadsNext-wrong old new next first place mid last ending count has m (nothing consumed at_end e) =
+ReadsNext-wrong old new next first place mid last ending count lines has m (nothing consumed at_end e) =
     let P : Ending → Type 0 = λ (x : Ending). ReadsNext old next first last (Ended x) in
     subst P (sym (e ∙ ap cut_at m)) (record {
       taken = has.taken ++ [];
       consumed = Consumes-trans old new next has.taken [] has.consumed consumed;
       told = (has.goes [] ∙ ap ends (wrong-nothing place), at_end);
     })
-ReadsNext-wrong old new next first place mid last ending count has m (something more consumed some e) =
+ReadsNext-wrong old new next first place mid last ending count lines has m (something more consumed some e) =
     let P : Ending → Type 0 = λ (x : Ending). ReadsNext old next first last (Ended x) in
     subst P (sym (e ∙ ap faulty_at m)) (record {
       taken = has.taken ++ more;
@@ -134,19 +148,19 @@ ReadsNext-wrong old new next first place mid last ending count has m (something 
     })
 
 -- the journal ends within a record
-pub ReadsNext-ended : (old mid new : Option (List ℕ)) (first place last : Place) (current : Option Open) (ending : Ending) → IsWithin old mid first current place → EndsIn mid new current place ending →
+pub ReadsNext-ended : (old mid new : Option (List ℕ)) (first place last : Place) (current : Option Open) (lines : ℕ) (ending : Ending) → IsWithin old mid first current place lines → EndsIn mid new current place ending →
     ReadsNext old new first last (Ended ending)
-ReadsNext-ended old mid new first place last current Whole within ended = record {
+ReadsNext-ended old mid new first place last current lines Whole within ended = record {
   taken = within.taken ++ ended.taken;
   consumed = Consumes-trans old mid new within.taken ended.taken within.consumed ended.consumed;
   told = (within.goes ended.taken ∙ ended.told.0, ended.told.1);
 }
-ReadsNext-ended old mid new first place last current (Cut begin) within ended = record {
+ReadsNext-ended old mid new first place last current lines (Cut begin) within ended = record {
   taken = within.taken ++ ended.taken;
   consumed = Consumes-trans old mid new within.taken ended.taken within.consumed ended.consumed;
   told = (within.goes ended.taken ∙ ended.told.0, ended.told.1);
 }
-ReadsNext-ended old mid new first place last current (Faulty number begin) within ended = record {
+ReadsNext-ended old mid new first place last current lines (Faulty number begin) within ended = record {
   taken = within.taken ++ ended.taken;
   consumed = Consumes-trans old mid new within.taken ended.taken within.consumed ended.consumed;
   told = λ rest. ap (journal_from None first) (append_assoc within.taken ended.taken rest) ∙ within.goes (ended.taken ++ rest) ∙ ended.told rest;

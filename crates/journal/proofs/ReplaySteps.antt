@@ -1,9 +1,10 @@
 -- The steps of making the changes of a journal again: the records so far are made, and leave the journal of what is left.
-use Rattle.std.proofs.Common.{ℕ, ◌≡◌, ◌+◌, Bool, true, false, List, [], ◌∷◌, ◌++◌, Option, None, Some, Result, Ok, Err, IfErr, IsErrAnd, length, refl, sym, ap, subst, ◌∙◌, append_assoc, append-nil}
+use Rattle.std.proofs.Common.{ℕ, ◌≡◌, ◌+◌, ◌-◌, ◌^◌, ◌<◌, ◌≤◌, Bool, true, false, List, [], ◌∷◌, ◌++◌, Option, None, Some, length, refl, sym, ap, subst, ◌∙◌, inl, inr, arith, append_assoc, append-nil, length-append}
 use Rattle.std.specs.List.{cons_option}
 use Rattle.std.specs.Io.KnownBytes.{Consumes}
 use Rattle.std.proofs.KnownBytes.{Consumes-nil, Consumes-trans}
 use Rattle.std.proofs.lemmas.List.Elements.{filter_map-append}
+use Rattle.text_ports.specs.Faults.{count_up}
 use Rattle.turn_office.specs.Histories.{Leads, entry}
 use Rattle.desk_core.specs.Changes as changes
 use Rattle.desk_core.specs.Changes.{decks_after}
@@ -23,15 +24,17 @@ use Rattle.journal.specs.declared.places.Place.{Place}
 use Rattle.journal.specs.declared.places.Ending.{Ending}
 use Rattle.journal.specs.declared.places.Ending.TheVariants.{Whole, Cut, Faulty}
 use Rattle.journal.specs.declared.reading.Next.TheVariants.{Found, Ended}
+use Rattle.journal.specs.declared.reading.JournalFault.{JournalFault}
+use Rattle.journal.specs.declared.reading.JournalFault.TheVariants as fault
 use Rattle.journal.specs.declared.replaying.ReplayFault.{ReplayFault}
 use Rattle.journal.specs.declared.replaying.ReplayFault.TheVariants as replay
 use Rattle.journal.specs.Places.{at_start}
 use Rattle.journal.specs.Journals.{Journal, in_front, journal_from, journal_of}
-use Rattle.journal.specs.Reading.{TellsEnd, ReadsNext}
-use Rattle.journal.specs.Replaying.{call_of, change_of, change_in_entry, change_told, changes_told, begun_at, begun_by, fronted, are_none, IsNotTaken, IsTakenAs, IsTaken, IsReplayed, IsUnmade, LeadsTo, StopsReplay, TellsJournal, Replays}
+use Rattle.journal.specs.Reading.{Tells, TellsEnd, ReadsNext, GivesTooMuch, StopsReading}
+use Rattle.journal.specs.Replaying.{replay_fault, call_of, change_of, change_in_entry, change_told, changes_told, begun_at, begun_by, fronted, are_none, IsNotTaken, IsTakenAs, IsTaken, IsReplayed, LeadsTo, StopsReplay, TellsJournal, Replays}
 
--- the records so far are made, and leave the journal of what is left
-pub record AreMade (old new : Option (List ℕ)) (first : Bool) (desk : Desk) (place : Place) : Type 0 where
+-- the records so far, of a byte each at least, are made, and leave the journal of what is left
+pub record AreMade (old new : Option (List ℕ)) (first : Bool) (desk : Desk) (place : Place) (count : ℕ) : Type 0 where
   pub records : List Record
   pub first_is : first ≡ are_none records
   pub history : History
@@ -39,13 +42,14 @@ pub record AreMade (old new : Option (List ℕ)) (first : Bool) (desk : Desk) (p
   pub accepted : changes_in history ≡ changes_told records
   pub taken : List ℕ
   pub consumed : Consumes old new taken
+  pub many : count ≤ length taken
   pub goes : LeadsTo records taken place
 
 -- no record yet
-pub AreMade-none : (old : Option (List ℕ)) (desk : Desk) (place : Place) → desk ≡ new_desk_at 0 → place ≡ at_start → AreMade old old true desk place
+pub AreMade-none : (old : Option (List ℕ)) (desk : Desk) (place : Place) → desk ≡ new_desk_at 0 → place ≡ at_start → AreMade old old true desk place 0
 AreMade-none old desk place new start =
-    let P : Place → Type 0 = λ (p : Place). AreMade old old true desk p in
-    subst P (sym start) (record { records = []; first_is = refl; history = []; runs = sym new; accepted = refl; taken = []; consumed = Consumes-nil old; goes = λ rest. refl })
+    let P : Place → Type 0 = λ (p : Place). AreMade old old true desk p 0 in
+    subst P (sym start) (record { records = []; first_is = refl; history = []; runs = sym new; accepted = refl; taken = []; consumed = Consumes-nil old; many = omega arith; goes = λ rest. refl })
 
 -- there are none where they are told to be
 none-are : (records : List Record) → are_none records ≡ true → records ≡ []
@@ -88,19 +92,26 @@ accepted-more history records r by asked told same =
 fronted-more : (records : List Record) (r : Record) (journal : Journal) → fronted records (in_front r journal) ≡ fronted (records ++ r ∷ []) journal
 fronted-more records r journal = ap (λ (rs : List Record). record { records = rs; ending = journal.ending }) (sym (append_assoc records (r ∷ []) journal.records))
 
+-- a record has a byte at least
+some-bytes : (place after : Place) (r : Record) (taken : List ℕ) (left : Option (List ℕ)) → Tells place after (Found r) taken left → 0 < length taken
+some-bytes place after r [] left told =
+    let none : [] ≡ r ∷ (journal_from None after []).records = ap (λ (j : Journal). j.records) (told []) in
+    cc
+some-bytes place after r (b ∷ taken) left told = omega arith
+
 -- the bytes of one record more
-goes-more : (old mid new : Option (List ℕ)) (first : Bool) (desk : Desk) (place after : Place) (r : Record) → (so_far : AreMade old mid first desk place) → (read : ReadsNext mid new place after (Found r)) →
+goes-more : (old mid new : Option (List ℕ)) (first : Bool) (desk : Desk) (place after : Place) (count : ℕ) (r : Record) → (so_far : AreMade old mid first desk place count) → (read : ReadsNext mid new place after (Found r)) →
     LeadsTo (so_far.records ++ r ∷ []) (so_far.taken ++ read.taken) after
-goes-more old mid new first desk place after r so_far read rest =
+goes-more old mid new first desk place after count r so_far read rest =
     ap journal_of (append_assoc so_far.taken read.taken rest)
     ∙ so_far.goes (read.taken ++ rest)
     ∙ ap (fronted so_far.records) (read.told rest)
     ∙ fronted-more so_far.records r (journal_from None after rest)
 
 -- one record more
-pub AreMade-more : (old mid new : Option (List ℕ)) (first : Bool) (desk next : Desk) (place after : Place) (r : Record) → AreMade old mid first desk place → ReadsNext mid new place after (Found r) →
-    IsTaken first r desk next → AreMade old new false next after
-AreMade-more old mid new first desk next place after r so_far read taken = told-by r.entry refl taken
+pub AreMade-more : (old mid new : Option (List ℕ)) (first : Bool) (desk next : Desk) (place after : Place) (count : ℕ) (r : Record) → AreMade old mid first desk place count → ReadsNext mid new place after (Found r) →
+    IsTaken first r desk next → AreMade old new false next after (count + 1)
+AreMade-more old mid new first desk next place after count r so_far read taken = told-by r.entry refl taken
   where
     bytes : List ℕ
     bytes = so_far.taken ++ read.taken
@@ -108,10 +119,16 @@ AreMade-more old mid new first desk next place after r so_far read taken = told-
     consumed : Consumes old new bytes
     consumed = Consumes-trans old mid new so_far.taken read.taken so_far.consumed read.consumed
 
-    goes : LeadsTo (so_far.records ++ r ∷ []) bytes after
-    goes = goes-more old mid new first desk place after r so_far read
+    many : count + 1 ≤ length bytes
+    many =
+        let before : count ≤ length so_far.taken = so_far.many in
+        let own : 0 < length read.taken = some-bytes place after r read.taken new read.told in
+        omega (arith, before, own, length-append so_far.taken read.taken)
 
-    told-by : (e : Entry) → r.entry ≡ e → IsTakenAs first r.version r.by e desk next → AreMade old new false next after
+    goes : LeadsTo (so_far.records ++ r ∷ []) bytes after
+    goes = goes-more old mid new first desk place after count r so_far read
+
+    told-by : (e : Entry) → r.entry ≡ e → IsTakenAs first r.version r.by e desk next → AreMade old new false next after (count + 1)
     told-by Begun told is =
         let only : so_far.records ++ r ∷ [] ≡ r ∷ [] = ap (λ (rs : List Record). rs ++ r ∷ []) (none-are so_far.records (sym so_far.first_is ∙ is.0)) in
         record {
@@ -122,6 +139,7 @@ AreMade-more old mid new first desk next place after r so_far read taken = told-
           accepted = sym (ap changes_told only ∙ ap (λ (o : Option changes.Change). cons_option o []) (ap change_in_entry told));
           taken = bytes;
           consumed = consumed;
+          many = many;
           goes = goes;
         }
     told-by (Made asked) told is =
@@ -135,12 +153,13 @@ AreMade-more old mid new first desk next place after r so_far read taken = told-
           accepted = accepted-more so_far.history so_far.records r by asked told so_far.accepted;
           taken = bytes;
           consumed = consumed;
+          many = many;
           goes = goes;
         }
 
 -- the desk of the records so far
-replayed-of : (old new : Option (List ℕ)) (first : Bool) (desk : Desk) (place : Place) → (so_far : AreMade old new first desk place) → IsReplayed so_far.records desk
-replayed-of old new first desk place so_far =
+replayed-of : (old new : Option (List ℕ)) (first : Bool) (desk : Desk) (place : Place) (count : ℕ) → (so_far : AreMade old new first desk place count) → IsReplayed so_far.records desk
+replayed-of old new first desk place count so_far =
     let is = is_of_its_changes (begun_by so_far.records) so_far.history desk so_far.runs in
     record {
       history = so_far.history;
@@ -151,21 +170,21 @@ replayed-of old new first desk place so_far =
     }
 
 -- the desk has the version that was asked for
-pub Replays-stopped : (old new : Option (List ℕ)) (first : Bool) (last : ℕ) (desk : Desk) (place : Place) → AreMade old new first desk place → desk.version ≡ last → Replays old new last desk None
-Replays-stopped old new first last desk place so_far is = record {
+pub Replays-stopped : (old new : Option (List ℕ)) (first : Bool) (last : ℕ) (desk : Desk) (place : Place) (count : ℕ) → AreMade old new first desk place count → desk.version ≡ last → Replays old new last desk None
+Replays-stopped old new first last desk place count so_far is = record {
   records = so_far.records;
-  replayed = replayed-of old new first desk place so_far;
+  replayed = replayed-of old new first desk place count so_far;
   taken = so_far.taken;
   consumed = so_far.consumed;
   told = (λ rest. (journal_from None place rest, so_far.goes rest), is);
 }
 
 -- the journal ends
-pub Replays-ended : (old mid new : Option (List ℕ)) (first : Bool) (last : ℕ) (desk : Desk) (place after : Place) (ending : Ending) → AreMade old mid first desk place → ReadsNext mid new place after (Ended ending) →
+pub Replays-ended : (old mid new : Option (List ℕ)) (first : Bool) (last : ℕ) (desk : Desk) (place after : Place) (count : ℕ) (ending : Ending) → AreMade old mid first desk place count → ReadsNext mid new place after (Ended ending) →
     Replays old new last desk (Some ending)
-Replays-ended old mid new first last desk place after ending so_far read = record {
+Replays-ended old mid new first last desk place after count ending so_far read = record {
   records = so_far.records;
-  replayed = replayed-of old mid first desk place so_far;
+  replayed = replayed-of old mid first desk place count so_far;
   taken = so_far.taken ++ read.taken;
   consumed = Consumes-trans old mid new so_far.taken read.taken so_far.consumed read.consumed;
   told = ends ending read.told;
@@ -183,27 +202,44 @@ Replays-ended old mid new first last desk place after ending so_far read = recor
         ∙ ap (fronted so_far.records) (told rest)
         ∙ only (Faulty number begin)
 
+-- the reader gives too much behind the records so far, or with them
+GivesTooMuch-behind : (old mid new : Option (List ℕ)) (first : Bool) (desk : Desk) (place : Place) (count : ℕ) → AreMade old mid first desk place count → GivesTooMuch mid new → GivesTooMuch old new
+GivesTooMuch-behind old mid new first desk place count so_far more = record {
+  taken = so_far.taken ++ more.taken;
+  consumed = Consumes-trans old mid new so_far.taken more.taken so_far.consumed more.consumed;
+  many = let own : 2 ^ 64 - 1 ≤ length more.taken = more.many in omega (arith, own, length-append so_far.taken more.taken);
+}
+
+pub GivesTooMuch-records : (old new : Option (List ℕ)) (first : Bool) (desk : Desk) (place : Place) (count : ℕ) → AreMade old new first desk place count → 2 ^ 64 - 1 ≤ count → GivesTooMuch old new
+GivesTooMuch-records old new first desk place count so_far all = record {
+  taken = so_far.taken;
+  consumed = so_far.consumed;
+  many = let before : count ≤ length so_far.taken = so_far.many in omega (arith, before, all);
+}
+
+-- the next record is not read
+pub StopsReplay-unread : (old mid new : Option (List ℕ)) (first : Bool) (desk : Desk) (place : Place) (count before middle after : ℕ) (found : JournalFault) → AreMade old mid first desk place count →
+    middle ≡ before → StopsReading mid new middle after found → StopsReplay old new before after (replay_fault found)
+StopsReplay-unread old mid new first desk place count before middle after fault.ReadFault so_far sound (inl failed) = inl (failed ∙ ap count_up sound)
+StopsReplay-unread old mid new first desk place count before middle after fault.ReadFault so_far sound (inr more) = inr (more.0 ∙ sound, GivesTooMuch-behind old mid new first desk place count so_far more.1)
+StopsReplay-unread old mid new first desk place count before middle after fault.OutOfMemory so_far sound same = same ∙ sound
+
 -- a record is not taken
-pub StopsReplay-unmade : (old mid new : Option (List ℕ)) (first : Bool) (desk : Desk) (place after : Place) (r : Record) (fault : ReplayFault) → AreMade old mid first desk place →
-    ReadsNext mid new place after (Found r) → IsNotTaken first r place desk fault → StopsReplay old new fault
-StopsReplay-unmade old mid new first desk place after r replay.ReadFault so_far read not = tt
-StopsReplay-unmade old mid new first desk place after r replay.OutOfMemory so_far read not = tt
-StopsReplay-unmade old mid new first desk place after r (replay.Unmade number begin) so_far read not = record {
+pub StopsReplay-unmade : (old mid new : Option (List ℕ)) (first : Bool) (desk : Desk) (place behind : Place) (count before after : ℕ) (r : Record) (found : ReplayFault) → AreMade old mid first desk place count →
+    after ≡ before → ReadsNext mid new place behind (Found r) → IsNotTaken first r place desk found → StopsReplay old new before after found
+StopsReplay-unmade old mid new first desk place behind count before after r replay.ReadFault so_far sound read not = absurd not
+StopsReplay-unmade old mid new first desk place behind count before after r replay.OutOfMemory so_far sound read not = sound
+StopsReplay-unmade old mid new first desk place behind count before after r (replay.Unmade number begin) so_far sound read not = record {
   records = so_far.records;
   desk = desk;
-  replayed = replayed-of old mid first desk place so_far;
+  replayed = replayed-of old mid first desk place count so_far;
   front = so_far.taken;
   place = place;
   stands = so_far.goes;
   unmade = r;
   own = read.taken;
-  behind = after;
-  told = goes-more old mid new first desk place after r so_far read;
+  behind = behind;
+  told = goes-more old mid new first desk place behind count r so_far read;
   consumed = Consumes-trans old mid new so_far.taken read.taken so_far.consumed read.consumed;
   refused = subst (λ (f : Bool). IsNotTaken f r place desk (replay.Unmade number begin)) so_far.first_is not;
 }
-
--- the fault that a step passes on
-pub StopsReplay-passed : {T : Type 0} (old new : Option (List ℕ)) (fault : ReplayFault) (r : Result T ReplayFault) → IsErrAnd r (λ passed. passed ≡ fault) → StopsReplay old new fault → IfErr r (StopsReplay old new)
-StopsReplay-passed old new fault (Ok value) same stops = tt
-StopsReplay-passed old new fault (Err passed) same stops = subst (λ (f : ReplayFault). StopsReplay old new f) (sym same) stops

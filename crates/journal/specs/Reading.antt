@@ -1,12 +1,15 @@
 -- What one call reads of a journal (ours).
-use Rattle.std.specs.Prelude.{ℕ, ◌≡◌, ◌<◌, List, [], ◌++◌, Option, None, length}
+use Rattle.std.specs.Prelude.{ℕ, ◌≡◌, ◌-◌, ◌^◌, ◌<◌, ◌≤◌, ◌⊎◌, List, [], ◌++◌, Option, None, length}
 use Rattle.std.specs.Io.KnownBytes.{Consumes, IsAtEnd}
+use Rattle.text_ports.specs.Faults.{count_up}
 use Rattle.journal.specs.declared.beginning.Open.{Open}
 use Rattle.journal.specs.declared.places.Place.{Place}
 use Rattle.journal.specs.declared.places.Ending.{Ending}
 use Rattle.journal.specs.declared.places.Ending.TheVariants.{Whole, Cut, Faulty}
 use Rattle.journal.specs.declared.reading.Next.{Next}
 use Rattle.journal.specs.declared.reading.Next.TheVariants.{Found, Ended}
+use Rattle.journal.specs.declared.reading.JournalFault.{JournalFault}
+use Rattle.journal.specs.declared.reading.JournalFault.TheVariants.{ReadFault, OutOfMemory}
 use Rattle.journal.specs.Journals.{ends, in_front, journal_from, cut_at, faulty_at}
 
 -- what the bytes that were taken are where a journal ends: all that it has left; or no record, whatever follows
@@ -36,3 +39,14 @@ pub record EndsIn (old new : Option (List ℕ)) (current : Option Open) (place :
 pub data EndsWrong (old new : Option (List ℕ)) (place : Place) (ending : Ending) : Type 0 where
   nothing : Consumes old new [] → IsAtEnd new → ending ≡ cut_at place → EndsWrong old new place ending
   something : (taken : List ℕ) → Consumes old new taken → 0 < length taken → ending ≡ faulty_at place → EndsWrong old new place ending
+
+-- the reader gave as many bytes as can be counted
+pub record GivesTooMuch (old new : Option (List ℕ)) : Type 0 where
+  pub taken : List ℕ
+  pub consumed : Consumes old new taken
+  pub many : 2 ^ 64 - 1 ≤ length taken
+
+-- why a reader is not read on, whose faults are counted: it failed, or gave as many bytes as can be counted; or there is no memory
+abbrev pub StopsReading : Option (List ℕ) → Option (List ℕ) → ℕ → ℕ → JournalFault → Type 0
+StopsReading old new before after ReadFault = (after ≡ count_up before) ⊎ ((after ≡ before) × GivesTooMuch old new)
+StopsReading old new before after OutOfMemory = after ≡ before

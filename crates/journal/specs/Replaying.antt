@@ -24,6 +24,7 @@ use Rattle.journal.specs.declared.replaying.ReplayFault.TheVariants as replay
 use Rattle.journal.specs.declared.places.Place.{Place}
 use Rattle.journal.specs.Places.{capped}
 use Rattle.journal.specs.Journals.{Journal, journal_from, journal_of}
+use Rattle.journal.specs.Reading.{StopsReading}
 
 -- the call by which who has a name asks for a change
 abbrev pub call_of : List ℕ → Change → Call
@@ -162,8 +163,8 @@ pub record IsUnmade (old new : Option (List ℕ)) (number begin : ℕ) : Type 0 
   pub consumed : Consumes old new (front ++ own)
   pub refused : IsNotTaken (are_none records) unmade place desk (replay.Unmade number begin)
 
--- why a journal is not read to its end: the reader fails, or there is no memory; or a record can't be made again
-abbrev pub StopsReplay : Option (List ℕ) → Option (List ℕ) → ReplayFault → Type 0
-StopsReplay old new replay.ReadFault = ⊤
-StopsReplay old new replay.OutOfMemory = ⊤
-StopsReplay old new (replay.Unmade number begin) = IsUnmade old new number begin
+-- why a journal is not read to its end, by the reader's count of faults before and after: the reader fails, or gives as many bytes as can be counted, or there is no memory; or a record can't be made again
+abbrev pub StopsReplay : Option (List ℕ) → Option (List ℕ) → ℕ → ℕ → ReplayFault → Type 0
+StopsReplay old new before after replay.ReadFault = StopsReading old new before after fault.ReadFault
+StopsReplay old new before after replay.OutOfMemory = StopsReading old new before after fault.OutOfMemory
+StopsReplay old new before after (replay.Unmade number begin) = IsUnmade old new number begin

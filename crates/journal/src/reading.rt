@@ -1,8 +1,9 @@
 //! Reads a journal, record by record.
 ghost use Rattle.std.specs.Prelude.{◌≡◌, IfErr, IfOk, IfSome, IfNone, OnOk};
+ghost use Rattle.text_ports.specs.Faults.{count_up};
 ghost use Rattle.text_ports.specs.Lines.{ReadsWholeLine};
 ghost use Rattle.text_ports.specs.declared.lines.LineIs.TheVariants.{Line};
-ghost use Rattle.journal.specs.Reading.{EndsIn, EndsWrong, ReadsNext};
+ghost use Rattle.journal.specs.Reading.{EndsIn, EndsWrong, ReadsNext, StopsReading};
 
 use crate::beginning::Open;
 use crate::places::{Ending, Place};
@@ -25,7 +26,7 @@ pub enum Next {
 /// Why a journal was not read on.
 #[derive(Clone, Copy, Debug, Error)]
 pub enum JournalFault {
-    /// The reader failed, or gave more than 2^64 lines for one record.
+    /// The reader failed, or gave as many bytes as can be counted.
     #[error("the journal can't be read")]
     ReadFault,
     /// No memory was left.
@@ -56,6 +57,7 @@ fn take_line<R: Read>(
     ensures ends { IfOk result (λ ending. IfSome ending (EndsIn (R.remaining input.old.0) (R.remaining input.new.0) current.now place.now)) }
     ensures sound { OnOk result (input.new.1 ≡ input.old.1) }
     ensures fault { IfErr result (λ fault. fault ≡ JournalFault.ReadFault) }
+    ensures one_fault { IfErr result (λ fault. input.new.1 ≡ count_up input.old.1) }
 {
     match next_whole_line(input, line) {
         LineIs::Line => Ok(None),
@@ -72,6 +74,7 @@ fn wrong_ending<R: Read>(input: &mut Counted<R>, place: &Place) -> Result<Ending
     ensures ends { IfOk result (λ ending. EndsWrong (R.remaining input.old.0) (R.remaining input.new.0) place.now ending) }
     ensures sound { OnOk result (input.new.1 ≡ input.old.1) }
     ensures fault { IfErr result (λ fault. fault ≡ JournalFault.ReadFault) }
+    ensures one_fault { IfErr result (λ fault. input.new.1 ≡ count_up input.old.1) }
 {
     let mut line = LineBuf::new();
     match next_whole_line(input, &mut line) {
@@ -92,7 +95,7 @@ pub fn next_record<R: Read>(
 ) -> Result<Next, JournalFault>
     ensures reads { IfOk result (λ next. ReadsNext (R.remaining input.old.0) (R.remaining input.new.0) place.old place.new next) }
     ensures sound { OnOk result (input.new.1 ≡ input.old.1) }
-    ensures memory { IfErr result (λ fault. fault ≡ JournalFault.OutOfMemory → input.new.1 ≡ input.old.1) }
+    ensures stops { IfErr result (StopsReading (R.remaining input.old.0) (R.remaining input.new.0) input.old.1 input.new.1) }
 {
     let mut line = LineBuf::new();
     let mut current = None;

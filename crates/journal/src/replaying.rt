@@ -25,7 +25,7 @@ pub struct Replayed {
 /// Why the changes of a journal were not all made again.
 #[derive(Clone, Copy, Debug, Error)]
 pub enum ReplayFault {
-    /// The reader failed.
+    /// The reader failed, or gave as many bytes as can be counted.
     #[error("the journal can't be read")]
     ReadFault,
     /// No memory was left.
@@ -148,9 +148,8 @@ pub fn replay<R: Read>(
     last: u64,
 ) -> Result<Replayed, ReplayFault>
     ensures replays { IfOk result (λ replayed. Replays (R.remaining input.old.0) (R.remaining input.new.0) last replayed.desk replayed.ending) }
-    ensures stops { IfErr result (StopsReplay (R.remaining input.old.0) (R.remaining input.new.0)) }
+    ensures stops { IfErr result (StopsReplay (R.remaining input.old.0) (R.remaining input.new.0) input.old.1 input.new.1) }
     ensures sound { OnOk result (input.new.1 ≡ input.old.1) }
-    ensures memory { IfErr result (λ fault. fault ≡ ReplayFault.OutOfMemory → input.new.1 ≡ input.old.1) }
 {
     let mut place = Place::at_start();
     let mut desk = Desk::new(alloc, keys);
