@@ -1,2 +1,3 @@
 pub mod RefusedChanges
 pub mod RefusedCommands
+pub mod SeatSteps

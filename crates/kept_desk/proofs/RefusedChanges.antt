@@ -8,8 +8,10 @@ use Rattle.desk_core.specs.declared.replies.Reply.{Reply}
 use Rattle.desk_core.specs.declared.replies.Reply.TheVariants.{Changed, Carried, Unkept, CardsAre, ChangesAre, CardsBefore, Shown, StatusIs, DeckJob, LinkJob, Idle, AllOut, Stored, Considered, Published, Cleared, Refused}
 use Rattle.desk_core.specs.Runs.{IsUnchanged, accepts}
 use Rattle.desk_core.specs.Steps.{Steps}
-use Rattle.desk_core.proofs.Outcomes.{Outcome, by_staying, by_changing, by_publishing, publishes, unchanged_itself}
+use Rattle.desk_core.proofs.Outcomes.{Outcome, by_staying, by_changing, by_publishing, publishes}
 use Rattle.desk_core.proofs.Publishing.{step_comes}
+use Rattle.session_line.specs.DeskRelations.{DeskRelations}
+use Rattle.session_line.specs.declared.greetings.Greeting.{Greeting}
 use Rattle.session_line.specs.Refusing.{tells_refusal}
 use Rattle.session_line.proofs.RefusedCommands.{is_question}
 use Rattle.session_line.specs.Joins.Kinds.{fits_call, is_session_call}
@@ -96,9 +98,6 @@ quiet-outcome desk next call reply silent unpublished (by_publishing by) = let n
 pub session-quiet : (desk next : Desk) (call : Call) (reply : Reply) → is_session_call call ≡ true → Steps desk call reply next → accepts reply ≡ false → IsUnchanged desk next
 session-quiet desk next call reply session steps silent = quiet-outcome desk next call reply silent (no-publishing call reply session (session_fits desk next call reply session steps)) (step_comes desk call reply next steps)
 
-pub stays-unchanged : (desk next : Desk) → next ≡ desk → IsUnchanged desk next
-stays-unchanged desk next is = subst (λ (d : Desk). IsUnchanged desk d) (sym is) (unchanged_itself desk)
-
 -- no question is answered as a change is
 question-fits : (call : Call) (version : ℕ) → is_question call ≡ true → fits_call call (Changed version) ≡ false
 question-fits (AddDeck deck) version question = cc
@@ -163,24 +162,24 @@ question-session (OfferObject lease place object) question = cc
 question-session (Publish lease) question = cc
 question-session (GiveUp lease) question = cc
 
-pub question-silent : (desk next : Desk) (call : Call) (reply : Reply) → is_question call ≡ true → Steps desk call reply next → accepts reply ≡ false
-question-silent desk next call (Changed n) question steps = let not : false ≡ true = sym (question-fits call n question) ∙ session_fits desk next call (Changed n) (question-session call question) steps in cc
-question-silent desk next call (Carried n seen edits) question steps = let not : false ≡ true = sym (question-carried call n seen edits question) ∙ session_fits desk next call (Carried n seen edits) (question-session call question) steps in cc
-question-silent desk next call (Unkept n) question steps = refl
-question-silent desk next call (CardsAre n cards) question steps = refl
-question-silent desk next call (ChangesAre n edits) question steps = refl
-question-silent desk next call (CardsBefore n cards backs) question steps = refl
-question-silent desk next call (Shown publication) question steps = refl
-question-silent desk next call (StatusIs n published rows) question steps = refl
-question-silent desk next call (DeckJob work) question steps = refl
-question-silent desk next call (LinkJob work) question steps = refl
-question-silent desk next call (Idle n) question steps = refl
-question-silent desk next call AllOut question steps = refl
-question-silent desk next call Stored question steps = refl
-question-silent desk next call Considered question steps = refl
-question-silent desk next call (Published before) question steps = refl
-question-silent desk next call Cleared question steps = refl
-question-silent desk next call (Refused why) question steps = refl
+question-silent : (call : Call) (reply : Reply) → is_question call ≡ true → fits_call call reply ≡ true → accepts reply ≡ false
+question-silent call (Changed n) question fits = let not : false ≡ true = sym (question-fits call n question) ∙ fits in cc
+question-silent call (Carried n seen edits) question fits = let not : false ≡ true = sym (question-carried call n seen edits question) ∙ fits in cc
+question-silent call (Unkept n) question fits = refl
+question-silent call (CardsAre n cards) question fits = refl
+question-silent call (ChangesAre n edits) question fits = refl
+question-silent call (CardsBefore n cards backs) question fits = refl
+question-silent call (Shown publication) question fits = refl
+question-silent call (StatusIs n published rows) question fits = refl
+question-silent call (DeckJob work) question fits = refl
+question-silent call (LinkJob work) question fits = refl
+question-silent call (Idle n) question fits = refl
+question-silent call AllOut question fits = refl
+question-silent call Stored question fits = refl
+question-silent call Considered question fits = refl
+question-silent call (Published before) question fits = refl
+question-silent call Cleared question fits = refl
+question-silent call (Refused why) question fits = refl
 
 -- what was made is not told as refused
 not-refused : {A : Type 0} (kept : Bool) (version : ℕ) (what : Reply) → what ≡ told_of version kept → tells_refusal what ≡ true → A
@@ -213,56 +212,74 @@ carry-fits by (carry.Edited name before edit) version = refl
 carry-fits by (carry.Batch name before edits) version = refl
 carry-fits by (carry.Undone name before) version = refl
 
-module _ {E : Type 0} (ends : EndsRelations E) where
-  change-unchanged : (by draft : List ℕ) (change : Change) (reply what : Reply) (desk next : Desk) (between after : E) → Steps desk (call_of by change) reply next →
-      TellsKept ends draft reply between what after → tells_refusal what ≡ true → IsUnchanged desk next
-  change-unchanged by draft change (Changed version) what desk next between after steps tells told = not-refused tells.0 version what tells.1.1 told
-  change-unchanged by draft change (Carried version seen edits) what desk next between after steps tells told =
-      let not : false ≡ true = sym (change-fits by change version seen edits) ∙ session_fits desk next (call_of by change) (Carried version seen edits) (change-session by change) steps in cc
-  change-unchanged by draft change (Unkept n) what desk next between after steps tells told = session-quiet desk next (call_of by change) (Unkept n) (change-session by change) steps refl
-  change-unchanged by draft change (CardsAre n cards) what desk next between after steps tells told = session-quiet desk next (call_of by change) (CardsAre n cards) (change-session by change) steps refl
-  change-unchanged by draft change (ChangesAre n edits) what desk next between after steps tells told = session-quiet desk next (call_of by change) (ChangesAre n edits) (change-session by change) steps refl
-  change-unchanged by draft change (CardsBefore n cards backs) what desk next between after steps tells told = session-quiet desk next (call_of by change) (CardsBefore n cards backs) (change-session by change) steps refl
-  change-unchanged by draft change (Shown publication) what desk next between after steps tells told = session-quiet desk next (call_of by change) (Shown publication) (change-session by change) steps refl
-  change-unchanged by draft change (StatusIs n published rows) what desk next between after steps tells told = session-quiet desk next (call_of by change) (StatusIs n published rows) (change-session by change) steps refl
-  change-unchanged by draft change (DeckJob work) what desk next between after steps tells told = session-quiet desk next (call_of by change) (DeckJob work) (change-session by change) steps refl
-  change-unchanged by draft change (LinkJob work) what desk next between after steps tells told = session-quiet desk next (call_of by change) (LinkJob work) (change-session by change) steps refl
-  change-unchanged by draft change (Idle n) what desk next between after steps tells told = session-quiet desk next (call_of by change) (Idle n) (change-session by change) steps refl
-  change-unchanged by draft change AllOut what desk next between after steps tells told = session-quiet desk next (call_of by change) AllOut (change-session by change) steps refl
-  change-unchanged by draft change Stored what desk next between after steps tells told = session-quiet desk next (call_of by change) Stored (change-session by change) steps refl
-  change-unchanged by draft change Considered what desk next between after steps tells told = session-quiet desk next (call_of by change) Considered (change-session by change) steps refl
-  change-unchanged by draft change (Published before) what desk next between after steps tells told = session-quiet desk next (call_of by change) (Published before) (change-session by change) steps refl
-  change-unchanged by draft change Cleared what desk next between after steps tells told = session-quiet desk next (call_of by change) Cleared (change-session by change) steps refl
-  change-unchanged by draft change (Refused why) what desk next between after steps tells told = session-quiet desk next (call_of by change) (Refused why) (change-session by change) steps refl
+-- in a sense in which two states of who answers for a desk are the same, no call of a session changes it whose reply accepts nothing, each reply fits its call, and who greets asks for the status
+pub record IsQuiet {C : Type 0} (calls : DeskRelations C) (IsSame : C → C → Type 0) : Type 0 where
+  pub same : (desk : C) → IsSame desk desk
+  pub joined : (first second third : C) → IsSame first second → IsSame second third → IsSame first third
+  pub fits : (desk next : C) (call : Call) (reply : Reply) → is_session_call call ≡ true → calls.makes desk call reply next → fits_call call reply ≡ true
+  pub silent : (desk next : C) (call : Call) (reply : Reply) → is_session_call call ≡ true → calls.makes desk call reply next → accepts reply ≡ false → IsSame desk next
+  pub greeted : (desk next : C) (name : List ℕ) (greeting : Greeting) → calls.greets desk name greeting next → calls.makes desk Status greeting.status next
 
-  carry-unchanged : (by name : List ℕ) (stamp : Stamp) (carry : Carry) (reply what : Reply) (desk next : Desk) (between after : E) → Steps desk (call_of_carry by carry) reply next →
-      TellsCarried ends stamp name reply between what after → tells_refusal what ≡ true → IsUnchanged desk next
-  carry-unchanged by name stamp carry (Carried version seen edits) what desk next between after steps tells told = not-refused tells.0 version what tells.1.1 told
-  carry-unchanged by name stamp carry (Changed version) what desk next between after steps tells told =
-      let not : false ≡ true = sym (carry-fits by carry version) ∙ session_fits desk next (call_of_carry by carry) (Changed version) (carry-session by carry) steps in cc
-  carry-unchanged by name stamp carry (Unkept n) what desk next between after steps tells told = session-quiet desk next (call_of_carry by carry) (Unkept n) (carry-session by carry) steps refl
-  carry-unchanged by name stamp carry (CardsAre n cards) what desk next between after steps tells told = session-quiet desk next (call_of_carry by carry) (CardsAre n cards) (carry-session by carry) steps refl
-  carry-unchanged by name stamp carry (ChangesAre n edits) what desk next between after steps tells told = session-quiet desk next (call_of_carry by carry) (ChangesAre n edits) (carry-session by carry) steps refl
-  carry-unchanged by name stamp carry (CardsBefore n cards backs) what desk next between after steps tells told = session-quiet desk next (call_of_carry by carry) (CardsBefore n cards backs) (carry-session by carry) steps refl
-  carry-unchanged by name stamp carry (Shown publication) what desk next between after steps tells told = session-quiet desk next (call_of_carry by carry) (Shown publication) (carry-session by carry) steps refl
-  carry-unchanged by name stamp carry (StatusIs n published rows) what desk next between after steps tells told = session-quiet desk next (call_of_carry by carry) (StatusIs n published rows) (carry-session by carry) steps refl
-  carry-unchanged by name stamp carry (DeckJob work) what desk next between after steps tells told = session-quiet desk next (call_of_carry by carry) (DeckJob work) (carry-session by carry) steps refl
-  carry-unchanged by name stamp carry (LinkJob work) what desk next between after steps tells told = session-quiet desk next (call_of_carry by carry) (LinkJob work) (carry-session by carry) steps refl
-  carry-unchanged by name stamp carry (Idle n) what desk next between after steps tells told = session-quiet desk next (call_of_carry by carry) (Idle n) (carry-session by carry) steps refl
-  carry-unchanged by name stamp carry AllOut what desk next between after steps tells told = session-quiet desk next (call_of_carry by carry) AllOut (carry-session by carry) steps refl
-  carry-unchanged by name stamp carry Stored what desk next between after steps tells told = session-quiet desk next (call_of_carry by carry) Stored (carry-session by carry) steps refl
-  carry-unchanged by name stamp carry Considered what desk next between after steps tells told = session-quiet desk next (call_of_carry by carry) Considered (carry-session by carry) steps refl
-  carry-unchanged by name stamp carry (Published before) what desk next between after steps tells told = session-quiet desk next (call_of_carry by carry) (Published before) (carry-session by carry) steps refl
-  carry-unchanged by name stamp carry Cleared what desk next between after steps tells told = session-quiet desk next (call_of_carry by carry) Cleared (carry-session by carry) steps refl
-  carry-unchanged by name stamp carry (Refused why) what desk next between after steps tells told = session-quiet desk next (call_of_carry by carry) (Refused why) (carry-session by carry) steps refl
+module _ {C E : Type 0} (calls : DeskRelations C) (IsSame : C → C → Type 0) (quiet : IsQuiet calls IsSame) (ends : EndsRelations E) where
+  -- who was not called
+  pub stays-same : (desk next : C) → next ≡ desk → IsSame desk next
+  stays-same desk next is = subst (λ (d : C). IsSame desk d) (sym is) (quiet.same desk)
 
-  change-made : (change : Change) (old new : Desk × E) (what : Reply) → MakesKept Steps ends old (asked.Change change) what new → tells_refusal what ≡ true → IsUnchanged old.0 new.0
-  change-made change old new what (refused why begins told stays) is = stays-unchanged old.0 new.0 stays
-  change-made change old new what (called draft begun rung reply begins made rings tells) is = change-unchanged (ends.who begun) draft change reply what old.0 new.0 rung new.1 made tells is
+  -- a question
+  pub question-same : (desk next : C) (call : Call) (reply : Reply) → is_question call ≡ true → calls.makes desk call reply next → IsSame desk next
+  question-same desk next call reply question made =
+      let session : is_session_call call ≡ true = question-session call question in
+      quiet.silent desk next call reply session made (question-silent call reply question (quiet.fits desk next call reply session made))
 
-  carry-made : (carry : Carry) (old new : Desk × E) (what : Reply) → MakesKept Steps ends old (asked.Carry carry) what new → tells_refusal what ≡ true → IsUnchanged old.0 new.0
-  carry-made carry old new what (not_opened why opens told stays) is = stays-unchanged old.0 new.0 stays
-  carry-made carry old new what (opened stamp begun rung reply opens made rings tells) is = carry-unchanged (ends.who begun) (carried_deck carry) stamp carry reply what old.0 new.0 rung new.1 made tells is
+  change-same : (by draft : List ℕ) (change : Change) (reply what : Reply) (desk next : C) (between after : E) → calls.makes desk (call_of by change) reply next →
+      TellsKept ends draft reply between what after → tells_refusal what ≡ true → IsSame desk next
+  change-same by draft change (Changed version) what desk next between after steps tells told = not-refused tells.0 version what tells.1.1 told
+  change-same by draft change (Carried version seen edits) what desk next between after steps tells told =
+      let not : false ≡ true = sym (change-fits by change version seen edits) ∙ quiet.fits desk next (call_of by change) (Carried version seen edits) (change-session by change) steps in cc
+  change-same by draft change (Unkept n) what desk next between after steps tells told = quiet.silent desk next (call_of by change) (Unkept n) (change-session by change) steps refl
+  change-same by draft change (CardsAre n cards) what desk next between after steps tells told = quiet.silent desk next (call_of by change) (CardsAre n cards) (change-session by change) steps refl
+  change-same by draft change (ChangesAre n edits) what desk next between after steps tells told = quiet.silent desk next (call_of by change) (ChangesAre n edits) (change-session by change) steps refl
+  change-same by draft change (CardsBefore n cards backs) what desk next between after steps tells told = quiet.silent desk next (call_of by change) (CardsBefore n cards backs) (change-session by change) steps refl
+  change-same by draft change (Shown publication) what desk next between after steps tells told = quiet.silent desk next (call_of by change) (Shown publication) (change-session by change) steps refl
+  change-same by draft change (StatusIs n published rows) what desk next between after steps tells told = quiet.silent desk next (call_of by change) (StatusIs n published rows) (change-session by change) steps refl
+  change-same by draft change (DeckJob work) what desk next between after steps tells told = quiet.silent desk next (call_of by change) (DeckJob work) (change-session by change) steps refl
+  change-same by draft change (LinkJob work) what desk next between after steps tells told = quiet.silent desk next (call_of by change) (LinkJob work) (change-session by change) steps refl
+  change-same by draft change (Idle n) what desk next between after steps tells told = quiet.silent desk next (call_of by change) (Idle n) (change-session by change) steps refl
+  change-same by draft change AllOut what desk next between after steps tells told = quiet.silent desk next (call_of by change) AllOut (change-session by change) steps refl
+  change-same by draft change Stored what desk next between after steps tells told = quiet.silent desk next (call_of by change) Stored (change-session by change) steps refl
+  change-same by draft change Considered what desk next between after steps tells told = quiet.silent desk next (call_of by change) Considered (change-session by change) steps refl
+  change-same by draft change (Published before) what desk next between after steps tells told = quiet.silent desk next (call_of by change) (Published before) (change-session by change) steps refl
+  change-same by draft change Cleared what desk next between after steps tells told = quiet.silent desk next (call_of by change) Cleared (change-session by change) steps refl
+  change-same by draft change (Refused why) what desk next between after steps tells told = quiet.silent desk next (call_of by change) (Refused why) (change-session by change) steps refl
+
+  carry-same : (by name : List ℕ) (stamp : Stamp) (carry : Carry) (reply what : Reply) (desk next : C) (between after : E) → calls.makes desk (call_of_carry by carry) reply next →
+      TellsCarried ends stamp name reply between what after → tells_refusal what ≡ true → IsSame desk next
+  carry-same by name stamp carry (Carried version seen edits) what desk next between after steps tells told = not-refused tells.0 version what tells.1.1 told
+  carry-same by name stamp carry (Changed version) what desk next between after steps tells told =
+      let not : false ≡ true = sym (carry-fits by carry version) ∙ quiet.fits desk next (call_of_carry by carry) (Changed version) (carry-session by carry) steps in cc
+  carry-same by name stamp carry (Unkept n) what desk next between after steps tells told = quiet.silent desk next (call_of_carry by carry) (Unkept n) (carry-session by carry) steps refl
+  carry-same by name stamp carry (CardsAre n cards) what desk next between after steps tells told = quiet.silent desk next (call_of_carry by carry) (CardsAre n cards) (carry-session by carry) steps refl
+  carry-same by name stamp carry (ChangesAre n edits) what desk next between after steps tells told = quiet.silent desk next (call_of_carry by carry) (ChangesAre n edits) (carry-session by carry) steps refl
+  carry-same by name stamp carry (CardsBefore n cards backs) what desk next between after steps tells told = quiet.silent desk next (call_of_carry by carry) (CardsBefore n cards backs) (carry-session by carry) steps refl
+  carry-same by name stamp carry (Shown publication) what desk next between after steps tells told = quiet.silent desk next (call_of_carry by carry) (Shown publication) (carry-session by carry) steps refl
+  carry-same by name stamp carry (StatusIs n published rows) what desk next between after steps tells told = quiet.silent desk next (call_of_carry by carry) (StatusIs n published rows) (carry-session by carry) steps refl
+  carry-same by name stamp carry (DeckJob work) what desk next between after steps tells told = quiet.silent desk next (call_of_carry by carry) (DeckJob work) (carry-session by carry) steps refl
+  carry-same by name stamp carry (LinkJob work) what desk next between after steps tells told = quiet.silent desk next (call_of_carry by carry) (LinkJob work) (carry-session by carry) steps refl
+  carry-same by name stamp carry (Idle n) what desk next between after steps tells told = quiet.silent desk next (call_of_carry by carry) (Idle n) (carry-session by carry) steps refl
+  carry-same by name stamp carry AllOut what desk next between after steps tells told = quiet.silent desk next (call_of_carry by carry) AllOut (carry-session by carry) steps refl
+  carry-same by name stamp carry Stored what desk next between after steps tells told = quiet.silent desk next (call_of_carry by carry) Stored (carry-session by carry) steps refl
+  carry-same by name stamp carry Considered what desk next between after steps tells told = quiet.silent desk next (call_of_carry by carry) Considered (carry-session by carry) steps refl
+  carry-same by name stamp carry (Published before) what desk next between after steps tells told = quiet.silent desk next (call_of_carry by carry) (Published before) (carry-session by carry) steps refl
+  carry-same by name stamp carry Cleared what desk next between after steps tells told = quiet.silent desk next (call_of_carry by carry) Cleared (carry-session by carry) steps refl
+  carry-same by name stamp carry (Refused why) what desk next between after steps tells told = quiet.silent desk next (call_of_carry by carry) (Refused why) (carry-session by carry) steps refl
+
+  change-made : (change : Change) (old new : C × E) (what : Reply) → MakesKept calls.makes ends old (asked.Change change) what new → tells_refusal what ≡ true → IsSame old.0 new.0
+  change-made change old new what (refused why begins told stays) is = stays-same old.0 new.0 stays
+  change-made change old new what (called draft begun rung reply begins made rings tells) is = change-same (ends.who begun) draft change reply what old.0 new.0 rung new.1 made tells is
+
+  carry-made : (carry : Carry) (old new : C × E) (what : Reply) → MakesKept calls.makes ends old (asked.Carry carry) what new → tells_refusal what ≡ true → IsSame old.0 new.0
+  carry-made carry old new what (not_opened why opens told stays) is = stays-same old.0 new.0 stays
+  carry-made carry old new what (opened stamp begun rung reply opens made rings tells) is = carry-same (ends.who begun) (carried_deck carry) stamp carry reply what old.0 new.0 rung new.1 made tells is
 
   -- a reply that is told as refused is no change
   refused-silent : (what : Reply) → tells_refusal what ≡ true → accepts what ≡ false
@@ -284,45 +301,45 @@ module _ {E : Type 0} (ends : EndsRelations E) where
   refused-silent Cleared is = refl
   refused-silent (Refused why) is = refl
 
-  pub refused-unchanged : (call : Call) (old new : Desk × E) (what : Reply) → is_session_call call ≡ true → MakesKept Steps ends old (asked_of call) what new → tells_refusal what ≡ true → IsUnchanged old.0 new.0
-  refused-unchanged (AddDeck deck) old new what session made is = change-made (change.Added deck) old new what made is
-  refused-unchanged (PutDeck deck seen) old new what session made is = change-made (change.Put deck seen) old new what made is
-  refused-unchanged (DropDeck name seen) old new what session made is = change-made (change.Dropped name seen) old new what made is
-  refused-unchanged (EditDeck name seen edit by) old new what session made is = change-made (change.Edited name seen edit) old new what made is
-  refused-unchanged (Batch name seen edits by) old new what session made is = change-made (change.Batch name seen edits) old new what made is
-  refused-unchanged (EditSince name seen edit by) old new what session made is = carry-made (carry.Edited name seen edit) old new what made is
-  refused-unchanged (BatchSince name seen edits by) old new what session made is = carry-made (carry.Batch name seen edits) old new what made is
-  refused-unchanged (Undo name version by) old new what session made is = carry-made (carry.Undone name version) old new what made is
-  refused-unchanged (Changes name since) old new what session made is = session-quiet old.0 new.0 (Changes name since) what refl made.0 (refused-silent what is)
-  refused-unchanged (CardsAt name version) old new what session made is = session-quiet old.0 new.0 (CardsAt name version) what refl made.0 (refused-silent what is)
-  refused-unchanged (Cards name) old new what session made is = session-quiet old.0 new.0 (Cards name) what refl made.0 (refused-silent what is)
-  refused-unchanged Show old new what session made is = session-quiet old.0 new.0 Show what refl made.0 (refused-silent what is)
-  refused-unchanged Status old new what session made is = session-quiet old.0 new.0 Status what refl made.0 (refused-silent what is)
-  refused-unchanged Claim old new what session made is = cc
-  refused-unchanged (DeliverDeck done) old new what session made is = cc
-  refused-unchanged (DeliverLink lease publication) old new what session made is = cc
-  refused-unchanged (OfferObject lease place object) old new what session made is = cc
-  refused-unchanged (Publish lease) old new what session made is = cc
-  refused-unchanged (GiveUp lease) old new what session made is = cc
+  pub refused-same : (call : Call) (old new : C × E) (what : Reply) → is_session_call call ≡ true → MakesKept calls.makes ends old (asked_of call) what new → tells_refusal what ≡ true → IsSame old.0 new.0
+  refused-same (AddDeck deck) old new what session made is = change-made (change.Added deck) old new what made is
+  refused-same (PutDeck deck seen) old new what session made is = change-made (change.Put deck seen) old new what made is
+  refused-same (DropDeck name seen) old new what session made is = change-made (change.Dropped name seen) old new what made is
+  refused-same (EditDeck name seen edit by) old new what session made is = change-made (change.Edited name seen edit) old new what made is
+  refused-same (Batch name seen edits by) old new what session made is = change-made (change.Batch name seen edits) old new what made is
+  refused-same (EditSince name seen edit by) old new what session made is = carry-made (carry.Edited name seen edit) old new what made is
+  refused-same (BatchSince name seen edits by) old new what session made is = carry-made (carry.Batch name seen edits) old new what made is
+  refused-same (Undo name version by) old new what session made is = carry-made (carry.Undone name version) old new what made is
+  refused-same (Changes name since) old new what session made is = quiet.silent old.0 new.0 (Changes name since) what refl made.0 (refused-silent what is)
+  refused-same (CardsAt name version) old new what session made is = quiet.silent old.0 new.0 (CardsAt name version) what refl made.0 (refused-silent what is)
+  refused-same (Cards name) old new what session made is = quiet.silent old.0 new.0 (Cards name) what refl made.0 (refused-silent what is)
+  refused-same Show old new what session made is = quiet.silent old.0 new.0 Show what refl made.0 (refused-silent what is)
+  refused-same Status old new what session made is = quiet.silent old.0 new.0 Status what refl made.0 (refused-silent what is)
+  refused-same Claim old new what session made is = cc
+  refused-same (DeliverDeck done) old new what session made is = cc
+  refused-same (DeliverLink lease publication) old new what session made is = cc
+  refused-same (OfferObject lease place object) old new what session made is = cc
+  refused-same (Publish lease) old new what session made is = cc
+  refused-same (GiveUp lease) old new what session made is = cc
 
   -- and no question is a change
-  pub asked-unchanged : (call : Call) (old new : Desk × E) (what : Reply) → is_question call ≡ true → MakesKept Steps ends old (asked_of call) what new → IsUnchanged old.0 new.0
-  asked-unchanged (AddDeck deck) old new what question made = cc
-  asked-unchanged (PutDeck deck seen) old new what question made = cc
-  asked-unchanged (DropDeck name seen) old new what question made = cc
-  asked-unchanged (EditDeck name seen edit by) old new what question made = cc
-  asked-unchanged (Batch name seen edits by) old new what question made = cc
-  asked-unchanged (EditSince name seen edit by) old new what question made = cc
-  asked-unchanged (BatchSince name seen edits by) old new what question made = cc
-  asked-unchanged (Undo name version by) old new what question made = cc
-  asked-unchanged (Changes name since) old new what question made = cc
-  asked-unchanged (CardsAt name version) old new what question made = session-quiet old.0 new.0 (CardsAt name version) what refl made.0 (question-silent old.0 new.0 (CardsAt name version) what refl made.0)
-  asked-unchanged (Cards name) old new what question made = session-quiet old.0 new.0 (Cards name) what refl made.0 (question-silent old.0 new.0 (Cards name) what refl made.0)
-  asked-unchanged Show old new what question made = session-quiet old.0 new.0 Show what refl made.0 (question-silent old.0 new.0 Show what refl made.0)
-  asked-unchanged Status old new what question made = session-quiet old.0 new.0 Status what refl made.0 (question-silent old.0 new.0 Status what refl made.0)
-  asked-unchanged Claim old new what question made = cc
-  asked-unchanged (DeliverDeck done) old new what question made = cc
-  asked-unchanged (DeliverLink lease publication) old new what question made = cc
-  asked-unchanged (OfferObject lease place object) old new what question made = cc
-  asked-unchanged (Publish lease) old new what question made = cc
-  asked-unchanged (GiveUp lease) old new what question made = cc
+  pub asked-same : (call : Call) (old new : C × E) (what : Reply) → is_question call ≡ true → MakesKept calls.makes ends old (asked_of call) what new → IsSame old.0 new.0
+  asked-same (AddDeck deck) old new what question made = cc
+  asked-same (PutDeck deck seen) old new what question made = cc
+  asked-same (DropDeck name seen) old new what question made = cc
+  asked-same (EditDeck name seen edit by) old new what question made = cc
+  asked-same (Batch name seen edits by) old new what question made = cc
+  asked-same (EditSince name seen edit by) old new what question made = cc
+  asked-same (BatchSince name seen edits by) old new what question made = cc
+  asked-same (Undo name version by) old new what question made = cc
+  asked-same (Changes name since) old new what question made = cc
+  asked-same (CardsAt name version) old new what question made = question-same old.0 new.0 (CardsAt name version) what refl made.0
+  asked-same (Cards name) old new what question made = question-same old.0 new.0 (Cards name) what refl made.0
+  asked-same Show old new what question made = question-same old.0 new.0 Show what refl made.0
+  asked-same Status old new what question made = question-same old.0 new.0 Status what refl made.0
+  asked-same Claim old new what question made = cc
+  asked-same (DeliverDeck done) old new what question made = cc
+  asked-same (DeliverLink lease publication) old new what question made = cc
+  asked-same (OfferObject lease place object) old new what question made = cc
+  asked-same (Publish lease) old new what question made = cc
+  asked-same (GiveUp lease) old new what question made = cc

@@ -1,57 +1,78 @@
--- A command of a session that is refused changes nothing of a desk whose changes are kept.
+-- A command of a session that is refused changes nothing of a desk whose changes are kept, alone or at a seat.
 use Rattle.std.proofs.Common.{ℕ, List, refl, ◌∙◌}
 use Rattle.deck_files.specs.ShelfRelations.{ShelfRelations}
+use Rattle.turn_office.specs.Seats.{OfficeFacts, SeatFacts}
 use Rattle.desk_core.specs.Desks.{Desk}
 use Rattle.desk_core.specs.declared.calls.Call.{Call}
 use Rattle.desk_core.specs.declared.calls.Call.TheVariants.{Status}
 use Rattle.desk_core.specs.declared.replies.Reply.{Reply}
 use Rattle.desk_core.specs.Runs.{IsUnchanged}
-use Rattle.desk_core.specs.Steps.{Steps}
 use Rattle.desk_core.proofs.Outcomes.{unchanged_itself}
 use Rattle.session_line.specs.declared.greetings.Greeting.{Greeting}
 use Rattle.session_line.specs.declared.rights.Rights.{Rights}
-use Rattle.session_line.specs.DeskRelations.{desk_alone}
+use Rattle.session_line.specs.DeskRelations.{DeskRelations, desk_alone, seated}
 use Rattle.session_line.specs.Refusing.{RefusesCommand}
 use Rattle.session_line.specs.Serving.{Sides}
 use Rattle.session_line.proofs.RefusedCommands.{IsSteady, command-same}
+use Rattle.session_line.proofs.SessionKinds.{session_fits}
 use Rattle.kept_desk.specs.Doors.{door_of}
 use Rattle.kept_desk.specs.EndsRelations.{EndsRelations}
 use Rattle.kept_desk.specs.Greeting.{GreetsAmong, lacking, listed}
 use Rattle.kept_desk.specs.Waiting.{SleepsOn, not_yet, once_more, AwaitsPublication, shown, time_up}
-use Rattle.kept_desk.proofs.RefusedChanges.{question-silent, session-quiet, stays-unchanged, refused-unchanged, asked-unchanged}
+use Rattle.kept_desk.specs.Refused.{ChangesNothing}
+use Rattle.kept_desk.proofs.RefusedChanges.{IsQuiet, session-quiet, stays-same, question-same, refused-same, asked-same}
+use Rattle.kept_desk.proofs.SeatSteps.{seat-quiet}
+
+module _ {C E S : Type 0} (calls : DeskRelations C) (IsSame : C → C → Type 0) (quiet : IsQuiet calls IsSame) (ends : EndsRelations E) (files : ShelfRelations S) where
+  status-same : (desk next : C) (reply : Reply) → calls.makes desk Status reply next → IsSame desk next
+  status-same desk next reply made = question-same calls IsSame quiet ends desk next Status reply refl made
+
+  -- a session that sleeps between two questions
+  asleep-same : (version : ℕ) (desk : C) (before : E) (last : C) (after : E) → SleepsOn calls.makes ends.sleeps version desk before last after → IsSame desk last
+  asleep-same version desk before _ _ not_yet = quiet.same desk
+  asleep-same version desk before _ _ (once_more middle next between after so_far once) =
+      quiet.joined desk middle next (asleep-same version desk before middle between so_far) (status-same middle next once.reply once.asked)
+
+  awaited-same : (version : ℕ) (desk : C) (before : E) (reply : Reply) (next : C) (after : E) → AwaitsPublication calls.makes ends.sleeps version desk before reply next after → IsSame desk next
+  awaited-same version desk before reply next after (shown middle so_far made there) =
+      quiet.joined desk middle next (asleep-same version desk before middle after so_far) (status-same middle next reply made)
+  awaited-same version desk before reply next after (time_up middle last between so_far once made) =
+      quiet.joined desk last next (quiet.joined desk middle last (asleep-same version desk before middle between so_far) (status-same middle last once.reply once.asked)) (status-same last next reply made)
+
+  greeted-same : (name : List ℕ) (desk : C) (before : E) (greeting : Greeting) (next : C) (after : E) → GreetsAmong calls.greets ends name desk before greeting next after → IsSame desk next
+  greeted-same name desk before greeting next after (lacking told stays same) = stays-same calls IsSame quiet ends desk next stays
+  greeted-same name desk before greeting next after (listed sessions between answered lists greets names told) = status-same desk next answered.status (quiet.greeted desk next name answered greets)
+
+  door-steady : IsSteady (door_of calls ends) (λ (old new : C × E). IsSame old.0 new.0)
+  door-steady = record {
+    same = λ (desk : C × E). quiet.same desk.0;
+    joined = λ (first second third : C × E). quiet.joined first.0 second.0 third.0;
+    refused = λ (desk next : C × E) (call : Call) (reply : Reply) session made is. refused-same calls IsSame quiet ends call desk next reply session made is;
+    asked = λ (desk next : C × E) (call : Call) (reply : Reply) question made. asked-same calls IsSame quiet ends call desk next reply question made;
+    awaited = λ (desk next : C × E) (version : ℕ) (reply : Reply) awaits. awaited-same version desk.0 desk.1 reply next.0 next.1 awaits;
+    greeted = λ (desk next : C × E) (name : List ℕ) (greeting : Greeting) greets. greeted-same name desk.0 desk.1 greeting next.0 next.1 greets;
+  }
+
+  pub door-same : (rights : Rights) (old new : Sides (C × E) S) → RefusesCommand rights (door_of calls ends) files old new → IsSame old.desk.0 new.desk.0
+  door-same rights old new is = command-same (door_of calls ends) files (λ (o n : C × E). IsSame o.0 n.0) door-steady rights old new is
 
 joined-unchanged : (first second third : Desk) → IsUnchanged first second → IsUnchanged second third → IsUnchanged first third
 joined-unchanged first second third one other = record { version = other.version ∙ one.version; decks = other.decks ∙ one.decks; publication = other.publication ∙ one.publication }
 
-status-unchanged : (desk next : Desk) (reply : Reply) → Steps desk Status reply next → IsUnchanged desk next
-status-unchanged desk next reply steps = session-quiet desk next Status reply refl steps (question-silent desk next Status reply refl steps)
+-- a desk that nobody shares
+alone-quiet : IsQuiet desk_alone IsUnchanged
+alone-quiet = record {
+  same = unchanged_itself;
+  joined = joined-unchanged;
+  fits = session_fits;
+  silent = session-quiet;
+  greeted = λ (desk next : Desk) (name : List ℕ) (greeting : Greeting) greets. greets.0;
+}
 
-module _ {E S : Type 0} (ends : EndsRelations E) (files : ShelfRelations S) where
-  -- a session that sleeps between two questions
-  asleep-unchanged : (version : ℕ) (desk : Desk) (before : E) (last : Desk) (after : E) → SleepsOn Steps ends.sleeps version desk before last after → IsUnchanged desk last
-  asleep-unchanged version desk before _ _ not_yet = unchanged_itself desk
-  asleep-unchanged version desk before _ _ (once_more middle next between after so_far once) =
-      joined-unchanged desk middle next (asleep-unchanged version desk before middle between so_far) (status-unchanged middle next once.reply once.asked)
+pub command-unchanged : {E S : Type 0} (ends : EndsRelations E) (files : ShelfRelations S) (rights : Rights) (old new : Sides (Desk × E) S) → RefusesCommand rights (door_of desk_alone ends) files old new → IsUnchanged old.desk.0 new.desk.0
+command-unchanged ends files rights old new is = door-same desk_alone IsUnchanged alone-quiet ends files rights old new is
 
-  awaited-unchanged : (version : ℕ) (desk : Desk) (before : E) (reply : Reply) (next : Desk) (after : E) → AwaitsPublication Steps ends.sleeps version desk before reply next after → IsUnchanged desk next
-  awaited-unchanged version desk before reply next after (shown middle so_far made there) =
-      joined-unchanged desk middle next (asleep-unchanged version desk before middle after so_far) (status-unchanged middle next reply made)
-  awaited-unchanged version desk before reply next after (time_up middle last between so_far once made) =
-      joined-unchanged desk last next (joined-unchanged desk middle last (asleep-unchanged version desk before middle between so_far) (status-unchanged middle last once.reply once.asked)) (status-unchanged last next reply made)
-
-  greeted-unchanged : (name : List ℕ) (desk : Desk) (before : E) (greeting : Greeting) (next : Desk) (after : E) → GreetsAmong desk_alone.greets ends name desk before greeting next after → IsUnchanged desk next
-  greeted-unchanged name desk before greeting next after (lacking told stays same) = stays-unchanged desk next stays
-  greeted-unchanged name desk before greeting next after (listed sessions between answered lists greets names told) = status-unchanged desk next answered.status greets.0
-
-  door-steady : IsSteady (door_of desk_alone ends) (λ (old new : Desk × E). IsUnchanged old.0 new.0)
-  door-steady = record {
-    same = λ (desk : Desk × E). unchanged_itself desk.0;
-    joined = λ (first second third : Desk × E). joined-unchanged first.0 second.0 third.0;
-    refused = λ (desk next : Desk × E) (call : Call) (reply : Reply) session made is. refused-unchanged ends call desk next reply session made is;
-    asked = λ (desk next : Desk × E) (call : Call) (reply : Reply) question made. asked-unchanged ends call desk next reply question made;
-    awaited = λ (desk next : Desk × E) (version : ℕ) (reply : Reply) awaits. awaited-unchanged version desk.0 desk.1 reply next.0 next.1 awaits;
-    greeted = λ (desk next : Desk × E) (name : List ℕ) (greeting : Greeting) greets. greeted-unchanged name desk.0 desk.1 greeting next.0 next.1 greets;
-  }
-
-  pub command-unchanged : (rights : Rights) (old new : Sides (Desk × E) S) → RefusesCommand rights (door_of desk_alone ends) files old new → IsUnchanged old.desk.0 new.desk.0
-  command-unchanged rights old new is = command-same (door_of desk_alone ends) files (λ (o n : Desk × E). IsUnchanged o.0 n.0) door-steady rights old new is
+pub seat-unchanged : {C E S : Type 0} (office : C → OfficeFacts Desk) (seat : C → SeatFacts Call Reply) (ends : EndsRelations E) (files : ShelfRelations S) (rights : Rights) (old new : Sides (C × E) S) →
+    RefusesCommand rights (door_of (seated office seat) ends) files old new → ChangesNothing (seat old.desk.0) (seat new.desk.0)
+seat-unchanged {C} office seat ends files rights old new is =
+    door-same (seated office seat) (λ (o n : C). ChangesNothing (seat o) (seat n)) (seat-quiet office seat) ends files rights old new is

@@ -3,3 +3,4 @@ pub mod Keeping
 pub mod Waiting
 pub mod Greeting
 pub mod Doors
+pub mod Refused

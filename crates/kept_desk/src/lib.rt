@@ -11,4 +11,4 @@ mod laws;
 
 pub use door::{Door, is_reached};
 pub use ends::{Ends, Woken};
-pub use laws::refusals_change_nothing;
+pub use laws::{refusals_at_a_seat_change_nothing, refusals_change_nothing};

@@ -243,4 +243,4 @@ module _ {C S : Type 0} (calls : DeskRelations C) (files : ShelfRelations S)
     (IsSame : C → C → Type 0) (steady : IsSteady calls IsSame) where
   pub command-same : (rights : Rights) (old new : Sides C S) → RefusesCommand rights calls files old new → IsSame old.desk new.desk
   command-same rights old new is = refused-same calls files IsSame steady (allowed rights is.task) old.desk new.desk old.shelf new.shelf is.answer
-      (allowed-session rights is.task (taken-session (task_of is.taken.first is.taken.others) is.task (task-session (command_of is.taken.first) is.taken.others) is.taken.asked)) is.executed is.refused
+      (allowed-session rights is.task (taken-session (task_of is.first is.others) is.task (task-session (command_of is.first) is.others) is.asked)) is.executed is.refused

@@ -1,5 +1,7 @@
 -- What the calls of whoever answers for a desk make of it (ours): each relation has who answers before, what is asked, what is answered, and who answers after.
 use Rattle.std.specs.Prelude.{ℕ, ◌≡◌, List}
+use Rattle.turn_office.specs.Histories.{Answers}
+use Rattle.turn_office.specs.Seats.{OfficeFacts, SeatFacts}
 use Rattle.desk_core.specs.Desks.{Desk}
 use Rattle.desk_core.specs.Steps.{Steps}
 use Rattle.desk_core.specs.declared.calls.Call.{Call}
@@ -24,5 +26,19 @@ desk_alone = record {
   makes = Steps;
   awaits = λ old version reply new. Steps old Status reply new;
   greets = λ old name greeting new. MeetsAlone Steps old greeting new;
+  begins = λ old new. new ≡ old;
+}
+
+-- one call from a seat: office and seat stay, and the reply is the desk's at one point of one legal history, which begins with all that the seat had seen and ends with the call
+abbrev pub AsksSeat : OfficeFacts Desk → SeatFacts Call Reply → Call → Reply → OfficeFacts Desk → SeatFacts Call Reply → Type 0
+AsksSeat office seat call reply office_after seat_after =
+    (office_after ≡ office) × (seat_after.office ≡ seat.office) × (seat_after.number ≡ seat.number) × Answers Steps office.seats office.first seat.number call reply seat.seen seat_after.seen
+
+-- those of who has a seat of an office: no bell is known, so a session that waits is answered at once; and no names are kept
+abbrev pub seated : {C : Type 0} → (C → OfficeFacts Desk) → (C → SeatFacts Call Reply) → DeskRelations C
+seated office seat = record {
+  makes = λ old call reply new. AsksSeat (office old) (seat old) call reply (office new) (seat new);
+  awaits = λ old version reply new. AsksSeat (office old) (seat old) Status reply (office new) (seat new);
+  greets = λ old name greeting new. MeetsAlone (λ before call reply after. AsksSeat (office before) (seat before) call reply (office after) (seat after)) old greeting new;
   begins = λ old new. new ≡ old;
 }

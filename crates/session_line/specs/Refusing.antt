@@ -1,5 +1,5 @@
 -- A command of a session that is refused (ours).
-use Rattle.std.specs.Prelude.{◌≡◌, Bool, true, false}
+use Rattle.std.specs.Prelude.{ℕ, ◌≡◌, Bool, true, false, List}
 use Rattle.deck_files.specs.ShelfRelations.{ShelfRelations}
 use Rattle.desk_core.specs.declared.replies.Reply.{Reply}
 use Rattle.session_line.specs.declared.tasks.Task.{Task}
@@ -11,7 +11,8 @@ use Rattle.session_line.specs.Answers.{told_of_call}
 use Rattle.session_line.specs.Executing.{Executes}
 use Rattle.session_line.specs.Rights.{allowed}
 use Rattle.session_line.specs.Serving.{Sides}
-use Rattle.session_line.specs.Taking.{TakesTask}
+use Rattle.session_line.specs.Taking.{IsTaskFor}
+use Rattle.session_line.specs.Tasks.{task_of}
 use Rattle.session_line.specs.DeskRelations.{DeskRelations}
 
 -- whether a refusal is told
@@ -24,10 +25,12 @@ abbrev pub tells_refusal : Reply → Bool
 tells_refusal reply = is_refusal (told_of_call reply)
 
 module _ {C S : Type 0} (rights : Rights) (calls : DeskRelations C) (files : ShelfRelations S) where
-  -- one command is taken whole, what the session may do of it is executed once, and a refusal is the answer
+  -- what the session may do of the command of some lines is executed once, and a refusal is the answer; the first line may have been taken before the others
   pub record RefusesCommand (old new : Sides C S) : Type 0 where
+    pub first : List ℕ
+    pub others : List (List ℕ)
     pub task : Task
     pub answer : Answer
-    pub taken : TakesTask old.input new.input task
+    pub asked : IsTaskFor (task_of first others) task
     pub executed : Executes calls files (allowed rights task) old.desk new.desk old.shelf new.shelf answer
     pub refused : is_refusal answer.told ≡ true

@@ -42,20 +42,9 @@ impl<'a, R> SeatCalls<'a, R> {
 /// had seen and ends with the call. It knows of no bell, so it answers at once who waits, and of
 /// no session, so it keeps no names.
 impl<R: Wait> Calls for SeatCalls<'_, R> {
-    ghost use Rattle.desk_core.specs.Steps.{Steps};
-    ghost use Rattle.desk_core.specs.declared.calls.Call.TheVariants.{Status};
-    ghost use Rattle.std.specs.Prelude.{◌≡◌, []};
-    ghost use Rattle.turn_office.specs.Histories.{Answers};
+    ghost use Rattle.session_line.specs.DeskRelations.{seated};
 
-    ghost relations = { record {
-      makes = λ old call reply new. (new.office.now ≡ old.office.now) × (new.seat.office ≡ old.seat.office) × (new.seat.number ≡ old.seat.number)
-          × Answers Steps old.office.now.seats old.office.now.first old.seat.number call reply old.seat.seen new.seat.seen;
-      awaits = λ old version reply new. (new.office.now ≡ old.office.now) × (new.seat.office ≡ old.seat.office) × (new.seat.number ≡ old.seat.number)
-          × Answers Steps old.office.now.seats old.office.now.first old.seat.number Status reply old.seat.seen new.seat.seen;
-      greets = λ old name greeting new. (new.office.now ≡ old.office.now) × (new.seat.office ≡ old.seat.office) × (new.seat.number ≡ old.seat.number)
-          × Answers Steps old.office.now.seats old.office.now.first old.seat.number Status greeting.status old.seat.seen new.seat.seen × (greeting.sessions ≡ []);
-      begins = λ old new. new ≡ old;
-    } };
+    ghost relations = { seated (λ calls. calls.office.now) (λ calls. calls.seat) };
 
     fn call(&mut self, call: Call) -> Reply {
         self.seat.call(self.rt, self.office, call)

@@ -1,0 +1,76 @@
+-- What a call from a seat adds to what the seat has seen.
+use Rattle.std.proofs.Common.{◌≡◌, ℕ, ◌==◌, Bool, true, cond, List, [], ◌∷◌, ◌++◌, All, refl, sym, ap, subst, ◌∙◌, append_assoc, append-nil, eq-eqb}
+use Rattle.std.proofs.lemmas.List.Elements.{All-nil, All-append, All-push, filter-append}
+use Rattle.turn_office.specs.declared.history.Entry.{Entry}
+use Rattle.turn_office.specs.Histories.{Answers, Leads, entry, entries_by}
+use Rattle.turn_office.specs.Seats.{OfficeFacts, SeatFacts}
+use Rattle.desk_core.specs.Desks.{Desk}
+use Rattle.desk_core.specs.Runs.{History}
+use Rattle.desk_core.specs.Steps.{Steps}
+use Rattle.desk_core.specs.declared.calls.Call.{Call}
+use Rattle.desk_core.specs.declared.replies.Reply.{Reply}
+use Rattle.session_line.specs.declared.greetings.Greeting.{Greeting}
+use Rattle.session_line.specs.DeskRelations.{AsksSeat, seated}
+use Rattle.session_line.specs.Joins.Kinds.{fits_call, is_session_call}
+use Rattle.session_line.proofs.SessionKinds.{session_fits}
+use Rattle.kept_desk.specs.Refused.{LeavesAll, ChangesNothing}
+use Rattle.kept_desk.proofs.RefusedChanges.{IsQuiet, session-quiet}
+
+-- the last of steps
+last-step : (first last : Desk) (before : History) (number : ℕ) (call : Call) (reply : Reply) → Leads Steps first (before ++ entry number call reply ∷ []) last → (desk : Desk) × Steps desk call reply last
+last-step first last [] number call reply leads = (first, subst (λ (desk : Desk). Steps first call reply desk) leads.2 leads.1)
+last-step first last (one ∷ before) number call reply leads = last-step leads.0 last before number call reply leads.2
+
+-- a reply from a seat fits its call
+reply-fits : (seats : ℕ) (first : Desk) (number : ℕ) (call : Call) (reply : Reply) (seen now : History) → is_session_call call ≡ true → Answers Steps seats first number call reply seen now → fits_call call reply ≡ true
+reply-fits seats first number call reply seen now session answers =
+    let last = answers.legal.last in
+    let made = last-step first last (seen ++ answers.between) number call reply (subst (λ (log : History). Leads Steps first log last) answers.ends answers.legal.leads) in
+    session_fits made.0 last call reply session made.1
+
+-- the entries of the seat are those of its call
+own-entries : (number : ℕ) (call : Call) (reply : Reply) (between : History) → entries_by number between ≡ [] → entries_by number (between ++ entry number call reply ∷ []) ≡ entry number call reply ∷ []
+own-entries number call reply between silent =
+    let made : History = entry number call reply ∷ [] in
+    filter-append (λ (e : Entry Call Reply). e.by == number) between made
+    ∙ (ap (λ (log : History). log ++ entries_by number made) silent ∙ ap (λ (own : Bool). cond own (entry number call reply ∷ []) []) (eq-eqb number number refl))
+
+-- no call
+pub changes-none : (seat : SeatFacts Call Reply) → ChangesNothing seat seat
+changes-none seat = record { same = refl; behind = []; seen = sym (append-nil seat.seen); left = All-nil LeavesAll }
+
+-- one call that leaves the desk
+pub changes-one : (office office_after : OfficeFacts Desk) (seat after : SeatFacts Call Reply) (call : Call) (reply : Reply) → AsksSeat office seat call reply office_after after → LeavesAll (entry seat.number call reply) → ChangesNothing seat after
+changes-one office office_after seat after call reply asks leaves =
+    let answers = asks.3 in
+    let own : Entry Call Reply = entry seat.number call reply in
+    record {
+      same = asks.2;
+      behind = answers.between ++ own ∷ [];
+      seen = answers.ends ∙ append_assoc seat.seen answers.between (own ∷ []);
+      left = subst (λ (log : History). All LeavesAll log) (sym (own-entries seat.number call reply answers.between answers.silent)) (All-push LeavesAll [] own (All-nil LeavesAll) leaves);
+    }
+
+-- calls, and more calls
+pub changes-joined : (first second third : SeatFacts Call Reply) → ChangesNothing first second → ChangesNothing second third → ChangesNothing first third
+changes-joined first second third one other = record {
+  same = other.same ∙ one.same;
+  behind = one.behind ++ other.behind;
+  seen = other.seen ∙ (ap (λ (log : History). log ++ other.behind) one.seen ∙ append_assoc first.seen one.behind other.behind);
+  left =
+      let later : All LeavesAll (entries_by first.number other.behind) = subst (λ (n : ℕ). All LeavesAll (entries_by n other.behind)) one.same other.left in
+      subst (λ (log : History). All LeavesAll log) (sym (filter-append (λ (e : Entry Call Reply). e.by == first.number) one.behind other.behind))
+      (All-append LeavesAll (entries_by first.number one.behind) (entries_by first.number other.behind) one.left later);
+}
+
+-- a seat
+pub seat-quiet : {C : Type 0} (office : C → OfficeFacts Desk) (seat : C → SeatFacts Call Reply) → IsQuiet (seated office seat) (λ (old new : C). ChangesNothing (seat old) (seat new))
+seat-quiet {C} office seat = record {
+  same = λ (desk : C). changes-none (seat desk);
+  joined = λ (first second third : C). changes-joined (seat first) (seat second) (seat third);
+  fits = λ (desk next : C) (call : Call) (reply : Reply) session made.
+      reply-fits (office desk).seats (office desk).first (seat desk).number call reply (seat desk).seen (seat next).seen session made.3;
+  silent = λ (desk next : C) (call : Call) (reply : Reply) session made silent.
+      changes-one (office desk) (office next) (seat desk) (seat next) call reply made (λ (before after : Desk) steps. session-quiet before after call reply session steps silent);
+  greeted = λ (desk next : C) (name : List ℕ) (greeting : Greeting) greets. greets.0;
+}
