@@ -1,6 +1,6 @@
 -- What a seat has seen after its calls.
-use Rattle.std.proofs.Common.{◌≡◌, ℕ, ◌+◌, ◌==◌, Bool, true, false, cond, List, [], ◌∷◌, ◌++◌, length, map, Option, Some, None, refl, sym, ap, ◌∙◌, subst, append_assoc, append-nil, eq-eqb}
-use Rattle.std.specs.Prelude.{slice_get, IfSome}
+use Rattle.std.proofs.Common.{◌≡◌, ℕ, ◌+◌, ◌<◌, ◌==◌, ◌⊎◌, inl, inr, Bool, true, false, cond, List, [], ◌∷◌, ◌++◌, length, map, Some, None, refl, sym, ap, ◌∙◌, subst, append_assoc, append-nil, eq-eqb}
+use Rattle.std.specs.Prelude.{slice_get}
 use Rattle.std.proofs.lemmas.List.{map-append, flat_map_more}
 use Rattle.std.proofs.lemmas.List.Elements.{All-nil, All-push, filter-append}
 use Rattle.turn_office.specs.declared.history.Entry.{Entry}
@@ -14,10 +14,11 @@ use Rattle.desk_core.specs.Steps.{Steps}
 use Rattle.desk_core.specs.Runs.{History}
 use Rattle.deck_workers.specs.declared.jobs.Job.{Job}
 use Rattle.deck_workers.specs.declared.made.Made.{Made}
+use Rattle.deck_workers.specs.declared.made.Made.TheVariants as made
 use Rattle.deck_workers.specs.Jobs.{MayMake, is_result}
 use Rattle.deck_workers.specs.Rounds.{Working, job_in, call_of, published_in, entries_of}
-use Rattle.deck_workers.specs.WorkerRounds.{AtOnce, ByDesk, IsWorkerRound, Offer, none_yet, left_out, offered_at, is_starved, offer_entry, desk_entries, worker_entries, worker_entries_in}
-use Rattle.deck_workers.specs.Joins.Linking.{Offers, OffersIfAny, HasPublished, Delivers, in_one_call, by_desk}
+use Rattle.deck_workers.specs.WorkerRounds.{AtOnce, ByDesk, Unshared, IsWorkerRound, Offer, none_yet, offered_at, is_starved, offer_entry, asked_entries, up_entries, desk_entries, worker_entries, worker_entries_in}
+use Rattle.deck_workers.specs.Joins.Linking.{Offers, OffersOne, AsksToPublish, GivesUp, HasPublished, HasGivenUp, Delivers, in_one_call, by_desk, unshared}
 use Rattle.deck_workers.specs.Joins.Rests.{round_with_job, told_as, went_well}
 use Rattle.deck_workers.specs.Subscribers.{HearsAfter, unheard, heard}
 use Rattle.deck_workers.specs.Working.{Calls, MakesRound, Works}
@@ -62,20 +63,13 @@ worked number other claimed answered result call seen middle now same is earlier
 pub none-offered : (decks : List Deck) (number lease : ℕ) (seen : History) → Offers decks 0 number lease seen seen
 none-offered decks number lease seen = record { offers = []; of = none_yet; made = record { begins = ([], append-nil seen); calls = sym (append-nil (entries_by number seen)) } }
 
--- one more is offered, or left out
-pub more-offered : (decks : List Deck) (most number other lease : ℕ) (object : Deck) (found : Option Deck) (seen middle now : History) → other ≡ number → slice_get decks most ≡ Some object → IfSome found (λ shared. shared ≡ object) →
-    Offers decks most number lease seen middle → OffersIfAny other lease most found middle now → Offers decks (most + 1) number lease seen now
-more-offered decks most number other lease object None seen middle now same at is before called =
-    let offers : History = map (offer_entry number lease) before.offers in
-    record {
-      offers = before.offers;
-      of = left_out most before.offers before.of;
-      made = subst (λ (entries : History). Calls number entries seen now) (append-nil offers) (more-calls number offers [] seen middle now before.made (subst (λ (n : ℕ). Calls n [] middle now) same called));
-    }
-more-offered decks most number other lease object (Some shared) seen middle now same at is before called =
-    let offer : Offer = record { place = most; object = shared; reply = called.0 } in
-    let later = subst (λ (n : ℕ). Calls n (entry n (OfferObject lease most shared) called.0 ∷ []) middle now) same called.1 in
-    let joined = more-calls number (map (offer_entry number lease) before.offers) (entry number (OfferObject lease most shared) called.0 ∷ []) seen middle now before.made later in
+-- one more is offered
+pub more-offered : (decks : List Deck) (most number other lease : ℕ) (object held : Deck) (seen middle now : History) → other ≡ number → slice_get decks most ≡ Some object → held ≡ object →
+    Offers decks most number lease seen middle → OffersOne other lease most held middle now → Offers decks (most + 1) number lease seen now
+more-offered decks most number other lease object held seen middle now same at is before called =
+    let offer : Offer = record { place = most; object = held; reply = called.0 } in
+    let later = subst (λ (n : ℕ). Calls n (entry n (OfferObject lease most held) called.0 ∷ []) middle now) same called.1 in
+    let joined = more-calls number (map (offer_entry number lease) before.offers) (entry number (OfferObject lease most held) called.0 ∷ []) seen middle now before.made later in
     record {
       offers = before.offers ++ offer ∷ [];
       of = offered_at before.offers offer (at ∙ ap Some (sym is)) before.of;
@@ -83,31 +77,50 @@ more-offered decks most number other lease object (Some shared) seen middle now 
     }
 
 -- the desk answered, and not that it had no memory
-pub has-published : (number other lease : ℕ) (publication : Publication) (answered : Reply) (seen middle now : History) → other ≡ number → is_starved answered ≡ false → Offers publication.decks (length publication.decks) number lease seen middle →
-    Calls other (entry other (Publish lease) answered ∷ []) middle now → HasPublished number lease publication answered seen now
-has-published number other lease publication answered seen middle now same fed offered calls = record {
-  offers = offered.offers;
-  given_up = None;
-  of = offered.of;
-  ended = sym fed;
-  made = more-calls number (map (offer_entry number lease) offered.offers) (entry number (Publish lease) answered ∷ []) seen middle now offered.made (subst (λ (n : ℕ). Calls n (entry n (Publish lease) answered ∷ []) middle now) same calls);
-}
+pub asks-once : (number lease : ℕ) (answered : Reply) (seen now : History) → is_starved answered ≡ false → Calls number (entry number (Publish lease) answered ∷ []) seen now → AsksToPublish number lease answered seen now
+asks-once number lease answered seen now fed calls = record { given_up = None; ended = sym fed; made = calls }
 
 -- it had none, and the lease was given up
-pub has-given_up : (number other another lease : ℕ) (publication : Publication) (answered cleared : Reply) (seen middle later now : History) → other ≡ number → another ≡ number → is_starved answered ≡ true → Offers publication.decks (length publication.decks) number lease seen middle →
-    Calls other (entry other (Publish lease) answered ∷ []) middle later → Calls another (entry another (GiveUp lease) cleared ∷ []) later now → HasPublished number lease publication answered seen now
-has-given_up number other another lease publication answered cleared seen middle later now same again starved offered asked given =
-    let offers : History = map (offer_entry number lease) offered.offers in
-    let asks = subst (λ (n : ℕ). Calls n (entry n (Publish lease) answered ∷ []) middle later) same asked in
-    let gives = subst (λ (n : ℕ). Calls n (entry n (GiveUp lease) cleared ∷ []) later now) again given in
-    record {
-      offers = offered.offers;
-      given_up = Some cleared;
-      of = offered.of;
-      ended = sym starved;
-      made = more-calls number offers (entry number (Publish lease) answered ∷ entry number (GiveUp lease) cleared ∷ []) seen middle now offered.made
-          (more-calls number (entry number (Publish lease) answered ∷ []) (entry number (GiveUp lease) cleared ∷ []) middle later now asks gives);
-    }
+pub asks-and-gives : (number other lease : ℕ) (answered cleared : Reply) (seen middle now : History) → other ≡ number → is_starved answered ≡ true → Calls number (entry number (Publish lease) answered ∷ []) seen middle →
+    Calls other (entry other (GiveUp lease) cleared ∷ []) middle now → AsksToPublish number lease answered seen now
+asks-and-gives number other lease answered cleared seen middle now same starved asked given = record {
+  given_up = Some cleared;
+  ended = sym starved;
+  made = more-calls number (entry number (Publish lease) answered ∷ []) (entry number (GiveUp lease) cleared ∷ []) seen middle now asked
+      (subst (λ (n : ℕ). Calls n (entry n (GiveUp lease) cleared ∷ []) middle now) same given);
+}
+
+-- behind all offers the desk was to publish
+pub has-published : (number other lease : ℕ) (publication : Publication) (answered : Reply) (seen middle now : History) → other ≡ number → Offers publication.decks (length publication.decks) number lease seen middle →
+    AsksToPublish other lease answered middle now → HasPublished number lease publication answered seen now
+has-published number other lease publication answered seen middle now same offered asks = record {
+  offers = offered.offers;
+  given_up = asks.given_up;
+  of = offered.of;
+  ended = asks.ended;
+  made = more-calls number (map (offer_entry number lease) offered.offers) (asked_entries number lease answered asks.given_up) seen middle now offered.made
+      (subst (λ (n : ℕ). Calls n (asked_entries n lease answered asks.given_up) middle now) same asks.made);
+}
+
+-- behind some the lease was given up
+pub has-given_up : (number other lease : ℕ) (publication : Publication) (answered : Reply) (seen middle now : History) → other ≡ number →
+    (offered : (most : ℕ) × (most < length publication.decks) × Offers publication.decks most number lease seen middle) → GivesUp other lease answered middle now → HasGivenUp number lease publication answered seen now
+has-given_up number other lease publication answered seen middle now same offered gives = record {
+  offers = offered.2.offers;
+  most = offered.0;
+  fewer = offered.1;
+  of = offered.2.of;
+  cleared = gives.cleared;
+  told = gives.told;
+  made = more-calls number (map (offer_entry number lease) offered.2.offers) (up_entries number lease (Some gives.cleared)) seen middle now offered.2.made
+      (subst (λ (n : ℕ). Calls n (up_entries n lease (Some gives.cleared)) middle now) same gives.made);
+}
+
+-- either way a publication is delivered
+pub delivered-by-desk : (number lease : ℕ) (publication : Publication) (answered : Reply) (seen now : History) → HasPublished number lease publication answered seen now ⊎ HasGivenUp number lease publication answered seen now →
+    Delivers number answered seen now (made.Link lease publication)
+delivered-by-desk number lease publication answered seen now (inl has) = by_desk lease publication has
+delivered-by-desk number lease publication answered seen now (inr has) = unshared lease publication has
 
 module _ {S : Type 0} (hears : S → ℕ → S → Type 0) where
   -- the round of a claim that gave a job, and of what was made of it; and what it is told as
@@ -127,11 +140,21 @@ module _ {S : Type 0} (hears : S → ℕ → S → Type 0) where
     record {
       round = ByDesk claimed lease publication has.offers answered has.given_up;
       is_round = record { given = given; claims = is; may_make = may; of = has.of; ended = has.ended };
-      made = more-calls number (entry number Claim claimed ∷ []) (desk_entries number lease has.offers answered has.given_up) seen middle now earlier
-          (subst (λ (n : ℕ). Calls n (desk_entries n lease has.offers answered has.given_up) middle now) same has.made);
+      made = more-calls number (entry number Claim claimed ∷ []) (desk_entries number lease has.offers (asked_entries number lease answered has.given_up)) seen middle now earlier
+          (subst (λ (n : ℕ). Calls n (desk_entries n lease has.offers (asked_entries n lease answered has.given_up)) middle now) same has.made);
       heard = hear;
     },
     refl,
+  )
+  worked-round number other claimed answered given result seen middle now old new same is may earlier (unshared lease publication has) hear = (
+    record {
+      round = Unshared claimed lease publication has.offers has.cleared;
+      is_round = record { given = given; claims = is; may_make = may; most = has.most; fewer = has.fewer; of = has.of };
+      made = more-calls number (entry number Claim claimed ∷ []) (desk_entries number lease has.offers (up_entries number lease (Some has.cleared))) seen middle now earlier
+          (subst (λ (n : ℕ). Calls n (desk_entries n lease has.offers (up_entries n lease (Some has.cleared))) middle now) same has.made);
+      heard = subst (λ (reply : Reply). HearsAfter hears reply (Some publication.version) old new) has.told hear;
+    },
+    sym (ap (λ (reply : Reply). round_with_job (went_well true reply)) has.told),
   )
 
   -- no calls yet

@@ -2,7 +2,7 @@
 use Rattle.std.specs.Prelude.{◌≡◌, ℕ, List, [], ◌∷◌, ◌++◌, Option, Some, None}
 use Rattle.deck_workers.specs.Joins.Language.{Reply, Stored, Published}
 use Rattle.deck_workers.specs.Rounds.{Resting, Working, published_in}
-use Rattle.deck_workers.specs.WorkerRounds.{WorkerRound, AtOnce, ByDesk}
+use Rattle.deck_workers.specs.WorkerRounds.{WorkerRound, AtOnce, ByDesk, Unshared}
 
 module _ {S : Type 0} (hears : S → ℕ → S → Type 0) where
   -- it hears of a publication, where there is one
@@ -21,6 +21,7 @@ module _ {S : Type 0} (hears : S → ℕ → S → Type 0) where
   HearsOf (AtOnce (Resting claimed)) old new = new ≡ old
   HearsOf (AtOnce (Working claimed result answered)) old new = HearsAfter answered (published_in result) old new
   HearsOf (ByDesk claimed lease publication offers answered given_up) old new = HearsAfter answered (Some publication.version) old new
+  HearsOf (Unshared claimed lease publication offers freed) old new = new ≡ old
 
   -- it hears of rounds, one after the other
   pub data HearsAll (first : S) : List WorkerRound → S → Type 0 where

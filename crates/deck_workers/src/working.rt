@@ -1,9 +1,9 @@
 //! A worker at its seat.
-ghost use Rattle.std.specs.Prelude.{◌≡◌, length};
+ghost use Rattle.std.specs.Prelude.{◌≡◌, ◌⊎◌};
 ghost use Rattle.turn_office.specs.Histories.{IsLegal};
 ghost use Rattle.desk_core.specs.Steps.{Steps};
 ghost use Rattle.deck_workers.specs.Jobs.{MayMake};
-ghost use Rattle.deck_workers.specs.Joins.Linking.{Delivers, HasPublished, Offers, OffersIfAny};
+ghost use Rattle.deck_workers.specs.Joins.Linking.{AsksToPublish, Delivers, GivesUp, HasGivenUp, HasPublished, OffersAll, OffersOne};
 ghost use Rattle.deck_workers.specs.Joins.Rests.{is_refused, told_as, went_well};
 ghost use Rattle.deck_workers.specs.WorkerRounds.{is_starved};
 ghost use Rattle.deck_workers.specs.Working.{MakesRound, Works};
@@ -31,8 +31,9 @@ use work_meter::Meter;
 ///
 /// What the seat had seen begins what it has seen then, and its calls since are rounds: each is a
 /// claim, followed by one call that ends the job, where the claim gave one; or, where a publication of many
-/// cards was made, by one for each of its decks at most, which offers the object of the deck, and by the one that
-/// has the desk publish its own decks; where that was refused for want of memory, the lease is given up. Of
+/// cards was made, by one for each of its decks, which offers the object of the deck, and by the one that has the
+/// desk publish its own decks; where that was refused for want of memory, or before it an object could not be
+/// shared, the lease is given up. Of
 /// each publication that the desk took from it or made so the subscriber hears once, behind the reply, and of
 /// nothing else.
 pub fn worker<R: Wait + Clock, G: Gate, S: Subscriber>(
@@ -152,7 +153,7 @@ fn deliver<R: Wait>(rt: &R, office: &Office<Desk>, seat: &mut Seat<Desk>, made: 
 }
 
 /// Offers the objects of a publication to the desk, which then links and publishes its own. Where it has no memory
-/// for that, the lease is given up.
+/// for that, or an object can't be shared, the lease is given up, and want of memory is told.
 fn publish_at_desk<R: Wait>(
     rt: &R,
     office: &Office<Desk>,
@@ -162,10 +163,24 @@ fn publish_at_desk<R: Wait>(
 ) -> Reply
     requires { seat.old.office ≡ office.now.id }
     ensures same { (seat.new.office ≡ seat.old.office) × (seat.new.number ≡ seat.old.number) }
-    ensures published { HasPublished seat.old.number lease publication result seat.old.seen seat.new.seen }
+    ensures published { HasPublished seat.old.number lease publication result seat.old.seen seat.new.seen ⊎ HasGivenUp seat.old.number lease publication result seat.old.seen seat.new.seen }
     ensures legal { IsLegal Steps office.now.seats office.now.first seat.new.seen }
 {
-    offer_objects(rt, office, seat, lease, publication.publication().objects());
+    let objects = publication.publication().objects();
+    if offer_objects(rt, office, seat, lease, objects) {
+        publish_own(rt, office, seat, lease)
+    } else {
+        give_up(rt, office, seat, lease)
+    }
+}
+
+/// Has the desk publish its own decks under a lease, which is given up where it has no memory for that.
+fn publish_own<R: Wait>(rt: &R, office: &Office<Desk>, seat: &mut Seat<Desk>, lease: u64) -> Reply
+    requires { seat.old.office ≡ office.now.id }
+    ensures same { (seat.new.office ≡ seat.old.office) × (seat.new.number ≡ seat.old.number) }
+    ensures asks { AsksToPublish seat.old.number lease result seat.old.seen seat.new.seen }
+    ensures legal { IsLegal Steps office.now.seats office.now.first seat.new.seen }
+{
     let answered = seat.call(rt, office, Call::Publish(lease));
     if is_starved(&answered) {
         seat.call(rt, office, Call::GiveUp(lease)).free();
@@ -173,45 +188,59 @@ fn publish_at_desk<R: Wait>(
     answered
 }
 
+/// Gives a lease up for want of memory.
+fn give_up<R: Wait>(rt: &R, office: &Office<Desk>, seat: &mut Seat<Desk>, lease: u64) -> Reply
+    requires { seat.old.office ≡ office.now.id }
+    ensures same { (seat.new.office ≡ seat.old.office) × (seat.new.number ≡ seat.old.number) }
+    ensures gives { GivesUp seat.old.number lease result seat.old.seen seat.new.seen }
+    ensures legal { IsLegal Steps office.now.seats office.now.first seat.new.seen }
+{
+    seat.call(rt, office, Call::GiveUp(lease)).free();
+    Reply::Refused(Refusal::OutOfMemory)
+}
+
 /// Offers the objects of a publication to the desk, each in a turn of its own: those of its decks that lack their
-/// section in this link have it then. What can't be shared once more is left out.
+/// section in this link have it then. It ends where one can't be shared once more, and tells whether all were
+/// offered.
 fn offer_objects<R: Wait>(
     rt: &R,
     office: &Office<Desk>,
     seat: &mut Seat<Desk>,
     lease: u64,
     objects: &[ListedObject],
-)
+) -> bool
     requires { seat.old.office ≡ office.now.id }
     ensures same { (seat.new.office ≡ seat.old.office) × (seat.new.number ≡ seat.old.number) }
-    ensures offered { Offers objects.now (length objects.now) seat.old.number lease seat.old.seen seat.new.seen }
+    ensures offered { OffersAll result objects.now seat.old.number lease seat.old.seen seat.new.seen }
 {
     for (place, object) in objects.iter().enumerate() {
-        offer(rt, office, seat, lease, place, shared(object));
+        match shared(object) {
+            Some(held) => offer(rt, office, seat, lease, place, held),
+            None => return false,
+        }
     }
+    true
 }
 
-/// Offers an object to the desk for the deck at a place, by one call; where there is none it calls nothing.
+/// Offers an object to the desk for the deck at a place, by one call.
 fn offer<R: Wait>(
     rt: &R,
     office: &Office<Desk>,
     seat: &mut Seat<Desk>,
     lease: u64,
     place: usize,
-    object: Option<ListedObject>,
+    object: ListedObject,
 )
     requires { seat.old.office ≡ office.now.id }
     ensures same { (seat.new.office ≡ seat.old.office) × (seat.new.number ≡ seat.old.number) }
-    ensures offered { OffersIfAny seat.old.number lease place object seat.old.seen seat.new.seen }
+    ensures offered { OffersOne seat.old.number lease place object seat.old.seen seat.new.seen }
 {
-    if let Some(object) = object {
-        let offered = Call::OfferObject {
-            lease,
-            place,
-            object,
-        };
-        seat.call(rt, office, offered).free();
-    }
+    let offered = Call::OfferObject {
+        lease,
+        place,
+        object,
+    };
+    seat.call(rt, office, offered).free();
 }
 
 /// Whether something was made of a job, and the desk had the memory that it takes to publish.

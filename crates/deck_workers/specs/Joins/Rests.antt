@@ -11,7 +11,7 @@ use Rattle.deck_workers.specs.declared.bells.Round.TheVariants.{Delivered, GaveU
 use Rattle.deck_workers.specs.Joins.Language.{Reply, Refused}
 use Rattle.deck_workers.specs.Jobs.{is_result}
 use Rattle.deck_workers.specs.Rounds as rounds
-use Rattle.deck_workers.specs.WorkerRounds.{WorkerRound, AtOnce, ByDesk, is_starved}
+use Rattle.deck_workers.specs.WorkerRounds.{WorkerRound, AtOnce, ByDesk, Unshared, is_starved}
 
 -- a round with a job, which was delivered or given up
 abbrev pub round_with_job : Bool → Round
@@ -37,6 +37,7 @@ abbrev pub told_as : WorkerRound → Round
 told_as (AtOnce (rounds.Resting claimed)) = round_without_job (is_refused claimed)
 told_as (AtOnce (rounds.Working claimed result answered)) = round_with_job (went_well (is_result result) answered)
 told_as (ByDesk claimed lease publication offers answered given_up) = round_with_job (went_well true answered)
+told_as (Unshared claimed lease publication offers freed) = GaveUp
 
 -- what a worker does behind a round, where it sleeps for so many milliseconds if it does for a while
 abbrev pub next_behind : Round → ℕ → Next

@@ -3,16 +3,16 @@ use Rattle.turn_office.specs.Histories.{entry}
 use Rattle.desk_core.specs.declared.calls.Call.{Call}
 use Rattle.deck_workers.specs.declared.made.Made.{Made}
 use Rattle.deck_workers.specs.declared.made.Made.TheVariants as made
-use Rattle.deck_workers.specs.Joins.Linking.{Delivers, in_one_call, by_desk}
+use Rattle.deck_workers.specs.Joins.Linking.{Delivers, in_one_call}
 use Rattle.deck_workers.specs.Working.{Calls}
-use Rattle.deck_workers.proofs.Seen.{one-call}
+use Rattle.deck_workers.proofs.Seen.{one-call, delivered-by-desk}
 use Rattle.deck_workers.proofs.working.deliver.Goals as goal
 
 -- the desk was to publish, where there were many cards
 pub returns-then-is_large-clause-delivered : goal.returns-then-is_large-clause-delivered
 returns-then-is_large-clause-delivered g c =
     subst (λ (result : Made). Delivers c.args.seat.now.number c.publish_at_desk.result c.args.seat.now.seen c.publish_at_desk.new.seat.seen result) (sym c.in-Link.is)
-    (by_desk c.in-Link.lease c.in-Link.publication c.publish_at_desk.ensures.published)
+    (delivered-by-desk c.args.seat.now.number c.in-Link.lease c.in-Link.publication c.publish_at_desk.result c.args.seat.now.seen c.publish_at_desk.new.seat.seen c.publish_at_desk.ensures.published)
 
 -- one of fewer was delivered
 pub returns-else-is_large-clause-delivered : goal.returns-else-is_large-clause-delivered
