@@ -14,8 +14,9 @@ use Rattle.journal.specs.declared.changes.Change.TheVariants.{Batch}
 use Rattle.journal.specs.declared.drafts.Stamp.{Stamp}
 use Rattle.journal.specs.Asking.{call_of_carry, carried_deck}
 use Rattle.journal.specs.Drafts.{takes_memory}
-use Rattle.journal.specs.JournalFiles.{Step, IsKept, IsKeptAs}
+use Rattle.journal.specs.JournalFiles.{Step, IsKept, IsKeptAs, Batch as KeptBatch}
 use Rattle.journal.specs.Names.{session_name}
+use Rattle.journal.specs.Queues.{Queue, all_shown}
 use Rattle.journal.specs.Records.{text_behind_version}
 use Rattle.journal.specs.Replaying.{call_of}
 use Rattle.kept_desk.specs.EndsRelations.{EndsRelations}
@@ -42,6 +43,11 @@ abbrev pub news_of : Bool → Bool → Option News
 news_of false true = Some Fails
 news_of true false = Some GoesOn
 news_of failed fails = None
+
+-- the queue behind a write: these records are kept, and what came meanwhile waits on; or none is, and all that waits is given up
+abbrev pub queue_behind : Option KeptBatch → Queue → Queue
+queue_behind (Some kept) queue = record queue { first = kept.first; next = kept.next; shown = all_shown queue.places kept.from kept.drafts queue.shown }
+queue_behind None queue = record queue { told = queue.behind }
 
 -- the record of a change that a session of this name asks for at some moment
 abbrev pub IsDraft : List ℕ → Change → List ℕ → Type 0

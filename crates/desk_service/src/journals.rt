@@ -9,9 +9,9 @@
 //! That records can't be written is told on standard error once, and once that they can be again. Locks tell
 //! contracts nothing of what they hold, so a session looks whether what was kept is its own record before it
 //! says so.
-ghost use Rattle.std.specs.Prelude.{◌≡◌, true, IfOk, IsSomeAnd};
+ghost use Rattle.std.specs.Prelude.{◌≡◌, true, false, is_none, IfOk, IsSomeAnd};
 ghost use Rattle.journal.specs.JournalFiles.{IsKeptAs};
-ghost use Rattle.desk_service.specs.SessionEnds.{IsMadeUp, news_of};
+ghost use Rattle.desk_service.specs.SessionEnds.{IsMadeUp, news_of, queue_behind};
 
 use deck_files::Moment;
 use deck_listing::SharedText;
@@ -64,10 +64,17 @@ struct Shared<F: RecordsFile> {
 }
 
 impl<F: RecordsFile> Shared<F> {
-    /// Notes what a write kept, if it kept anything: what is told of that.
-    fn settle(&mut self, kept: Option<KeptBatch<F>>) -> Option<News> {
-        let news = news_of(self.fails, kept.is_none());
-        self.fails = kept.is_none();
+    /// Notes what a write kept, if it kept anything: what is told of that. What waits is given up only where
+    /// nothing was kept; nobody writes any more.
+    fn settle(&mut self, kept: Option<KeptBatch<F>>) -> Option<News>
+        ensures queue { self.new.queue ≡ queue_behind kept self.old.queue }
+        ensures writing { self.new.writing ≡ false }
+        ensures fails { self.new.fails ≡ is_none kept }
+        ensures news { result ≡ news_of self.old.fails (is_none kept) }
+    {
+        let fails = kept.is_none();
+        let news = news_of(self.fails, fails);
+        self.fails = fails;
         self.writing = false;
         match kept {
             Some(kept) => self.queue.settle(kept),
