@@ -2,7 +2,10 @@
 use Rattle.std.specs.Prelude.{ℕ, ◌≡◌, ◌+◌, ◌≤◌, Bool, true, false}
 use Rattle.deck_files.specs.ShelfRelations.{ShelfRelations}
 use Rattle.session_line.specs.declared.rights.Rights.{Rights}
+use Rattle.session_line.specs.declared.rights.Rights.TheVariants.{Edits, Reads}
 use Rattle.session_line.specs.DeskRelations.{DeskRelations}
+use Rattle.desk_service.specs.declared.clients.Clients.{Clients}
+use Rattle.desk_service.specs.declared.clients.Clients.TheVariants.{Editing, Reading}
 use Rattle.desk_service.specs.declared.sessions.Ending.{Ending}
 use Rattle.desk_service.specs.declared.connections.Closed.{Closed}
 use Rattle.desk_service.specs.declared.connections.Closed.TheVariants.{NoMore, Once, Asked}
@@ -13,6 +16,11 @@ abbrev pub EndsAfter : Closed → Bool → ℕ → Type 0
 EndsAfter NoMore once count = once ≡ true → count ≡ 0
 EndsAfter Once once count = (once ≡ true) × (count ≡ 1)
 EndsAfter Asked once count = (once ≡ false) × (1 ≤ count)
+
+-- what the clients of a session may do, by where it gets them from
+abbrev pub rights_of : Clients → Rights
+rights_of (Editing clients) = Edits
+rights_of (Reading clients) = Reads
 
 module _ {C S : Type 0} (rights : Rights) (calls : DeskRelations C) (files : ShelfRelations S) where
   -- one connection: a session from the desk and the shelf before to those after; or it is closed at once, and both are as they were

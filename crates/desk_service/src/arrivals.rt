@@ -4,6 +4,7 @@
 //! as a session ends gets it, and none waits for those in front of it. Where too many wait, who comes then is
 //! turned away at once.
 
+use crate::clients::{ToEdit, ToRead};
 use crate::lobby::{Guest, Lobby};
 use crate::service_end::ServiceEnd;
 use crossbeam_channel::{SendTimeoutError, Sender, TrySendError};
@@ -60,18 +61,18 @@ fn turn_away(stream: &TcpStream) {
 /// Where clients are sent to: those that may edit, and those that may ask.
 #[derive(Drop)]
 pub(crate) struct Arrivals {
-    pub(crate) to_edit: Sender<TcpStream>,
-    pub(crate) to_read: Sender<TcpStream>,
+    pub(crate) to_edit: Sender<ToEdit>,
+    pub(crate) to_read: Sender<ToRead>,
 }
 
 /// Gives a connection to a session that may ask and waits for one, or turns it away.
-fn offer_to_read<R: Wait>(rt: &R, stream: TcpStream, to_read: &Sender<TcpStream>) -> Arrival {
-    match to_read.try_send(rt, stream) {
+fn offer_to_read<R: Wait>(rt: &R, stream: TcpStream, to_read: &Sender<ToRead>) -> Arrival {
+    match to_read.try_send(rt, ToRead(stream)) {
         Ok(()) => Arrival::Taken,
         Err(
-            TrySendError::Disconnected(stream)
-            | TrySendError::Full(stream)
-            | TrySendError::OutOfMemory(stream),
+            TrySendError::Disconnected(ToRead(stream))
+            | TrySendError::Full(ToRead(stream))
+            | TrySendError::OutOfMemory(ToRead(stream)),
         ) => {
             turn_away(&stream);
             Arrival::TurnedAway
@@ -133,12 +134,13 @@ fn offer_first<R: Wait + Clock>(
         return Arrival::Waiting;
     };
     let (stream, who) = guest.into_parts();
-    match arrivals.to_edit.send_timeout(rt, stream, waiting) {
+    match arrivals.to_edit.send_timeout(rt, ToEdit(stream), waiting) {
         Ok(()) => Arrival::Taken,
         Err(SendTimeoutError::Disconnected(_)) => Arrival::NoSessions,
-        Err(SendTimeoutError::Timeout(stream) | SendTimeoutError::OutOfMemory(stream)) => {
-            wait_on(rt, lobby, who.with_stream(stream), arrivals)
-        }
+        Err(
+            SendTimeoutError::Timeout(ToEdit(stream))
+            | SendTimeoutError::OutOfMemory(ToEdit(stream)),
+        ) => wait_on(rt, lobby, who.with_stream(stream), arrivals),
     }
 }
 

@@ -2,10 +2,10 @@
 ghost use Rattle.std.specs.Prelude.{ℕ};
 ghost use Rattle.desk_service.specs.Connections.{EndsAfter, ServesConnection, ServesConnections};
 
+use crate::clients::Clients;
 use crate::patience::{PatientReader, PatientWriter};
 use crate::service_end::ServiceEnd;
 use crate::sessions::{Ending, serve_session};
-use crossbeam_channel::Receiver;
 use deck_files::Shelf;
 use session_line::{Calls, Rights};
 use std::alloc::Global;
@@ -107,7 +107,7 @@ fn serve_arrival<R: Wait + Clock, C: Calls, S: Shelf>(
 pub(crate) fn serve_connections<R: Wait + Clock, C: Calls, S: Shelf>(
     rt: &R,
     alloc: Global,
-    arrivals: &Receiver<TcpStream>,
+    clients: &Clients,
     serving: Serving<'_>,
     desk: &mut C,
     shelf: &mut S,
@@ -115,7 +115,7 @@ pub(crate) fn serve_connections<R: Wait + Clock, C: Calls, S: Shelf>(
     ensures { (count : ℕ) × ServesConnections serving.entry.rights C.relations S.relations desk.old shelf.old desk.new shelf.new count × EndsAfter result serving.entry.once count }
 {
     for _ in rt.forever() {
-        let Ok(stream) = arrivals.recv(rt) else {
+        let Ok(stream) = clients.next(rt) else {
             return Closed::NoMore;
         };
         serve_arrival(rt, alloc, &stream, serving, desk, shelf);

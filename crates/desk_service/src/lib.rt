@@ -63,6 +63,7 @@ mod laws;
 
 // Threads and sockets.
 mod arrivals;
+mod clients;
 mod company;
 mod connections;
 mod control;

@@ -2,8 +2,10 @@
 ghost use Rattle.std.specs.Prelude.{◌≡◌, ◌+◌, ◌-◌, ◌<◌, ◌≤◌, All, length, map, IfOk, IfSome, OnOk};
 ghost use Rattle.std.specs.List.{range_with_len};
 ghost use Rattle.desk_service.specs.Company.{rights_at};
+ghost use Rattle.desk_service.specs.Connections.{rights_of};
 ghost use Rattle.turn_office.specs.Seats.{AreOf};
 
+use crate::clients::{Clients, ToEdit, ToRead, clients_for};
 use crate::company::rights_at;
 use crate::connections::{Serving, serve_connections};
 use crate::journals::Journal;
@@ -17,11 +19,10 @@ use deck_workers::{Bell, OpenGate, worker};
 use desk_core::Desk;
 use journal::RecordsFile;
 use kept_desk::Door;
-use session_line::{Rights, SeatCalls};
+use session_line::SeatCalls;
 use std::alloc::{AllocError, AllocGlobal, Global};
 use std::fs::File;
 use std::hash::RandomState;
-use std::net::TcpStream;
 use std::rt::Files;
 use std::sync::Wait;
 use std::time::{Clock, Duration};
@@ -82,7 +83,7 @@ pub(crate) type SessionDoor<'a, R, F> = Door<'a, R, SeatCalls<'a, R>, SessionEnd
 pub(crate) struct SessionPlace<'a, R, F: RecordsFile> {
     rt: &'a R,
     alloc: Global,
-    arrivals: Receiver<TcpStream>,
+    clients: Clients,
     serving: Serving<'a>,
     desk: SessionDoor<'a, R, F>,
     shelf: FolderShelf<'a, R>,
@@ -101,12 +102,12 @@ where
         let SessionPlace {
             rt,
             alloc,
-            arrivals,
+            clients,
             serving,
             mut desk,
             mut shelf,
         } = self;
-        serve_connections(rt, alloc, &arrivals, serving, &mut desk, &mut shelf);
+        serve_connections(rt, alloc, &clients, serving, &mut desk, &mut shelf);
     }
 }
 
@@ -177,21 +178,6 @@ pub(crate) fn session_door<'a, R, F: RecordsFile>(
     Door::new(rt, calls, ends)
 }
 
-/// Where the connections come from of a session that may do this.
-fn arrivals_for<'a>(
-    rights: Rights,
-    to_edit: &'a Receiver<TcpStream>,
-    to_read: &'a Receiver<TcpStream>,
-) -> &'a Receiver<TcpStream>
-    ensures edits { rights ≡ Rights.Edits → result.now ≡ to_edit.now }
-    ensures reads { rights ≡ Rights.Reads → result.now ≡ to_read.now }
-{
-    match rights {
-        Rights::Edits => to_edit,
-        Rights::Reads => to_read,
-    }
-}
-
 /// Places for the sessions of a service, those that may edit first, with seats from the list; each has an end
 /// of the bell, waits for connections, keeps its changes in the journal, if there is one, and has a shelf of a number of its own
 /// over the folder; all note what they loaded and saved at one place.
@@ -203,8 +189,8 @@ pub(crate) fn session_places<'a, R, F: RecordsFile>(
     seats: &mut SeatList<Desk>,
     settings: &Settings<'a>,
     bells: &Sender<Bell>,
-    to_edit: &Receiver<TcpStream>,
-    to_read: &Receiver<TcpStream>,
+    to_edit: &Receiver<ToEdit>,
+    to_read: &Receiver<ToRead>,
     known: &'a KnownFiles,
     end: &'a ServiceEnd,
     journal: Option<&'a Journal<F>>,
@@ -218,6 +204,7 @@ pub(crate) fn session_places<'a, R, F: RecordsFile>(
     ensures session { IfOk result (λ places. map (λ place. place.serving.session) places.items ≡ range_with_len 0 (settings.now.sessions + settings.now.readers)) }
     ensures ends { IfOk result (λ places. map (λ place. place.desk.1.session) places.items ≡ range_with_len 0 (settings.now.sessions + settings.now.readers)) }
     ensures rights { IfOk result (λ places. All (λ place. place.serving.rights ≡ rights_at settings.now.sessions place.serving.session) places.items) }
+    ensures clients { IfOk result (λ places. All (λ place. rights_of place.clients ≡ place.serving.rights) places.items) }
     ensures folder { IfOk result (λ places. All (λ place. place.shelf.folder ≡ settings.now.root.now) places.items) }
     ensures once { IfOk result (λ places. All (λ place. place.serving.once ≡ settings.now.once) places.items) }
     ensures office { IfOk result (λ places. All (λ place. place.desk.0.seat.office ≡ office.now.id) places.items) }
@@ -225,6 +212,7 @@ pub(crate) fn session_places<'a, R, F: RecordsFile>(
     let mut places = Vec::new(alloc);
     for number in 0..settings.sessions + settings.readers {
         let rights = rights_at(settings.sessions, number);
+        let clients = clients_for(rights, to_edit, to_read)?;
         let others = Others {
             bells: bells.clone()?,
             end,
@@ -236,7 +224,7 @@ pub(crate) fn session_places<'a, R, F: RecordsFile>(
         places.push(SessionPlace {
             rt,
             alloc,
-            arrivals: arrivals_for(rights, to_edit, to_read).clone()?,
+            clients,
             serving: Serving {
                 keys,
                 session: number,

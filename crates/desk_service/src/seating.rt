@@ -4,6 +4,7 @@ ghost use Rattle.desk_service.specs.PageThreads.{page_threads};
 ghost use Rattle.turn_office.specs.Seats.{AreOf};
 
 use crate::arrivals::Arrivals;
+use crate::clients::{ToEdit, ToRead};
 use crate::journals::Journal;
 use crate::pages::{Entrance, PagePlace, page_places};
 use crate::places::{SessionPlace, WorkerPlace, session_places, worker_places};
@@ -16,7 +17,6 @@ use desk_core::Desk;
 use journal::RecordsFile;
 use std::alloc::{AllocError, Global};
 use std::hash::RandomState;
-use std::net::TcpStream;
 use turn_office::{Office, SeatList};
 
 /// What the threads of a service talk by: the bell of the workers, and the clients that arrive.
@@ -25,8 +25,8 @@ pub(crate) struct Channels {
     bells: Sender<Bell>,
     heard: Receiver<Bell>,
     arrivals: Arrivals,
-    received: Receiver<TcpStream>,
-    received_to_read: Receiver<TcpStream>,
+    received: Receiver<ToEdit>,
+    received_to_read: Receiver<ToRead>,
 }
 
 impl Channels {

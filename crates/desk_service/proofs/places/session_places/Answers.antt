@@ -1,5 +1,6 @@
 use Rattle.std.proofs.Common.{◌≡◌, ◌+◌, ap, ◌∙◌, refl, arith, length, length-append}
 use Rattle.desk_service.specs.Company.{rights_at}
+use Rattle.desk_service.specs.Connections.{rights_of}
 use Rattle.desk_service.proofs.PlaceSteps.{numbers-more, all-more}
 use Rattle.desk_service.proofs.places.session_places.Goals as goal
 
@@ -12,6 +13,7 @@ loop-number-preserved g c = record {
   session = numbers-more _ _ _ _ _ c.loop-number.invariant.session c.in_ok-push.ensures.items refl;
   ends = numbers-more _ _ _ _ _ c.loop-number.invariant.ends c.in_ok-push.ensures.items c.session_door-desk.ensures.session;
   rights = all-more (λ place. place.serving.rights ≡ rights_at c.args.settings.now.sessions place.serving.session) _ _ _ c.loop-number.invariant.rights c.in_ok-push.ensures.items c.rights_at-rights.ensures;
+  clients = all-more (λ place. rights_of place.clients ≡ place.serving.rights) _ _ _ c.loop-number.invariant.clients c.in_ok-push.ensures.items c.in_ok-clients.ensures;
   folder = all-more (λ place. place.shelf.folder ≡ c.args.settings.now.root.now) _ _ _ c.loop-number.invariant.folder c.in_ok-push.ensures.items c.new-shelf.ensures.folder;
   once = all-more (λ place. place.serving.once ≡ c.args.settings.now.once) _ _ _ c.loop-number.invariant.once c.in_ok-push.ensures.items refl;
   office =

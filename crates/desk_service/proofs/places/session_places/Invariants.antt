@@ -1,6 +1,7 @@
 use Rattle.std.proofs.Common.{◌≡◌, ◌+◌, All, length, map}
 use Rattle.std.specs.List.{range_with_len}
 use Rattle.desk_service.specs.Company.{rights_at}
+use Rattle.desk_service.specs.Connections.{rights_of}
 use Rattle.turn_office.specs.Seats.{AreOf}
 use Rattle.desk_service.proofs.places.session_places.Given as goal
 
@@ -14,6 +15,7 @@ invariant-loop-number g l = record {
   session : map (λ place. place.serving.session) l.places.items ≡ range_with_len 0 l.number;
   ends : map (λ place. place.desk.1.session) l.places.items ≡ range_with_len 0 l.number;
   rights : All (λ place. place.serving.rights ≡ rights_at l.settings.sessions place.serving.session) l.places.items;
+  clients : All (λ place. rights_of place.clients ≡ place.serving.rights) l.places.items;
   folder : All (λ place. place.shelf.folder ≡ l.settings.root.now) l.places.items;
   once : All (λ place. place.serving.once ≡ l.settings.once) l.places.items;
   office : All (λ place. place.desk.0.seat.office ≡ l.office.id) l.places.items;
