@@ -5,3 +5,4 @@ pub mod PlaceSteps
 pub mod KeptChanges
 pub mod PageSessions
 pub mod CompanySteps
+pub mod VersionTexts

@@ -81,7 +81,7 @@ mod timed_stream;
 pub use control::stop;
 pub use faults::ServeFault;
 pub use journals::Journal;
-pub use laws::told_changes_are_kept;
+pub use laws::{told_changes_are_kept, versions_are_read_back};
 pub use page_lines::DeskLines;
 pub use running::{serve, serve_on};
 pub use session_ends::SessionEnds;

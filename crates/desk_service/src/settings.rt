@@ -1,4 +1,6 @@
 //! What a service is started with.
+ghost use Rattle.std.specs.Prelude.{◌≡◌};
+ghost use Rattle.desk_service.specs.Versions.{is_journal, journal_name};
 
 /// Where a service keeps the journal of its changes.
 #[derive(Clone, Copy)]
@@ -16,7 +18,9 @@ pub(crate) const JOURNAL: &str = "beskloun.journal";
 
 impl<'a> Journaling<'a> {
     /// By which name a folder tells of the journal.
-    pub(crate) fn name(self) -> &'a str {
+    pub(crate) fn name(self) -> &'a str
+        ensures { result.now ≡ journal_name self.entry }
+    {
         match self {
             Journaling::Off => "none",
             Journaling::InRoot => JOURNAL,
@@ -25,7 +29,9 @@ impl<'a> Journaling<'a> {
     }
 
     /// Whether it keeps anything.
-    pub(crate) fn is_kept(self) -> bool {
+    pub(crate) fn is_kept(self) -> bool
+        ensures { result ≡ is_journal self.entry }
+    {
         !matches!(self, Journaling::Off)
     }
 }
