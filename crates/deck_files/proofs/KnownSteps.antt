@@ -1,9 +1,11 @@
--- A place makes nothing known.
-use Rattle.std.proofs.Common.{ℕ, ◌≡◌, List, [], ◌∷◌, Bool, true, false, cond, Option, Some, None, refl, is_some, true≢false}
+-- A place makes nothing known; what is noted is known.
+use Rattle.std.proofs.Common.{ℕ, ◌≡◌, List, [], ◌∷◌, Bool, true, false, cond, Option, Some, None, refl, ap, is_some, true≢false}
 use Rattle.definitions.specs.Characters.{same_text}
+use Rattle.definitions.proofs.TextLaws.{same_text-refl}
+use Rattle.deck_files.specs.declared.file_sums.FileSum.{FileSum}
 use Rattle.deck_files.specs.declared.known_rows.Known.{Known}
 use Rattle.deck_files.specs.Files.{Named, named, with_named}
-use Rattle.deck_files.specs.KnownFiles.{after_place, file_known, known_at}
+use Rattle.deck_files.specs.KnownFiles.{IsSaved, after_place, file_known, known_at, version_at}
 
 known-none : (t : Bool) → known_at (cond t (Some None) None) ≡ None
 known-none true = refl
@@ -31,3 +33,9 @@ place-choose false other files placed same = same refl
 
 pub place-known : (name other : List ℕ) (files : Named (Option Known)) → file_known other (after_place name files) ≡ file_known other files
 place-known name other files = place-choose (is_some (named name files)) other files (with_named name None files) (place-new name other files)
+
+-- a version that is noted
+pub noted-saved : (name : List ℕ) (sum : FileSum) (version : ℕ) → IsSaved name version
+noted-saved name sum version =
+    let known : Known = record { sum = sum; version = Some version } in
+    ((name, Some known) ∷ [], ap (λ (t : Bool). version_at (known_at (cond t (Some (Some known)) None))) (same_text-refl name))

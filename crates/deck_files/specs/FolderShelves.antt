@@ -1,5 +1,5 @@
 -- What contracts see of a shelf over a folder, and what one load or save makes of it (ours).
-use Rattle.std.specs.Prelude.{ℕ, ◌≡◌, ◌⊎◌, Bool, List, Option, Some, None, Result, Ok, Err, IsUtf8}
+use Rattle.std.specs.Prelude.{ℕ, ◌≡◌, ◌⊎◌, Bool, List, Option, Some, None, Result, Ok, Err, IfSome, IsUtf8, is_some}
 use Rattle.definitions.specs.Cards.{Card}
 use Rattle.deck_files.specs.declared.deck_shelf.ShelfLoadFault.{ShelfLoadFault}
 use Rattle.deck_files.specs.declared.deck_shelf.ShelfSaveFault.{ShelfSaveFault}
@@ -12,6 +12,7 @@ use Rattle.deck_files.specs.FolderLoads.{LoadsFile, LoadFails}
 use Rattle.deck_files.specs.TurnSaves.{FailsInTurn, SavesInTurn}
 use Rattle.deck_files.specs.FolderLists.{ListsFiles, ListFails}
 use Rattle.deck_files.specs.declared.file_rows.FileRow.{FileRow}
+use Rattle.deck_files.specs.SavedVersions.{SavedVersion, saved_version}
 use Rattle.deck_files.specs.Savings.{Saving}
 use Rattle.deck_files.specs.Steps.{Step}
 
@@ -50,7 +51,7 @@ module _ {F K : Type 0} (has_done : F → List Step → Type 0) (tells_newest : 
       × ((new.turns ≡ old.turns) ⊎ ((middle : K) × tells_newest old.turns name new.seen middle × ((new.turns ≡ middle) ⊎ lacks middle new.turns)))
 
 module _ {F K : Type 0} (has_done : F → List Step → Type 0) (turns : K → List ℕ → ℕ → Turn → K → Type 0) (lacks : K → K → Type 0) (notes : K → List ℕ → Known → K → Type 0) where
-  -- the deck's file is made anew; or who knows the files told that a newer version was saved, and no step was asked
+  -- the deck's file is made anew; or who knows the files showed a newer version of it that was saved, and no step was asked
   abbrev pub SavesDeck : FolderShelf F K → Saving → FolderShelf F K → Type 0
   SavesDeck old saved new = IsSameShelf old new × IsSameLoad old new × SavesInTurn turns lacks notes has_done (place_on old saved.name) saved old.turns new.turns old.files new.files
 
@@ -77,7 +78,8 @@ module _ {F K : Type 0} (notes_loaded : K → List ℕ → Option ℕ → Known 
   abbrev pub NotesDeck : FolderShelf F K → List ℕ → ℕ → FolderShelf F K → Type 0
   NotesDeck old name version new = IsSameShelf old new × IsSameLoad old new × (new.files ≡ old.files) × NotesLoad notes_loaded old.loaded name old.seen version old.turns new.turns
 
-module _ {F K : Type 0} (tells_saved : K → List ℕ → ℕ → Bool → K → Type 0) where
-  -- that is what who knows the files told
+module _ {F K : Type 0} (tells_saved : K → List ℕ → ℕ → Option SavedVersion → K → Type 0) where
+  -- it is where who knows the files showed this version of the deck
   abbrev pub TellsSaved : FolderShelf F K → List ℕ → ℕ → Bool → FolderShelf F K → Type 0
-  TellsSaved old name version saved new = IsSameShelf old new × IsSameLoad old new × (new.files ≡ old.files) × tells_saved old.turns name version saved new.turns
+  TellsSaved old name version saved new = IsSameShelf old new × IsSameLoad old new × (new.files ≡ old.files)
+      × ((shown : Option SavedVersion) × (saved ≡ is_some shown) × IfSome shown (λ found. found ≡ saved_version name version) × tells_saved old.turns name version shown new.turns)

@@ -1,11 +1,10 @@
 -- The files of a folder that a service knows, since it saved them, or its desk took what it loaded (ours).
-use Rattle.std.specs.Prelude.{ℕ, ◌≡◌, ◌==◌, Bool, List, Option, Some, None, false, true, nat_le, nat_lt, is_some, if◌then◌else◌}
+use Rattle.std.specs.Prelude.{ℕ, ◌≡◌, ◌<◌, ◌==◌, Bool, List, Option, Some, None, false, true, nat_le, nat_lt, is_some, if◌then◌else◌}
 use Rattle.deck_files.specs.declared.file_sums.FileSum.{FileSum}
 use Rattle.deck_files.specs.declared.known_rows.Known.{Known}
-use Rattle.deck_files.specs.declared.save_turns.Turn.{Turn}
-use Rattle.deck_files.specs.declared.save_turns.Turn.TheVariants.{Newer, Older}
 use Rattle.deck_files.specs.FileSums.{sum_of}
 use Rattle.deck_files.specs.Files.{Named, named, with_named}
+use Rattle.deck_files.specs.SavedVersions.{SavedVersion, saved_version}
 
 -- the names of the decks that have a place, each with what its file has and the newest version that was saved, or that the desk gave to what was loaded, and none where its file is not known; and how many more surely find memory
 pub record KnownRows : Type 0 where
@@ -52,18 +51,18 @@ sum_at (Some known) = Some known.sum
 abbrev pub version_known : List ℕ → Named (Option Known) → Option ℕ
 version_known name files = version_at (file_known name files)
 
--- whether the version that was saved, if one was, is newer than this one
-abbrev pub is_newer : Option ℕ → ℕ → Bool
-is_newer None version = false
-is_newer (Some saved) version = nat_lt version saved
+-- this version of the deck is the newest whose cards its file has, as far as is known
+abbrev pub IsSaved : List ℕ → ℕ → Type 0
+IsSaved name version = (files : Named (Option Known)) × (version_known name files ≡ Some version)
 
--- whether a newer version of the deck was saved
-abbrev pub has_newer : List ℕ → ℕ → Named (Option Known) → Bool
-has_newer name version files = is_newer (version_known name files) version
+-- the version that was saved, if one was and it is newer than this one
+abbrev pub newer_saved : List ℕ → ℕ → Option ℕ → Option SavedVersion
+newer_saved name version None = None
+newer_saved name version (Some saved) = if nat_lt version saved then Some (saved_version name saved) else None
 
--- what a save of this version may do: nothing, where a newer one was saved
-abbrev pub turn_of : List ℕ → ℕ → Named (Option Known) → Turn
-turn_of name version files = if has_newer name version files then Newer else Older (sum_at (file_known name files))
+-- it is of this deck, and newer than this version
+abbrev pub IsNewer : List ℕ → ℕ → SavedVersion → Type 0
+IsNewer name version newer = (newer.name ≡ name) × (version < newer.version)
 
 -- the files once one was loaded, and the desk was not asked yet, or a save began: it has a place, and nothing more is known than before
 abbrev pub after_place : List ℕ → Named (Option Known) → Named (Option Known)
@@ -78,9 +77,13 @@ abbrev pub is_at : ℕ → Option ℕ → Bool
 is_at version None = false
 is_at version (Some known) = known == version
 
--- whether the deck's file has the cards of this version
-abbrev pub is_saved : List ℕ → ℕ → Named (Option Known) → Bool
-is_saved name version files = is_at version (version_known name files)
+-- the version that was saved, if it is this one
+abbrev pub saved_at : List ℕ → ℕ → Option ℕ → Option SavedVersion
+saved_at name version known = if is_at version known then Some (saved_version name version) else None
+
+-- this version of the deck, where its file has the cards of it
+abbrev pub saved_of : List ℕ → ℕ → Named (Option Known) → Option SavedVersion
+saved_of name version files = saved_at name version (version_known name files)
 
 -- whether no version is there
 abbrev pub is_lacking : Option ℕ → Bool
@@ -103,11 +106,8 @@ after_note name seen known files = if is_still seen (named name files) then with
 
 -- ---- behind a lock: it was held, and some files were known then
 
-abbrev pub IsTurnOfSome : List ℕ → ℕ → Turn → Type 0
-IsTurnOfSome name version turn = (files : Named (Option Known)) × (turn ≡ turn_of name version files)
-
 abbrev pub IsNewestOfSome : List ℕ → Option ℕ → Type 0
 IsNewestOfSome name seen = (files : Named (Option Known)) × (seen ≡ version_known name files)
 
-abbrev pub IsSavedAmongSome : List ℕ → ℕ → Bool → Type 0
-IsSavedAmongSome name version saved = (files : Named (Option Known)) × (saved ≡ is_saved name version files)
+abbrev pub IsSavedAmongSome : List ℕ → ℕ → Option SavedVersion → Type 0
+IsSavedAmongSome name version saved = (files : Named (Option Known)) × (saved ≡ saved_of name version files)

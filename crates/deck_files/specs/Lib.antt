@@ -3,7 +3,9 @@ pub mod FileSums
 pub mod Loads
 pub mod FaultTexts
 pub mod Files
+pub mod SavedVersions
 pub mod KnownFiles
+pub mod SaveTurns
 pub mod KnownTexts
 pub mod Savings
 pub mod ShelfRelations

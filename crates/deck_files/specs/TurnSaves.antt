@@ -9,7 +9,8 @@ use Rattle.deck_files.specs.declared.save_turns.Turn.TheVariants.{Newer, Older}
 use Rattle.deck_files.specs.DeckFiles.{file_of}
 use Rattle.deck_files.specs.FolderSaves.{IsUnkept, LeavesInPlace, SavesSo}
 use Rattle.deck_files.specs.Folders.{Place}
-use Rattle.deck_files.specs.KnownFiles.{known_as}
+use Rattle.deck_files.specs.KnownFiles.{IsNewer, known_as}
+use Rattle.deck_files.specs.SavedVersions.{SavedVersion}
 use Rattle.deck_files.specs.Savings.{Saving}
 use Rattle.deck_files.specs.Steps.{Step, Done}
 
@@ -18,9 +19,9 @@ module _ {K : Type 0} (turns : K → List ℕ → ℕ → Turn → K → Type 0)
   abbrev pub NotesSaving : Saving → K → K → Type 0
   NotesSaving saved before after = notes before saved.name (known_as (file_of saved.cards) saved.version) after
 
-  -- a newer version was saved, and no step was asked; or the file was made anew, and that was noted
+  -- a newer version of the deck is shown to be saved, and no step was asked; or the file was made anew, and that was noted
   abbrev pub SavesInTurn : Place → Saving → K → K → F → F → Type 0
-  SavesInTurn at saved before after old new = (turns before saved.name saved.version Newer after × (new ≡ old))
+  SavesInTurn at saved before after old new = ((newer : SavedVersion) × IsNewer saved.name saved.version newer × turns before saved.name saved.version (Newer newer) after × (new ≡ old))
       ⊎ ((known : Option FileSum) × (middle : K) × turns before saved.name saved.version (Older known) middle × NotesSaving saved middle after
       × SavesSo has_done Done at saved.over known (file_of saved.cards) old new)
 

@@ -211,8 +211,7 @@ fn save_placed<F: Folder, K: SaveTurns>(
         Ok(placed) => placed,
         Err(fault) => return Err(fault),
     };
-    let version = Some(saved.version);
-    turns.note(saved.name, Known { sum, version });
+    let _ = turns.note(saved.name, sum, saved.version);
     settle(files, place, &aside)
 }
 
@@ -228,7 +227,7 @@ fn save_in_turn<F: Folder, K: SaveTurns>(
     ensures fault { IfErr result (λ fault. FailsInTurn K.turns K.lacks K.notes F.has_done place.now (saving saved.now.name.now saved.now.over saved.now.version saved.now.cards.now) fault turns.old turns.new files.old files.new) }
 {
     match turns.begin(saved.name, saved.version) {
-        Ok(Turn::Newer) => Ok(()),
+        Ok(Turn::Newer(_)) => Ok(()),
         Ok(Turn::Older(known)) => save_placed(files, turns, place, saved, known),
         Err(_) => Err(ShelfSaveFault::OutOfMemory),
     }
@@ -244,7 +243,7 @@ impl<'a, R: Wait, F: Folder, K: SaveTurns> Shelf for FolderShelf<'a, R, F, K> {
       refuses_to_save = SavesNoDeck F.has_done K.turns K.lacks K.notes;
       lists = ListsDecks F.has_done;
       notes = NotesDeck K.notes_loaded;
-      tells_saved = TellsSaved K.tells_saved;
+      tells_saved = TellsSaved K.shows_saved;
     } };
 
     fn load(&mut self, name: &DeckName) -> Result<Vec<Card>, ShelfLoadFault> {
@@ -300,6 +299,6 @@ impl<'a, R: Wait, F: Folder, K: SaveTurns> Shelf for FolderShelf<'a, R, F, K> {
     }
 
     fn is_saved(&mut self, name: &DeckName, version: u64) -> bool {
-        self.turns.is_saved(name, version)
+        self.turns.saved(name, version).is_some()
     }
 }

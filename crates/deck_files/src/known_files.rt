@@ -14,7 +14,8 @@ ghost use Rattle.deck_files.specs.Steps.{ChangesOnly};
 ghost use Rattle.deck_files.specs.WholeFiles.{Replaces};
 
 use crate::deck_places::path_of;
-use crate::known_rows::{Known, KnownRows};
+use crate::file_sums::FileSum;
+use crate::known_rows::{Known, KnownRows, SavedVersion};
 use crate::known_texts::row_in;
 use crate::placing::{WholeFiles, replace};
 use crate::save_turns::{SaveTurns, Turn};
@@ -195,7 +196,8 @@ impl KnownFiles {
 }
 
 /// The known files of a folder, as one shelf asks for them. What is known stands behind a lock, so contracts see
-/// only that each answer is that of what was known at some moment.
+/// only that each answer is that of what was known at some moment; what shows that a version was saved comes from
+/// there alone.
 #[derive(Drop)]
 pub struct Turns<'a, R> {
     rt: &'a R,
@@ -213,7 +215,8 @@ where
     R: Files<File = File> + AllocGlobal + Clone + Drop + Wait,
 {
     ghost use Rattle.std.specs.Prelude.{⊤};
-    ghost use Rattle.deck_files.specs.KnownFiles.{IsNewestOfSome, IsSavedAmongSome, IsTurnOfSome};
+    ghost use Rattle.deck_files.specs.KnownFiles.{IsNewestOfSome, IsSavedAmongSome};
+    ghost use Rattle.deck_files.specs.SaveTurns.{IsTurnOfSome};
 
     ghost turns = { λ _ name version turn _. IsTurnOfSome name version turn };
 
@@ -227,16 +230,17 @@ where
 
     ghost notes_loaded = { λ _ _ _ _ _. ⊤ };
 
-    ghost tells_saved = { λ _ name version saved _. IsSavedAmongSome name version saved };
+    ghost shows_saved = { λ _ name version shown _. IsSavedAmongSome name version shown };
 
     fn begin(&mut self, name: &DeckName, version: u64) -> Result<Turn, AllocError> {
         self.known.rows.lock(self.rt).begin(name, version)
     }
 
     /// Notes what was saved, and keeps it.
-    fn note(&mut self, name: &DeckName, known: Known) {
-        self.known.rows.lock(self.rt).note(name, known);
+    fn note(&mut self, name: &DeckName, sum: FileSum, version: u64) -> SavedVersion {
+        let shown = self.known.rows.lock(self.rt).note(name, sum, version);
         self.known.keep(self.rt);
+        shown
     }
 
     fn newest(&mut self, name: &DeckName) -> Option<u64> {
@@ -253,7 +257,7 @@ where
         self.known.keep(self.rt);
     }
 
-    fn is_saved(&mut self, name: &DeckName, version: u64) -> bool {
-        self.known.rows.lock(self.rt).is_saved(name, version)
+    fn saved(&mut self, name: &DeckName, version: u64) -> Option<SavedVersion> {
+        self.known.rows.lock(self.rt).saved(name, version)
     }
 }

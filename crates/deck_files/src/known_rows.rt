@@ -1,12 +1,12 @@
 //! What a service knows of the files of a folder: what each has, and the newest version of its deck.
-ghost use Rattle.std.specs.Prelude.{◌≡◌, ◌≤◌, ℕ, List, Option, Some, [], true, IfOk, OnErr, OnOk};
+ghost use Rattle.std.specs.Prelude.{◌≡◌, ◌≤◌, ℕ, List, Option, Some, [], true, IfOk, IfSome, OnErr, OnOk};
 ghost use Rattle.deck_files.specs.Files.{named, with_named};
-ghost use Rattle.deck_files.specs.KnownFiles.{after_place, file_known, has_newer, has_place, is_at, is_newer, is_same, is_still, known_up_to, sum_at, version_at, version_known};
+ghost use Rattle.deck_files.specs.KnownFiles.{IsNewer, IsSaved, after_note, after_place, after_save, file_known, has_place, is_at, is_same, is_still, known_up_to, newer_saved, saved_of, sum_at, version_at, version_known};
+ghost use Rattle.deck_files.specs.SavedVersions.{saved_version};
 ghost use Rattle.deck_files.specs.KnownTexts.{rows_text};
 
 use crate::file_sums::FileSum;
 use crate::known_texts::push_known;
-use crate::save_turns::{SaveTurns, Turn};
 use cards::DeckName;
 use indexmap::IndexMap;
 use std::alloc::{AllocError, Global};
@@ -38,6 +38,37 @@ impl Known {
     }
 }
 
+/// Shows that a version of a deck was saved, or given by the desk to what was loaded. Only what is known of the
+/// files of a folder gives it: where it was told so.
+#[derive(Drop)]
+pub struct SavedVersion {
+    name: DeckName,
+    version: u64,
+}
+
+impl Model for SavedVersion {
+    ghost use Rattle.deck_files.specs.KnownFiles.{IsSaved};
+    ghost use Rattle.deck_files.specs.SavedVersions as saved;
+
+    ghost Value = { saved.SavedVersion };
+
+    ghost view = { λ s. record { name = s.name; version = s.version } };
+
+    ghost invariant = { λ s. IsSaved s.name s.version };
+}
+
+impl SavedVersion {
+    fn of(name: &DeckName, version: u64) -> SavedVersion
+        requires { IsSaved name.now version }
+        ensures { result ≡ saved_version name.now version }
+    {
+        SavedVersion {
+            name: name.copied(),
+            version,
+        }
+    }
+}
+
 /// The decks whose files in a folder are known, since they were saved or the desk took what was loaded, with
 /// what each file has and the newest version of the deck; and those that have a place only, since their files
 /// were loaded, or are being saved, and the desk was not asked yet, or refused. The versions of one desk grow,
@@ -57,16 +88,6 @@ impl Model for KnownRows {
     ghost Value = { KnownRows };
 
     ghost view = { λ s. record { files = map (λ e. (vec_items e.0, e.1)) s.files.entries; room = spare s.files } };
-}
-
-/// Whether the version that was saved, if one was, is newer than this one.
-fn is_newer(saved: Option<u64>, version: u64) -> bool
-    ensures { result ≡ is_newer saved version }
-{
-    match saved {
-        Some(saved) => version < saved,
-        None => false,
-    }
 }
 
 /// Whether this is the version that is known.
@@ -151,17 +172,39 @@ impl KnownRows {
     }
 
     /// The newest version of the deck whose cards its file has, none where it is not known.
-    fn known_version(&self, name: &DeckName) -> Option<u64>
+    pub(crate) fn known_version(&self, name: &DeckName) -> Option<u64>
         ensures { result ≡ version_known name.now self.now.files }
     {
         version_at(self.known(name))
     }
 
-    /// Whether a newer version of the deck was saved.
-    fn has_newer(&self, name: &DeckName, version: u64) -> bool
-        ensures { result ≡ has_newer name.now version self.now.files }
+    /// The newest version of the deck that was saved, where it is newer than this one.
+    pub(crate) fn newer(&self, name: &DeckName, version: u64) -> Option<SavedVersion>
+        ensures saved { result ≡ newer_saved name.now version (version_known name.now self.now.files) }
+        ensures newer { IfSome result (IsNewer name.now version) }
     {
-        is_newer(self.known_version(name), version)
+        match self.known_version(name) {
+            Some(saved) if version < saved => Some(SavedVersion::of(name, saved)),
+            _ => None,
+        }
+    }
+
+    /// What the deck's file has, where it is known.
+    pub(crate) fn known_sum(&self, name: &DeckName) -> Option<FileSum>
+        ensures { result ≡ sum_at (file_known name.now self.now.files) }
+    {
+        sum_at(self.known(name))
+    }
+
+    /// This version of the deck, where it is the one that is known.
+    pub(crate) fn saved_at(&self, name: &DeckName, version: u64) -> Option<SavedVersion>
+        ensures saved { result ≡ saved_of name.now version self.now.files }
+        ensures shown { IfSome result (λ shown. shown ≡ saved_version name.now version) }
+    {
+        match self.known_version(name) {
+            Some(saved) if saved == version => Some(SavedVersion::of(name, version)),
+            _ => None,
+        }
     }
 
     /// A key for the deck, with memory for one file more.
@@ -197,7 +240,7 @@ impl KnownRows {
     }
 
     /// Gives the deck a place, so that what is known can be noted without memory. Nothing is known by it.
-    fn make_place(&mut self, name: &DeckName) -> Result<(), AllocError>
+    pub(crate) fn make_place(&mut self, name: &DeckName) -> Result<(), AllocError>
         ensures placed { OnOk result (self.new.files ≡ after_place name.now self.old.files) }
         ensures unchanged { OnErr result (self.new.files ≡ self.old.files) }
     {
@@ -220,6 +263,27 @@ impl KnownRows {
         *place = Some(known);
     }
 
+    /// Notes what the file of a deck has, if the deck has a place: this version was saved.
+    pub(crate) fn note_saved(&mut self, name: &DeckName, sum: FileSum, version: u64) -> SavedVersion
+        ensures noted { self.new.files ≡ after_save name.now (record { sum = sum; version = Some version }) self.old.files }
+        ensures shown { result ≡ saved_version name.now version }
+    {
+        if self.place(name).is_some() {
+            let version = Some(version);
+            self.put(name, Known { sum, version });
+        }
+        SavedVersion::of(name, version)
+    }
+
+    /// Notes what was loaded, if the version that is known is the one that was seen before.
+    pub(crate) fn note_seen(&mut self, name: &DeckName, seen: Option<u64>, known: Known)
+        ensures { self.new.files ≡ after_note name.now seen known self.old.files }
+    {
+        if is_still(seen, self.place(name)) {
+            self.put(name, known);
+        }
+    }
+
     /// All that is known, as text: a row for each file, in the order in which they came to be known.
     pub(crate) fn text(&self) -> Result<Text, AllocError>
         ensures { IfOk result (λ text. text ≡ rows_text self.now.files) }
@@ -229,58 +293,5 @@ impl KnownRows {
             push_known(self.alloc, &mut text, name, *known)?;
         }
         Ok(text)
-    }
-}
-
-impl SaveTurns for KnownRows {
-    ghost use Rattle.std.specs.Prelude.{◌≡◌};
-    ghost use Rattle.deck_files.specs.KnownFiles.{after_note, after_place, after_save, is_saved, turn_of, version_known};
-
-    ghost turns = { λ old name version turn new. (turn ≡ turn_of name version old.files) × (new.files ≡ after_place name old.files) };
-
-    ghost lacks = { λ old new. new.files ≡ old.files };
-
-    ghost notes = { λ old name known new. new.files ≡ after_save name known old.files };
-
-    ghost tells_newest = { λ old name seen new. (new ≡ old) × (seen ≡ version_known name old.files) };
-
-    ghost places = { λ old name new. new.files ≡ after_place name old.files };
-
-    ghost notes_loaded = { λ old name seen known new. new.files ≡ after_note name seen known old.files };
-
-    ghost tells_saved = { λ old name version saved new. (new ≡ old) × (saved ≡ is_saved name version old.files) };
-
-    fn begin(&mut self, name: &DeckName, version: u64) -> Result<Turn, AllocError> {
-        let turn = if self.has_newer(name, version) {
-            Turn::Newer
-        } else {
-            Turn::Older(sum_at(self.known(name)))
-        };
-        self.make_place(name)?;
-        Ok(turn)
-    }
-
-    fn note(&mut self, name: &DeckName, known: Known) {
-        if self.place(name).is_some() {
-            self.put(name, known);
-        }
-    }
-
-    fn newest(&mut self, name: &DeckName) -> Option<u64> {
-        self.known_version(name)
-    }
-
-    fn reserve(&mut self, name: &DeckName) -> Result<(), AllocError> {
-        self.make_place(name)
-    }
-
-    fn note_loaded(&mut self, name: &DeckName, seen: Option<u64>, known: Known) {
-        if is_still(seen, self.place(name)) {
-            self.put(name, known);
-        }
-    }
-
-    fn is_saved(&mut self, name: &DeckName, version: u64) -> bool {
-        is_at(version, self.known_version(name))
     }
 }
