@@ -1,16 +1,20 @@
-//! Decks that are edited: behind each edit a record gives the listing and the image of a new deck of the
-//! same cards.
+//! Decks that are edited: behind each edit a record has its name and the cards that the edit makes outside of it,
+//! and gives the listing and the image of a new deck of these.
 
 use crate::deck_topics::repeated_cards;
 use crate::outputs::Answer;
 use crate::statement_topics::{Counts, put_counts};
-use cards::{Card, Edit, edited_copy};
+use cards::{Card, Edit, copied_cards, edited_copy, first_fault};
 use deck_linker::{Publication, link};
 use deck_objects::SharedObject;
 use edit_core::{Kept, RecordFault};
 use std::alloc::{AllocError, Global};
+use std::slice;
 use test_parts::{cut, fixed_keys, name_of, new_object, new_record, number};
 use work_meter::Meter;
+
+/// The name of each deck.
+const NAME: &str = "M";
 
 /// Whether this is a topic here; what is found of the text is then in the answer.
 pub fn answer(answer: &mut Answer, topic: &str, text: &str) -> Result<bool, AllocError> {
@@ -30,21 +34,23 @@ fn edited_deck(
     edits: &str,
     is_counted: bool,
 ) -> Result<(), AllocError> {
-    let name = name_of("M")?;
-    let mut kept = new_record(answer.alloc, name, repeated_cards(answer.alloc, deck)?)?;
-    edited(answer, &mut kept, edits, is_counted)
+    let name = name_of(NAME)?;
+    let mut cards = repeated_cards(answer.alloc, deck)?;
+    let mut kept = new_record(answer.alloc, name, copied_cards(answer.alloc, &cards)?)?;
+    edited(answer, &mut kept, &mut cards, edits, is_counted)
 }
 
-/// Makes the edits of these lines, one after the other, and looks after each.
+/// Makes the edits of these lines, one after the other, in the record and of the cards, and looks after each.
 fn edited(
     answer: &mut Answer,
     kept: &mut Kept,
+    cards: &mut Vec<Card>,
     edits: &str,
     is_counted: bool,
 ) -> Result<(), AllocError> {
     let mut are_same = true;
     for line in edits.lines() {
-        match edits_of_line(answer.alloc, kept, line)? {
+        match edits_of_line(answer.alloc, kept, cards, line)? {
             Some(most) if is_counted => put_counts(answer, most),
             Some(_) => {}
             None => are_same = false,
@@ -59,8 +65,13 @@ fn edited(
 }
 
 /// Makes the edit of a line, and three times where it begins with `#3`: how many statements were sized and coded for
-/// one of them, at most; none where the record is not as a new one then.
-fn edits_of_line(alloc: Global, kept: &mut Kept, line: &str) -> Result<Option<Counts>, AllocError> {
+/// one of them, at most; none where the record is not as a new one of the cards then.
+fn edits_of_line(
+    alloc: Global,
+    kept: &mut Kept,
+    cards: &mut Vec<Card>,
+    line: &str,
+) -> Result<Option<Counts>, AllocError> {
     let (times, line) = match line.strip_prefix("#") {
         Some(counted) => cut(counted),
         None => ("1", line),
@@ -71,7 +82,8 @@ fn edits_of_line(alloc: Global, kept: &mut Kept, line: &str) -> Result<Option<Co
     let mut most = Counts { sized: 0, coded: 0 };
     for _ in 0..number(times) {
         let mut done = work_meter::begin();
-        if !is_edited(alloc, kept, &edit, &mut done)? {
+        *cards = edited_cards(alloc, cards.as_slice(), &edit)?;
+        if !is_edited(alloc, kept, cards.as_slice(), &edit, &mut done)? {
             return Ok(None);
         }
         most = Counts {
@@ -98,33 +110,55 @@ fn edit_of(line: &str) -> Option<Edit> {
     }
 }
 
-/// Makes an edit, which may be refused, and counts: whether the record is as a new one of its cards.
+/// The cards that an edit makes of these; the same once more where it does not apply.
+fn edited_cards(alloc: Global, cards: &[Card], edit: &Edit) -> Result<Vec<Card>, AllocError> {
+    let edits = slice::from_ref(edit);
+    if first_fault(edits, cards.len()).is_some() {
+        return copied_cards(alloc, cards);
+    }
+    edited_copy(alloc, cards, edits)
+}
+
+/// Makes an edit, which may be refused, and counts: whether the record is as a new one of these cards then.
 fn is_edited(
     alloc: Global,
     kept: &mut Kept,
+    cards: &[Card],
     edit: &Edit,
     done: &mut Meter,
 ) -> Result<bool, AllocError> {
     match kept.edit(alloc, fixed_keys()?, edit, done) {
-        Ok(()) => is_as_new(alloc, kept),
         Err(RecordFault::OutOfMemory) => Err(AllocError),
-        Err(_) => Ok(true),
+        _ => Ok(has_cards(kept, cards) && is_as_new(alloc, kept, cards)?),
     }
 }
 
-/// The link of a new object of a record's cards.
-fn published_anew(alloc: Global, kept: &Kept) -> Result<Publication, AllocError> {
-    let cards = edited_copy(alloc, kept.cards(), &[])?;
-    published(alloc, new_object(alloc, kept.name().copied(), cards)?)
+/// Whether a record has its name and these cards.
+fn has_cards(kept: &Kept, cards: &[Card]) -> bool {
+    if kept.name().as_slice() != NAME.as_bytes() || kept.cards().len() != cards.len() {
+        return false;
+    }
+    for (card, other) in kept.cards().iter().zip(cards.iter()) {
+        if !card.is_same(other) {
+            return false;
+        }
+    }
+    true
 }
 
-/// Whether listing and image of a record's object are those of a new object of its cards.
-fn is_as_new(alloc: Global, kept: &Kept) -> Result<bool, AllocError> {
+/// The link of a new object of these cards.
+fn published_anew(alloc: Global, cards: &[Card]) -> Result<Publication, AllocError> {
+    let name = name_of(NAME)?;
+    published(alloc, new_object(alloc, name, copied_cards(alloc, cards)?)?)
+}
+
+/// Whether listing and image of a record's object are those of a new object of these cards.
+fn is_as_new(alloc: Global, kept: &Kept, cards: &[Card]) -> Result<bool, AllocError> {
     let Ok(object) = kept.finish() else {
         return Ok(false);
     };
     let found = published(alloc, object)?;
-    let new = published_anew(alloc, kept)?;
+    let new = published_anew(alloc, cards)?;
     Ok(found.listing() == new.listing() && found.image() == new.image())
 }
 
