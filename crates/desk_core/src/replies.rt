@@ -7,6 +7,7 @@ use crate::past::KeptEdit;
 use crate::shared_publication::{PublicationBefore, SharedPublication};
 use crate::told_cards::ToldCards;
 use cards::{DeckName, Edit, EditFault};
+use thiserror::Error;
 
 /// The state of a deck.
 #[derive(Clone, Copy)]
@@ -32,44 +33,62 @@ pub struct Row {
 }
 
 /// Why a call is refused. No refusal changes a card, a version or the publication.
-#[derive(Clone, Copy, Debug, PartialEq, Eq)]
+#[derive(Clone, Copy, Debug, PartialEq, Eq, Error)]
 pub enum Refusal {
     /// No memory was left.
+    #[error("no memory was left")]
     OutOfMemory,
     /// The deck has no such place.
+    #[error("the deck has no such place")]
     NoSuchCard,
     /// A deck has 20,000 cards at most.
+    #[error("the deck has 20000 cards, and takes no more")]
     DeckFull,
     /// There is a deck of this name.
+    #[error("there is a deck of this name")]
     NameTaken,
     /// There is no deck of this name.
+    #[error("there is no deck of this name")]
     NoDeck,
     /// The deck has another version than the one that was seen: this one.
+    #[error("the deck has version {0}")]
     OldVersion(u64),
     /// There are 64 decks.
+    #[error("there are 64 decks")]
     TooManyDecks,
     /// No such job is out.
+    #[error("no such job is out")]
     UnknownJob,
     /// The deck or the desk has changed since the job was given: it has this version.
+    #[error("the job is of an older version than {0}")]
     Stale(u64),
     /// The result is not one of this job.
+    #[error("the result is not one of this job")]
     Foreign,
     /// Nothing is published yet.
+    #[error("nothing is published yet")]
     NoPublication,
     /// Versions, or the numbers of leases, are used up.
+    #[error("versions are used up")]
     VersionsSpent,
     /// This edit of a batch, from 1, is the first that does not apply.
+    #[error("edit {0} does not apply: {1}")]
     BadEdit(usize, EditFault),
     /// A batch has no edit, or more than 100.
+    #[error("a batch has 1 to 100 edits")]
     BatchSize,
     /// No record can be written now, so no change may be made. A desk never tells this; who keeps a record
     /// of its changes does, and does not ask the desk.
+    #[error("no record can be written now")]
     NotKept,
     /// The changes of the deck are kept from this version on.
+    #[error("changes are kept from version {0} on")]
     Forgotten(u64),
     /// This card of those that the sender saw was changed, first in this version.
+    #[error("card {0} was changed, first in version {1}")]
     TouchedCard(u64, u64),
     /// No change of the deck made this version.
+    #[error("no change of the deck made this version")]
     NoChange,
 }
 

@@ -29,11 +29,13 @@ impl From<AllocError> for ImageFault {
 }
 
 /// Why a line is not taken.
-#[derive(Clone, Copy)]
+#[derive(Clone, Copy, Debug, Error)]
 pub(crate) enum LineFault {
     /// It is none of an image.
+    #[error("the line is none of an image")]
     Bad,
     /// No memory was left.
+    #[error("no memory was left")]
     OutOfMemory,
 }
 

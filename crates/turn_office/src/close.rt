@@ -11,20 +11,34 @@ use crate::office::{Office, SeatList};
 use crate::rule::{Floor, Place, TakeIn};
 use crate::seat::Seat;
 use crate::sequential::Sequential;
+use std::fmt;
+use thiserror::Error;
 
 /// Why an office does not close. It comes back with the seats that were handed in, untouched.
-#[derive(Drop)]
+#[derive(Drop, Error)]
 pub enum CloseFault<O: Sequential> {
     /// The list is not all seats of the office.
+    #[error("the list is not all seats of the office")]
     SeatsOut {
         office: Office<O>,
         seats: SeatList<O>,
     },
     /// Want of memory, which `close` never meets.
+    #[error("no memory was left")]
     OutOfMemory {
         office: Office<O>,
         seats: SeatList<O>,
     },
+}
+
+/// Shows the name alone, since what comes back has none.
+impl<O: Sequential> fmt::Debug for CloseFault<O> {
+    fn fmt<W: fmt::Write>(&self, f: &mut fmt::Formatter<W>) -> fmt::Result {
+        match self {
+            CloseFault::SeatsOut { .. } => write!(f, "SeatsOut"),
+            CloseFault::OutOfMemory { .. } => write!(f, "OutOfMemory"),
+        }
+    }
 }
 
 impl<O: Sequential> Office<O> {
