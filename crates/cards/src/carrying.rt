@@ -6,6 +6,7 @@ ghost use Rattle.cards.specs.Carrying.{moved, seen_before, origin_of, in_gap, ca
 ghost use Rattle.cards.specs.Joins.CarrySteps.{stands_through, placed_all, AreLow, AreNear, carried_to, carried_as};
 
 use crate::edits::Edit;
+use thiserror::Error;
 
 /// How many edits are carried together at most.
 pub const MOST_CARRIED: usize = 100;
@@ -18,7 +19,8 @@ pub struct MadeEdit {
 }
 
 /// A card that an edit names, or the card behind an insertion, was changed since its sender looked.
-#[derive(Clone, Copy)]
+#[derive(Clone, Copy, Debug, Error)]
+#[error("card {card} was changed, first in version {version}")]
 pub struct Touched {
     /// The number of the card among those that he saw.
     pub card: u64,

@@ -51,22 +51,12 @@ impl From<AllocError> for FileFault<'_> {
 }
 
 /// Why a text is not printed.
-#[derive(Clone, Copy)]
+#[derive(Clone, Copy, Debug, Error)]
 enum PrintFault {
-    OutOfMemory,
-    Broken(Broken),
-}
-
-impl From<AllocError> for PrintFault {
-    fn from(_: AllocError) -> PrintFault {
-        PrintFault::OutOfMemory
-    }
-}
-
-impl From<Broken> for PrintFault {
-    fn from(broken: Broken) -> PrintFault {
-        PrintFault::Broken(broken)
-    }
+    #[error(transparent)]
+    OutOfMemory(#[from] AllocError),
+    #[error(transparent)]
+    Broken(#[from] Broken),
 }
 
 /// The words of `compass dump`.
@@ -189,7 +179,7 @@ fn write_differences<W: Write>(
 /// The fault of a text that was not printed, with what the system said.
 fn print_fault<'a>(fault: PrintFault, error: Option<io::Error>) -> FileFault<'a> {
     match fault {
-        PrintFault::OutOfMemory => FileFault::OutOfMemory,
+        PrintFault::OutOfMemory(_) => FileFault::OutOfMemory,
         PrintFault::Broken(broken) => FileFault::Standard {
             fault: AsmFault::WriteFault { sent: broken.sent },
             error: error.unwrap_or(io::Error::from(ErrorKind::WriteZero)),
