@@ -5,16 +5,20 @@ use crate::symbol_keys::key_of;
 use cards::{Card, StatementRoom};
 use deck_assembler::{SizedDeck, SizedStatement};
 use expr_forms::LinkedNames;
+use indexmap::IndexMap;
+use indexmap::map::Entry;
 use statement_coder::{Defines, Statement};
 use std::alloc::{AllocError, Global};
-use std::collections::BTreeMap;
-use std::collections::btree_map::Entry;
+use std::hash::RandomState;
 
 /// The numbers of the cards that first define symbols, by name.
 #[derive(Drop)]
 pub(crate) struct FirstCards {
-    cards: BTreeMap<u64, u32>,
+    cards: Cards,
 }
+
+/// The number of a card for the key of each name, in a table that is kept by keys which nobody knows.
+type Cards = IndexMap<u64, u32, RandomState>;
 
 /// The cards of a statement that has so many, of which no statement has more than ten.
 pub(crate) fn cards_of(cards: &[Card], count: u32) -> &[Card]
@@ -72,14 +76,15 @@ impl FirstCards {
         }
     }
 
-    /// Those of a deck with these cards.
+    /// Those of a deck with these cards, in a table that is kept by these keys.
     pub(crate) fn new(
         alloc: Global,
+        keys: RandomState,
         cards: &[Card],
         deck: &SizedDeck,
     ) -> Result<FirstCards, AllocError> {
         let mut first = FirstCards {
-            cards: BTreeMap::new(alloc),
+            cards: IndexMap::with_hasher(alloc, keys),
         };
         let (mut left, mut card) = (cards, 1u32);
         for piece in deck.pieces() {
@@ -94,7 +99,7 @@ impl FirstCards {
 }
 
 /// Gives a name its card, unless it has one.
-fn note_key(cards: &mut BTreeMap<u64, u32>, key: u64, card: u32) -> Result<(), AllocError> {
+fn note_key(cards: &mut Cards, key: u64, card: u32) -> Result<(), AllocError> {
     match cards.entry(key)? {
         Entry::Occupied(_) => {}
         Entry::Vacant(place) => {
