@@ -1,5 +1,6 @@
 //! Makes the changes of a journal again.
 ghost use Rattle.std.specs.Prelude.{◌≡◌, ◌⊎◌, IfErr, IfOk, OnOk};
+ghost use Rattle.desk_core.specs.Desks.{new_desk_at};
 ghost use Rattle.journal.specs.Replaying.{AnswersOtherwise, IsNotTaken, IsTaken, MakesAgain, Replays, StopsReplay, call_of};
 
 use crate::changes::Change;
@@ -11,6 +12,7 @@ use desk_core::{Call, Desk, Refusal, Reply};
 use std::alloc::Global;
 use std::hash::RandomState;
 use std::io::Read;
+use std::mem::replace;
 use text_ports::Counted;
 use thiserror::Error;
 
@@ -130,12 +132,42 @@ fn take_record(
     } = found;
     match entry {
         Entry::Begun if is_first => {
-            *desk = Desk::behind(alloc, keys, version);
+            replace(desk, Desk::behind(alloc, keys, version)).free();
             Ok(())
         }
         Entry::Begun => Err(unmade),
         Entry::Made(change) => make_again(desk, change, by, version, unmade),
     }
+}
+
+/// Makes the changes of a journal's whole records again on a new desk, in their order: how the journal ends, or none
+/// where the desk has this version before.
+fn make_all<R: Read>(
+    alloc: Global,
+    keys: RandomState,
+    input: &mut Counted<R>,
+    last: u64,
+    desk: &mut Desk,
+) -> Result<Option<Ending>, ReplayFault>
+    requires { desk.old ≡ new_desk_at 0 }
+    ensures replays { IfOk result (λ ending. Replays (R.remaining input.old.0) (R.remaining input.new.0) last desk.new ending) }
+    ensures stops { IfErr result (StopsReplay (R.remaining input.old.0) (R.remaining input.new.0) input.old.1 input.new.1) }
+    ensures sound { OnOk result (input.new.1 ≡ input.old.1) }
+{
+    let mut place = Place::at_start();
+    let mut is_first = true;
+    for _ in 0..u64::MAX {
+        if desk.version() == last {
+            return Ok(None);
+        }
+        let begin = place;
+        match next_record(alloc, input, &mut place)? {
+            Next::Found(record) => take_record(alloc, keys, desk, is_first, record, &begin)?,
+            Next::Ended(ending) => return Ok(Some(ending)),
+        }
+        is_first = false;
+    }
+    Err(ReplayFault::ReadFault)
 }
 
 /// Reads a journal, a line at a time, and makes the changes of its whole records again on a new desk, in
@@ -151,24 +183,12 @@ pub fn replay<R: Read>(
     ensures stops { IfErr result (StopsReplay (R.remaining input.old.0) (R.remaining input.new.0) input.old.1 input.new.1) }
     ensures sound { OnOk result (input.new.1 ≡ input.old.1) }
 {
-    let mut place = Place::at_start();
     let mut desk = Desk::new(alloc, keys);
-    let mut is_first = true;
-    for _ in 0..u64::MAX {
-        if desk.version() == last {
-            return Ok(Replayed { desk, ending: None });
+    match make_all(alloc, keys, input, last, &mut desk) {
+        Ok(ending) => Ok(Replayed { desk, ending }),
+        Err(fault) => {
+            desk.free();
+            Err(fault)
         }
-        let begin = place;
-        match next_record(alloc, input, &mut place)? {
-            Next::Found(record) => take_record(alloc, keys, &mut desk, is_first, record, &begin)?,
-            Next::Ended(ending) => {
-                return Ok(Replayed {
-                    desk,
-                    ending: Some(ending),
-                });
-            }
-        }
-        is_first = false;
     }
-    Err(ReplayFault::ReadFault)
 }

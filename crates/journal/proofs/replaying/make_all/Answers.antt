@@ -1,10 +1,10 @@
 use Rattle.std.proofs.Common.{◌≤◌, ◌-◌, ◌^◌, arith, inr, refl, ◌∙◌}
 use Rattle.std.proofs.lemmas.Result.{err_from_is_err_and}
 use Rattle.journal.proofs.ReplaySteps.{AreMade-none, AreMade-more, GivesTooMuch-records, Replays-ended, Replays-stopped, StopsReplay-unmade, StopsReplay-unread}
-use Rattle.journal.proofs.replaying.replay.Goals as goal
+use Rattle.journal.proofs.replaying.make_all.Goals as goal
 
 pub loop-init : goal.loop-init
-loop-init g c = record { made = AreMade-none _ _ _ c.new-desk.ensures c.at_start-place.ensures; sound = refl }
+loop-init g c = record { made = AreMade-none _ _ _ c.requires c.at_start-place.ensures; sound = refl }
 
 pub returns-in-Ended-clause-replays : goal.returns-in-Ended-clause-replays
 returns-in-Ended-clause-replays g c = Replays-ended _ _ _ _ _ _ _ _ _ _ c.loop.invariant.made (rw c.in-Ended.is at c.in_ok-record.ensures.reads)

@@ -1,6 +1,6 @@
 use Rattle.std.proofs.Common.{◌≡◌}
 use Rattle.journal.proofs.ReplaySteps.{AreMade}
-use Rattle.journal.proofs.replaying.replay.Given as goal
+use Rattle.journal.proofs.replaying.make_all.Given as goal
 
 -- the changes of the records so far are made, and the reader has not failed
 abbrev pub invariant-loop : goal.invariant-loop
