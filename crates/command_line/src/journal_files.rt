@@ -117,7 +117,9 @@ pub(crate) fn decks_at<R: Files>(
     };
     let last = version.unwrap_or(u64::MAX);
     let Replayed { desk, ending } = replay(alloc, keys, &mut Counted::new(reader), last)?;
-    decks_in(alloc, &desk, ending, version)
+    let decks = decks_in(alloc, &desk, ending, version);
+    desk.free();
+    decks
 }
 
 /// The words of `compass log`.

@@ -386,7 +386,15 @@ fn go_through<R: CpuClock>(rt: &R, timed: &mut Timed) -> Result<(), AllocError> 
 pub fn measure<R: AllocGlobal + CpuClock + Print>(rt: &R) -> io::Result<()> {
     let mut timed = Timed::new(rt.alloc())?;
     let done = go_through(rt, &mut timed);
-    let Timed { desk, rows, .. } = timed;
+    let Timed {
+        alloc,
+        keys,
+        desk,
+        meter,
+        rows,
+    } = timed;
+    let _ = (alloc, keys);
+    drop(meter);
     desk.free();
     done?;
     for row in &rows {
