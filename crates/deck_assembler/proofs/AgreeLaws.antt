@@ -9,8 +9,8 @@ use Rattle.definitions.specs.Letters.{in_order}
 use Rattle.definitions.specs.Settled.{Settled, Definition, defined}
 use Rattle.definitions.specs.Settling.{View, settle, settled_all, is_known, external, externals}
 use Rattle.definitions.specs.Statements.{Statement}
-use Rattle.definitions.specs.States.{BlockState, state_after}
-use Rattle.definitions.specs.Agreement.{Agree, early_symbols, lawful_names, unnumbered}
+use Rattle.definitions.specs.Laws.States.{BlockState, state_after}
+use Rattle.definitions.specs.Laws.Agreement.{Agree, early_symbols, lawful_names, unnumbered}
 use Rattle.definitions.specs.declared.deck_kind.DeckKind.{DeckKind}
 use Rattle.definitions.proofs.StateSteps.{settled_all-in_use}
 use Rattle.definitions.proofs.TailLaws.{views-agree, tails-agree}

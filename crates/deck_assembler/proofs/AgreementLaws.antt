@@ -6,14 +6,14 @@ use Rattle.std.proofs.lemmas.Bool.{cases_lt}
 use Rattle.std.proofs.lemmas.List.{length-drop, length-reverse, reverse-append}
 use Rattle.definitions.specs.Cards.{Card}
 use Rattle.definitions.specs.DeckKinds.{kind_of_statements}
-use Rattle.definitions.specs.Edits.{Edited, IsUntouched, Split, DoAgree}
+use Rattle.definitions.specs.Laws.Edits.{Edited, IsUntouched, Split, DoAgree}
 use Rattle.definitions.specs.Operands.{Operand, NamesOperand}
 use Rattle.definitions.specs.Operations.{Operation}
 use Rattle.definitions.specs.Settled.{Settled, defined}
 use Rattle.definitions.specs.Settling.{View, settle, settled_all}
 use Rattle.definitions.specs.Statements.{Statement, cards_in}
-use Rattle.definitions.specs.States.{state_after}
-use Rattle.definitions.specs.Agreement.{Agree, early_symbols, own_symbols, operand_symbols, settled_tail, AgreeOnTail, HaveSameCards}
+use Rattle.definitions.specs.Laws.States.{state_after}
+use Rattle.definitions.specs.Laws.Agreement.{Agree, early_symbols, own_symbols, operand_symbols, settled_tail, AgreeOnTail, HaveSameCards}
 use Rattle.definitions.specs.declared.deck_kind.DeckKind.{DeckKind}
 use Rattle.definitions.proofs.EditLaws.{agreement-lasts, cards_in-append}
 use Rattle.definitions.proofs.NamesLaws.{all-behind}

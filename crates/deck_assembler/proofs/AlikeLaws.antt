@@ -7,7 +7,7 @@ use Rattle.definitions.specs.Settled.{ReadStatement}
 use Rattle.definitions.specs.Settling.{View, settle, settled_all}
 use Rattle.definitions.specs.Statements.{Statement}
 use Rattle.definitions.specs.Operands.{Operand, NamesOperand}
-use Rattle.definitions.specs.Agreement.{Agree, early_symbols, lawful_names, own_symbols, operand_symbols}
+use Rattle.definitions.specs.Laws.Agreement.{Agree, early_symbols, lawful_names, own_symbols, operand_symbols}
 use Rattle.definitions.specs.declared.deck_kind.DeckKind.{DeckKind}
 use Rattle.definitions.proofs.NamesLaws.{all-front, all-behind}
 use Rattle.statement_coder.specs.declared.definitions_made.Defines as code

@@ -8,7 +8,7 @@ use Rattle.definitions.specs.Cards.{Card, is_comma_card, is_comment}
 use Rattle.definitions.specs.DeckKinds.{is_end, has_end, up_to_end, behind_end}
 use Rattle.definitions.specs.Fields.{fields_of}
 use Rattle.definitions.specs.Statements.{Statement, cards_in, statements_of, onto_latest, continues, has_owner, comma_cards}
-use Rattle.definitions.specs.Agreement.{HaveSameCards}
+use Rattle.definitions.specs.Laws.Agreement.{HaveSameCards}
 use Rattle.definitions.proofs.EditLaws.{cards_in-append}
 use Rattle.definitions.proofs.NamesLaws.{all-behind}
 use Rattle.definitions.proofs.StatementLaws.{cards_in-statements_of}

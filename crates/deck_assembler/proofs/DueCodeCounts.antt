@@ -6,14 +6,14 @@ use Rattle.std.proofs.lemmas.Bool.{cases_lt, lt-ltb, le-leb}
 use Rattle.std.proofs.lemmas.List.Recursion.{is_count_by}
 use Rattle.definitions.specs.Cards.{Card}
 use Rattle.definitions.specs.DeckKinds.{kind_of_statements}
-use Rattle.definitions.specs.Edits.{DoAgree, Edited, IsUntouched, IsWithinDue, Split}
+use Rattle.definitions.specs.Laws.Edits.{DoAgree, Edited, IsUntouched, IsWithinDue, Split}
 use Rattle.definitions.specs.Objects.{context_of}
-use Rattle.definitions.specs.Rebound.{context_from, is_rebound, IsWithinDueCode}
+use Rattle.definitions.specs.Laws.Rebound.{context_from, is_rebound, IsWithinDueCode}
 use Rattle.definitions.specs.Settled.{Settled}
 use Rattle.definitions.specs.Settling.{settle, settled_all}
 use Rattle.definitions.specs.StatementItems.{Context}
 use Rattle.definitions.specs.Statements.{Statement}
-use Rattle.definitions.specs.Agreement.{settled_tail}
+use Rattle.definitions.specs.Laws.Agreement.{settled_tail}
 use Rattle.definitions.specs.declared.deck_kind.DeckKind.{DeckKind}
 use Rattle.definitions.proofs.TailLaws.{settled_all-append}
 use Rattle.deck_assembler.specs.Joins.DueCodes.{bound_otherwise, one_where, has_line, one_due, code_due, code_due_in, code_due_of, CodePlan, IsPlanOf, RisesRebound, RisesReboundOf}

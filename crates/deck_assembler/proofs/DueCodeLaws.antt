@@ -4,7 +4,7 @@ use Rattle.std.specs.Prelude.{not, ◌||◌}
 use Rattle.std.proofs.lemmas.Bool.{leb-true, ltb-true}
 use Rattle.std.proofs.lemmas.List.{drop-drop, length-drop, reverse-reverse}
 use Rattle.definitions.specs.Cards.{Card}
-use Rattle.definitions.specs.Rebound.{is_rebound}
+use Rattle.definitions.specs.Laws.Rebound.{is_rebound}
 use Rattle.definitions.specs.Settling.{settle, settled_all}
 use Rattle.definitions.specs.Statements.{Statement, cards_in}
 use Rattle.definitions.specs.declared.deck_kind.DeckKind.{DeckKind}

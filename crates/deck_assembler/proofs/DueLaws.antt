@@ -11,8 +11,8 @@ use Rattle.definitions.specs.DeckKinds.{has_end, up_to_end}
 use Rattle.definitions.specs.Settled.{defined}
 use Rattle.definitions.specs.Settling.{View, settled_all}
 use Rattle.definitions.specs.Statements.{Statement, cards_in, statements_of}
-use Rattle.definitions.specs.States.{state_after}
-use Rattle.definitions.specs.Agreement.{HaveSameCards}
+use Rattle.definitions.specs.Laws.States.{state_after}
+use Rattle.definitions.specs.Laws.Agreement.{HaveSameCards}
 use Rattle.definitions.specs.declared.deck_kind.DeckKind.{DeckKind}
 use Rattle.definitions.proofs.EditLaws.{cards_in-append}
 use Rattle.deck_assembler.specs.Joins.Agreements.{left, DoesAgree, HasFront, StandAlike}

@@ -11,12 +11,12 @@ use Rattle.definitions.specs.Forms.{Form, element_form}
 use Rattle.definitions.specs.Literals.{literal_words}
 use Rattle.definitions.specs.Letters.{in_order}
 use Rattle.definitions.specs.Objects.{Shown, shown_of, only_listed, coded_of, object_of}
-use Rattle.definitions.specs.Rebound.{coded_elements, context_from, is_rebound, same_value}
+use Rattle.definitions.specs.Laws.Rebound.{coded_elements, context_from, is_rebound, same_value}
 use Rattle.definitions.specs.Settled.{Settled, defined}
 use Rattle.definitions.specs.Settling.{View, settle, settled_all}
 use Rattle.definitions.specs.StatementItems.{Context, Item, final_names, items_of}
 use Rattle.definitions.specs.Statements.{Statement, cards_in, statements_of}
-use Rattle.definitions.specs.Agreement.{unnumbered}
+use Rattle.definitions.specs.Laws.Agreement.{unnumbered}
 use Rattle.definitions.specs.Words.{Coded}
 use Rattle.definitions.specs.declared.deck_kind.DeckKind.{DeckKind}
 use Rattle.definitions.specs.declared.letter.Letter.{Letter}

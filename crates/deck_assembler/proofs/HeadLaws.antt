@@ -10,7 +10,7 @@ use Rattle.definitions.specs.Forms.{Form}
 use Rattle.definitions.specs.Settled.{defined}
 use Rattle.definitions.specs.Settling.{View, settled_all}
 use Rattle.definitions.specs.Statements.{Statement, statements_of}
-use Rattle.definitions.specs.States.{state_after}
+use Rattle.definitions.specs.Laws.States.{state_after}
 use Rattle.definitions.specs.declared.deck_kind.DeckKind.{DeckKind}
 use Rattle.deck_assembler.specs.Joins.Agreements.{left, HasFront, IsSameFront}
 use Rattle.deck_assembler.specs.Joins.DeckParts.{DeckParts, sized_in}

@@ -8,7 +8,7 @@ use Rattle.definitions.specs.Lengths.{BlockRow}
 use Rattle.definitions.specs.Letters.{in_order}
 use Rattle.definitions.specs.Objects.{shown_of, coded_of}
 use Rattle.definitions.specs.Operations.{is_neutral}
-use Rattle.definitions.specs.Rebound.{context_from}
+use Rattle.definitions.specs.Laws.Rebound.{context_from}
 use Rattle.definitions.specs.Settled.{Settled}
 use Rattle.definitions.specs.Settling.{settle, settled_all}
 use Rattle.definitions.specs.StatementItems.{Context, Item, items_of}

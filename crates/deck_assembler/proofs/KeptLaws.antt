@@ -22,7 +22,7 @@ use Rattle.statement_coder.specs.Joins.WordItems.{listed_fields}
 use Rattle.statement_coder.specs.declared.coded.CodedItems.{CodedItems}
 use Rattle.statement_coder.specs.declared.sizing.Sizing.{Sizing}
 use Rattle.statement_coder.proofs.ListLaws.{kept-length}
-use Rattle.definitions.specs.Filling.{HasFields, DoFill}
+use Rattle.definitions.specs.Laws.Filling.{HasFields, DoFill}
 use Rattle.deck_objects.specs.Joins.LineItems.{listed, kept_from, AreBitsOf, AreShort, AreKept}
 use Rattle.deck_objects.specs.Joins.CodedLines.{IsCoded, IsNamed}
 use Rattle.deck_objects.specs.declared.lines.CodedLine as lines

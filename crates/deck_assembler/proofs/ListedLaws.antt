@@ -11,7 +11,7 @@ use Rattle.definitions.specs.declared.deck_kind.DeckKind.{DeckKind}
 use Rattle.definitions.specs.declared.letter.Letter.{Letter}
 use Rattle.statement_coder.specs.Joins.WordItems.{is_several, known_words, words_of, in_words, listed_fields}
 use Rattle.statement_coder.proofs.JoinLaws.{width-listed, joined-listed, same-words_of}
-use Rattle.definitions.specs.Filling.{HasFields}
+use Rattle.definitions.specs.Laws.Filling.{HasFields}
 use Rattle.deck_objects.specs.Joins.LineItems.{AreBitsOf}
 use Rattle.deck_assembler.proofs.KnownLaws.{unfit-append, unfit-known}
 

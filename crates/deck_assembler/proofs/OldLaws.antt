@@ -7,7 +7,7 @@ use Rattle.definitions.specs.Settled.{defined}
 use Rattle.definitions.specs.Forms.{Form}
 use Rattle.definitions.specs.Settling.{View, settle, settled_all}
 use Rattle.definitions.specs.Statements.{Statement}
-use Rattle.definitions.specs.States.{Effect, state_after, effect_of, advanced}
+use Rattle.definitions.specs.Laws.States.{Effect, state_after, effect_of, advanced}
 use Rattle.definitions.specs.declared.deck_kind.DeckKind.{DeckKind}
 use Rattle.definitions.proofs.StateSteps.{state_after-step, settled_all-in_use}
 use Rattle.deck_assembler.specs.Joins.Agreements.{HasFront, HaveSameEnd, IsOfSameDeck, IsSameFront}

@@ -5,7 +5,7 @@ use Rattle.std.proofs.lemmas.Bool.Decides.{nat_tests}
 use Rattle.std.proofs.lemmas.List.{reverse-append}
 use Rattle.definitions.specs.Settling.{settled_all}
 use Rattle.definitions.specs.Statements.{Statement}
-use Rattle.definitions.specs.States.{BlockState, state_after}
+use Rattle.definitions.specs.Laws.States.{BlockState, state_after}
 use Rattle.definitions.specs.declared.deck_kind.DeckKind.{DeckKind}
 use Rattle.deck_assembler.specs.Joins.DeckParts.{DeckPiece}
 use Rattle.deck_assembler.specs.Joins.PieceSteps.{most_statements, is_full, with_pushed, onto_latest, with_statement, sized_newest}

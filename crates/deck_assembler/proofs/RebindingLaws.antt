@@ -14,7 +14,7 @@ use Rattle.definitions.specs.Operands as operands
 use Rattle.definitions.specs.Operands.{Operand}
 use Rattle.definitions.specs.Operations.{Operation}
 use Rattle.definitions.specs.PeripheralTable.{PeripheralForm}
-use Rattle.definitions.specs.Rebound.{field_elements, form_elements, value_elements, coded_elements, same_value, bound_alike, is_rebound}
+use Rattle.definitions.specs.Laws.Rebound.{field_elements, form_elements, value_elements, coded_elements, same_value, bound_alike, is_rebound}
 use Rattle.definitions.specs.Settled.{Settled}
 use Rattle.definitions.specs.StatementItems.{Context, final_names}
 use Rattle.definitions.specs.Symbols.{Number, Value, TooGreat}

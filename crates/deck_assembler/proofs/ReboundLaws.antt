@@ -2,7 +2,7 @@
 use Rattle.std.proofs.Common.{◌≡◌, ◌∙◌, ℕ, ◌+◌, ◌-◌, ◌^◌, ◌<◌, ◌≤◌, inl, inr, Bool, true, false, List, [], ◌∷◌, ◌++◌, Option, Some, None, drop, length, min, reverse, refl, sym, subst, arith}
 use Rattle.std.proofs.lemmas.List.{drop-drop, reverse-reverse}
 use Rattle.definitions.specs.Cards.{Card}
-use Rattle.definitions.specs.Rebound.{is_rebound}
+use Rattle.definitions.specs.Laws.Rebound.{is_rebound}
 use Rattle.definitions.specs.Settling.{settle, settled_all}
 use Rattle.definitions.specs.StatementItems.{Context}
 use Rattle.definitions.specs.Statements.{Statement}

@@ -6,7 +6,7 @@ use Rattle.std.proofs.lemmas.Bool.Decides.{Decides-eqb, Decides-int_eq}
 use Rattle.definitions.specs.Forms.{Form, Names, Part, Added, Subtracted, element_form}
 use Rattle.definitions.specs.Lengths.{BlockRow}
 use Rattle.definitions.specs.Literals.{literal_form}
-use Rattle.definitions.specs.Rebound.{part_base, same_part, same_form, same_value, coded_elements, is_rebound}
+use Rattle.definitions.specs.Laws.Rebound.{part_base, same_part, same_form, same_value, coded_elements, is_rebound}
 use Rattle.definitions.specs.Settled.{Settled, defined}
 use Rattle.definitions.specs.Settling.{View}
 use Rattle.definitions.specs.StatementItems.{Context, final_names}

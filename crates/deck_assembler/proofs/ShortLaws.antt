@@ -24,7 +24,7 @@ use Rattle.definitions.specs.declared.letter.Letter.{Letter}
 use Rattle.definitions.proofs.WordLaws.{pow_positive, picked_cond}
 use Rattle.statement_coder.specs.Joins.CodedItems.{stores_zeros}
 use Rattle.statement_coder.specs.Joins.WordItems.{is_several, known_words, words_of, in_words, listed_fields}
-use Rattle.definitions.specs.Filling.{HasRoom, DoFit, IsWholeWords, AreLongWhole}
+use Rattle.definitions.specs.Laws.Filling.{HasRoom, DoFit, IsWholeWords, AreLongWhole}
 use Rattle.definitions.proofs.FieldRoomLaws.{operand-fields}
 use Rattle.definitions.proofs.ItemLaws.{IsField, expression_item-field, number_item-field}
 use Rattle.definitions.proofs.OperandLaws.{operand_of-made}

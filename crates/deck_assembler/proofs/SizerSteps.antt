@@ -8,7 +8,7 @@ use Rattle.definitions.specs.Operands.{Operand, UseName, UseBefore, operand_of}
 use Rattle.definitions.specs.Settled.{BlockChange, NoChange, Opens, defined}
 use Rattle.definitions.specs.Settling.{View, Seen, seen_of, number_base_of, settle, settled_all, settled_from}
 use Rattle.definitions.specs.Statements.{Statement}
-use Rattle.definitions.specs.States.{BlockState, Effect, state_after, seen_from, effect_of, advanced, lengths_advanced, names_of_blocks}
+use Rattle.definitions.specs.Laws.States.{BlockState, Effect, state_after, seen_from, effect_of, advanced, lengths_advanced, names_of_blocks}
 use Rattle.definitions.specs.declared.deck_kind.DeckKind.{DeckKind}
 use Rattle.definitions.specs.declared.number_base.NumberBase.{NumberBase}
 use Rattle.definitions.proofs.StateSteps.{seen_of-state, state_after-step, lengths_of-step, settled_all-in_use}

@@ -5,7 +5,7 @@ use Rattle.std.specs.List.{AllByRecursion}
 use Rattle.std.proofs.lemmas.List.{reverse-append, length-reverse, length-drop}
 use Rattle.definitions.specs.Settling.{settled_all}
 use Rattle.definitions.specs.Statements.{Statement}
-use Rattle.definitions.specs.States.{state_after}
+use Rattle.definitions.specs.Laws.States.{state_after}
 use Rattle.definitions.specs.declared.deck_kind.DeckKind.{DeckKind}
 use Rattle.deck_assembler.specs.Joins.DeckParts.{DeckPiece}
 use Rattle.deck_assembler.specs.Joins.PieceSteps.{most_statements, sized_newest}

@@ -7,7 +7,7 @@ use Rattle.definitions.specs.Operations.{Operation}
 use Rattle.definitions.specs.Settled.{ReadStatement}
 use Rattle.definitions.specs.Settling.{View}
 use Rattle.definitions.specs.Statements.{Statement}
-use Rattle.definitions.specs.Agreement.{Agree, own_symbols, operand_symbols}
+use Rattle.definitions.specs.Laws.Agreement.{Agree, own_symbols, operand_symbols}
 use Rattle.definitions.specs.declared.deck_kind.DeckKind.{DeckKind}
 use Rattle.statement_coder.specs.declared.definitions_made.Defines as code
 use Rattle.deck_assembler.specs.Joins.Agreements.{AreExternalsAlike, IsAlike, AreAlikeFrom, IsNextAlike, AreTried}

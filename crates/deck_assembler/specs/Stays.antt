@@ -1,7 +1,7 @@
 -- Which statements of an edited deck are settled as in the deck before, and how many are not (ours).
 -- Lists of statements are newest first, up to END.
 use Rattle.std.specs.Prelude.{ℕ, ⊤, ◌≡◌, ◌+◌, ◌-◌, ◌^◌, ◌<◌, ◌⊎◌, List, [], ◌∷◌, ◌++◌, length, min}
-use Rattle.definitions.specs.Agreement.{unnumbered}
+use Rattle.definitions.specs.Laws.Agreement.{unnumbered}
 use Rattle.definitions.specs.Settling.{settle, settled_all}
 use Rattle.definitions.specs.Statements.{Statement}
 use Rattle.definitions.specs.declared.deck_kind.DeckKind.{DeckKind}

@@ -2,7 +2,7 @@
 ghost use Rattle.std.specs.Prelude.{ℕ, ◌≡◌, ◌+◌, ◌-◌, ◌^◌, ◌≤◌, ◌∷◌, ◌++◌, [], List, IfOk, None, Some, OnOk, true, false, length, take, drop, min};
 ghost use Rattle.definitions.specs.Objects.{Shown, coded_of, only_listed, shown_of};
 ghost use Rattle.definitions.specs.Lengths.{BlockRow};
-ghost use Rattle.definitions.specs.Rebound.{is_rebound};
+ghost use Rattle.definitions.specs.Laws.Rebound.{is_rebound};
 ghost use Rattle.definitions.specs.Settling.{settle, settled_all};
 ghost use Rattle.definitions.specs.StatementItems.{Context};
 ghost use Rattle.definitions.specs.Statements as statements;

@@ -3,7 +3,7 @@
 ghost use Rattle.std.specs.Prelude.{◌≡◌, ◌||◌, true};
 ghost use Rattle.std.specs.Bool.{Decides};
 ghost use Rattle.definitions.specs.Operands as operands;
-ghost use Rattle.definitions.specs.Agreement.{Agree, defines_location, lawful_names, own_symbols, operand_symbols, symbols_in};
+ghost use Rattle.definitions.specs.Laws.Agreement.{Agree, defines_location, lawful_names, own_symbols, operand_symbols, symbols_in};
 ghost use Rattle.operations.specs.Joins.OperationsAs.{operation_as};
 ghost use Rattle.statement_coder.specs.Joins.Readings.{IsReading};
 ghost use Rattle.statement_coder.specs.Joins.Definitions.{is_ext};

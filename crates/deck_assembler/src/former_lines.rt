@@ -2,7 +2,7 @@
 //! edited card, or of the tail that stayed as it was sized: they are taken over, unless a name is bound
 //! otherwise.
 ghost use Rattle.std.specs.Prelude.{◌≡◌, ◌≤◌, ◌+◌, true, IfSome};
-ghost use Rattle.definitions.specs.Rebound.{is_rebound};
+ghost use Rattle.definitions.specs.Laws.Rebound.{is_rebound};
 ghost use Rattle.definitions.specs.Settled.{Settled, defined};
 ghost use Rattle.definitions.specs.StatementItems.{Context};
 ghost use Rattle.statement_coder.specs.Joins.ReadOperands.{IsReadOperand};

@@ -4,7 +4,7 @@ ghost use Rattle.definitions.specs.Cards as deck_cards;
 ghost use Rattle.definitions.specs.DeckInput.{Deck};
 ghost use Rattle.definitions.specs.DeckKinds.{kind_of_statements, up_to_end};
 ghost use Rattle.definitions.specs.Objects.{object_of};
-ghost use Rattle.definitions.specs.Rebound.{context_from};
+ghost use Rattle.definitions.specs.Laws.Rebound.{context_from};
 ghost use Rattle.definitions.specs.Statements.{statements_of};
 ghost use Rattle.statement_coder.specs.Joins.Meters.{RisesBy};
 ghost use Rattle.deck_objects.specs.Joins.PartsOf.{ArePartsOf};

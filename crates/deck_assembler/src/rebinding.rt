@@ -4,7 +4,7 @@ ghost use Rattle.std.specs.Prelude.{◌≡◌, Some, not, flat_map, option_map};
 ghost use Rattle.std.specs.List.{list_any};
 ghost use Rattle.definitions.specs.Expressions.{ASymbol, ALiteral, elements_of};
 ghost use Rattle.definitions.specs.Forms.{Added, Subtracted};
-ghost use Rattle.definitions.specs.Rebound.{datum_elements, name_elements, part_base, relocation_base, same_form, same_part, same_value, value_elements};
+ghost use Rattle.definitions.specs.Laws.Rebound.{datum_elements, name_elements, part_base, relocation_base, same_form, same_part, same_value, value_elements};
 ghost use Rattle.definitions.specs.Operations as op;
 ghost use Rattle.expr_forms.specs.Joins.Elements.{element_as, literal_as};
 ghost use Rattle.expr_forms.specs.Joins.FormsAs.{part_as, relocation_as};

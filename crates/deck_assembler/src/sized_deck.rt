@@ -3,7 +3,7 @@ ghost use Rattle.std.specs.Prelude.{ℕ, ◌≡◌, ◌<◌, ◌≤◌, ◌+◌,
 ghost use Rattle.cards.specs.Joins.Spans.{IsSpan, statements_at};
 ghost use Rattle.definitions.specs.Cards as deck_cards;
 ghost use Rattle.definitions.specs.DeckKinds.{up_to_end, kind_of_statements};
-ghost use Rattle.definitions.specs.Edits.{DoAgree, Edited, IsUntouched, Split};
+ghost use Rattle.definitions.specs.Laws.Edits.{DoAgree, Edited, IsUntouched, Split};
 ghost use Rattle.definitions.specs.Statements as deck_statements;
 ghost use Rattle.definitions.specs.Statements.{statements_of};
 ghost use Rattle.statement_coder.specs.Joins.Meters.{RisesBy};

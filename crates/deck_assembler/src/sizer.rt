@@ -5,7 +5,7 @@ ghost use Rattle.definitions.specs.Literals.{operand_literals};
 ghost use Rattle.definitions.specs.Operands as operands;
 ghost use Rattle.definitions.specs.Operands.{operand_of};
 ghost use Rattle.definitions.specs.Statements as statements;
-ghost use Rattle.definitions.specs.States.{names_of_blocks, advanced};
+ghost use Rattle.definitions.specs.Laws.States.{names_of_blocks, advanced};
 ghost use Rattle.definitions.specs.declared.deck_kind.DeckKind as kinds;
 ghost use Rattle.operations.specs.Joins.OperationsAs.{operation_as};
 ghost use Rattle.statement_coder.specs.Joins.KeptReadings.{IsKeptReading};

@@ -8,7 +8,7 @@ ghost use Rattle.definitions.specs.Fields.{Fields, fields_of};
 ghost use Rattle.definitions.specs.Operations.{operation_of};
 ghost use Rattle.definitions.specs.Statements as statements;
 ghost use Rattle.definitions.specs.Statements.{AreNumbered};
-ghost use Rattle.definitions.specs.States.{names_of_blocks};
+ghost use Rattle.definitions.specs.Laws.States.{names_of_blocks};
 ghost use Rattle.operations.specs.Joins.KindsFound.{kind_found};
 ghost use Rattle.operations.specs.Joins.OperationsAs.{operation_as};
 ghost use Rattle.statement_coder.specs.Joins.Meters.{RisesBy};

@@ -7,7 +7,7 @@ ghost use Rattle.deck_listing.specs.KeptSections.{DoAllFit};
 ghost use Rattle.deck_linker.specs.Joins.Lines.{with_lines};
 ghost use Rattle.deck_linker.specs.Joins.UnfitLines.{AllAreKept, IsKept, unfit_in, unfit_lines, unfit_of};
 ghost use Rattle.statement_coder.specs.Joins.Items.{item_as};
-ghost use Rattle.definitions.specs.Filling.{HasRoom};
+ghost use Rattle.definitions.specs.Laws.Filling.{HasRoom};
 
 use crate::link_text::LinkText;
 use crate::linked_deck::{kind, name, parts};

@@ -5,7 +5,7 @@ use Rattle.definitions.specs.StatementItems.{Item}
 use Rattle.definitions.specs.Words.{width_of}
 use Rattle.statement_coder.specs.Joins.Items.{item_as}
 use Rattle.statement_coder.specs.declared.items.Item as code
-use Rattle.definitions.specs.Filling.{HasRoom}
+use Rattle.definitions.specs.Laws.Filling.{HasRoom}
 use Rattle.definitions.specs.declared.deck_kind.DeckKind.{DeckKind}
 use Rattle.definitions.specs.declared.deck_kind.DeckKind.TheVariants.{Rel, Abs, Periph}
 use Rattle.deck_listing.specs.Joins.Packing.{most_bits}

@@ -18,8 +18,8 @@ use Rattle.statement_coder.specs.declared.items.Item as code
 use Rattle.operations.specs.Joins.OperationsAs.{operation_as}
 use Rattle.deck_listing.specs.Joins.Packing.{OpenRun, Packed, moved, put_bits}
 use Rattle.deck_listing.proofs.PutLaws.{unit_some}
-use Rattle.definitions.specs.Filling.{DoFill, HasFields}
-use Rattle.definitions.specs.Rising.{run_end}
+use Rattle.definitions.specs.Laws.Filling.{DoFill, HasFields}
+use Rattle.definitions.specs.Laws.Rising.{run_end}
 use Rattle.deck_objects.specs.Joins.CodedLines.{IsCoded, IsNamed}
 use Rattle.deck_objects.specs.Joins.LineItems.{AreBitsOf, kept_items, zeros_to}
 use Rattle.deck_objects.specs.declared.lines.CodedLine as lines

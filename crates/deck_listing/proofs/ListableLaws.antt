@@ -14,9 +14,9 @@ use Rattle.definitions.specs.Words.{Coded, width_of}
 use Rattle.definitions.specs.declared.deck_kind.DeckKind.{DeckKind}
 use Rattle.definitions.specs.declared.deck_kind.DeckKind.TheVariants.{Rel, Abs, Periph}
 use Rattle.statement_coder.specs.declared.items.Item as code
-use Rattle.definitions.specs.Filling.{DoFill, HasFields}
-use Rattle.definitions.specs.Reaching.{DoReach, DoesReach}
-use Rattle.definitions.specs.Rising.{AreLaidOut}
+use Rattle.definitions.specs.Laws.Filling.{DoFill, HasFields}
+use Rattle.definitions.specs.Laws.Reaching.{DoReach, DoesReach}
+use Rattle.definitions.specs.Laws.Rising.{AreLaidOut}
 use Rattle.deck_objects.specs.Joins.CodedLines.{AreCoded, IsCoded}
 use Rattle.deck_objects.specs.Joins.PartsOf.{ArePartsOf}
 use Rattle.deck_objects.specs.declared.lines.CodedLine.{CodedLine}

@@ -13,8 +13,8 @@ use Rattle.statement_coder.specs.declared.items.Item as code
 use Rattle.operations.specs.Joins.OperationsAs.{operation_as}
 use Rattle.deck_listing.specs.Joins.Packing.{OpenRun, Packed, empty_run}
 use Rattle.deck_listing.proofs.PutLaws.{runs_put, runs_begun, unit_some}
-use Rattle.definitions.specs.Filling.{DoFill}
-use Rattle.definitions.specs.Rising.{run_end, end_with, end_behind}
+use Rattle.definitions.specs.Laws.Filling.{DoFill}
+use Rattle.definitions.specs.Laws.Rising.{run_end, end_with, end_behind}
 use Rattle.deck_objects.specs.Joins.LineItems.{AreBitsOf, kept_items}
 use Rattle.deck_objects.specs.declared.lines.CodedLine as lines
 use Rattle.deck_listing.specs.Joins.Putting.{ArePut}

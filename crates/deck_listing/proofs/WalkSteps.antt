@@ -8,8 +8,8 @@ use Rattle.definitions.specs.Words.{Coded, Linking}
 use Rattle.definitions.specs.declared.deck_kind.DeckKind.{DeckKind}
 use Rattle.statement_coder.specs.declared.items.Item as code
 use Rattle.deck_listing.specs.Joins.Packing.{Packed}
-use Rattle.definitions.specs.Reaching.{DoReach}
-use Rattle.definitions.specs.Rising.{AreLaidOut}
+use Rattle.definitions.specs.Laws.Reaching.{DoReach}
+use Rattle.definitions.specs.Laws.Rising.{AreLaidOut}
 use Rattle.deck_objects.specs.Joins.CodedLines.{IsCoded, AreCoded}
 use Rattle.deck_objects.specs.declared.lines.CodedLine as lines
 use Rattle.deck_objects.specs.Joins.PartsOf.{ArePartsOf}

@@ -14,7 +14,7 @@ use Rattle.definitions.specs.Words.{content_bits, cut, joined, width_of}
 use Rattle.definitions.specs.declared.deck_kind.DeckKind.{DeckKind}
 use Rattle.definitions.specs.declared.deck_kind.DeckKind.TheVariants.{Rel, Abs, Periph}
 use Rattle.definitions.proofs.WordLaws.{pow_positive}
-use Rattle.definitions.specs.Filling.{HasRoom}
+use Rattle.definitions.specs.Laws.Filling.{HasRoom}
 use Rattle.definitions.proofs.CodingLaws.{coded_in-below}
 use Rattle.deck_objects.specs.Joins.LineItems.{AreShort}
 use Rattle.deck_listing.specs.Joins.WordLines.{AreJoined, DoFillWords, behind_full, lines_ahead, with_bits, word_line, word_lines}

@@ -6,7 +6,7 @@ ghost use Rattle.definitions.specs.Words.{content_bits, cut, joined, width_of};
 ghost use Rattle.deck_listing.specs.Joins.WordLines.{behind_full, with_bits, word_line, word_lines};
 ghost use Rattle.deck_objects.specs.Joins.LineItems.{AreShort};
 ghost use Rattle.statement_coder.specs.Joins.Items.{item_as};
-ghost use Rattle.definitions.specs.Filling.{HasRoom};
+ghost use Rattle.definitions.specs.Laws.Filling.{HasRoom};
 
 use crate::lines::{push_central_line, push_peripheral_line};
 use crate::sheet::Sheet;

@@ -3,7 +3,7 @@ ghost use Rattle.std.specs.Prelude.{◌≡◌, ◌+◌, ◌≤◌, [], ◌∷◌
 ghost use Rattle.definitions.specs.Kinds.{unit_bits};
 ghost use Rattle.definitions.specs.Words.{width_of};
 ghost use Rattle.statement_coder.specs.Joins.Items.{item_as};
-ghost use Rattle.definitions.specs.Filling.{HasRoom};
+ghost use Rattle.definitions.specs.Laws.Filling.{HasRoom};
 ghost use Rattle.deck_listing.specs.Joins.Packing.{most_bits};
 ghost use Rattle.deck_objects.specs.Joins.LineItems.{AreShort};
 ghost use Rattle.deck_listing.specs.Joins.Putting.{StandsAt, ArePut};

@@ -9,7 +9,7 @@ ghost use Rattle.definitions.specs.declared.deck_kind.DeckKind.{DeckKind};
 ghost use Rattle.definitions.specs.Words as words;
 ghost use Rattle.definitions.specs.Words.{content_bits};
 ghost use Rattle.statement_coder.specs.Joins.Items.{deck_with, item_as};
-ghost use Rattle.definitions.specs.Filling.{HasRoom};
+ghost use Rattle.definitions.specs.Laws.Filling.{HasRoom};
 
 use expr_forms::{Form, Name};
 use statement_coder::{BlockBases, Content, Item, number_coded, number_in};

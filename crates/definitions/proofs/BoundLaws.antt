@@ -11,7 +11,7 @@ use Rattle.definitions.specs.Blocks.{literals_block}
 use Rattle.definitions.specs.Literals.{most_literals, literal_word, offset_of, offset_form, literal_form}
 use Rattle.definitions.specs.Settled.{Settled, defined}
 use Rattle.definitions.specs.StatementItems.{Context, final_names}
-use Rattle.definitions.specs.Rebound.{relocation_base, part_base, same_part, same_form, same_value, bound_alike}
+use Rattle.definitions.specs.Laws.Rebound.{relocation_base, part_base, same_part, same_form, same_value, bound_alike}
 use Rattle.definitions.specs.declared.letter.Letter.{Letter}
 use Rattle.definitions.specs.declared.letter.Letter.TheVariants as letter
 use Rattle.definitions.proofs.NamesLaws.{OfPart, OfValue}

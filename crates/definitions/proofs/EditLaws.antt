@@ -6,9 +6,9 @@ use Rattle.definitions.specs.Statements.{Statement, cards_in}
 use Rattle.definitions.specs.DeckKinds.{kind_of_statements}
 use Rattle.definitions.specs.Settled.{Settled, defined}
 use Rattle.definitions.specs.Settling.{settle, settled_all}
-use Rattle.definitions.specs.States.{state_after}
-use Rattle.definitions.specs.Agreement.{early_symbols, Agree, unnumbered, settled_tail, HaveSameCards, AgreeOnTail}
-use Rattle.definitions.specs.Edits.{Edited, Split, DoAgree}
+use Rattle.definitions.specs.Laws.States.{state_after}
+use Rattle.definitions.specs.Laws.Agreement.{early_symbols, Agree, unnumbered, settled_tail, HaveSameCards, AgreeOnTail}
+use Rattle.definitions.specs.Laws.Edits.{Edited, Split, DoAgree}
 use Rattle.definitions.specs.declared.deck_kind.DeckKind.{DeckKind}
 use Rattle.definitions.proofs.NamesLaws.{all-front, all-behind}
 use Rattle.definitions.proofs.StateSteps.{settled_all-in_use}

@@ -3,7 +3,7 @@ use Rattle.std.proofs.Common.{◌≡◌, inl, inr, List, [], ◌∷◌, ◌++◌
 use Rattle.std.specs.Prelude.{codes}
 use Rattle.definitions.specs.Pieces.{Plus, Minus, Star, Equals, Piece, IsMark, IsCountedItem, Plain}
 use Rattle.definitions.specs.Expressions.{Sign, NoSign, PlusSign, MinusSign, OfNumber, OfCountedItem, Element, ANumber, ACountedItem, ASymbol, ARegister, LocationCounter, OriginCounter, ALiteral, Operator, Add, Subtract, OperatorElement, Term, Expression, Grouped, grouped, with_sign, expression_of}
-use Rattle.definitions.specs.Grammar.{sign_pieces, IsElement, operator_of, Spells}
+use Rattle.definitions.specs.Laws.Grammar.{sign_pieces, IsElement, operator_of, Spells}
 use Rattle.definitions.specs.declared.number_base.NumberBase.{NumberBase}
 use Rattle.definitions.proofs.GrammarLaws.{AreLinks, StartsWithElement, pairs_from-read, pairs_of-spelt, pairs_from-start, pairs_from}
 use Rattle.definitions.proofs.TermLaws.{JoinsTerms, AreJoined, links_in, term_of, IsGrouping, grouped-groups, onto_grouped-term, grouped-links_in, pieces_before, AreFactors-pairs, AreFactors-joined, AreLinks-factors, AreTerms-pairs, AreTerms-joined, AreLinks-terms}

@@ -8,7 +8,7 @@ use Rattle.definitions.specs.Pieces.{Spot, AtStart, begun_at, spot_behind, left_
 use Rattle.definitions.specs.Fields.{Fields, unbroken_front, without_blanks, from_location, variable_of, fields_of_text}
 use Rattle.definitions.proofs.TextLaws.{same_text_tells}
 use Rattle.definitions.proofs.FrontLaws.{IsExtent, extent-is_longest, longest-only}
-use Rattle.definitions.specs.Cuts.{IsUnbroken, AreBlanks, HasBegun, IsLead, IsLongestFront, IsVariable, HasVariable, HasOperation, IsCut}
+use Rattle.definitions.specs.Laws.Cuts.{IsUnbroken, AreBlanks, HasBegun, IsLead, IsLongestFront, IsVariable, HasVariable, HasOperation, IsCut}
 
 -- what follows the word that begins a text
 abbrev behind_word : List ℕ → List ℕ

@@ -18,7 +18,7 @@ use Rattle.definitions.specs.Words.{width_of}
 use Rattle.definitions.specs.declared.deck_kind.DeckKind.{DeckKind}
 use Rattle.definitions.specs.declared.deck_kind.DeckKind.TheVariants.{Rel, Abs, Periph}
 use Rattle.definitions.proofs.WordLaws.{pow_positive}
-use Rattle.definitions.specs.Filling.{DoFit, IsWholeWords, AreLongWhole}
+use Rattle.definitions.specs.Laws.Filling.{DoFit, IsWholeWords, AreLongWhole}
 use Rattle.definitions.proofs.LiteralLaws.{counted_item_bits-below, right_below, needed_more}
 use Rattle.definitions.proofs.ItemLaws.{IsField, expression_item-field, count_of-field, shift_of-field, displacement_of-field, number_item-field}
 use Rattle.definitions.proofs.OperandShapes.{IsWhole, HasValues, HaveWidths, IsMade}

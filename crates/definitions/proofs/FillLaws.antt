@@ -22,7 +22,7 @@ use Rattle.definitions.specs.declared.number_base.NumberBase.{NumberBase}
 use Rattle.definitions.specs.declared.letter.Letter.{Letter}
 use Rattle.definitions.specs.declared.letter.Letter.TheVariants as letter
 use Rattle.definitions.proofs.WordLaws.{pow_positive, picked_cond}
-use Rattle.definitions.specs.Filling.{HasFields, DoFill, DoFit, AreLongWhole}
+use Rattle.definitions.specs.Laws.Filling.{HasFields, DoFill, DoFit, AreLongWhole}
 use Rattle.definitions.proofs.OperandShapes.{IsMade}
 use Rattle.definitions.proofs.OperandLaws.{IsValue, one_value-value, operand_of-made}
 use Rattle.definitions.proofs.FieldRoomLaws.{words_whole, operand-fields}

@@ -10,7 +10,7 @@ use Rattle.definitions.specs.Numerals.{number_of}
 use Rattle.definitions.specs.CountedItems.{CountedSpan, item_letter_of, counted_item_with, counted_item_behind, counted_item_at}
 use Rattle.definitions.specs.Pieces.{Mark, Piece, IsMark, IsCountedItem, Plain, Spot, AtStart, AtEquals, Inside, Begun, ByMark, ByCountedItem, ByOther, mark_of, begun_by, begun_by_counted_item, begun_at, spot_behind, left_of, onto_plain, onto_pieces, pieces_at}
 use Rattle.definitions.specs.declared.item_letter.ItemLetter.{ItemLetter}
-use Rattle.definitions.specs.Cuts.{HasNoBlank, HasBlanksInItems, IsLongestFront}
+use Rattle.definitions.specs.Laws.Cuts.{HasNoBlank, HasBlanksInItems, IsLongestFront}
 
 -- the field holds no blank outside an item, and ends at such a blank or where the text ends
 abbrev pub IsExtent : Spot → ℕ → List ℕ → List ℕ → Type 0

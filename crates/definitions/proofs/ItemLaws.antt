@@ -16,7 +16,7 @@ use Rattle.definitions.specs.declared.deck_kind.DeckKind.TheVariants.{Rel, Abs, 
 use Rattle.definitions.specs.declared.letter.Letter.{Letter}
 use Rattle.definitions.specs.declared.letter.Letter.TheVariants as letter
 use Rattle.definitions.proofs.WordLaws.{pow_positive, picked_cond}
-use Rattle.definitions.specs.Filling.{HasRoom}
+use Rattle.definitions.specs.Laws.Filling.{HasRoom}
 use Rattle.definitions.proofs.CodingLaws.{coded_in-below, counted_item_in-below, short_below}
 
 -- a field of so many bits that has room for what stands in it

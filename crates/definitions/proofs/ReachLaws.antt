@@ -30,8 +30,8 @@ use Rattle.definitions.specs.declared.letter.Letter.{Letter}
 use Rattle.definitions.specs.declared.letter.Letter.TheVariants as letter
 use Rattle.definitions.proofs.WordLaws.{picked_cond}
 use Rattle.definitions.proofs.PlaceLaws.{least_place-lawful}
-use Rattle.definitions.specs.Filling.{HasFields}
-use Rattle.definitions.specs.Reaching.{DoesReach, DoReach}
+use Rattle.definitions.specs.Laws.Filling.{HasFields}
+use Rattle.definitions.specs.Laws.Reaching.{DoesReach, DoReach}
 use Rattle.definitions.proofs.CentralLaws.{IsWholeIf, central_of-whole}
 use Rattle.definitions.proofs.BareLaws.{IsBare, has_fields, one_value-bare, operand_of-bare, items_of-none}
 

@@ -13,13 +13,13 @@ use Rattle.definitions.specs.Operations.{Operation}
 use Rattle.definitions.specs.Operands.{Operand, CentralOperand, PeripheralOperand, WordsOperand, BitsOperand, NamesOperand, Datum, ZeroWord, NumberWord, CountedItemWords, ExpressionWord, BitField}
 use Rattle.definitions.specs.Kinds.{word_bits, address_bits}
 use Rattle.definitions.specs.Settled.{Settled, defined}
-use Rattle.definitions.specs.Agreement.{unnumbered, lawful_names}
+use Rattle.definitions.specs.Laws.Agreement.{unnumbered, lawful_names}
 use Rattle.definitions.specs.StatementItems.{Item, Context, final_names, part_value, number_in, counted_item_value, known_if, form_item, value_item, whole_counted_item, counted_item_or_value, expression_item, small_value, count_of, short_item, is_short, known, shift_of, displacement_of, instruction_items, second_value, peripheral_items, datum_item, vfd_value, zeros_to_word, operand_items, items_of}
 use Rattle.definitions.specs.Lengths.{base_in}
 use Rattle.definitions.specs.Sizes.{bits_of}
 use Rattle.definitions.specs.Letters.{name_fault, entry_letters, letters_of}
 use Rattle.definitions.specs.Entries.{entry_fault}
-use Rattle.definitions.specs.Rebound.{field_elements, datum_elements, value_elements, form_elements, coded_elements, is_rebound}
+use Rattle.definitions.specs.Laws.Rebound.{field_elements, datum_elements, value_elements, form_elements, coded_elements, is_rebound}
 use Rattle.definitions.specs.declared.deck_kind.DeckKind.{DeckKind}
 use Rattle.definitions.specs.declared.deck_kind.DeckKind.TheVariants.{Rel, Abs, Periph}
 use Rattle.definitions.specs.declared.letter.Letter.{Letter}

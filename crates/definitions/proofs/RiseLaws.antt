@@ -23,7 +23,7 @@ use Rattle.definitions.specs.declared.deck_kind.DeckKind.{DeckKind}
 use Rattle.definitions.specs.declared.letter.Letter.{Letter}
 use Rattle.definitions.proofs.WordLaws.{picked_cond}
 use Rattle.definitions.proofs.TextLaws.{same_text-true}
-use Rattle.definitions.specs.Rising.{end_with, run_end, IsLaidOut, AreLaidOut}
+use Rattle.definitions.specs.Laws.Rising.{end_with, run_end, IsLaidOut, AreLaidOut}
 use Rattle.definitions.proofs.FillLaws.{settle-fill, settle-fit, settle-long}
 use Rattle.definitions.proofs.EndLaws.{place_of-behind, place_of-within, outcome-ending}
 use Rattle.definitions.proofs.BareLaws.{has_fields, unplaced_bare, settle-bare}

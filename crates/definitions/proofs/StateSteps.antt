@@ -10,7 +10,7 @@ use Rattle.definitions.specs.Places.{Position, position_in}
 use Rattle.definitions.specs.Counters.{counting_in}
 use Rattle.definitions.specs.Settling.{Seen, seen_of, number_base_of, all_neutral, settled_all}
 use Rattle.definitions.specs.Lengths.{BlockLength, length_of, lengths_of}
-use Rattle.definitions.specs.States.{UsedBlock, BlockState, used_block, state_after, fresh_block, block_named, names_of_blocks, seen_from, Effect, effect_of, or_position, counting_behind, block_behind, blocks_behind, names_behind, advanced, length_behind, lengths_behind, lengths_advanced}
+use Rattle.definitions.specs.Laws.States.{UsedBlock, BlockState, used_block, state_after, fresh_block, block_named, names_of_blocks, seen_from, Effect, effect_of, or_position, counting_behind, block_behind, blocks_behind, names_behind, advanced, length_behind, lengths_behind, lengths_advanced}
 use Rattle.definitions.specs.declared.deck_kind.DeckKind.{DeckKind}
 use Rattle.definitions.specs.declared.deck_kind.DeckKind.TheVariants.{Rel}
 use Rattle.definitions.specs.declared.number_base.NumberBase.{NumberBase}

@@ -5,8 +5,8 @@ use Rattle.definitions.specs.Statements.{Statement}
 use Rattle.definitions.specs.Forms.{Form}
 use Rattle.definitions.specs.Settled.{Settled, defined_in, or_form, defined}
 use Rattle.definitions.specs.Settling.{View, settle, settled_from, settled_all}
-use Rattle.definitions.specs.States.{state_after, seen_from, effect_of, advanced}
-use Rattle.definitions.specs.Agreement.{early_symbols, Agree, unnumbered_statement, unnumbered, settled_tail, HaveSameCards, AgreeOnTail}
+use Rattle.definitions.specs.Laws.States.{state_after, seen_from, effect_of, advanced}
+use Rattle.definitions.specs.Laws.Agreement.{early_symbols, Agree, unnumbered_statement, unnumbered, settled_tail, HaveSameCards, AgreeOnTail}
 use Rattle.definitions.specs.declared.deck_kind.DeckKind.{DeckKind}
 use Rattle.definitions.proofs.StateSteps.{AreInUse, seen_of-state, state_after-step}
 use Rattle.definitions.proofs.ViewLaws.{settled_from-agree}

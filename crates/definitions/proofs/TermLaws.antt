@@ -3,7 +3,7 @@ use Rattle.std.proofs.Common.{◌≡◌, List, [], ◌∷◌, ◌++◌, refl, sy
 use Rattle.std.proofs.lemmas.List.{append-nil}
 use Rattle.definitions.specs.Pieces.{Mark, Piece, IsMark}
 use Rattle.definitions.specs.Expressions.{Element, Operator, Times, Divide, Add, Subtract, OperatorElement, Term, Grouped, onto_grouped, grouped}
-use Rattle.definitions.specs.Grammar.{IsFactorMark, IsTermMark, AreFactors, AreTerms}
+use Rattle.definitions.specs.Laws.Grammar.{IsFactorMark, IsTermMark, AreFactors, AreTerms}
 use Rattle.definitions.specs.declared.number_base.NumberBase.{NumberBase}
 use Rattle.definitions.proofs.GrammarLaws.{link_of, mark_between, AreLinks}
 

@@ -12,8 +12,8 @@ use Rattle.definitions.specs.Settled.{ReadStatement, read_of, Settled, Definitio
 use Rattle.definitions.specs.Counters.{Counters, counters_at}
 use Rattle.definitions.specs.EarlyValues.{early_names, early_value, equated, outcome_of}
 use Rattle.definitions.specs.Settling.{View, is_known, external, externals, external_letters, letter_where, location_letters, first_definition, definitions_of, operand_letters, settled_letters, is_refused, settled_with, settled_from, place_of}
-use Rattle.definitions.specs.States.{BlockState, seen_from}
-use Rattle.definitions.specs.Agreement.{symbols_of_element, symbols_in, own_symbols, operand_symbols, lawful_names, defines_location, early_symbols, Agree}
+use Rattle.definitions.specs.Laws.States.{BlockState, seen_from}
+use Rattle.definitions.specs.Laws.Agreement.{symbols_of_element, symbols_in, own_symbols, operand_symbols, lawful_names, defines_location, early_symbols, Agree}
 use Rattle.definitions.specs.declared.deck_kind.DeckKind.{DeckKind}
 use Rattle.definitions.specs.declared.deck_kind.DeckKind.TheVariants.{Rel, Abs, Periph}
 use Rattle.definitions.specs.declared.letter.Letter.{Letter}

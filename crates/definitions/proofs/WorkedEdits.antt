@@ -6,9 +6,9 @@ use Rattle.definitions.specs.Statements.{Statement, statements_of}
 use Rattle.definitions.specs.DeckKinds.{up_to_end}
 use Rattle.definitions.specs.Settled.{Settled}
 use Rattle.definitions.specs.Settling.{settled_all}
-use Rattle.definitions.specs.States.{UsedBlock, BlockState}
-use Rattle.definitions.specs.Edits.{Edited, IsUntouched, Split, DoAgree, IsWithinDue}
-use Rattle.definitions.specs.Rebound.{rebound_front, rebound_tail, IsWithinDueCode}
+use Rattle.definitions.specs.Laws.States.{UsedBlock, BlockState}
+use Rattle.definitions.specs.Laws.Edits.{Edited, IsUntouched, Split, DoAgree, IsWithinDue}
+use Rattle.definitions.specs.Laws.Rebound.{rebound_front, rebound_tail, IsWithinDueCode}
 use Rattle.definitions.specs.declared.deck_kind.DeckKind.TheVariants.{Rel}
 
 -- the statements of these cards up to END

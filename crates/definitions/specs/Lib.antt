@@ -8,10 +8,8 @@ pub mod Cards
 -- From cards to statements, and the three fields of a statement.
 pub mod Statements
 pub mod CountedItems
-pub mod ItemTexts
 pub mod Pieces
 pub mod Fields
-pub mod Cuts
 -- The cut of input into decks.
 pub mod DeckInput
 -- What depends on the kind of a deck alone.
@@ -19,7 +17,6 @@ pub mod Kinds
 -- Expressions: how they are read, what they are worth, how a value stands in a field.
 pub mod Symbols
 pub mod Expressions
-pub mod Grammar
 pub mod Forms
 pub mod Coding
 -- The instruction tables, and how an operand is matched with them.
@@ -41,25 +38,18 @@ pub mod Settling
 -- A whole deck: literals, lengths and bases, the state and its lengths, items, entries, letters, words, the object.
 pub mod Literals
 pub mod Lengths
-pub mod States
 pub mod StatementItems
 pub mod Entries
 pub mod Letters
 pub mod Words
 pub mod Objects
--- An edit of a deck: where two decks agree, what it leaves, and what is sized and coded again.
-pub mod Agreement
-pub mod Edits
-pub mod Rebound
 -- The texts: listing, link, map, image, and both together.
 pub mod Listing
 pub mod Link
 pub mod Map
 pub mod Image
 pub mod Build
+-- What laws are stated by, and leads to no byte of an answer.
+pub mod Laws
 -- The answer of `compass asm`.
 pub mod Answer
--- The fields of a statement, and how statements follow one another in their blocks.
-pub mod Filling
-pub mod Rising
-pub mod Reaching

@@ -6,7 +6,7 @@ ghost use Rattle.std.specs.List.{prefix_len};
 ghost use Rattle.definitions.specs.Characters.{is_digit};
 ghost use Rattle.definitions.specs.Numerals.{number_of};
 ghost use Rattle.definitions.specs.CountedItems.{counted_item_at, counted_item_behind};
-ghost use Rattle.definitions.specs.ItemTexts.{span_as};
+ghost use Rattle.definitions.specs.Laws.ItemTexts.{span_as};
 
 use crate::item_letter::ItemLetter;
 use crate::item_text::{ItemSpan, ItemText};

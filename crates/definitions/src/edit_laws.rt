@@ -2,11 +2,11 @@
 ghost use Rattle.std.specs.Prelude.{◌≡◌, ◌+◌, ◌++◌, ℕ, List, false, length};
 ghost use Rattle.definitions.specs.Statements.{Statement};
 ghost use Rattle.definitions.specs.Settled.{Settled};
-ghost use Rattle.definitions.specs.Agreement.{unnumbered};
+ghost use Rattle.definitions.specs.Laws.Agreement.{unnumbered};
 ghost use Rattle.definitions.specs.StatementItems.{Context, items_of};
 ghost use Rattle.definitions.specs.Letters.{letters_of};
-ghost use Rattle.definitions.specs.Edits.{Edited, Split, DoAgree};
-ghost use Rattle.definitions.specs.Rebound.{is_rebound};
+ghost use Rattle.definitions.specs.Laws.Edits.{Edited, Split, DoAgree};
+ghost use Rattle.definitions.specs.Laws.Rebound.{is_rebound};
 
 /// Where two decks agree, they agree behind as many statements more of both. So they agree nowhere
 /// before a place of a common tail where they do not.

@@ -12,7 +12,7 @@ ghost use Rattle.definitions.specs.Settling.{settle};
 ghost use Rattle.definitions.specs.StatementItems.{Context, items_of};
 ghost use Rattle.definitions.specs.declared.deck_kind.DeckKind.{DeckKind};
 ghost use Rattle.definitions.specs.declared.number_base.NumberBase.{NumberBase};
-ghost use Rattle.definitions.specs.Filling.{AreLongWhole, DoFill, DoFit, HasFields};
+ghost use Rattle.definitions.specs.Laws.Filling.{AreLongWhole, DoFill, DoFit, HasFields};
 
 /// The digits of a central instruction have their room, and with its field they fill parcels of 15
 /// bits.

@@ -11,7 +11,7 @@ ghost use Rattle.definitions.specs.Settling.{settle, settled_all};
 ghost use Rattle.definitions.specs.StatementItems.{Context, items_of};
 ghost use Rattle.definitions.specs.Statements.{Statement};
 ghost use Rattle.definitions.specs.declared.deck_kind.DeckKind.{DeckKind};
-ghost use Rattle.definitions.specs.Rising.{AreLaidOut, run_end};
+ghost use Rattle.definitions.specs.Laws.Rising.{AreLaidOut, run_end};
 
 /// A statement stands at or behind the end of its block, and ends at or behind its place, within
 /// the block. Only an ORG that begins a run may go back: to a word of the block, and it has no

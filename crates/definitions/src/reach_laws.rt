@@ -7,7 +7,7 @@ ghost use Rattle.definitions.specs.Settling.{settled_all};
 ghost use Rattle.definitions.specs.StatementItems.{Context};
 ghost use Rattle.definitions.specs.Statements.{Statement};
 ghost use Rattle.definitions.specs.declared.deck_kind.DeckKind.{DeckKind};
-ghost use Rattle.definitions.specs.Reaching.{DoReach};
+ghost use Rattle.definitions.specs.Laws.Reaching.{DoReach};
 
 /// An instruction with fields reaches at most four parcels or peripheral words. Any other statement
 /// with fields begins at a word, and ends at one.

@@ -5,8 +5,8 @@ ghost use Rattle.definitions.specs.Settled.{read_of, defined};
 ghost use Rattle.definitions.specs.Settling.{View, settle, settled_from, settled_all};
 ghost use Rattle.definitions.specs.Literals.{literal_words};
 ghost use Rattle.definitions.specs.Lengths.{lengths_of, rows_of, block_rows};
-ghost use Rattle.definitions.specs.States.{BlockState, state_after, seen_from, effect_of, advanced, lengths_advanced};
-ghost use Rattle.definitions.specs.Agreement.{early_symbols, Agree, unnumbered, settled_tail, HaveSameCards, AgreeOnTail};
+ghost use Rattle.definitions.specs.Laws.States.{BlockState, state_after, seen_from, effect_of, advanced, lengths_advanced};
+ghost use Rattle.definitions.specs.Laws.Agreement.{early_symbols, Agree, unnumbered, settled_tail, HaveSameCards, AgreeOnTail};
 ghost use Rattle.definitions.specs.declared.deck_kind.DeckKind.{DeckKind};
 
 /// The state behind one statement more is the step of its effect.

@@ -8,8 +8,8 @@ use Rattle.std.proofs.lemmas.List.{nil_from_length, take-take}
 use Rattle.std.proofs.lemmas.List.Elements.{All-head, All-tail, All-push, All-weaker}
 use Rattle.definitions.specs.Cards.{Card}
 use Rattle.definitions.specs.DeckKinds.{kind_of_statements}
-use Rattle.definitions.specs.Edits.{Edited, IsUntouched}
-use Rattle.definitions.specs.Rebound.{context_from, is_rebound}
+use Rattle.definitions.specs.Laws.Edits.{Edited, IsUntouched}
+use Rattle.definitions.specs.Laws.Rebound.{context_from, is_rebound}
 use Rattle.definitions.specs.Settled.{Settled}
 use Rattle.definitions.specs.Settling.{settled_all}
 use Rattle.definitions.specs.StatementItems.{Context}

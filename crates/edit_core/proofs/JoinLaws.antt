@@ -6,11 +6,11 @@ use Rattle.std.proofs.lemmas.Bool.{cases_lt}
 use Rattle.std.proofs.lemmas.List.{length-drop}
 use Rattle.definitions.specs.Statements.{Statement, cards_in}
 use Rattle.definitions.specs.DeckKinds.{kind_of_statements}
-use Rattle.definitions.specs.Edits.{Edited, Split, DoAgree}
+use Rattle.definitions.specs.Laws.Edits.{Edited, Split, DoAgree}
 use Rattle.definitions.specs.Settled.{Settled, defined}
 use Rattle.definitions.specs.Settling.{View, settled_all}
-use Rattle.definitions.specs.States.{state_after}
-use Rattle.definitions.specs.Agreement.{Agree, early_symbols, settled_tail, unnumbered, AgreeOnTail, HaveSameCards}
+use Rattle.definitions.specs.Laws.States.{state_after}
+use Rattle.definitions.specs.Laws.Agreement.{Agree, early_symbols, settled_tail, unnumbered, AgreeOnTail, HaveSameCards}
 use Rattle.definitions.proofs.EditLaws.{agreement-lasts, cards_in-append}
 use Rattle.definitions.proofs.NamesLaws.{all-front, all-behind}
 use Rattle.definitions.proofs.StateSteps.{settled_all-in_use}

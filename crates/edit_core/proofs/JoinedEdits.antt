@@ -3,10 +3,10 @@ use Rattle.std.proofs.Common.{◌≡◌, ◌+◌, ◌-◌, ◌≤◌, inl, inr, 
 use Rattle.std.proofs.lemmas.Bool.{cases_lt}
 use Rattle.definitions.specs.Statements.{Statement, cards_in}
 use Rattle.definitions.specs.DeckKinds.{kind_of_statements}
-use Rattle.definitions.specs.Edits.{Edited, IsUntouched, DoAgree}
-use Rattle.definitions.specs.Rebound.{rebound_front, rebound_tail, context_from}
+use Rattle.definitions.specs.Laws.Edits.{Edited, IsUntouched, DoAgree}
+use Rattle.definitions.specs.Laws.Rebound.{rebound_front, rebound_tail, context_from}
 use Rattle.definitions.specs.Settling.{settled_all}
-use Rattle.definitions.specs.Agreement.{settled_tail}
+use Rattle.definitions.specs.Laws.Agreement.{settled_tail}
 use Rattle.definitions.specs.declared.deck_kind.DeckKind.{DeckKind}
 use Rattle.definitions.proofs.EditLaws.{cards_in-append}
 use Rattle.definitions.proofs.StateSteps.{settled_all-in_use}

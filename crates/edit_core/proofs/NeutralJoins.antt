@@ -8,7 +8,7 @@ use Rattle.definitions.specs.Fields.{fields_of}
 use Rattle.definitions.specs.Operands.{Unread, BadOperand, operand_of}
 use Rattle.definitions.specs.Operations as op
 use Rattle.definitions.specs.Operations.{Operation, is_neutral, operation_of}
-use Rattle.definitions.specs.Rebound.{bound_alike, coded_elements, is_rebound}
+use Rattle.definitions.specs.Laws.Rebound.{bound_alike, coded_elements, is_rebound}
 use Rattle.definitions.specs.Settling.{number_base_of, settle, settled_all}
 use Rattle.definitions.specs.StatementItems.{Context}
 use Rattle.definitions.specs.Statements.{Statement}

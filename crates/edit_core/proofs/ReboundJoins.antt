@@ -7,12 +7,12 @@ use Rattle.std.proofs.lemmas.Bool.Decides.{Decides-eqb, Decides-int_eq}
 use Rattle.std.proofs.lemmas.List.Recursion.{is_count_by}
 use Rattle.definitions.specs.Expressions.{Element}
 use Rattle.definitions.specs.Forms.{Form, Relocation, Block, External, Part, Added, Subtracted, element_form, same_relocation}
-use Rattle.definitions.specs.Rebound.{part_base, same_part, same_form, same_value, bound_alike, coded_elements, is_rebound}
+use Rattle.definitions.specs.Laws.Rebound.{part_base, same_part, same_form, same_value, bound_alike, coded_elements, is_rebound}
 use Rattle.definitions.specs.Settled.{Settled}
 use Rattle.definitions.specs.Settling.{settled_all}
 use Rattle.definitions.specs.StatementItems.{Context, final_names}
 use Rattle.definitions.specs.Statements.{Statement}
-use Rattle.definitions.specs.Agreement.{settled_tail, unnumbered}
+use Rattle.definitions.specs.Laws.Agreement.{settled_tail, unnumbered}
 use Rattle.definitions.specs.declared.deck_kind.DeckKind.{DeckKind}
 use Rattle.definitions.specs.declared.letter.Letter.{Letter}
 use Rattle.definitions.proofs.TailLaws.{settled_all-append}

@@ -3,8 +3,8 @@ use Rattle.std.specs.Prelude.{option_map}
 use Rattle.std.proofs.Common.{◌≡◌, ◌+◌, ◌-◌, ◌≤◌, ℕ, Bool, true, false, List, [], ◌∷◌, min, length, All, Option, Some, None, refl, sym, ap, ap₂, ◌∙◌, subst, arith}
 use Rattle.std.proofs.lemmas.List.Elements.{All-cons, All-head, All-nil}
 use Rattle.definitions.specs.Cards.{Card}
-use Rattle.definitions.specs.Edits.{Edited, IsWithinDue, IsUntouched, DoAgree}
-use Rattle.definitions.specs.Rebound.{rebound_front, rebound_tail, IsWithinDueCode}
+use Rattle.definitions.specs.Laws.Edits.{Edited, IsWithinDue, IsUntouched, DoAgree}
+use Rattle.definitions.specs.Laws.Rebound.{rebound_front, rebound_tail, IsWithinDueCode}
 use Rattle.definitions.specs.Statements.{Statement}
 use Rattle.cards.specs.Counts.{count_after}
 use Rattle.cards.specs.Edits.{edited, edited_by, fault_of, first_fault}

@@ -3,8 +3,8 @@ use Rattle.std.specs.Prelude.{◌≡◌, ℕ, ⊤, ◌+◌, ◌-◌, ◌^◌, �
 use Rattle.std.specs.List.{count_by}
 use Rattle.definitions.specs.Cards.{Card}
 use Rattle.definitions.specs.DeckKinds.{kind_of_statements, up_to_end}
-use Rattle.definitions.specs.Edits.{Edited, IsUntouched, IsWithinDue}
-use Rattle.definitions.specs.Rebound.{context_from, is_rebound, IsWithinDueCode}
+use Rattle.definitions.specs.Laws.Edits.{Edited, IsUntouched, IsWithinDue}
+use Rattle.definitions.specs.Laws.Rebound.{context_from, is_rebound, IsWithinDueCode}
 use Rattle.definitions.specs.Settling.{settled_all}
 use Rattle.definitions.specs.Statements.{Statement, statements_of}
 use Rattle.cards.specs.declared.edits.Edit.{Edit}

@@ -1,8 +1,8 @@
 -- What is due for edits, one after the other (ours).
 use Rattle.std.specs.Prelude.{ℕ, ⊤, ◌≡◌, ◌+◌, ◌-◌, ◌*◌, ◌≤◌, List, [], ◌∷◌, ◌++◌, length, min}
 use Rattle.definitions.specs.Cards.{Card}
-use Rattle.definitions.specs.Edits.{Edited, IsUntouched, Split, DoAgree}
-use Rattle.definitions.specs.Rebound.{rebound_front, rebound_tail}
+use Rattle.definitions.specs.Laws.Edits.{Edited, IsUntouched, Split, DoAgree}
+use Rattle.definitions.specs.Laws.Rebound.{rebound_front, rebound_tail}
 use Rattle.definitions.specs.Statements.{Statement}
 use Rattle.cards.specs.Counts.{count_after}
 use Rattle.cards.specs.Edits.{edited, edited_by}

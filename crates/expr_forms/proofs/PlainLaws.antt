@@ -7,7 +7,7 @@ use Rattle.std.proofs.lemmas.List.Folds.{list_all-append}
 use Rattle.definitions.proofs.TestLaws.{and_left, and_right}
 use Rattle.definitions.proofs.TermLaws.{JoinsTerms}
 use Rattle.definitions.specs.Expressions.{Sign, NoSign, PlusSign, MinusSign, Literal, OfNumber, OfCountedItem, Element, ANumber, ACountedItem, ASymbol, ARegister, LocationCounter, OriginCounter, ALiteral, Operator, Times, Divide, Add, Subtract, OperatorElement, Term, Grouped, onto_grouped, grouped, onto_pairs, is_allowed}
-use Rattle.definitions.specs.Grammar.{operator_of}
+use Rattle.definitions.specs.Laws.Grammar.{operator_of}
 use Rattle.definitions.specs.Literals.{literal_in}
 use Rattle.definitions.specs.Matching.{Sum, onto_sum, sum_of}
 use Rattle.definitions.specs.declared.number_base.NumberBase.{NumberBase}

@@ -4,7 +4,7 @@ ghost use Rattle.definitions.specs.CountedItems.{bits_needed};
 ghost use Rattle.definitions.specs.Coding.{words_needed};
 ghost use Rattle.definitions.specs.Kinds.{word_bits};
 ghost use Rattle.expr_forms.specs.Joins.CodedItems.{item_of};
-ghost use Rattle.definitions.specs.ItemTexts.{item_as};
+ghost use Rattle.definitions.specs.Laws.ItemTexts.{item_as};
 
 use definitions::{DeckKind, ItemLetter, ItemText};
 use std::marker::Model;

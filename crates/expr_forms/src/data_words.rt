@@ -6,7 +6,7 @@ ghost use Rattle.definitions.specs.Operands.{CountedItemWords, number_word, data
 ghost use Rattle.definitions.specs.declared.letter.Letter.TheVariants as letter;
 ghost use Rattle.expr_forms.specs.Joins.Elements.{sign_as};
 ghost use Rattle.expr_forms.specs.Joins.Numbers.{AreDigits};
-ghost use Rattle.definitions.specs.ItemTexts.{item_as};
+ghost use Rattle.definitions.specs.Laws.ItemTexts.{item_as};
 ghost use Rattle.expr_forms.specs.Joins.PiecesFound.{mark_as, pieces_in};
 ghost use Rattle.expr_forms.specs.Joins.Readings.{datum_as, alone, signed_word};
 

@@ -1,7 +1,7 @@
 //! The literals and the symbols of an expression, from left to right.
 ghost use Rattle.std.specs.Prelude.{◌≡◌, ◌∷◌, [], IfNone, IfSome};
 ghost use Rattle.definitions.specs.Literals.{literals_in};
-ghost use Rattle.definitions.specs.Agreement.{symbols_in};
+ghost use Rattle.definitions.specs.Laws.Agreement.{symbols_in};
 ghost use Rattle.expr_forms.specs.Joins.Elements.{literal_as};
 ghost use Rattle.expr_forms.specs.Joins.ElementLists.{literals_among, symbols_among};
 

@@ -3,7 +3,7 @@
 ghost use Rattle.std.specs.Prelude.{◌≡◌, ◌≤◌, ◌<◌, ◌∷◌, [], length, option_map, MatchOption, MatchResult, Some, None};
 ghost use Rattle.definitions.specs.Pieces.{Inside, pieces_at, pieces_of};
 ghost use Rattle.definitions.specs.Expressions.{pairs_of, grouped, with_sign, expression_of};
-ghost use Rattle.definitions.specs.Grammar.{operator_of};
+ghost use Rattle.definitions.specs.Laws.Grammar.{operator_of};
 ghost use Rattle.definitions.specs.declared.number_base.NumberBase.{NumberBase};
 ghost use Rattle.definitions.proofs.GrammarLaws.{pairs_from};
 ghost use Rattle.expr_forms.specs.Joins.Elements.{sign_as};

@@ -1,7 +1,7 @@
 //! The number that a counted item is in an expression.
 ghost use Rattle.std.specs.Prelude.{◌≡◌};
 ghost use Rattle.definitions.specs.Forms.{counted_item_form};
-ghost use Rattle.definitions.specs.ItemTexts.{item_as};
+ghost use Rattle.definitions.specs.Laws.ItemTexts.{item_as};
 
 use crate::coding::item_number;
 use crate::counted_item::CountedItem;

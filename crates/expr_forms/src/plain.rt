@@ -6,7 +6,7 @@ ghost use Rattle.definitions.specs.Expressions.{is_allowed, is_allowed_literal, 
 ghost use Rattle.definitions.specs.Operands.{plain_of};
 ghost use Rattle.definitions.specs.Pieces.{pieces_of};
 ghost use Rattle.definitions.specs.StatementItems.{whole_term, whole_counted_item};
-ghost use Rattle.definitions.specs.ItemTexts.{item_as};
+ghost use Rattle.definitions.specs.Laws.ItemTexts.{item_as};
 ghost use Rattle.expr_forms.specs.Joins.Elements.{literal_as, element_as};
 ghost use Rattle.expr_forms.specs.Joins.ElementLists.{elements_in, item_alone};
 

@@ -1,6 +1,6 @@
 //! Single statements as a deck writes them: their sizes, their codes and their effects.
 ghost use Rattle.std.specs.Prelude.{◌≡◌};
-ghost use Rattle.definitions.specs.States.{names_of_blocks};
+ghost use Rattle.definitions.specs.Laws.States.{names_of_blocks};
 ghost use Rattle.use_blocks.specs.Joins.BlockLengths.{block_names};
 
 use crate::expression_topics::form;

@@ -490,6 +490,7 @@ impl Told {
     {
         matches!(self, Told::Bye)
     }
+
     /// Frees what it shows.
     pub(crate) fn free(self) {
         match self {

@@ -6,7 +6,7 @@ ghost use Rattle.expr_forms.specs.Joins.Readings.{use_as};
 ghost use Rattle.definitions.specs.Operands as operands;
 ghost use Rattle.definitions.specs.Blocks.{change_of, is_accepted};
 ghost use Rattle.definitions.specs.Settling.{is_refused};
-ghost use Rattle.definitions.specs.States.{names_of_blocks};
+ghost use Rattle.definitions.specs.Laws.States.{names_of_blocks};
 ghost use Rattle.operations.specs.Joins.OperationsAs.{operation_as};
 ghost use Rattle.use_blocks.specs.Joins.Changes.{IsAccepted};
 ghost use Rattle.use_blocks.specs.Joins.EffectsAs.{change_as};

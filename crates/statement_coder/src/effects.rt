@@ -5,7 +5,7 @@ ghost use Rattle.definitions.specs.Kinds.{units};
 ghost use Rattle.definitions.specs.Lengths.{reached};
 ghost use Rattle.definitions.specs.Settled.{Settled, read_of};
 ghost use Rattle.definitions.specs.Settling.{View};
-ghost use Rattle.definitions.specs.States.{effect_of};
+ghost use Rattle.definitions.specs.Laws.States.{effect_of};
 ghost use Rattle.definitions.specs.Statements as statements;
 ghost use Rattle.definitions.specs.declared.deck_kind.DeckKind as kinds;
 ghost use Rattle.definitions.specs.declared.number_base.NumberBase as bases;

@@ -2,7 +2,7 @@
 //! (COMPASS 60492600, location field).
 ghost use Rattle.std.specs.Prelude.{◌≡◌, Option, option_map, is_some};
 ghost use Rattle.definitions.specs.Forms as forms;
-ghost use Rattle.definitions.specs.Agreement.{own_symbols, defines_location};
+ghost use Rattle.definitions.specs.Laws.Agreement.{own_symbols, defines_location};
 ghost use Rattle.definitions.specs.Settling.{letter_where, is_plain_location, location_letters};
 ghost use Rattle.operations.specs.Joins.OperationsAs.{operation_as};
 ghost use Rattle.statement_coder.specs.Joins.LettersAs.{letters_as};

@@ -3,7 +3,7 @@
 ghost use Rattle.std.specs.Prelude.{◌≡◌, ◌<◌, ◌^◌, ◌&&◌, ◌-ℤ◌, ℕ, List, pos, unsigned_abs};
 ghost use Rattle.definitions.specs.Forms.{absolute, is_absolute};
 ghost use Rattle.definitions.specs.Coding.{counted_item_in};
-ghost use Rattle.definitions.specs.ItemTexts.{item_as as item_as_text};
+ghost use Rattle.definitions.specs.Laws.ItemTexts.{item_as as item_as_text};
 ghost use Rattle.definitions.specs.Settled.{Settled};
 ghost use Rattle.definitions.specs.StatementItems as definitions;
 ghost use Rattle.definitions.specs.StatementItems.{counted_item_value, small_value, whole_counted_item, count_of, shift_of, short_item, is_short, number_in, displacement_of};

@@ -4,7 +4,7 @@ ghost use Rattle.definitions.specs.Forms as forms;
 ghost use Rattle.definitions.specs.Letters.{in_order};
 ghost use Rattle.definitions.specs.Operands as operands;
 ghost use Rattle.definitions.specs.Settling.{letter_where, location_letters, is_refused, operand_letters};
-ghost use Rattle.definitions.specs.States.{names_of_blocks};
+ghost use Rattle.definitions.specs.Laws.States.{names_of_blocks};
 ghost use Rattle.definitions.specs.Operations as op;
 ghost use Rattle.definitions.specs.Places.{is_bad};
 ghost use Rattle.definitions.specs.declared.deck_kind.DeckKind.TheVariants as kinds;

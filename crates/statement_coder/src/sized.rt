@@ -7,7 +7,7 @@ ghost use Rattle.definitions.specs.Operands as operands;
 ghost use Rattle.definitions.specs.Letters.{in_order};
 ghost use Rattle.definitions.specs.Operations as op;
 ghost use Rattle.definitions.specs.Settling.{is_run, operand_letters, settled_from};
-ghost use Rattle.definitions.specs.States.{seen_from};
+ghost use Rattle.definitions.specs.Laws.States.{seen_from};
 ghost use Rattle.definitions.specs.declared.deck_kind.DeckKind as kinds;
 ghost use Rattle.operations.specs.Joins.OperationsAs.{operation_as};
 ghost use Rattle.use_blocks.specs.Joins.Changes.{IsAccepted, block_now};

@@ -7,7 +7,7 @@ ghost use Rattle.definitions.specs.Letters.{in_order};
 ghost use Rattle.definitions.specs.Operands as operands;
 ghost use Rattle.definitions.specs.Settled.{NoChange};
 ghost use Rattle.definitions.specs.Settling.{operand_letters};
-ghost use Rattle.definitions.specs.States.{seen_from};
+ghost use Rattle.definitions.specs.Laws.States.{seen_from};
 ghost use Rattle.definitions.specs.Statements as statements;
 ghost use Rattle.definitions.specs.Statements.{is_stray};
 ghost use Rattle.operations.specs.Joins.OperationsAs.{operation_as};

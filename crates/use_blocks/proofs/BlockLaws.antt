@@ -8,7 +8,7 @@ use Rattle.std.proofs.lemmas.List.Folds.{list_any-append}
 use Rattle.std.proofs.lemmas.List.Sums.{prefix_len_stops}
 use Rattle.definitions.specs.Characters.{same_text}
 use Rattle.definitions.specs.Blocks.{nominal, is_named}
-use Rattle.definitions.specs.States.{UsedBlock, Effect, fresh_block, block_named, or_position, counting_behind, block_behind, names_of_blocks}
+use Rattle.definitions.specs.Laws.States.{UsedBlock, Effect, fresh_block, block_named, or_position, counting_behind, block_behind, names_of_blocks}
 use Rattle.definitions.proofs.TextLaws.{same_text-refl, same_text-true, same_text_tells}
 use Rattle.use_blocks.specs.Joins.StateInside.{block_at, name_at, AreDistinct, is_other}
 

@@ -6,7 +6,7 @@ use Rattle.std.proofs.lemmas.Option.{slice_get-get_or}
 use Rattle.definitions.specs.Blocks.{nominal, block_in_use, is_named}
 use Rattle.definitions.specs.Lengths.{BlockLength}
 use Rattle.definitions.specs.Settled.{BlockChange, NoChange, Opens, Closes}
-use Rattle.definitions.specs.States.{UsedBlock, Effect, fresh_block, block_behind, blocks_behind, names_of_blocks, length_behind, lengths_behind, lengths_advanced}
+use Rattle.definitions.specs.Laws.States.{UsedBlock, Effect, fresh_block, block_behind, blocks_behind, names_of_blocks, length_behind, lengths_behind, lengths_advanced}
 use Rattle.use_blocks.specs.Joins.BlockLengths.{block_names}
 use Rattle.use_blocks.specs.Joins.StateInside.{opened_names, latest, IsState}
 use Rattle.use_blocks.proofs.BlockLaws.{names-behind}

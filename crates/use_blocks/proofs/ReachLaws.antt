@@ -11,7 +11,7 @@ use Rattle.definitions.specs.Characters.{same_text}
 use Rattle.definitions.specs.Blocks.{is_named, is_accepted}
 use Rattle.definitions.specs.Settled.{BlockChange, NoChange, Opens, Closes}
 use Rattle.definitions.specs.Lengths.{BlockLength}
-use Rattle.definitions.specs.States.{Effect, lengths_behind, lengths_advanced}
+use Rattle.definitions.specs.Laws.States.{Effect, lengths_behind, lengths_advanced}
 use Rattle.definitions.proofs.TextLaws.{same_text_tells}
 use Rattle.use_blocks.specs.Joins.BlockLengths.{block_names, has_name, lengths_shown, opened_by, reaching}
 

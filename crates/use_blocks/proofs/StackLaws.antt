@@ -11,7 +11,7 @@ use Rattle.std.proofs.lemmas.Bool.Decides.{leb_tells, Decides-eqb}
 use Rattle.definitions.specs.DeckKinds.{or_number_base}
 use Rattle.definitions.specs.Settled.{BlockChange, NoChange, Opens, Closes}
 use Rattle.definitions.specs.Blocks.{nominal, block_in_use, is_named, is_accepted}
-use Rattle.definitions.specs.States.{UsedBlock, BlockState, Effect, fresh_block, block_named, block_behind, blocks_behind, names_behind, names_of_blocks, advanced}
+use Rattle.definitions.specs.Laws.States.{UsedBlock, BlockState, Effect, fresh_block, block_named, block_behind, blocks_behind, names_behind, names_of_blocks, advanced}
 use Rattle.definitions.specs.declared.number_base.NumberBase.{NumberBase}
 use Rattle.use_blocks.specs.Joins.Changes.{changed, written}
 use Rattle.use_blocks.specs.Joins.StateInside.{block_at, name_at, opened_names, latest, AreDistinct, AreBelow, is_other, IsState}

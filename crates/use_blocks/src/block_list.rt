@@ -2,7 +2,7 @@
 ghost use Rattle.std.specs.Prelude.{◌≡◌, ◌==◌, ◌<◌, ◌++◌, ◌∷◌, [], length, slice_set, OnOk, if◌then◌else◌};
 ghost use Rattle.std.specs.Bool.{Decides};
 ghost use Rattle.std.specs.List.{prefix_len};
-ghost use Rattle.definitions.specs.States.{fresh_block, block_behind};
+ghost use Rattle.definitions.specs.Laws.States.{fresh_block, block_behind};
 ghost use Rattle.use_blocks.specs.Joins.EffectsAs.{effect_as};
 ghost use Rattle.use_blocks.specs.Joins.StateInside.{block_at, latest, is_other, HasRoom};
 

@@ -6,7 +6,7 @@ ghost use Rattle.definitions.specs.Blocks.{nominal, block_in_use, change_of};
 ghost use Rattle.definitions.specs.DeckKinds.{or_number_base};
 ghost use Rattle.definitions.specs.Settled.{Opens, Closes};
 ghost use Rattle.definitions.specs.Counters.{counters_at};
-ghost use Rattle.definitions.specs.States.{state_after, names_of_blocks, advanced};
+ghost use Rattle.definitions.specs.Laws.States.{state_after, names_of_blocks, advanced};
 ghost use Rattle.use_blocks.specs.Joins.EffectsAs.{change_as, effect_as};
 ghost use Rattle.use_blocks.specs.Joins.StateInside.{block_at};
 ghost use Rattle.use_blocks.specs.Joins.Changes.{IsAccepted, block_now, opens, written, changed};
@@ -37,8 +37,8 @@ pub struct BlockState {
 }
 
 impl Model for BlockState {
-    ghost use Rattle.definitions.specs.States as states;
-    ghost use Rattle.definitions.specs.States.{names_of_blocks};
+    ghost use Rattle.definitions.specs.Laws.States as states;
+    ghost use Rattle.definitions.specs.Laws.States.{names_of_blocks};
 
     ghost Value = { states.BlockState };
 

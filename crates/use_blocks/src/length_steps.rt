@@ -3,8 +3,8 @@
 ghost use Rattle.std.specs.Prelude.{◌≡◌, true, false, OnOk, OnErr, IfSome, IsSomeAnd};
 ghost use Rattle.std.specs.Option.{option_map};
 ghost use Rattle.definitions.specs.Blocks.{block_in_use, is_accepted};
-ghost use Rattle.definitions.specs.States as states;
-ghost use Rattle.definitions.specs.States.{names_of_blocks, advanced, lengths_advanced};
+ghost use Rattle.definitions.specs.Laws.States as states;
+ghost use Rattle.definitions.specs.Laws.States.{names_of_blocks, advanced, lengths_advanced};
 ghost use Rattle.use_blocks.specs.Joins.BlockLengths.{block_names, has_name, opened_by};
 ghost use Rattle.use_blocks.specs.Joins.Changes.{IsAccepted};
 ghost use Rattle.use_blocks.specs.Joins.EffectsAs.{change_as, effect_as};

@@ -5,7 +5,7 @@ ghost use Rattle.definitions.specs.Blocks.{is_accepted};
 ghost use Rattle.definitions.specs.Lengths as definitions;
 ghost use Rattle.definitions.specs.Lengths.{lengths_of};
 ghost use Rattle.definitions.specs.Settled.{Opens};
-ghost use Rattle.definitions.specs.States.{Effect, state_after, names_of_blocks, lengths_advanced, lengths_behind};
+ghost use Rattle.definitions.specs.Laws.States.{Effect, state_after, names_of_blocks, lengths_advanced, lengths_behind};
 ghost use Rattle.definitions.specs.declared.deck_kind.DeckKind.{DeckKind};
 ghost use Rattle.use_blocks.specs.Joins.BlockLengths.{block_names, has_name, lengths_shown, opened_by, reaching};
 

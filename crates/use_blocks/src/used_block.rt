@@ -1,7 +1,7 @@
 //! A block that is used: where its statements have come to, and its LOC in force.
 ghost use Rattle.std.specs.Prelude.{◌≡◌};
 ghost use Rattle.std.specs.Bool.{Decides};
-ghost use Rattle.definitions.specs.States.{fresh_block, block_behind, or_position, counting_behind};
+ghost use Rattle.definitions.specs.Laws.States.{fresh_block, block_behind, or_position, counting_behind};
 ghost use Rattle.use_blocks.specs.Joins.EffectsAs.{effect_as, setting_as};
 
 use crate::effects::{Effect, LocationSetting};
@@ -18,7 +18,7 @@ pub struct UsedBlock {
 }
 
 impl Model for UsedBlock {
-    ghost use Rattle.definitions.specs.States as states;
+    ghost use Rattle.definitions.specs.Laws.States as states;
 
     ghost Value = { states.UsedBlock };
 

@@ -6,8 +6,8 @@ use Rattle.definitions.specs.Operands.{Operand, NamesOperand}
 use Rattle.definitions.specs.Settled.{ReadStatement, defined}
 use Rattle.definitions.specs.Settling.{View, settle, settled_all}
 use Rattle.definitions.specs.Statements.{Statement, cards_in}
-use Rattle.definitions.specs.States.{state_after}
-use Rattle.definitions.specs.Agreement.{Agree, early_symbols, lawful_names}
+use Rattle.definitions.specs.Laws.States.{state_after}
+use Rattle.definitions.specs.Laws.Agreement.{Agree, early_symbols, lawful_names}
 use Rattle.definitions.specs.declared.deck_kind.DeckKind.{DeckKind}
 use Rattle.statement_coder.specs.declared.definitions_made.Defines as code
 use Rattle.statement_coder.specs.declared.definitions_made.Defines.TheVariants as defines

@@ -2,7 +2,7 @@
 use Rattle.std.specs.Prelude.{ℕ, List, flat_map}
 use Rattle.definitions.specs.Forms.{Form}
 use Rattle.definitions.specs.Lengths.{BlockLength}
-use Rattle.definitions.specs.States.{BlockState}
+use Rattle.definitions.specs.Laws.States.{BlockState}
 use Rattle.definitions.specs.declared.deck_kind.DeckKind.{DeckKind}
 use Rattle.deck_assembler.specs.declared.sized_statement.SizedStatement.{SizedStatement}
 

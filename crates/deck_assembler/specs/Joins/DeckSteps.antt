@@ -1,6 +1,6 @@
 -- What one statement more makes of the lines and the names of a deck, and of the count of what is coded.
 use Rattle.std.specs.Prelude.{ℕ, ◌≡◌, ◌+◌, ◌-◌, ◌^◌, List, ◌∷◌, Option, Some, false, true, drop, min}
-use Rattle.definitions.specs.Rebound.{is_rebound}
+use Rattle.definitions.specs.Laws.Rebound.{is_rebound}
 use Rattle.definitions.specs.Settling.{settle, settled_all}
 use Rattle.definitions.specs.StatementItems.{Context}
 use Rattle.definitions.specs.Statements.{Statement}

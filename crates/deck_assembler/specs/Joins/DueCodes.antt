@@ -1,9 +1,9 @@
 -- How many statements of an edited deck are coded again, where the lines of the object before are taken over.
 use Rattle.std.specs.Prelude.{ℕ, ◌≡◌, ◌+◌, ◌^◌, ◌<◌, ◌≤◌, ◌⊎◌, nat_lt, nat_le, Bool, true, false, not, ◌||◌, List, [], ◌∷◌, ◌++◌, drop, length, reverse}
 use Rattle.definitions.specs.Cards.{Card}
-use Rattle.definitions.specs.Edits.{Edited, IsUntouched}
+use Rattle.definitions.specs.Laws.Edits.{Edited, IsUntouched}
 use Rattle.definitions.specs.DeckKinds.{kind_of_statements}
-use Rattle.definitions.specs.Rebound.{context_from, is_rebound}
+use Rattle.definitions.specs.Laws.Rebound.{context_from, is_rebound}
 use Rattle.definitions.specs.Settled.{Settled}
 use Rattle.definitions.specs.Settling.{settled_all}
 use Rattle.definitions.specs.StatementItems.{Context}

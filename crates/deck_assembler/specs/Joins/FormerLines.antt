@@ -6,7 +6,7 @@ use Rattle.definitions.specs.Settled.{Settled}
 use Rattle.definitions.specs.Settling.{settle, settled_all}
 use Rattle.definitions.specs.StatementItems.{Context}
 use Rattle.definitions.specs.Statements.{Statement}
-use Rattle.definitions.specs.Agreement.{unnumbered}
+use Rattle.definitions.specs.Laws.Agreement.{unnumbered}
 use Rattle.definitions.specs.declared.deck_kind.DeckKind.{DeckKind}
 use Rattle.deck_objects.specs.Joins.CodedLines.{IsCoded, AreShown}
 use Rattle.deck_objects.specs.declared.lines.Line.{Line}

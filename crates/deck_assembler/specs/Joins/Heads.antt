@@ -5,7 +5,7 @@ use Rattle.definitions.specs.Blocks.{nominal}
 use Rattle.definitions.specs.Cards.{Card}
 use Rattle.definitions.specs.Counters.{counters_at}
 use Rattle.definitions.specs.DeckKinds.{kind_of_statements}
-use Rattle.definitions.specs.Edits.{Edited, IsUntouched}
+use Rattle.definitions.specs.Laws.Edits.{Edited, IsUntouched}
 use Rattle.definitions.specs.Forms.{Form}
 use Rattle.definitions.specs.Operations.{is_neutral}
 use Rattle.definitions.specs.Statements.{Statement}

@@ -13,7 +13,7 @@ use Rattle.statement_coder.specs.Joins.Sizings.{IsSizing}
 use Rattle.statement_coder.specs.Joins.WordItems.{listed_fields}
 use Rattle.statement_coder.specs.declared.coded.CodedItems.{CodedItems}
 use Rattle.statement_coder.specs.declared.sizing.Sizing.{Sizing}
-use Rattle.definitions.specs.Filling.{HasFields, DoFill}
+use Rattle.definitions.specs.Laws.Filling.{HasFields, DoFill}
 use Rattle.deck_objects.specs.Joins.LineItems.{listed, AreShort}
 use Rattle.deck_objects.specs.declared.lines.LineFields as kept
 use Rattle.deck_objects.specs.declared.lines.LineFields.TheVariants as fields

@@ -5,11 +5,11 @@ use Rattle.cards.specs.Joins.Spans.{statement_at}
 use Rattle.cards.specs.declared.statement_list.Span.{Span}
 use Rattle.definitions.specs.Cards.{Card}
 use Rattle.definitions.specs.DeckKinds.{has_end}
-use Rattle.definitions.specs.Edits.{Edited}
+use Rattle.definitions.specs.Laws.Edits.{Edited}
 use Rattle.definitions.specs.Settled.{defined}
 use Rattle.definitions.specs.Settling.{settled_all}
 use Rattle.definitions.specs.Statements.{Statement, statements_of}
-use Rattle.definitions.specs.States.{state_after}
+use Rattle.definitions.specs.Laws.States.{state_after}
 use Rattle.definitions.specs.declared.deck_kind.DeckKind.{DeckKind}
 use Rattle.deck_assembler.specs.Joins.Agreements.{left, HasFront, StandAlike}
 use Rattle.deck_assembler.specs.Joins.DeckParts.{DeckPiece, sized_in}

@@ -1,6 +1,6 @@
 -- One statement more in the pieces of a deck, which are read newest first.
 use Rattle.std.specs.Prelude.{ℕ, ◌++◌, List, [], ◌∷◌, Bool, true, not, nat_lt, length, reverse, if◌then◌else◌}
-use Rattle.definitions.specs.States.{BlockState}
+use Rattle.definitions.specs.Laws.States.{BlockState}
 use Rattle.deck_assembler.specs.Joins.DeckParts.{DeckPiece}
 use Rattle.deck_assembler.specs.declared.sized_statement.SizedStatement.{SizedStatement}
 

@@ -6,7 +6,7 @@ use Rattle.definitions.specs.Lengths.{BlockRow}
 use Rattle.definitions.specs.Literals.{literal_form}
 use Rattle.definitions.specs.Operands.{BitField}
 use Rattle.definitions.specs.Operations.{Operation}
-use Rattle.definitions.specs.Rebound.{value_elements, datum_elements, name_elements, same_value}
+use Rattle.definitions.specs.Laws.Rebound.{value_elements, datum_elements, name_elements, same_value}
 use Rattle.definitions.specs.Settled.{Settled, defined}
 use Rattle.definitions.specs.StatementItems.{Context}
 use Rattle.definitions.specs.declared.deck_kind.DeckKind.TheVariants.{Rel}

@@ -8,7 +8,7 @@ use Rattle.definitions.specs.Literals.{literal_words, operand_literals}
 use Rattle.definitions.specs.Settled.{defined}
 use Rattle.definitions.specs.Settling.{settle, settled_all, number_base_of}
 use Rattle.definitions.specs.Statements.{Statement, statements_of}
-use Rattle.definitions.specs.States.{state_after}
+use Rattle.definitions.specs.Laws.States.{state_after}
 use Rattle.definitions.specs.declared.deck_kind.DeckKind.{DeckKind}
 use Rattle.operations.specs.Joins.OperationsAs.{operation_as}
 use Rattle.statement_coder.specs.Joins.KeptReadings.{IsKeptReading}

@@ -10,7 +10,7 @@ use Rattle.definitions.specs.Operands.{Operand}
 use Rattle.definitions.specs.Settled.{defined}
 use Rattle.definitions.specs.Settling.{settled_all}
 use Rattle.definitions.specs.Statements.{Statement, cards_in}
-use Rattle.definitions.specs.States.{Effect, state_after, advanced, lengths_advanced, names_of_blocks}
+use Rattle.definitions.specs.Laws.States.{Effect, state_after, advanced, lengths_advanced, names_of_blocks}
 use Rattle.definitions.specs.declared.deck_kind.DeckKind.{DeckKind}
 use Rattle.statement_coder.specs.declared.definitions_made.Defines.{Defines}
 use Rattle.use_blocks.specs.Joins.BlockLengths.{block_names}

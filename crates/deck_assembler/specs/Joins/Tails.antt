@@ -3,10 +3,10 @@ use Rattle.std.specs.Prelude.{ℕ, ◌≡◌, ⊤, ◌+◌, ◌<◌, ◌≤◌, 
 use Rattle.cards.specs.Joins.Spans.{statement_at}
 use Rattle.definitions.specs.Cards.{Card}
 use Rattle.definitions.specs.DeckKinds.{kind_of_statements}
-use Rattle.definitions.specs.Edits.{Split}
+use Rattle.definitions.specs.Laws.Edits.{Split}
 use Rattle.definitions.specs.Settling.{settle, settled_all}
 use Rattle.definitions.specs.Statements.{Statement}
-use Rattle.definitions.specs.Agreement.{unnumbered}
+use Rattle.definitions.specs.Laws.Agreement.{unnumbered}
 use Rattle.definitions.specs.declared.deck_kind.DeckKind.{DeckKind}
 use Rattle.deck_assembler.specs.Joins.Formers.{known_in}
 use Rattle.deck_assembler.specs.Joins.Sizers.{stood}

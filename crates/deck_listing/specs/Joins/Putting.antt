@@ -7,7 +7,7 @@ use Rattle.definitions.specs.Words.{Linking, width_of}
 use Rattle.definitions.specs.declared.deck_kind.DeckKind.{DeckKind}
 use Rattle.statement_coder.specs.declared.items.Item as code
 use Rattle.operations.specs.Joins.OperationsAs.{operation_as}
-use Rattle.definitions.specs.Filling.{DoFill}
+use Rattle.definitions.specs.Laws.Filling.{DoFill}
 use Rattle.deck_listing.specs.Joins.Packing.{OpenRun, Packed, DoItemsFit, MayBegin, moved, put_items}
 use Rattle.deck_objects.specs.Joins.LineItems.{kept_items, AreKept}
 use Rattle.deck_objects.specs.declared.lines.CodedLine as lines

@@ -9,8 +9,8 @@ use Rattle.definitions.specs.Words.{Coded, Linking, runs_of}
 use Rattle.definitions.specs.declared.deck_kind.DeckKind.{DeckKind}
 use Rattle.statement_coder.specs.declared.items.Item as code
 use Rattle.deck_listing.specs.Joins.Packing.{Packed, empty_run, runs_in}
-use Rattle.definitions.specs.Reaching.{DoesReach, DoReach}
-use Rattle.definitions.specs.Rising.{run_end, IsLaidOut, AreLaidOut}
+use Rattle.definitions.specs.Laws.Reaching.{DoesReach, DoReach}
+use Rattle.definitions.specs.Laws.Rising.{run_end, IsLaidOut, AreLaidOut}
 use Rattle.deck_objects.specs.Joins.CodedLines.{IsCoded, AreCoded}
 use Rattle.deck_objects.specs.Joins.PartsOf.{ArePartsOf}
 use Rattle.deck_objects.specs.declared.lines.CodedLine as lines

@@ -7,7 +7,7 @@ use Rattle.definitions.specs.Words.{Linking, width_of, joined}
 use Rattle.definitions.specs.declared.deck_kind.DeckKind.{DeckKind}
 use Rattle.statement_coder.specs.Joins.Items.{item_as}
 use Rattle.statement_coder.specs.declared.items.Item as code
-use Rattle.definitions.specs.Filling.{HasFields, HasRoom}
+use Rattle.definitions.specs.Laws.Filling.{HasFields, HasRoom}
 use Rattle.deck_objects.specs.declared.lines.CodedLine as lines
 use Rattle.deck_objects.specs.declared.lines.LineFields as kept
 use Rattle.deck_objects.specs.declared.lines.LineFields.TheVariants as fields

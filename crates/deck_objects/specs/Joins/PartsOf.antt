@@ -2,8 +2,8 @@
 use Rattle.std.specs.Prelude.{◌≡◌, ◌≤◌, List, length, reverse}
 use Rattle.definitions.specs.Cards.{Card}
 use Rattle.definitions.specs.Objects.{Object}
-use Rattle.definitions.specs.Reaching.{DoReach}
-use Rattle.definitions.specs.Rising.{AreLaidOut}
+use Rattle.definitions.specs.Laws.Reaching.{DoReach}
+use Rattle.definitions.specs.Laws.Rising.{AreLaidOut}
 use Rattle.deck_objects.specs.Joins.CodedLines.{AreShown, AreCoded}
 use Rattle.deck_objects.specs.declared.object.ObjectParts.{ObjectParts}
 

@@ -4,7 +4,7 @@ use Rattle.definitions.specs.CountedItems.{CountedItem}
 use Rattle.definitions.specs.Expressions.{Literal, Element, OperatorElement}
 use Rattle.definitions.specs.Literals.{literal_in}
 use Rattle.definitions.specs.StatementItems.{whole_term}
-use Rattle.definitions.specs.Agreement.{symbols_of_element}
+use Rattle.definitions.specs.Laws.Agreement.{symbols_of_element}
 
 -- the elements behind the operators
 abbrev pub elements_in : List OperatorElement → List Element

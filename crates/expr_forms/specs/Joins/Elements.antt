@@ -6,7 +6,7 @@ use Rattle.definitions.specs.Expressions.{Sign, NoSign, PlusSign, MinusSign, Lit
 use Rattle.definitions.specs.declared.number_base.NumberBase.{NumberBase}
 use Rattle.expr_forms.specs.Joins.Numbers.{number_as}
 use Rattle.expr_forms.specs.Joins.Registers.{register_as}
-use Rattle.definitions.specs.ItemTexts.{item_as}
+use Rattle.definitions.specs.Laws.ItemTexts.{item_as}
 use Rattle.expr_forms.specs.declared.elements.Sign as signs
 use Rattle.expr_forms.specs.declared.elements.Sign.TheVariants as sign
 use Rattle.expr_forms.specs.declared.elements.Literal as literals

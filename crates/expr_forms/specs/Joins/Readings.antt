@@ -8,7 +8,7 @@ use Rattle.definitions.specs.Operands.{Datum, ZeroWord, NumberWord, CountedItemW
 use Rattle.definitions.specs.declared.number_base.NumberBase.{NumberBase}
 use Rattle.expr_forms.specs.Joins.Numbers.{number_as}
 use Rattle.expr_forms.specs.Joins.Elements.{sign_as}
-use Rattle.definitions.specs.ItemTexts.{item_as}
+use Rattle.definitions.specs.Laws.ItemTexts.{item_as}
 use Rattle.expr_forms.specs.declared.data_words.Datum as words
 use Rattle.expr_forms.specs.declared.data_words.Datum.TheVariants as word
 use Rattle.expr_forms.specs.declared.bit_fields.BitField as fields

@@ -3,7 +3,7 @@ use Rattle.std.specs.Prelude.{ℕ, ◌≡◌, ◌-◌, ◌<◌, ◌≤◌, ⊤, 
 use Rattle.std.specs.List.{AllByRecursion}
 use Rattle.definitions.specs.Characters.{same_text}
 use Rattle.definitions.specs.Blocks.{nominal, is_named}
-use Rattle.definitions.specs.States.{UsedBlock, fresh_block, names_of_blocks}
+use Rattle.definitions.specs.Laws.States.{UsedBlock, fresh_block, names_of_blocks}
 
 -- the block at an index
 abbrev pub block_at : List UsedBlock → ℕ → UsedBlock

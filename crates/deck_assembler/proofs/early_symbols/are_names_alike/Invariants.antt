@@ -1,5 +1,5 @@
 use Rattle.std.proofs.Common.{length}
-use Rattle.definitions.specs.Agreement.{Agree, lawful_names}
+use Rattle.definitions.specs.Laws.Agreement.{Agree, lawful_names}
 use Rattle.deck_assembler.specs.Joins.FirstSymbols.{symbol_in}
 use Rattle.deck_assembler.proofs.early_symbols.are_names_alike.Given as goal
 

@@ -1,5 +1,5 @@
 use Rattle.std.proofs.Common.{length}
-use Rattle.definitions.specs.Agreement.{Agree, symbols_in}
+use Rattle.definitions.specs.Laws.Agreement.{Agree, symbols_in}
 use Rattle.deck_assembler.specs.Joins.FirstSymbols.{symbol_in}
 use Rattle.deck_assembler.proofs.early_symbols.are_symbols_alike.Given as goal
 

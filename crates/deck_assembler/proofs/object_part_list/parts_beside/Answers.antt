@@ -3,7 +3,7 @@ use Rattle.std.specs.Prelude.{IfSome}
 use Rattle.std.proofs.lemmas.List.{length-reverse}
 use Rattle.definitions.specs.DeckKinds.{up_to_end, behind_end}
 use Rattle.definitions.specs.Lengths.{rows_of}
-use Rattle.definitions.specs.Rebound.{context_from}
+use Rattle.definitions.specs.Laws.Rebound.{context_from}
 use Rattle.definitions.specs.Statements.{statements_of}
 use Rattle.deck_objects.specs.declared.object.ObjectParts.{ObjectParts}
 use Rattle.deck_assembler.specs.Joins.DeckParts.{sized_in}

@@ -1,6 +1,6 @@
 use Rattle.std.proofs.Common.{sym, subst}
 use Rattle.definitions.specs.Fields.{Fields}
-use Rattle.definitions.specs.Cuts.{IsCut}
+use Rattle.definitions.specs.Laws.Cuts.{IsCut}
 use Rattle.definitions.proofs.FieldLaws.{cut_only, cut_lawful}
 use Rattle.definitions.proofs.laws.one_cut_into_fields.Goals as goal
 

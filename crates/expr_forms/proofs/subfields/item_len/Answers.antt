@@ -1,5 +1,5 @@
 use Rattle.std.proofs.Common.{sym}
-use Rattle.definitions.specs.ItemTexts.{span_as}
+use Rattle.definitions.specs.Laws.ItemTexts.{span_as}
 use Rattle.expr_forms.proofs.SubfieldLaws.{len-item}
 use Rattle.expr_forms.proofs.subfields.item_len.Goals as goal
 

@@ -1,5 +1,5 @@
 use Rattle.std.proofs.Common.{sym, subst}
-use Rattle.definitions.specs.States.{seen_from}
+use Rattle.definitions.specs.Laws.States.{seen_from}
 use Rattle.definitions.specs.Operands.{operand_of}
 use Rattle.operations.specs.Joins.OperationsAs.{operation_as}
 use Rattle.statement_coder.specs.Joins.Readings.{IsReading}

@@ -1,7 +1,7 @@
 use Rattle.std.proofs.Common.{◌≡◌, length}
 use Rattle.std.specs.List.{list_any}
 use Rattle.definitions.specs.Operations as op
-use Rattle.definitions.specs.Rebound.{name_elements}
+use Rattle.definitions.specs.Laws.Rebound.{name_elements}
 use Rattle.deck_assembler.specs.Joins.Rebindings.{differs}
 use Rattle.deck_assembler.proofs.rebinding.Rebinding.entry_differs.Given as goal
 

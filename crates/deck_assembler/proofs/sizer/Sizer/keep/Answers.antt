@@ -3,7 +3,7 @@ use Rattle.std.proofs.Common.{◌≡◌, List, ℕ, refl, sym, ap, ◌∙◌, su
 use Rattle.std.specs.Prelude.{reverse}
 use Rattle.definitions.specs.Operands.{operand_of}
 use Rattle.definitions.specs.Settling.{number_base_of, settle, settled_all}
-use Rattle.definitions.specs.States.{advanced}
+use Rattle.definitions.specs.Laws.States.{advanced}
 use Rattle.operations.specs.Joins.OperationsAs.{operation_as}
 use Rattle.use_blocks.specs.Joins.EffectsAs.{effect_as}
 use Rattle.deck_assembler.specs.Joins.FirstSymbols.{symbol_in}

@@ -3,7 +3,7 @@ use Rattle.std.proofs.Common.{◌≡◌, ℕ, List, refl, sym, ap, ◌∙◌, su
 use Rattle.std.specs.Prelude.{IfSome, reverse}
 use Rattle.definitions.specs.Operands.{operand_of}
 use Rattle.definitions.specs.Settling.{number_base_of, settle, settled_all}
-use Rattle.definitions.specs.States.{BlockState, advanced}
+use Rattle.definitions.specs.Laws.States.{BlockState, advanced}
 use Rattle.operations.specs.Joins.OperationsAs.{operation_as}
 use Rattle.statement_coder.specs.declared.definitions_made.Defines.{Defines}
 use Rattle.use_blocks.specs.Joins.EffectsAs.{effect_as}

@@ -1,7 +1,7 @@
 use Rattle.std.proofs.Common.{◌≡◌, Some, ◌∙◌, ap, sym, refl, subst, arith}
 use Rattle.std.specs.Prelude.{option_map}
 use Rattle.definitions.specs.Expressions.{Operator, with_sign}
-use Rattle.definitions.specs.Grammar.{operator_of}
+use Rattle.definitions.specs.Laws.Grammar.{operator_of}
 use Rattle.definitions.proofs.GrammarLaws.{link_of}
 use Rattle.definitions.proofs.TermLaws.{JoinsTerms}
 use Rattle.expr_forms.specs.Joins.Elements.{sign_as, element_as}

@@ -1,6 +1,6 @@
 use Rattle.std.proofs.Common.{ap}
 use Rattle.std.specs.Prelude.{flat_map}
-use Rattle.definitions.specs.Agreement.{symbols_of_element}
+use Rattle.definitions.specs.Laws.Agreement.{symbols_of_element}
 use Rattle.expr_forms.proofs.ElementListLaws.{elements_in-links}
 use Rattle.expr_forms.proofs.expressions.Expr.symbols.Goals as goal
 

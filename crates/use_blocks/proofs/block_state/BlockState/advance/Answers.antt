@@ -1,5 +1,5 @@
 use Rattle.std.proofs.Common.{◌≡◌, ◌∙◌, ◌<◌, ℕ, length, ap, sym, subst}
-use Rattle.definitions.specs.States.{BlockState, advanced}
+use Rattle.definitions.specs.Laws.States.{BlockState, advanced}
 use Rattle.use_blocks.specs.Joins.EffectsAs.{effect_as}
 use Rattle.use_blocks.specs.Joins.StateInside.{block_at, latest}
 use Rattle.use_blocks.specs.Joins.Changes.{written, changed}

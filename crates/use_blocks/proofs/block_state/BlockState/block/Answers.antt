@@ -1,5 +1,5 @@
 use Rattle.std.proofs.Common.{◌∙◌, sym, ap}
-use Rattle.definitions.specs.States.{UsedBlock, names_of_blocks}
+use Rattle.definitions.specs.Laws.States.{UsedBlock, names_of_blocks}
 use Rattle.use_blocks.specs.Joins.StateInside.{latest}
 use Rattle.use_blocks.proofs.BlockLaws.{name_at-block}
 use Rattle.use_blocks.proofs.StackLaws.{in_use-latest, block_now-latest, block_now-read}

@@ -1,5 +1,5 @@
 use Rattle.std.proofs.Common.{◌∙◌, ◌<◌, length, ap, sym, refl}
-use Rattle.definitions.specs.States.{names_of_blocks}
+use Rattle.definitions.specs.Laws.States.{names_of_blocks}
 use Rattle.use_blocks.specs.Joins.EffectsAs.{effect_as}
 use Rattle.use_blocks.specs.Joins.StateInside.{block_at}
 use Rattle.use_blocks.proofs.BlockLaws.{behind-at, names-behind}

@@ -3,7 +3,7 @@ use Rattle.std.specs.Prelude.{slice_get, map}
 use Rattle.std.specs.Option.{option_map}
 use Rattle.definitions.specs.Settled.{Opens}
 use Rattle.definitions.specs.Lengths.{BlockLength}
-use Rattle.definitions.specs.States.{lengths_behind}
+use Rattle.definitions.specs.Laws.States.{lengths_behind}
 use Rattle.use_blocks.specs.Joins.BlockLengths.{reaching}
 use Rattle.use_blocks.proofs.ReachLaws.{opened-at, advanced-opened, advanced-unopened}
 use Rattle.use_blocks.proofs.lengths.Lengths.advance.Goals.{in-Some+in_ok-open-in-Some, in-None}

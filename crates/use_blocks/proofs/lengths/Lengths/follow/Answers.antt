@@ -1,7 +1,7 @@
 use Rattle.std.proofs.Common.{◌≡◌, ◌∙◌, ℕ, List, Some, ap, sym, refl}
 use Rattle.std.specs.Prelude.{slice_get}
 use Rattle.definitions.specs.Blocks.{block_in_use}
-use Rattle.definitions.specs.States.{lengths_advanced}
+use Rattle.definitions.specs.Laws.States.{lengths_advanced}
 use Rattle.use_blocks.specs.Joins.BlockLengths.{block_names}
 use Rattle.use_blocks.specs.Joins.EffectsAs.{effect_as}
 use Rattle.use_blocks.proofs.NameLaws.{length-at, names-advanced}

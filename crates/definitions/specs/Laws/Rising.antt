@@ -6,7 +6,7 @@ use Rattle.definitions.specs.Kinds.{units, word_bits, most_words}
 use Rattle.definitions.specs.StatementItems.{Item}
 use Rattle.definitions.specs.Words.{Coded}
 use Rattle.definitions.specs.declared.deck_kind.DeckKind.{DeckKind}
-use Rattle.definitions.specs.Filling.{DoFill, DoFit, AreLongWhole}
+use Rattle.definitions.specs.Laws.Filling.{DoFill, DoFit, AreLongWhole}
 
 -- a run that begins has reached nothing; fields reach to the end of their statement
 abbrev pub end_behind : Bool → ℕ → List Item → ℕ → ℕ

@@ -4,8 +4,8 @@ use Rattle.std.specs.Prelude.{ℕ, ◌≡◌, ◌≤◌, ◌+◌, List, ◌++◌
 use Rattle.definitions.specs.Statements.{Statement, cards_in}
 use Rattle.definitions.specs.DeckKinds.{kind_of_statements}
 use Rattle.definitions.specs.Settling.{settled_all}
-use Rattle.definitions.specs.States.{state_after}
-use Rattle.definitions.specs.Agreement.{HaveSameCards, AgreeOnTail}
+use Rattle.definitions.specs.Laws.States.{state_after}
+use Rattle.definitions.specs.Laws.Agreement.{HaveSameCards, AgreeOnTail}
 
 -- a deck's statements before an edit and after it
 pub record Edited : Type 0 where

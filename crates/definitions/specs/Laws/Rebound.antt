@@ -13,11 +13,11 @@ use Rattle.definitions.specs.Operands.{Operand, CentralOperand, PeripheralOperan
 use Rattle.definitions.specs.DeckKinds.{kind_of_statements}
 use Rattle.definitions.specs.Settled.{Settled}
 use Rattle.definitions.specs.Settling.{settled_all}
-use Rattle.definitions.specs.Agreement.{lawful_names, settled_tail}
+use Rattle.definitions.specs.Laws.Agreement.{lawful_names, settled_tail}
 use Rattle.definitions.specs.Lengths.{BlockRow, base_in}
 use Rattle.definitions.specs.StatementItems.{Context, final_names}
 use Rattle.definitions.specs.Objects.{context_of}
-use Rattle.definitions.specs.Edits.{Edited, IsUntouched, Split, DoAgree}
+use Rattle.definitions.specs.Laws.Edits.{Edited, IsUntouched, Split, DoAgree}
 use Rattle.definitions.specs.declared.letter.Letter.{Letter}
 
 -- the elements of K or n

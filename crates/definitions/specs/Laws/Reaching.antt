@@ -4,7 +4,7 @@ use Rattle.definitions.specs.Kinds.{units}
 use Rattle.definitions.specs.Operations as op
 use Rattle.definitions.specs.Words.{Coded}
 use Rattle.definitions.specs.declared.deck_kind.DeckKind.{DeckKind}
-use Rattle.definitions.specs.Filling.{HasFields}
+use Rattle.definitions.specs.Laws.Filling.{HasFields}
 
 -- a statement with fields reaches at most four units where it is an instruction, and from a word to a word where it is not
 pub record DoesReach (kind : DeckKind) (coded : Coded) : Type 0 where
