@@ -3,7 +3,9 @@ use Rattle.std.proofs.Common.{◌≡◌, ◌∙◌, ℕ, ◌+◌, ◌*◌, ◌/�
 use Rattle.std.proofs.Math.Nat.{pow-le-pow_right}
 use Rattle.std.proofs.lemmas.Nat.{pow-add, mul-add-lt}
 use Rattle.definitions.specs.Kinds.{word_bits}
-use Rattle.definitions.specs.Link.{Layout, Based, is_unfit, unfit_words}
+use Rattle.definitions.specs.Layout.{Layout, Based}
+use Rattle.definitions.specs.LinkValues.{is_unfit}
+use Rattle.definitions.specs.LinkLines.{unfit_words}
 use Rattle.definitions.specs.StatementItems.{Item, Content, Known}
 use Rattle.definitions.specs.Words.{content_bits, width_of}
 use Rattle.statement_coder.proofs.JoinLaws.{width-append, joined-append}

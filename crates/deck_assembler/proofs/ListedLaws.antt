@@ -3,7 +3,8 @@ use Rattle.std.proofs.Common.{◌≡◌, ◌∙◌, ℕ, ◌+◌, ◌/◌, ◌%�
 use Rattle.std.specs.Prelude.{nat_lt, nat_eq}
 use Rattle.std.proofs.lemmas.Bool.{and_parts, ltb-true}
 use Rattle.definitions.specs.Kinds.{word_bits}
-use Rattle.definitions.specs.Link.{Layout, Based, unfit_words}
+use Rattle.definitions.specs.Layout.{Layout, Based}
+use Rattle.definitions.specs.LinkLines.{unfit_words}
 use Rattle.definitions.specs.Operands.{Operand, WordsOperand, TextOperand}
 use Rattle.definitions.specs.StatementItems.{Item, Content, Known, Linked}
 use Rattle.definitions.specs.Words.{width_of, cut}

@@ -10,7 +10,7 @@ use Rattle.definitions.specs.Characters.{same_text}
 use Rattle.definitions.specs.Cards.{Card}
 use Rattle.definitions.specs.Kinds.{memory_end}
 use Rattle.definitions.specs.Lengths.{BlockRow}
-use Rattle.definitions.specs.Link.{addressed, block_words, has_beyond, is_beyond, literal_stored}
+use Rattle.definitions.specs.Layout.{addressed, block_words, has_beyond, is_beyond, literal_stored}
 use Rattle.definitions.specs.Objects.{Object}
 use Rattle.definitions.specs.StatementItems.{Item}
 use Rattle.definitions.specs.Words.{Coded, Linking, StoredWord, stored_words}

@@ -7,7 +7,7 @@ use Rattle.definitions.specs.Blocks.{is_common, literals_block}
 use Rattle.definitions.specs.Cards.{Card}
 use Rattle.definitions.specs.Characters.{same_text}
 use Rattle.definitions.specs.Lengths.{BlockRow}
-use Rattle.definitions.specs.Link.{has_beyond}
+use Rattle.definitions.specs.Layout.{has_beyond}
 use Rattle.definitions.specs.Objects.{Object}
 use Rattle.definitions.specs.declared.deck_kind.DeckKind.{DeckKind}
 use Rattle.definitions.proofs.TextLaws.{same_text-refl}

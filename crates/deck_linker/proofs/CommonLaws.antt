@@ -9,7 +9,7 @@ use Rattle.indexmap.specs.IndexMap.{insert_entry}
 use Rattle.indexmap.specs.IndexSet.{insert_key}
 use Rattle.definitions.specs.Characters.{same_text}
 use Rattle.definitions.specs.Lengths.{BlockLength, BlockRow}
-use Rattle.definitions.specs.Link.{Common, common_base, commons_from, end_after_common, placed_common, with_common}
+use Rattle.definitions.specs.Layout.{Common, common_base, commons_from, end_after_common, placed_common, with_common}
 use Rattle.deck_linker.specs.Joins.CommonLengths.{lengths_shown, widened}
 use Rattle.deck_linker.specs.Joins.CommonSets.{are_named_alike}
 use Rattle.use_blocks.specs.Joins.NameKeys.{same_text_equivalence}

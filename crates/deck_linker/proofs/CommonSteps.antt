@@ -10,7 +10,7 @@ use Rattle.std.proofs.lemmas.Option.{slice_get-get_or, slice_get_within}
 use Rattle.definitions.specs.Characters.{same_text}
 use Rattle.definitions.specs.Image.{common_words, with_all_stored}
 use Rattle.definitions.specs.Lengths.{BlockRow}
-use Rattle.definitions.specs.Link.{Based, Common, Layout}
+use Rattle.definitions.specs.Layout.{Based, Common, Layout}
 use Rattle.definitions.specs.Words.{StoredWord}
 use Rattle.definitions.proofs.TextLaws.{same_text-refl, same_text_tells}
 use Rattle.deck_listing.specs.Joins.Filling.{DoSpansRise, as_stored}

@@ -6,7 +6,8 @@ use Rattle.std.proofs.lemmas.List.Folds.{list_any-append}
 use Rattle.definitions.specs.Characters.{same_text}
 use Rattle.definitions.specs.Settled.{Definition}
 use Rattle.definitions.specs.Blocks.{is_named}
-use Rattle.definitions.specs.Link.{Based, Common, entered, entered_in, entry_names, entry_value, names_of, or_value}
+use Rattle.definitions.specs.Layout.{Based, Common}
+use Rattle.definitions.specs.LinkValues.{entered, entered_in, entry_names, entry_value, names_of, or_value}
 use Rattle.use_blocks.specs.Joins.NameKeys.{same_text_equivalence}
 use Rattle.deck_linker.specs.Joins.Placing.{entry_alone}
 use Rattle.expr_forms.proofs.NameLaws.{same_text-Decides}

@@ -3,7 +3,7 @@ use Rattle.std.proofs.Common.{◌≡◌, ℕ, zero, suc, ◌+◌, ◌-◌, ◌<�
 use Rattle.std.specs.Prelude.{codes, flat_map, if◌then◌else◌}
 use Rattle.definitions.specs.Characters.{line_feed}
 use Rattle.definitions.specs.Numerals.{octal_of}
-use Rattle.definitions.specs.Link.{Layout, Common, addressed}
+use Rattle.definitions.specs.Layout.{Layout, Common, addressed}
 use Rattle.definitions.specs.Image.{word_line, common_words, common_section, common_section_by}
 use Rattle.definitions.specs.Words.{StoredWord}
 use Rattle.definitions.specs.declared.deck_kind.DeckKind.TheVariants.{Rel}

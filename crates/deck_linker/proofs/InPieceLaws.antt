@@ -8,7 +8,8 @@ use Rattle.std.proofs.lemmas.Option.{slice_get-get_or}
 use Rattle.std.proofs.lemmas.Slice.Zip.{AllZip-long}
 use Rattle.definitions.specs.Build.{build_of}
 use Rattle.definitions.specs.DeckInput.{Deck}
-use Rattle.definitions.specs.Link.{Based, Layout, layout_of, linking_of}
+use Rattle.definitions.specs.Layout.{Based, Layout, layout_of}
+use Rattle.definitions.specs.LinkValues.{linking_of}
 use Rattle.definitions.specs.Objects.{object_of}
 use Rattle.text_ports.proofs.SendSteps.{texts-more}
 use Rattle.text_ports.specs.Joins.Sending.{Sends}

@@ -3,7 +3,9 @@ use Rattle.std.proofs.Common.{◌≡◌, ℕ, ◌+◌, ◌<◌, List, [], ◌∷
 use Rattle.std.specs.Prelude.{flat_map, reverse}
 use Rattle.std.proofs.lemmas.List.{at_drop_more}
 use Rattle.definitions.specs.Settled.{Definition}
-use Rattle.definitions.specs.Link.{Layout, Based, Common, names_of, entry_names, missing_lines, unfit_addresses, past_lines, deck_lines, lines_from, link_lines}
+use Rattle.definitions.specs.Layout.{Layout, Based, Common}
+use Rattle.definitions.specs.LinkValues.{names_of, entry_names}
+use Rattle.definitions.specs.LinkLines.{missing_lines, unfit_addresses, past_lines, deck_lines, lines_from, link_lines}
 use Rattle.deck_linker.specs.Joins.Names.{with_entries, HaveNames}
 use Rattle.deck_linker.specs.Joins.DeckLines.{lines_of_deck, lines_of_decks, lines_of_common}
 use Rattle.deck_linker.specs.Joins.Lines.{Written, with_lines}

@@ -8,7 +8,9 @@ use Rattle.definitions.specs.Coding.{coded_in}
 use Rattle.definitions.specs.Kinds.{kind_text}
 use Rattle.definitions.specs.Numerals.{octal_of}
 use Rattle.definitions.specs.Listing.{line}
-use Rattle.definitions.specs.Link.{Layout, Based, Common, deck_length, entry_value, names_of, link_lines}
+use Rattle.definitions.specs.Layout.{Layout, Based, Common, deck_length}
+use Rattle.definitions.specs.LinkValues.{entry_value, names_of}
+use Rattle.definitions.specs.LinkLines.{link_lines}
 use Rattle.definitions.specs.Map.{deck_line, common_line, entry_line, entry_lines, all_entry_lines, map_text}
 use Rattle.deck_linker.specs.Joins.Names.{with_entries, HaveNames}
 use Rattle.deck_linker.specs.Joins.Lines.{Written, with_lines}

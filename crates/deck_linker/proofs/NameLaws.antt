@@ -5,7 +5,9 @@ use Rattle.std.proofs.lemmas.List.Folds.{list_any-append}
 use Rattle.definitions.specs.Characters.{same_text}
 use Rattle.definitions.specs.Blocks.{is_named}
 use Rattle.definitions.specs.Settled.{Definition}
-use Rattle.definitions.specs.Link.{Based, Common, names_of, doubled_lines, link_line}
+use Rattle.definitions.specs.Layout.{Based, Common}
+use Rattle.definitions.specs.LinkValues.{names_of}
+use Rattle.definitions.specs.LinkLines.{doubled_lines, link_line}
 use Rattle.definitions.specs.Map.{entry_line, entry_lines}
 use Rattle.definitions.proofs.TextLaws.{same_text-true}
 use Rattle.deck_linker.specs.Joins.Names.{with_name, with_entries, HaveNames}

@@ -6,7 +6,7 @@ use Rattle.definitions.specs.Build.{image_of}
 use Rattle.definitions.specs.Characters.{same_text}
 use Rattle.definitions.specs.DeckInput.{Deck}
 use Rattle.definitions.specs.Image.{section_by}
-use Rattle.definitions.specs.Link.{Based, Layout, first_base, layout_of}
+use Rattle.definitions.specs.Layout.{Based, Layout, first_base, layout_of}
 use Rattle.definitions.specs.Objects.{Object, object_of}
 use Rattle.definitions.specs.declared.deck_kind.DeckKind.{DeckKind}
 use Rattle.definitions.specs.declared.deck_kind.DeckKind.TheVariants.{Rel, Abs, Periph}

@@ -7,7 +7,7 @@ use Rattle.definitions.specs.Blocks.{is_common, is_named}
 use Rattle.definitions.specs.Characters.{same_text}
 use Rattle.definitions.specs.Forms.{Relocation, Block, External, Part, Added, Subtracted}
 use Rattle.definitions.specs.Lengths.{base_in}
-use Rattle.definitions.specs.Link.{Based, Common, Layout, common_base}
+use Rattle.definitions.specs.Layout.{Based, Common, Layout, common_base}
 use Rattle.definitions.specs.Objects.{Object}
 use Rattle.definitions.specs.StatementItems.{Content, Known, Linked}
 use Rattle.definitions.proofs.TextLaws.{same_text-true}

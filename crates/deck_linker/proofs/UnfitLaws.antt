@@ -4,7 +4,8 @@ use Rattle.std.specs.Prelude.{flat_map, slice_get}
 use Rattle.std.proofs.lemmas.List.{drop_more}
 use Rattle.definitions.specs.Kinds.{unit_bits}
 use Rattle.definitions.specs.Lengths.{BlockRow}
-use Rattle.definitions.specs.Link.{Layout, Based, address_lines, block_base, unfit_words, unfit_addresses}
+use Rattle.definitions.specs.Layout.{Layout, Based, block_base}
+use Rattle.definitions.specs.LinkLines.{address_lines, unfit_words, unfit_addresses}
 use Rattle.definitions.specs.Words.{Coded}
 use Rattle.definitions.specs.declared.deck_kind.DeckKind.{DeckKind}
 use Rattle.statement_coder.specs.declared.items.Item as code

@@ -4,7 +4,7 @@ use Rattle.definitions.specs.Build.{build_of, image_of, listing_of}
 use Rattle.definitions.specs.Characters.{line_feed, same_text}
 use Rattle.definitions.specs.DeckInput.{Deck}
 use Rattle.definitions.specs.Image.{section}
-use Rattle.definitions.specs.Link.{Based, Layout, layout_of}
+use Rattle.definitions.specs.Layout.{Based, Layout, layout_of}
 use Rattle.definitions.specs.Listing.{deck_listing}
 use Rattle.definitions.specs.Map.{map_text}
 use Rattle.definitions.specs.Objects.{object_of}

@@ -1,7 +1,7 @@
 //! Where a deck stands in a link (ours).
 ghost use Rattle.std.specs.Prelude.{ℕ, ◌≡◌, ◌≤◌, true, false};
 ghost use Rattle.definitions.specs.Kinds.{is_absolute_deck};
-ghost use Rattle.definitions.specs.Link.{deck_length, placed, end_after};
+ghost use Rattle.definitions.specs.Layout.{deck_length, placed, end_after};
 ghost use Rattle.definitions.specs.Objects.{object_of};
 
 use crate::beyond::has_beyond;
@@ -22,7 +22,7 @@ pub struct Based {
 }
 
 impl Model for Based {
-    ghost use Rattle.definitions.specs.Link as definitions;
+    ghost use Rattle.definitions.specs.Layout as definitions;
     ghost use Rattle.definitions.specs.Objects.{object_of};
 
     ghost Value = { definitions.Based };

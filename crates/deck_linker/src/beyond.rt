@@ -3,7 +3,7 @@ ghost use Rattle.std.specs.Prelude.{◌≡◌};
 ghost use Rattle.std.specs.List.{list_any};
 ghost use Rattle.definitions.specs.Blocks.{literals_block};
 ghost use Rattle.definitions.specs.Characters.{same_text};
-ghost use Rattle.definitions.specs.Link.{has_beyond};
+ghost use Rattle.definitions.specs.Layout.{has_beyond};
 ghost use Rattle.definitions.specs.Objects.{object_of};
 ghost use Rattle.deck_linker.specs.Joins.Beyond.{is_plain, keeps_fields, line_beyond, listed_beyond, literals_beyond, literals_row_beyond, parts_beyond, reaches_beyond};
 

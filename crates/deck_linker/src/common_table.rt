@@ -1,6 +1,6 @@
 //! The lengths of the common blocks of a link.
 ghost use Rattle.std.specs.Prelude.{◌≡◌, ◌≤◌, [], map, OnOk, IfOk};
-ghost use Rattle.definitions.specs.Link.{with_common, with_commons, common_lengths, commons_from};
+ghost use Rattle.definitions.specs.Layout.{with_common, with_commons, common_lengths, commons_from};
 ghost use Rattle.deck_linker.specs.Joins.CommonLengths.{widened};
 
 use crate::based::Based;

@@ -2,7 +2,7 @@
 ghost use Rattle.std.specs.Prelude.{◌≡◌, ◌<◌, ◌^◌, length, IfOk, OnOk};
 ghost use Rattle.std.specs.List.{AllZip};
 ghost use Rattle.definitions.specs.Image.{common_words};
-ghost use Rattle.definitions.specs.Link.{linking_of};
+ghost use Rattle.definitions.specs.LinkValues.{linking_of};
 ghost use Rattle.deck_linker.specs.Joins.CommonWords.{AreCommonWords, AreMade, AreNone, DoListsRise, IsPutOver, has_common, over_deck, over_row, over_rows};
 ghost use Rattle.deck_listing.specs.Joins.BlockWords.{AreWordsOf};
 ghost use Rattle.deck_listing.specs.Joins.Walking.{DoNamesDiffer};

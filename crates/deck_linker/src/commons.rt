@@ -1,7 +1,7 @@
 //! The common blocks of a link (COMPASS 60492600, labelled common; where they stand is ours).
 ghost use Rattle.std.specs.Prelude.{◌≡◌, ◌≤◌, [], map, IfOk};
 ghost use Rattle.std.specs.Cmp.{partial_equiv_from_equiv};
-ghost use Rattle.definitions.specs.Link.{commons_from, common_base, common_lengths, end_after_common, placed_common};
+ghost use Rattle.definitions.specs.Layout.{commons_from, common_base, common_lengths, end_after_common, placed_common};
 ghost use Rattle.deck_linker.specs.Joins.CommonWords.{common_place};
 ghost use Rattle.deck_linker.specs.Joins.CommonSets.{alone_of_alike, are_named_alike, are_named_alike_equivalence};
 ghost use Rattle.use_blocks.specs.Joins.NameKeys.{alone};
@@ -25,7 +25,7 @@ pub struct Common {
 }
 
 impl Model for Common {
-    ghost use Rattle.definitions.specs.Link as definitions;
+    ghost use Rattle.definitions.specs.Layout as definitions;
 
     ghost Value = { definitions.Common };
 
@@ -121,7 +121,7 @@ pub(crate) struct Commons {
 
 impl Model for Commons {
     ghost use Rattle.std.specs.Prelude.{List};
-    ghost use Rattle.definitions.specs.Link as definitions;
+    ghost use Rattle.definitions.specs.Layout as definitions;
 
     ghost Value = { List definitions.Common };
 

@@ -2,7 +2,7 @@
 ghost use Rattle.std.specs.Prelude.{ℕ, ◌≡◌, ◌<◌, ◌^◌, List, OnOk, IfOk, unsigned_abs};
 ghost use Rattle.indexmap.specs.IndexMap.{get};
 ghost use Rattle.definitions.specs.Characters.{same_text};
-ghost use Rattle.definitions.specs.Link.{entered, entered_in, or_value};
+ghost use Rattle.definitions.specs.LinkValues.{entered, entered_in, or_value};
 ghost use Rattle.deck_linker.specs.Joins.Placing.{entry_alone};
 
 use crate::based::Based;

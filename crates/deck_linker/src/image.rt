@@ -1,8 +1,8 @@
 //! The octal image of a link: the sections of its decks, those of its common blocks, and END.
 ghost use Rattle.std.specs.Prelude.{◌≡◌, ◌++◌, flat_map, length, IfOk, OnOk};
 ghost use Rattle.definitions.specs.Image.{image_text};
-ghost use Rattle.definitions.specs.Link as definitions;
-ghost use Rattle.definitions.specs.Link.{linking_of};
+ghost use Rattle.definitions.specs.Layout as definitions;
+ghost use Rattle.definitions.specs.LinkValues.{linking_of};
 ghost use Rattle.deck_listing.specs.Joins.BlockWords.{AreBlockWords};
 ghost use Rattle.deck_linker.specs.Joins.CommonWords.{AreCommonWords};
 ghost use Rattle.deck_linker.specs.Joins.InPieces.{AreDeckWords, end_text};

@@ -1,6 +1,7 @@
 //! The places of the decks of a link, and behind them those of their common blocks (ours).
 ghost use Rattle.std.specs.Prelude.{◌≡◌, ◌≤◌, ◌<◌, ◌+◌, ◌^◌, map, IfOk, IfSome, unsigned_abs};
-ghost use Rattle.definitions.specs.Link.{based_from, block_base, common_base, end_of_decks, entered, entry_value, external_value, first_base, layout_of, linked_value};
+ghost use Rattle.definitions.specs.Layout.{based_from, block_base, common_base, end_of_decks, first_base, layout_of};
+ghost use Rattle.definitions.specs.LinkValues.{entered, entry_value, external_value, linked_value};
 ghost use Rattle.definitions.specs.Objects.{object_of};
 ghost use Rattle.deck_linker.specs.Joins.CommonWords.{common_place};
 ghost use Rattle.deck_linker.specs.Joins.Placing.{external_in};
@@ -31,8 +32,8 @@ impl Model for Layout {
     ghost use Rattle.std.specs.Prelude.{ℕ, ◌≡◌, List};
     ghost use Rattle.indexmap.specs.IndexMap.{get};
     ghost use Rattle.definitions.specs.Characters.{same_text};
-    ghost use Rattle.definitions.specs.Link as definitions;
-    ghost use Rattle.definitions.specs.Link.{entered};
+    ghost use Rattle.definitions.specs.Layout as definitions;
+    ghost use Rattle.definitions.specs.LinkValues.{entered};
 
     ghost Value = { definitions.Layout };
 

@@ -1,7 +1,8 @@
 //! The LINK lines of a link.
 ghost use Rattle.std.specs.Prelude.{◌≡◌, [], Some, flat_map, slice_get, true, OnOk};
 ghost use Rattle.definitions.specs.Blocks.{is_named};
-ghost use Rattle.definitions.specs.Link.{doubled_lines, entry_names, lines_from, link_lines, missing_lines, past_lines};
+ghost use Rattle.definitions.specs.LinkValues.{entry_names};
+ghost use Rattle.definitions.specs.LinkLines.{doubled_lines, lines_from, link_lines, missing_lines, past_lines};
 ghost use Rattle.deck_linker.specs.Joins.DeckLines.{lines_of_common, lines_of_deck, lines_of_decks};
 ghost use Rattle.deck_linker.specs.Joins.Lines.{with_lines};
 ghost use Rattle.deck_linker.specs.Joins.UnfitLines.{AreKnownToFit};

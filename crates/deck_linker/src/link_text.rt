@@ -1,6 +1,6 @@
 //! A text with LINK lines, and how many of them it has.
 ghost use Rattle.std.specs.Prelude.{◌≡◌, ◌≤◌, ◌<◌, ◌++◌, ◌∷◌, [], codes, length, OnOk};
-ghost use Rattle.definitions.specs.Link.{link_line};
+ghost use Rattle.definitions.specs.LinkLines.{link_line};
 ghost use Rattle.definitions.specs.Numerals.{octal_of};
 ghost use Rattle.deck_linker.specs.Joins.Lines.{with_line};
 

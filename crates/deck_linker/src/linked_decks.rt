@@ -3,7 +3,7 @@
 ghost use Rattle.std.specs.Prelude.{◌≡◌, ◌≤◌, ◌<◌, ◌^◌, ◌+◌, ◌∷◌, [], flat_map, length, map, IfOk, IfErr};
 ghost use Rattle.std.specs.List.{AllZip};
 ghost use Rattle.definitions.specs.Build.{build_of, errors_in, image_of};
-ghost use Rattle.definitions.specs.Link.{link_lines};
+ghost use Rattle.definitions.specs.LinkLines.{link_lines};
 ghost use Rattle.definitions.specs.Map.{map_text};
 ghost use Rattle.definitions.specs.Objects.{object_of};
 ghost use Rattle.text_ports.specs.Joins.Sending.{Sends, count_after_sending};

@@ -1,5 +1,5 @@
 //! The bits that a link makes of forms.
-ghost use Rattle.definitions.specs.Link.{linking_of};
+ghost use Rattle.definitions.specs.LinkValues.{linking_of};
 
 use crate::based::Based;
 use crate::layout::Layout;

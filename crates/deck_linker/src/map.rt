@@ -2,7 +2,8 @@
 //! LINK lines.
 ghost use Rattle.std.specs.Prelude.{◌≡◌, ◌++◌, [], codes, flat_map, length, unwrap_or, IfOk, OnOk};
 ghost use Rattle.definitions.specs.Coding.{coded_in};
-ghost use Rattle.definitions.specs.Link.{entry_value, link_lines};
+ghost use Rattle.definitions.specs.LinkValues.{entry_value};
+ghost use Rattle.definitions.specs.LinkLines.{link_lines};
 ghost use Rattle.definitions.specs.Listing.{line};
 ghost use Rattle.definitions.specs.Map.{common_line, deck_line, entry_line, entry_lines, map_text};
 ghost use Rattle.deck_linker.specs.Joins.UnfitLines.{AreKnownToFit};

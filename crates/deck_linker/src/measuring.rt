@@ -3,7 +3,7 @@ ghost use Rattle.std.specs.Prelude.{◌≡◌, ◌≤◌, ◌+◌, flat_map, len
 ghost use Rattle.std.specs.List.{AllZip};
 ghost use Rattle.deck_listing.specs.Joins.BlockWords.{AreBlockWords};
 ghost use Rattle.deck_listing.specs.Joins.Sheets.{room_of, text_of};
-ghost use Rattle.definitions.specs.Link.{linking_of};
+ghost use Rattle.definitions.specs.LinkValues.{linking_of};
 ghost use Rattle.definitions.specs.Listing.{deck_listing};
 ghost use Rattle.definitions.specs.Objects.{object_of};
 ghost use Rattle.deck_linker.specs.Joins.CommonWords.{AreCommonWords};

@@ -3,7 +3,7 @@
 ghost use Rattle.std.specs.Prelude.{◌≡◌, ◌<◌, ◌+◌, ◌^◌, ◌++◌, length, map, IfOk};
 ghost use Rattle.definitions.specs.Build.{build_of, errors_in, image_of, listing_of};
 ghost use Rattle.definitions.specs.Image.{image_text};
-ghost use Rattle.definitions.specs.Link.{link_lines};
+ghost use Rattle.definitions.specs.LinkLines.{link_lines};
 ghost use Rattle.definitions.specs.Map.{map_text};
 ghost use Rattle.definitions.specs.Objects.{object_of};
 ghost use Rattle.deck_linker.specs.Publishing.{listings, map_of};

@@ -2,7 +2,7 @@
 //! with what these are worth. Its own blocks follow from the base of the deck.
 ghost use Rattle.std.specs.Prelude.{◌≡◌, option_map, IfOk, OnOk};
 ghost use Rattle.definitions.specs.Image.{section};
-ghost use Rattle.definitions.specs.Link as definitions;
+ghost use Rattle.definitions.specs.Layout as definitions;
 ghost use Rattle.deck_listing.specs.KeptSections.{DoAllFit, IsPlaced, worth_in};
 ghost use Rattle.deck_linker.specs.Joins.TakenValues.{AreFieldsTaken, AreTaken, DoesAdd, IsContentTaken, IsPartTaken, IsTaken};
 ghost use Rattle.expr_forms.specs.Joins.FormsAs.{part_as, relocation_as};

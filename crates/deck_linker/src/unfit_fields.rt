@@ -1,7 +1,8 @@
 //! The LINK A lines: fields that the values of a link do not fit.
 ghost use Rattle.std.specs.Prelude.{ℕ, ◌≡◌, ◌+◌, ◌*◌, ◌/◌, ◌^◌, ◌<◌, ◌≤◌, ◌==◌, List, flat_map, length, map, reverse, slice_get, true, IfOk, OnOk};
 ghost use Rattle.definitions.specs.Kinds.{unit_bits, word_bits};
-ghost use Rattle.definitions.specs.Link.{address_lines, is_unfit, unfit_addresses, unfit_words};
+ghost use Rattle.definitions.specs.LinkValues.{is_unfit};
+ghost use Rattle.definitions.specs.LinkLines.{address_lines, unfit_addresses, unfit_words};
 ghost use Rattle.deck_objects.specs.Joins.LineItems.{AreKept, AreShort};
 ghost use Rattle.deck_listing.specs.KeptSections.{DoAllFit};
 ghost use Rattle.deck_linker.specs.Joins.Lines.{with_lines};

@@ -2,7 +2,8 @@
 //! places are ours).
 ghost use Rattle.std.specs.Prelude.{ℕ, ◌≡◌, ◌<◌, ◌+◌, ◌^◌, List, ℤ, pos, unsigned_abs, option_map};
 ghost use Rattle.definitions.specs.Forms.{Added};
-ghost use Rattle.definitions.specs.Link.{block_base, entry_value, form_value};
+ghost use Rattle.definitions.specs.Layout.{block_base};
+ghost use Rattle.definitions.specs.LinkValues.{entry_value, form_value};
 ghost use Rattle.definitions.specs.StatementItems.{part_value};
 ghost use Rattle.deck_linker.specs.Joins.Placing.{external_in, external_of, worth};
 ghost use Rattle.expr_forms.specs.Joins.FormsAs.{part_as, relocation_as};

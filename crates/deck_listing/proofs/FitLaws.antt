@@ -7,7 +7,9 @@ use Rattle.definitions.specs.Cards.{Card}
 use Rattle.definitions.specs.Coding.{coded_in}
 use Rattle.definitions.specs.Forms.{Relocation}
 use Rattle.definitions.specs.Kinds.{unit_bits, word_bits}
-use Rattle.definitions.specs.Link.{Based, Layout, address_lines, block_base, is_unfit, linked_value, unfit_addresses, unfit_words}
+use Rattle.definitions.specs.Layout.{Based, Layout, block_base}
+use Rattle.definitions.specs.LinkValues.{is_unfit, linked_value}
+use Rattle.definitions.specs.LinkLines.{address_lines, unfit_addresses, unfit_words}
 use Rattle.definitions.specs.Objects.{Object}
 use Rattle.definitions.specs.StatementItems.{Content, Item, Known, Linked}
 use Rattle.definitions.specs.Words.{Coded}

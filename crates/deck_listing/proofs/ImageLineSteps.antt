@@ -9,7 +9,7 @@ use Rattle.definitions.specs.Blocks.{is_common}
 use Rattle.definitions.specs.Image.{word_line}
 use Rattle.definitions.specs.Kinds.{memory_end}
 use Rattle.definitions.specs.Lengths.{BlockRow}
-use Rattle.definitions.specs.Link.{AddressedWord, addressed, block_words, is_beyond}
+use Rattle.definitions.specs.Layout.{AddressedWord, addressed, block_words, is_beyond}
 use Rattle.definitions.specs.Objects.{Object}
 use Rattle.definitions.specs.Words.{Linking, StoredWord}
 use Rattle.definitions.specs.declared.deck_kind.DeckKind.{DeckKind}

@@ -12,7 +12,8 @@ use Rattle.definitions.specs.Forms.{Relocation, Block, External, Part, Added, Su
 use Rattle.definitions.specs.Image.{section, word_line}
 use Rattle.definitions.specs.Kinds.{unit_bits}
 use Rattle.definitions.specs.Lengths.{BlockRow}
-use Rattle.definitions.specs.Link.{AddressedWord, Based, Layout, addressed, block_base, block_words, external_value, is_beyond, linking_of, literal_stored, local_rows, object_words}
+use Rattle.definitions.specs.Layout.{AddressedWord, Based, Layout, addressed, block_base, block_words, is_beyond, literal_stored, local_rows, object_words}
+use Rattle.definitions.specs.LinkValues.{external_value, linking_of}
 use Rattle.definitions.specs.Objects.{Object}
 use Rattle.definitions.specs.Operations.{is_instruction}
 use Rattle.definitions.specs.StatementItems.{Content, Item, Known, Linked, part_value}

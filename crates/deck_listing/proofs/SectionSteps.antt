@@ -1,7 +1,8 @@
 -- The section of a deck, its first line and its words.
 use Rattle.std.proofs.Common.{◌≡◌, ℕ, List, ◌++◌, sym, ap, ◌∙◌, append_assoc}
 use Rattle.definitions.specs.Image.{section}
-use Rattle.definitions.specs.Link.{Based, Layout, linking_of, object_words}
+use Rattle.definitions.specs.Layout.{Based, Layout, object_words}
+use Rattle.definitions.specs.LinkValues.{linking_of}
 use Rattle.definitions.specs.Objects.{Object}
 use Rattle.definitions.specs.declared.deck_kind.DeckKind.{DeckKind}
 use Rattle.deck_listing.specs.Joins.ImageWordLines.{lines_of, section_head}

@@ -5,7 +5,9 @@ use Rattle.std.specs.List.{All}
 use Rattle.definitions.specs.DeckInput.{Deck}
 use Rattle.definitions.specs.Forms.{Relocation, Block, External, Part, Added, Subtracted}
 use Rattle.definitions.specs.Image.{section}
-use Rattle.definitions.specs.Link.{Based, Layout, block_base, external_value, unfit_addresses}
+use Rattle.definitions.specs.Layout.{Based, Layout, block_base}
+use Rattle.definitions.specs.LinkValues.{external_value}
+use Rattle.definitions.specs.LinkLines.{unfit_addresses}
 use Rattle.definitions.specs.Listing.{deck_listing}
 use Rattle.definitions.specs.Objects.{Object, object_of}
 use Rattle.definitions.specs.StatementItems.{Content, Known, Linked}

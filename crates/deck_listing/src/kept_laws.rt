@@ -3,7 +3,7 @@ ghost use Rattle.std.specs.Prelude.{◌≡◌, ℕ, List, ℤ};
 ghost use Rattle.definitions.specs.Cards.{Card};
 ghost use Rattle.definitions.specs.Forms.{Relocation};
 ghost use Rattle.definitions.specs.Image.{section};
-ghost use Rattle.definitions.specs.Link.{Based, Layout};
+ghost use Rattle.definitions.specs.Layout.{Based, Layout};
 ghost use Rattle.definitions.specs.Objects.{Object};
 ghost use Rattle.deck_objects.specs.Joins.PartsOf.{ArePartsOf};
 ghost use Rattle.deck_objects.specs.declared.object.ObjectParts.{ObjectParts};

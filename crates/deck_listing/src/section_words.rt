@@ -5,7 +5,7 @@ ghost use Rattle.std.specs.List.{AllZip};
 ghost use Rattle.definitions.specs.Blocks.{literals_block};
 ghost use Rattle.definitions.specs.Cards.{Card};
 ghost use Rattle.definitions.specs.Characters.{same_text};
-ghost use Rattle.definitions.specs.Link.{object_words};
+ghost use Rattle.definitions.specs.Layout.{object_words};
 ghost use Rattle.definitions.specs.Objects.{Object};
 ghost use Rattle.definitions.specs.Words as language;
 ghost use Rattle.definitions.specs.Words.{stored_words};

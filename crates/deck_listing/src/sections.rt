@@ -1,7 +1,8 @@
 //! The section of a deck in the image.
 ghost use Rattle.std.specs.Prelude.{◌≡◌, ◌++◌, length, IfOk};
 ghost use Rattle.definitions.specs.Image.{image_alone, section};
-ghost use Rattle.definitions.specs.Link.{Based, Layout, linking_of};
+ghost use Rattle.definitions.specs.Layout.{Based, Layout};
+ghost use Rattle.definitions.specs.LinkValues.{linking_of};
 ghost use Rattle.definitions.specs.Objects.{object_of};
 ghost use Rattle.deck_listing.specs.Joins.BlockWords.{AreBlockWords};
 ghost use Rattle.deck_listing.specs.Joins.ImageWordLines.{section_head};

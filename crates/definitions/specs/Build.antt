@@ -3,7 +3,8 @@ use Rattle.std.specs.Prelude.{ℕ, ◌+◌, List, [], ◌∷◌, ◌++◌, flat_
 use Rattle.definitions.specs.DeckInput.{Deck}
 use Rattle.definitions.specs.Objects.{Object, object_of}
 use Rattle.definitions.specs.Listing.{deck_listing, errors_of}
-use Rattle.definitions.specs.Link.{layout_of, link_lines}
+use Rattle.definitions.specs.Layout.{layout_of}
+use Rattle.definitions.specs.LinkLines.{link_lines}
 use Rattle.definitions.specs.Map.{map_text}
 use Rattle.definitions.specs.Image.{image_text}
 

@@ -5,7 +5,8 @@ use Rattle.definitions.specs.Kinds.{kind_text}
 use Rattle.definitions.specs.Words.{StoredWord, stored_words}
 use Rattle.definitions.specs.Objects.{Object}
 use Rattle.definitions.specs.Listing.{line}
-use Rattle.definitions.specs.Link.{Based, Common, Layout, AddressedWord, addressed, object_words, is_beyond, linking_of}
+use Rattle.definitions.specs.Layout.{Based, Common, Layout, AddressedWord, addressed, object_words, is_beyond}
+use Rattle.definitions.specs.LinkValues.{linking_of}
 use Rattle.definitions.specs.declared.deck_kind.DeckKind.{DeckKind}
 use Rattle.definitions.specs.declared.deck_kind.DeckKind.TheVariants.{Rel, Periph}
 

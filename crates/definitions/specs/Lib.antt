@@ -35,7 +35,7 @@ pub mod Places
 pub mod Counters
 pub mod EarlyValues
 pub mod Settling
--- A whole deck: literals, lengths and bases, the state and its lengths, items, entries, letters, words, the object.
+-- A whole deck: literals, lengths and bases, items, entries, letters, words, the object.
 pub mod Literals
 pub mod Lengths
 pub mod StatementItems
@@ -45,7 +45,9 @@ pub mod Words
 pub mod Objects
 -- The texts: listing, link, map, image, and both together.
 pub mod Listing
-pub mod Link
+pub mod Layout
+pub mod LinkValues
+pub mod LinkLines
 pub mod Map
 pub mod Image
 pub mod Build

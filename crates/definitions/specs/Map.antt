@@ -6,7 +6,9 @@ use Rattle.definitions.specs.Settled.{Definition}
 use Rattle.definitions.specs.Blocks.{is_named}
 use Rattle.definitions.specs.Listing.{line}
 use Rattle.definitions.specs.Kinds.{kind_text}
-use Rattle.definitions.specs.Link.{Based, Common, Layout, deck_length, entry_value, names_of, link_lines}
+use Rattle.definitions.specs.Layout.{Based, Common, Layout, deck_length}
+use Rattle.definitions.specs.LinkValues.{entry_value, names_of}
+use Rattle.definitions.specs.LinkLines.{link_lines}
 
 -- a deck in the map: name, kind, base and length
 abbrev pub deck_line : Based → List ℕ

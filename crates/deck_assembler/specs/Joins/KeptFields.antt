@@ -1,6 +1,7 @@
 -- The fields of a statement, as a line keeps them.
 use Rattle.std.specs.Prelude.{ℕ, ◌≡◌, ◌≤◌, ◌<◌, ◌+◌, ◌^◌, List, [], ◌∷◌, Bool, true, false, length}
-use Rattle.definitions.specs.Link.{Layout, Based, unfit_words}
+use Rattle.definitions.specs.Layout.{Layout, Based}
+use Rattle.definitions.specs.LinkLines.{unfit_words}
 use Rattle.definitions.specs.Operands.{Operand}
 use Rattle.definitions.specs.StatementItems.{Item}
 use Rattle.definitions.specs.Words.{Linking, width_of, joined}

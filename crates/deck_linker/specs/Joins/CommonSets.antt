@@ -2,7 +2,7 @@
 use Rattle.std.specs.Prelude.{ℕ, ◌≡◌, List, Bool, true}
 use Rattle.std.specs.Cmp.{IsEquivalence, on_equiv}
 use Rattle.definitions.specs.Characters.{same_text}
-use Rattle.definitions.specs.Link.{Common}
+use Rattle.definitions.specs.Layout.{Common}
 use Rattle.use_blocks.specs.Joins.NameKeys.{alone, alone_same, same_text_equivalence}
 
 -- the name of a common block

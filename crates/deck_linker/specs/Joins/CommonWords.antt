@@ -5,7 +5,8 @@ use Rattle.std.specs.Option.{is_some}
 use Rattle.definitions.specs.Characters.{same_text}
 use Rattle.definitions.specs.Image.{common_words, with_all_stored}
 use Rattle.definitions.specs.Lengths.{BlockRow}
-use Rattle.definitions.specs.Link.{Based, Common, Layout, linking_of}
+use Rattle.definitions.specs.Layout.{Based, Common, Layout}
+use Rattle.definitions.specs.LinkValues.{linking_of}
 use Rattle.definitions.specs.Words.{StoredWord, stored_words}
 use Rattle.deck_listing.specs.Joins.Filling.{DoSpansRise, as_stored}
 use Rattle.deck_listing.specs.declared.packing.word_spans.WordSpan.{WordSpan}

@@ -4,7 +4,8 @@ use Rattle.std.specs.List.{AllZip}
 use Rattle.definitions.specs.Build.{build_of}
 use Rattle.definitions.specs.DeckInput.{Deck}
 use Rattle.definitions.specs.Image.{common_section_by}
-use Rattle.definitions.specs.Link.{Based, Layout, layout_of, linking_of}
+use Rattle.definitions.specs.Layout.{Based, Layout, layout_of}
+use Rattle.definitions.specs.LinkValues.{linking_of}
 use Rattle.definitions.specs.Listing.{deck_listing, line}
 use Rattle.definitions.specs.Objects.{object_of}
 use Rattle.deck_listing.specs.Joins.BlockWords.{AreBlockWords}

@@ -2,7 +2,7 @@
 use Rattle.std.specs.Prelude.{ℕ, ◌≡◌, ◌<◌, ◌+◌, ◌^◌, List, [], ◌∷◌, Option, None, flat_map, length, map, if◌then◌else◌}
 use Rattle.definitions.specs.Characters.{same_text}
 use Rattle.definitions.specs.DeckInput.{Deck}
-use Rattle.definitions.specs.Link.{Layout, layout_of}
+use Rattle.definitions.specs.Layout.{Layout, layout_of}
 use Rattle.definitions.specs.Objects.{object_of}
 use Rattle.deck_linker.specs.Joins.InPieces.{deck_text, end_text}
 use Rattle.deck_linker.specs.Joins.Sections.{section_text}

@@ -3,7 +3,7 @@ use Rattle.std.specs.Prelude.{ℕ, List, [], ◌∷◌, ◌++◌, codes, flat_ma
 use Rattle.definitions.specs.Numerals.{octal_of}
 use Rattle.definitions.specs.Settled.{Definition}
 use Rattle.definitions.specs.Blocks.{is_named}
-use Rattle.definitions.specs.Link.{Layout, Based, Common}
+use Rattle.definitions.specs.Layout.{Layout, Based, Common}
 use Rattle.definitions.specs.Listing.{line}
 use Rattle.definitions.specs.Map.{deck_line, common_line, entry_line, entry_lines}
 use Rattle.deck_linker.specs.Joins.Names.{with_entries}

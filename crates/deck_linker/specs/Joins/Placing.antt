@@ -4,7 +4,7 @@ use Rattle.std.specs.Option.{option_map_or}
 use Rattle.definitions.specs.Characters.{same_text}
 use Rattle.definitions.specs.Forms.{Part, Added, Subtracted, Relocation, Block, External}
 use Rattle.definitions.specs.Lengths.{BlockLength}
-use Rattle.definitions.specs.Link.{Common}
+use Rattle.definitions.specs.Layout.{Common}
 
 -- the external of a part, if it has one
 abbrev pub external_of : Option Part → Option (List ℕ)

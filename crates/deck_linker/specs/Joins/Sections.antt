@@ -2,7 +2,7 @@
 use Rattle.std.specs.Prelude.{ℕ, ◌+◌, List, [], ◌++◌, Option, codes, flat_map, unwrap_or}
 use Rattle.definitions.specs.Numerals.{octal_of}
 use Rattle.definitions.specs.Listing.{line}
-use Rattle.definitions.specs.Link.{Layout, Based}
+use Rattle.definitions.specs.Layout.{Layout, Based}
 use Rattle.definitions.specs.Image.{section_by, word_line}
 use Rattle.definitions.specs.Words.{StoredWord}
 use Rattle.definitions.specs.declared.deck_kind.DeckKind.TheVariants.{Rel}

@@ -2,7 +2,8 @@
 use Rattle.std.specs.Prelude.{ℕ, ◌≡◌, ◌*◌, ⊤, Bool, true, List, [], ◌∷◌, ◌++◌, Option, Some, None, slice_get}
 use Rattle.definitions.specs.Kinds.{unit_bits}
 use Rattle.definitions.specs.Lengths.{BlockRow}
-use Rattle.definitions.specs.Link.{Layout, Based, address_lines, block_base, unfit_words}
+use Rattle.definitions.specs.Layout.{Layout, Based, block_base}
+use Rattle.definitions.specs.LinkLines.{address_lines, unfit_words}
 use Rattle.definitions.specs.declared.deck_kind.DeckKind.{DeckKind}
 use Rattle.statement_coder.specs.declared.items.Item as code
 use Rattle.deck_objects.specs.Joins.LineItems.{kept_items, AreKept}

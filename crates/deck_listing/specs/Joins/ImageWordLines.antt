@@ -4,7 +4,7 @@ use Rattle.definitions.specs.Blocks.{is_common}
 use Rattle.definitions.specs.Image.{word_line}
 use Rattle.definitions.specs.Kinds.{kind_text}
 use Rattle.definitions.specs.Lengths.{BlockRow}
-use Rattle.definitions.specs.Link.{AddressedWord, addressed, block_words, is_beyond, literal_stored}
+use Rattle.definitions.specs.Layout.{AddressedWord, addressed, block_words, is_beyond, literal_stored}
 use Rattle.definitions.specs.Listing.{line}
 use Rattle.definitions.specs.Numerals.{octal_of}
 use Rattle.definitions.specs.Objects.{Object}

@@ -1,7 +1,8 @@
 -- The fields that a line keeps, in the words of the definitions.
 use Rattle.std.specs.Prelude.{ℕ, ◌≡◌, ◌≤◌, ◌+◌, ◌-◌, ◌*◌, ◌/◌, ⊤, List, [], ◌∷◌, map, take, drop, length}
 use Rattle.definitions.specs.Kinds.{unit_bits, word_bits, units}
-use Rattle.definitions.specs.Link.{Layout, Based, unfit_words}
+use Rattle.definitions.specs.Layout.{Layout, Based}
+use Rattle.definitions.specs.LinkLines.{unfit_words}
 use Rattle.definitions.specs.StatementItems.{Item, known}
 use Rattle.definitions.specs.Words.{Linking, width_of, joined}
 use Rattle.definitions.specs.declared.deck_kind.DeckKind.{DeckKind}

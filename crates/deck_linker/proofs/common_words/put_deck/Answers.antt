@@ -4,7 +4,7 @@ use Rattle.std.specs.List.{AllZip}
 use Rattle.std.proofs.lemmas.Result.{on_ok_weaker}
 use Rattle.definitions.proofs.BlockLaws.{object-blocks}
 use Rattle.definitions.specs.Lengths.{BlockRow}
-use Rattle.definitions.specs.Link.{linking_of}
+use Rattle.definitions.specs.LinkValues.{linking_of}
 use Rattle.definitions.specs.Objects.{Object}
 use Rattle.definitions.specs.declared.deck_kind.DeckKind.{DeckKind}
 use Rattle.deck_objects.specs.Joins.CodedLines.{AreCoded}

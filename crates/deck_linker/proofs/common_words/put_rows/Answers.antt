@@ -2,7 +2,7 @@ use Rattle.std.proofs.Common.{◌+◌, ◌^◌, ◌<◌, ◌∙◌, List, Some, 
 use Rattle.std.proofs.lemmas.List.{take_all}
 use Rattle.std.proofs.lemmas.Option.{slice_get-get_or}
 use Rattle.std.proofs.lemmas.Slice.Zip.{AllZip-long}
-use Rattle.definitions.specs.Link.{linking_of}
+use Rattle.definitions.specs.LinkValues.{linking_of}
 use Rattle.deck_listing.specs.Joins.Filling.{DoSpansRise, as_stored}
 use Rattle.deck_listing.specs.declared.packing.word_spans.WordSpan.{WordSpan}
 use Rattle.deck_listing.specs.Joins.BlockWords.{AreWordsOf}

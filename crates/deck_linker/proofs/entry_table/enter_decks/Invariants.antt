@@ -2,7 +2,7 @@
 use Rattle.std.proofs.Common.{ℕ, ◌≡◌, List, drop}
 use Rattle.indexmap.specs.IndexMap.{get}
 use Rattle.definitions.specs.Characters.{same_text}
-use Rattle.definitions.specs.Link.{entered, or_value}
+use Rattle.definitions.specs.LinkValues.{entered, or_value}
 use Rattle.deck_linker.proofs.entry_table.enter_decks.Given as goal
 
 abbrev pub invariant-loop-based : goal.invariant-loop-based

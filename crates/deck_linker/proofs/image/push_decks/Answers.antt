@@ -1,6 +1,6 @@
 use Rattle.std.proofs.Common.{◌∙◌, ap, length, refl, subst, sym}
 use Rattle.std.specs.Prelude.{flat_map}
-use Rattle.definitions.specs.Link.{linking_of}
+use Rattle.definitions.specs.LinkValues.{linking_of}
 use Rattle.deck_listing.specs.Joins.BlockWords.{AreBlockWords}
 use Rattle.deck_linker.specs.Joins.Sections.{deck_section}
 use Rattle.deck_linker.proofs.LineLaws.{text-step}

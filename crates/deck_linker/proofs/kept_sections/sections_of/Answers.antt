@@ -2,7 +2,7 @@ use Rattle.std.proofs.Common.{[], ◌<◌, ◌∙◌, ◌∷◌, List, ap, arith
 use Rattle.std.specs.Prelude.{slice_index_or, slice_set}
 use Rattle.std.proofs.lemmas.List.{set-get_or}
 use Rattle.definitions.specs.DeckInput.{Deck}
-use Rattle.definitions.specs.Link.{Based}
+use Rattle.definitions.specs.Layout.{Based}
 use Rattle.definitions.specs.Objects.{object_of}
 use Rattle.deck_linker.specs.Joins.UnfitLines.{AreKnownToFit}
 use Rattle.deck_linker.specs.Publishing.{section_of}

@@ -1,6 +1,6 @@
 -- The lines of the entries that are left complete those of all.
 use Rattle.std.proofs.Common.{◌≡◌, drop}
-use Rattle.definitions.specs.Link.{doubled_lines}
+use Rattle.definitions.specs.LinkLines.{doubled_lines}
 use Rattle.deck_linker.specs.Joins.Lines.{with_lines}
 use Rattle.deck_linker.proofs.link_lines.push_doubled.Given as goal
 

@@ -1,5 +1,5 @@
 use Rattle.std.proofs.Common.{List, subst}
-use Rattle.definitions.specs.Link.{Based}
+use Rattle.definitions.specs.Layout.{Based}
 use Rattle.deck_linker.specs.Joins.InPieces.{DoFit}
 use Rattle.deck_linker.specs.Joins.Sections.{deck_section}
 use Rattle.deck_linker.proofs.InPieceLaws.{fit-weaker}

@@ -1,7 +1,7 @@
 use Rattle.std.proofs.Common.{◌≡◌, ◌∙◌, List, ap, map, subst}
 use Rattle.std.specs.Prelude.{IfOk}
 use Rattle.definitions.specs.DeckInput.{Deck}
-use Rattle.definitions.specs.Link.{Based, Layout, first_base, layout_of}
+use Rattle.definitions.specs.Layout.{Based, Layout, first_base, layout_of}
 use Rattle.definitions.specs.Map.{map_text}
 use Rattle.definitions.specs.Objects.{object_of}
 use Rattle.deck_linker.specs.Joins.InPieces.{end_text}

@@ -1,7 +1,7 @@
 use Rattle.std.proofs.Common.{◌≡◌, ◌∙◌, ℕ, List, ap, length}
 use Rattle.std.proofs.lemmas.Result.{IfOk-weaker}
 use Rattle.std.proofs.lemmas.Slice.Zip.{AllZip-long}
-use Rattle.definitions.specs.Link.{linking_of}
+use Rattle.definitions.specs.LinkValues.{linking_of}
 use Rattle.deck_listing.proofs.SheetSteps.{grown}
 use Rattle.deck_listing.specs.Joins.BlockWords.{AreWordsOf}
 use Rattle.deck_listing.specs.Joins.Sheets.{room_of, text_of}

@@ -1,6 +1,6 @@
 use Rattle.std.proofs.Common.{List, ◌+◌, ◌++◌, ℕ, subst}
 use Rattle.std.specs.Prelude.{flat_map}
-use Rattle.definitions.specs.Link.{Based}
+use Rattle.definitions.specs.Layout.{Based}
 use Rattle.text_ports.proofs.SendSteps.{IsPart}
 use Rattle.deck_linker.specs.Joins.InPieces.{end_text}
 use Rattle.deck_linker.specs.Joins.Sections.{deck_section}

@@ -1,7 +1,7 @@
 -- The lines of the fields that are left complete those of all.
 use Rattle.std.proofs.Common.{◌≡◌, ◌+◌, ◌*◌, ◌≤◌, drop}
 use Rattle.std.specs.Prelude.{map}
-use Rattle.definitions.specs.Link.{address_lines, unfit_words}
+use Rattle.definitions.specs.LinkLines.{address_lines, unfit_words}
 use Rattle.statement_coder.specs.Joins.Items.{item_as}
 use Rattle.deck_objects.specs.Joins.LineItems.{AreShort}
 use Rattle.deck_linker.specs.Joins.Lines.{with_lines}

@@ -1,6 +1,6 @@
 -- The common blocks with those of the rows that are left.
 use Rattle.std.proofs.Common.{◌≡◌, drop}
-use Rattle.definitions.specs.Link.{with_commons}
+use Rattle.definitions.specs.Layout.{with_commons}
 use Rattle.deck_linker.proofs.common_table.CommonTable.add_rows.Given as goal
 
 abbrev pub invariant-loop-row : goal.invariant-loop-row

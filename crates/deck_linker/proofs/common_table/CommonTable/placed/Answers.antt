@@ -1,7 +1,7 @@
 use Rattle.std.proofs.Common.{ℕ, ◌≡◌, ◌++◌, ◌∷◌, List, ap, sym, ◌∙◌}
 use Rattle.indexmap.specs.IndexSet.{insert_key}
 use Rattle.definitions.specs.Lengths.{BlockLength}
-use Rattle.definitions.specs.Link.{Common, commons_from, end_after_common, placed_common}
+use Rattle.definitions.specs.Layout.{Common, commons_from, end_after_common, placed_common}
 use Rattle.deck_linker.specs.Joins.CommonLengths.{lengths_shown}
 use Rattle.deck_linker.specs.Joins.CommonSets.{are_named_alike}
 use Rattle.deck_linker.proofs.CommonLaws.{placed-more}

@@ -1,6 +1,6 @@
 -- The common blocks so far, and behind them those that are left.
 use Rattle.std.proofs.Common.{◌≡◌, ◌≤◌, ◌++◌}
-use Rattle.definitions.specs.Link.{commons_from}
+use Rattle.definitions.specs.Layout.{commons_from}
 use Rattle.deck_linker.specs.Joins.CommonLengths.{lengths_shown}
 use Rattle.deck_linker.proofs.common_table.CommonTable.placed.Given as goal
 

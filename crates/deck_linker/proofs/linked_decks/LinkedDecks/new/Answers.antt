@@ -2,7 +2,8 @@ use Rattle.std.proofs.Common.{◌∙◌, List, ap, length, subst}
 use Rattle.std.specs.Prelude.{map}
 use Rattle.definitions.specs.Build.{errors_in}
 use Rattle.definitions.specs.DeckInput.{Deck}
-use Rattle.definitions.specs.Link.{Layout, layout_of, link_lines}
+use Rattle.definitions.specs.Layout.{Layout, layout_of}
+use Rattle.definitions.specs.LinkLines.{link_lines}
 use Rattle.definitions.specs.Map.{map_text}
 use Rattle.definitions.specs.Objects.{object_of}
 use Rattle.deck_linker.specs.Joins.InPieces.{DoFit, deck_text}
